@@ -1,0 +1,9 @@
+-- An attribute as contracts see it.
+use Rattle.std.specs.Prelude.{ℕ, List, string_bytes}
+use Rattle.std.specs.declared.alloc.Global.{Global}
+use Rattle.std.specs.declared.string.String.{String}
+use Rattle.std.specs.declared.vec.Vec.{Vec}
+
+-- the bytes of the name, and those of the value
+abbrev pub entry_of : String Global × Vec ℕ Global → List ℕ × List ℕ
+entry_of e = (string_bytes e.0, e.1.items)

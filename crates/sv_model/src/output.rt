@@ -1,0 +1,46 @@
+//! What a step puts out.
+
+use crate::packet::Packet;
+use crate::response::Response;
+
+/// Why a request was refused; nothing was done for it.
+#[derive(Clone, Copy, Debug, PartialEq, Eq)]
+pub enum Cause {
+    /// 64 requests are parked here.
+    ParkFull,
+    /// The session didn't come in time.
+    Deadline,
+    /// This node knows as many sessions as it can.
+    TableFull,
+    /// This node has no serial left for another session.
+    SerialsSpent,
+    /// This node has no number left for another want.
+    WantsSpent,
+    /// The journal file has no room.
+    JournalFull,
+    /// Memory was refused.
+    Memory,
+}
+
+/// Why a session wasn't handed to another node.
+#[derive(Clone, Copy, Debug, PartialEq, Eq)]
+pub enum MoveRefusal {
+    /// Refusal 1: this node knows no such session.
+    UnknownKey,
+    /// Refusal 2: the session isn't active here.
+    NotActive,
+    /// Refusal 3: there is no such node, or it is this one.
+    BadPeer,
+    /// Refusal 4: the session has no epoch left.
+    EpochsSpent,
+}
+
+/// One output of a step, which leaves once the step's record is durable.
+#[derive(Drop)]
+pub enum Output {
+    Answer { token: u64, response: Response },
+    Refuse { token: u64, cause: Cause },
+    Send(Packet),
+    Moved,
+    MoveRefused(MoveRefusal),
+}

@@ -1,0 +1,42 @@
+//! What nodes send each other. Each packet has the numbers of its sender and its addressee, below 8.
+
+use crate::key::Key;
+use crate::session::Session;
+
+/// A packet from one node to another; it may be lost, repeated and late.
+#[derive(Drop)]
+pub enum Packet {
+    /// The sender has a request for a session that it doesn't hold.
+    Want {
+        from: u8,
+        to: u8,
+        key: Key,
+        /// The sender's boot number.
+        boot: u64,
+        /// Which of the sender's wants since that boot it is.
+        want: u64,
+    },
+    /// The session is handed over under a higher epoch.
+    Grant {
+        from: u8,
+        to: u8,
+        key: Key,
+        epoch: u64,
+        session: Session,
+    },
+    /// The session of this epoch was taken.
+    Ack {
+        from: u8,
+        to: u8,
+        key: Key,
+        epoch: u64,
+    },
+    /// The session that was wanted has ended, or never was.
+    No {
+        from: u8,
+        to: u8,
+        key: Key,
+        boot: u64,
+        want: u64,
+    },
+}

@@ -1,0 +1,41 @@
+//! A request as a site is asked it.
+
+use crate::field::Field;
+use crate::sequence::Sequence;
+use crate::text::Text;
+use http::Method;
+
+/// A parameter of the query or of a form, decoded.
+#[derive(Drop)]
+pub struct Param {
+    pub name: Text,
+    pub value: Text,
+}
+
+/// A pair of the Cookie field (RFC 6265, section 4.2.1), as it was sent.
+#[derive(Drop)]
+pub struct Cookie {
+    pub name: Sequence<u8>,
+    pub value: Sequence<u8>,
+}
+
+/// A request (RFC 9110, section 3.4) with its target already read.
+#[derive(Drop)]
+pub struct Request {
+    pub method: Method,
+    /// The path of the target as it was sent.
+    pub raw_path: Text,
+    /// The path without dot segments, decoded once; it begins with `/`.
+    pub path: Text,
+    /// What stands behind the first `?` of the target, as it was sent.
+    pub query: Option<Text>,
+    /// All fields in order, names in lower case.
+    pub fields: Sequence<Field>,
+    /// The pairs of all Cookie fields in order.
+    pub cookies: Sequence<Cookie>,
+    /// The parameters of the query, then those of a form in the body.
+    pub params: Sequence<Param>,
+    pub body: Sequence<u8>,
+    /// The connection closes behind the response.
+    pub close: bool,
+}
