@@ -1,0 +1,68 @@
+-- What lies below a path, and what stands behind the last place of a byte.
+use Rattle.std.proofs.Common.{◌≡◌, ◌≢◌, ℕ, suc, ◌+◌, ◌-◌, ◌<◌, ◌||◌, ◌⊎◌, Bool, true, false, not, eqb, List, [], ◌∷◌, ◌++◌, length, get_or, drop, refl, sym, ap, ◌∙◌, inl, inr, ⊎_elim, Decides, arith, append_assoc, append-nil, length-append}
+use Rattle.std.specs.List.{after_last, list_any, suffix_len}
+use Rattle.std.proofs.lemmas.List.{append_cancel_left}
+use Rattle.std.proofs.lemmas.Bool.{false≢true}
+use Rattle.std.proofs.lemmas.List.Sums.{suffix_len_is}
+use Rattle.std.proofs.lemmas.List.Folds.{list_any_none, list_any_at}
+use Rattle.std.proofs.lemmas.List.Elements.{All-from_get_or}
+use Rattle.std.proofs.lemmas.Slice.Eq.{bytes_eq-Decides, starts_is}
+use Rattle.std.proofs.lemmas.Bool.Decides.{Decides-eqb, Decides-or, same_from_decides, nat_tests}
+use Rattle.sv_mapping.specs.Path.{Text, is_at_or_below, last_segment, extension_of}
+
+-- the path is the front, or goes on behind it with a slash
+abbrev pub IsAtOrBelow : Text → Text → Type 0
+IsAtOrBelow front path = (path ≡ front) ⊎ ((rest : Text) × (path ≡ front ++ (47 ∷ rest)))
+
+pub is_at_or_below-Decides : (front path : Text) → Decides (is_at_or_below front path) (IsAtOrBelow front path)
+unfolding is_at_or_below
+is_at_or_below-Decides front path =
+    let slashed = front ++ (47 ∷ []) in
+    let starts = starts_is Decides-eqb path slashed _ refl in
+    Decides-or _ _ (bytes_eq-Decides path front)
+      (λ t. (drop (length slashed) path, starts.0 t ∙ append_assoc front (47 ∷ []) _),
+       λ (rest, e). starts.1 rest (e ∙ sym (append_assoc front (47 ∷ []) rest)))
+
+-- behind the front, the path ends or goes on with a slash
+pub is_at_or_below-rest : (front path rest : Text) → path ≡ front ++ rest → is_at_or_below front path ≡ (eqb (length rest) 0 || eqb (get_or rest 0 0) 47)
+is_at_or_below-rest front path [] e = (is_at_or_below-Decides front path).1 (inl (e ∙ append-nil front))
+is_at_or_below-rest front path (x ∷ xs) e =
+    let long : eqb (suc (length xs)) 0 ≡ false = grind (arith, nat_tests) in
+    same_from_decides _ (eqb x 47) (is_at_or_below-Decides front path) (
+      λ t. inr (xs, e ∙ ap (λ y. front ++ (y ∷ xs)) ((Decides-eqb x 47).0 t)),
+      λ below. (Decides-eqb x 47).1 (elim below [
+        | inl same ↦ absurd (omega (arith, length-append front (x ∷ xs), ap length (sym e ∙ same)))
+        | inr (rest, behind) ↦ cc (append_cancel_left front (x ∷ xs) (47 ∷ rest) (sym e ∙ behind))
+      ]))
+    ∙ ap (λ b. b || eqb x 47) (sym long)
+
+-- it goes on otherwise than behind the front
+pub is_at_or_below-apart : (front path : Text) → ((rest : Text) → path ≢ front ++ rest) → is_at_or_below front path ≡ false
+is_at_or_below-apart front path apart =
+    same_from_decides _ _ (is_at_or_below-Decides front path) (
+      λ t. absurd (false≢true t),
+      λ below. elim below [
+        | inl same ↦ absurd (apart [] (same ∙ sym (append-nil front)))
+        | inr (rest, behind) ↦ absurd (apart (47 ∷ rest) behind)
+      ])
+
+module _ (c : ℕ) (xs : List ℕ) where
+  -- the last c stands at k
+  pub after_last-at : (k : ℕ) → k < length xs → get_or xs k 0 ≡ c → ((i : ℕ) → k < i → i < length xs → get_or xs i 0 ≢ c) → drop (k + 1) xs ≡ after_last (λ x. eqb x c) xs
+  after_last-at k in_range is none_behind =
+      let tail : suffix_len (λ x. not (eqb x c)) xs ≡ length xs - (k + 1) = suffix_len_is (λ x. not (eqb x c)) xs (k + 1) 0 (omega arith) (λ i above below. grind (arith, nat_tests, none_behind i (omega arith) below)) (λ _. grind (arith, nat_tests)) in
+      let all : k + 1 ≡ length xs - suffix_len (λ x. not (eqb x c)) xs = omega (arith, tail) in
+      ap (λ n. drop n xs) all
+
+  -- no c stands anywhere
+  pub after_last-none : ((i : ℕ) → i < length xs → get_or xs i 0 ≢ c) → xs ≡ after_last (λ x. eqb x c) xs
+  after_last-none none =
+      let tail : suffix_len (λ x. not (eqb x c)) xs ≡ length xs - 0 = suffix_len_is (λ x. not (eqb x c)) xs 0 0 (omega arith) (λ i above below. grind (arith, nat_tests, none i below)) (λ l. absurd (omega arith)) in
+      let all : 0 ≡ length xs - suffix_len (λ x. not (eqb x c)) xs = omega (arith, tail) in
+      ap (λ n. drop n xs) all
+
+  pub list_any-none : ((i : ℕ) → i < length xs → get_or xs i 0 ≢ c) → list_any (λ x. eqb x c) xs ≡ false
+  list_any-none none = list_any_none (λ x. eqb x c) xs (All-from_get_or (λ x. eqb x c ≡ false) xs 0 (λ i below. grind (arith, nat_tests, none i below)))
+
+  pub list_any-at : (k : ℕ) → k < length xs → get_or xs k 0 ≡ c → list_any (λ x. eqb x c) xs ≡ true
+  list_any-at k in_range is = list_any_at (λ x. eqb x c) xs k 0 in_range (grind (arith, nat_tests))

@@ -1,0 +1,130 @@
+-- What the form of a pattern says of its text, and the texts of a form.
+use Rattle.std.proofs.Common.{◌≡◌, ◌≢◌, ℕ, suc, ◌+◌, ◌-◌, ◌<◌, ◌≤◌, ◌||◌, ◌&&◌, ◌⊎◌, Bool, true, false, not, cond, eqb, List, [], ◌∷◌, ◌++◌, length, get_or, drop, take, refl, sym, ap, ◌∙◌, subst, inl, inr, Decides, arith, append_assoc, append-nil, length-append, codes}
+use Rattle.std.specs.List.{starts_with, ends_with}
+use Rattle.std.specs.Str.{bytes_eq}
+use Rattle.std.proofs.lemmas.List.{get_or-drop}
+use Rattle.std.proofs.lemmas.List.Prefix.{end_rest}
+use Rattle.std.proofs.lemmas.Slice.Eq.{bytes_eq-Decides, starts_is, ends_is}
+use Rattle.std.proofs.lemmas.Bool.Decides.{Decides-eqb, same_from_decides, nat_tests}
+use Rattle.sv_mapping.specs.Path.{Text}
+use Rattle.sv_mapping.specs.Pattern.{form_of, prefix_of, suffix_of}
+use Rattle.sv_mapping.specs.declared.pattern.PatternForm.{PatternForm}
+use Rattle.sv_mapping.specs.declared.pattern.PatternForm.TheVariants.{Exact, ContextRoot, Prefix, Extension, Default}
+
+-- the form, by its four tests in their order
+abbrev chosen : Bool → Bool → Bool → Bool → PatternForm
+chosen root default prefix extension =
+    cond root ContextRoot (cond default Default (cond prefix Prefix (cond extension Extension Exact)))
+
+root_test : (a b c d : Bool) → chosen a b c d ≡ ContextRoot → a ≡ true
+root_test true b c d e = refl
+root_test false true c d e = cc
+root_test false false true d e = cc
+root_test false false false true e = cc
+root_test false false false false e = cc
+
+default_test : (a b c d : Bool) → chosen a b c d ≡ Default → b ≡ true
+default_test true b c d e = cc
+default_test false true c d e = refl
+default_test false false true d e = cc
+default_test false false false true e = cc
+default_test false false false false e = cc
+
+prefix_test : (a b c d : Bool) → chosen a b c d ≡ Prefix → c ≡ true
+prefix_test true b c d e = cc
+prefix_test false true c d e = cc
+prefix_test false false true d e = refl
+prefix_test false false false true e = cc
+prefix_test false false false false e = cc
+
+extension_test : (a b c d : Bool) → chosen a b c d ≡ Extension → d ≡ true
+extension_test true b c d e = cc
+extension_test false true c d e = cc
+extension_test false false true d e = cc
+extension_test false false false true e = refl
+extension_test false false false false e = cc
+
+both_true : (a b : Bool) → (a && b) ≡ true → (a ≡ true) × (b ≡ true)
+both_true true b e = (refl, e)
+both_true false b e = cc
+
+pub false_and : (a b : Bool) → a ≡ false → (a && b) ≡ false
+false_and a b e = ap (λ x. x && b) e
+
+pub and_false : (a b : Bool) → b ≡ false → (a && b) ≡ false
+and_false true b e = e
+and_false false b e = refl
+
+some_bytes : (xs : Text) → 0 < length xs → bytes_eq xs [] ≡ false
+some_bytes [] h = absurd (omega arith)
+some_bytes (x ∷ xs) h = refl
+
+module _ (pattern : Text) where
+  pub root_text : form_of pattern ≡ ContextRoot → pattern ≡ []
+  unfolding form_of
+  root_text e = (bytes_eq-Decides pattern []).0 (root_test _ _ _ _ e)
+
+  pub default_text : form_of pattern ≡ Default → pattern ≡ codes "/"
+  unfolding form_of
+  default_text e = (bytes_eq-Decides pattern (codes "/")).0 (default_test _ _ _ _ e)
+
+  pub exact_form : 0 < length pattern → bytes_eq pattern (codes "/") ≡ false → (starts_with eqb pattern (codes "/") && ends_with eqb pattern (codes "/*")) ≡ false → starts_with eqb pattern (codes "*.") ≡ false → form_of pattern ≡ Exact
+  unfolding form_of
+  exact_form some default prefix extension = rw (some_bytes pattern some, default, prefix, extension) refl
+
+  prefix_tests : form_of pattern ≡ Prefix → (starts_with eqb pattern (codes "/") ≡ true) × (ends_with eqb pattern (codes "/*") ≡ true)
+  unfolding form_of
+  prefix_tests e = both_true _ _ (prefix_test _ _ _ _ e)
+
+  pub prefix_text : form_of pattern ≡ Prefix → pattern ≡ prefix_of pattern ++ codes "/*"
+  prefix_text e = (ends_is Decides-eqb pattern (codes "/*") _ refl).0 (prefix_tests e).1
+
+  pub prefix_slash : form_of pattern ≡ Prefix → pattern ≡ 47 ∷ drop 1 pattern
+  prefix_slash e = (starts_is Decides-eqb pattern (codes "/") _ refl).0 (prefix_tests e).0
+
+  pub extension_text : form_of pattern ≡ Extension → pattern ≡ codes "*." ++ suffix_of pattern
+  unfolding form_of
+  extension_text e = (starts_is Decides-eqb pattern (codes "*.") _ refl).0 (extension_test _ _ _ _ e)
+
+  pub prefix_len : form_of pattern ≡ Prefix → 2 ≤ length pattern
+  prefix_len e = omega (arith, length-append (prefix_of pattern) (codes "/*"), ap length (prefix_text e))
+
+  pub prefix_slash_at : form_of pattern ≡ Prefix → get_or pattern (length pattern - 2) 0 ≡ 47
+  prefix_slash_at e =
+      let back : drop (length pattern - 2) pattern ≡ codes "/*" = end_rest pattern (codes "/*") (prefix_of pattern) (prefix_text e) in
+      let at : length pattern - 2 + 0 ≡ length pattern - 2 = omega arith in
+      ap (λ n. get_or pattern n 0) (sym at) ∙ sym (get_or-drop (length pattern - 2) pattern 0 0) ∙ ap (λ (t : Text). get_or t 0 0) back
+
+  pub extension_len : form_of pattern ≡ Extension → 2 ≤ length pattern
+  extension_len e = omega (arith, ap length (extension_text e))
+
+  pub extension_dot : form_of pattern ≡ Extension → get_or pattern 1 0 ≡ 46
+  extension_dot e = ap (λ (t : Text). get_or t 1 0) (extension_text e)
+
+-- the forms of composed texts
+
+nonempty : (xs : Text) → bytes_eq (xs ++ codes "/*") [] ≡ false
+nonempty [] = refl
+nonempty (x ∷ xs) = refl
+
+pub form_of-prefix : (xs : Text) → form_of (47 ∷ (xs ++ codes "/*")) ≡ Prefix
+unfolding form_of
+form_of-prefix xs =
+    let ends : ends_with eqb (47 ∷ (xs ++ codes "/*")) (codes "/*") ≡ true = (ends_is Decides-eqb (47 ∷ (xs ++ codes "/*")) (codes "/*") _ refl).1 (47 ∷ xs) refl in
+    rw (nonempty xs, ends) refl
+
+pub form_of-any : form_of (codes "/*") ≡ Prefix
+unfolding form_of
+form_of-any = refl
+
+pub form_of-extension : (xs : Text) → form_of (codes "*." ++ xs) ≡ Extension
+unfolding form_of
+form_of-extension xs = refl
+
+pub form_of-root : form_of [] ≡ ContextRoot
+unfolding form_of
+form_of-root = refl
+
+pub form_of-default : form_of (codes "/") ≡ Default
+unfolding form_of
+form_of-default = refl
