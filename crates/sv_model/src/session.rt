@@ -20,7 +20,8 @@ pub const VALUE_LIMIT: usize = 4_096;
 /// The bytes of a session's names and values together, at most.
 pub const SESSION_LIMIT: usize = 32_768;
 
-/// The attributes of a session, seen by contracts as a finite map from names to values.
+/// The attributes of a session, seen by contracts as the list of their names and values in order of the
+/// names' bytes.
 #[derive(Drop)]
 pub struct Attributes {
     by_name: BTreeMap<String, Vec<u8>>,
@@ -28,26 +29,19 @@ pub struct Attributes {
 
 impl Model for Attributes {
     ghost use Rattle.std.specs.Prelude.{ℕ, List, map};
-    ghost use Rattle.std.specs.Ordering.{nat_cmp};
-    ghost use Rattle.std.specs.Cmp.Lexicographic.{slice_cmp};
-    ghost use Rattle.std.specs.FinMap as finite;
-    ghost use Rattle.std.specs.Coded.{coded_ℕ, coded_list};
     ghost use Rattle.sv_model.specs.Attributes.{entry_of};
 
-    ghost Value = { finite.FinMap (slice_cmp nat_cmp) (List ℕ) };
+    ghost Value = { List (List ℕ × List ℕ) };
 
-    ghost coded = { finite.code (coded_list coded_ℕ) (coded_list coded_ℕ) };
-
-    ghost view = { λ a. finite.from_entries (map entry_of a.by_name.entries) };
+    ghost view = { λ a. map entry_of a.by_name.entries };
 }
 
 impl Attributes {
-    ghost use Rattle.std.specs.Prelude.{◌≡◌};
-    ghost use Rattle.std.specs.FinMap as finite;
+    ghost use Rattle.std.specs.Prelude.{◌≡◌, []};
 
     /// No attributes.
     pub fn new(alloc: Global) -> Self
-        ensures { result ≡ finite.empty }
+        ensures { result ≡ [] }
     {
         Attributes {
             by_name: BTreeMap::new(alloc),

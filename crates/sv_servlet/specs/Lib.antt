@@ -1,0 +1,5 @@
+pub mod Attributes
+pub mod Call
+pub mod ReplyState
+pub mod Reply
+pub mod Servlet

@@ -1,0 +1,107 @@
+//! The edit of a session, from its beginning to what it leaves.
+
+ghost use Rattle.std.specs.Prelude.{◌≡◌, Option};
+ghost use Rattle.sv_session.specs.Edit.{begun, key_of, fate_of};
+
+use std::alloc::Global;
+use std::marker::Model;
+use sv_model::event::Told;
+use sv_model::key::{Key, Secret};
+use sv_model::outcome::{Birth, Fate};
+use sv_model::sequence::Sequence;
+use sv_model::session::Session;
+
+/// What an edit leaves.
+#[derive(Drop)]
+pub struct Edited {
+    /// What became of the session that was handed in.
+    pub fate: Fate,
+    /// What became of a session that was made.
+    pub birth: Birth,
+    /// The events of the edit, in order.
+    pub events: Sequence<Told>,
+}
+
+/// A session while a request is served: the one that was handed in, or one that is made.
+#[derive(Drop)]
+pub struct SessionEdit {
+    context: u8,
+    interval: i32,
+    now: u64,
+    fresh: (Key, Secret),
+    handed: Option<Key>,
+    fate: Fate,
+    birth: Birth,
+    events: Sequence<Told>,
+}
+
+impl Model for SessionEdit {
+    ghost use Rattle.sv_session.specs.Edit.{Edit};
+
+    ghost Value = { Edit };
+
+    ghost view = { λ e. record { context = e.context; interval = e.interval; now = e.now; fresh = e.fresh; handed = e.handed; fate = e.fate; birth = e.birth; events = e.events } };
+}
+
+/// The key of the session that is handed in, and its fate as long as nobody ends it.
+fn taken(held: Option<(Key, Session)>) -> (Option<Key>, Fate)
+    ensures key { result.0 ≡ key_of held }
+    ensures fate { result.1 ≡ fate_of held }
+{
+    match held {
+        Some((key, session)) => (Some(key), Fate::Kept(session)),
+        None => (None, Fate::Untouched),
+    }
+}
+
+impl SessionEdit {
+    /// Begins the edit for a request in a context at `now` in whole seconds.
+    ///
+    /// `held` is the session that the request names, joined to the request, or none. A session that is made
+    /// gets the `fresh` key and secret and the context's `interval` in seconds.
+    pub fn begin(
+        alloc: Global,
+        held: Option<(Key, Session)>,
+        context: u8,
+        interval: i32,
+        now: u64,
+        fresh: (Key, Secret),
+    ) -> SessionEdit
+        ensures { result ≡ begun held context interval now fresh }
+    {
+        let (handed, fate) = taken(held);
+        SessionEdit {
+            context,
+            interval,
+            now,
+            fresh,
+            handed,
+            fate,
+            birth: Birth::Absent,
+            events: Sequence::new(alloc),
+        }
+    }
+
+    /// Ends the edit.
+    pub fn finish(self) -> Edited
+        ensures fate { result.fate ≡ self.fate }
+        ensures birth { result.birth ≡ self.birth }
+        ensures events { result.events ≡ self.events }
+    {
+        let SessionEdit {
+            context: _,
+            interval: _,
+            now: _,
+            fresh: _,
+            handed: _,
+            fate,
+            birth,
+            events,
+        } = self;
+        Edited {
+            fate,
+            birth,
+            events,
+        }
+    }
+}

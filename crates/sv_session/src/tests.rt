@@ -1,0 +1,1 @@
+//! The edit's beginning and end.
