@@ -1,2 +1,4 @@
+pub mod TestLemmas
 pub mod PathLemmas
 pub mod PatternLemmas
+pub mod EntryLemmas

@@ -7,6 +7,7 @@ use Rattle.std.proofs.lemmas.List.Prefix.{end_rest}
 use Rattle.std.proofs.lemmas.Slice.Eq.{bytes_eq-Decides, starts_is, ends_is}
 use Rattle.std.proofs.lemmas.Bool.Decides.{Decides-eqb, same_from_decides, nat_tests}
 use Rattle.sv_mapping.specs.Path.{Text}
+use Rattle.sv_mapping.proofs.TestLemmas.{both_true}
 use Rattle.sv_mapping.specs.Pattern.{form_of, prefix_of, suffix_of}
 use Rattle.sv_mapping.specs.declared.pattern.PatternForm.{PatternForm}
 use Rattle.sv_mapping.specs.declared.pattern.PatternForm.TheVariants.{Exact, ContextRoot, Prefix, Extension, Default}
@@ -43,17 +44,6 @@ extension_test false true c d e = cc
 extension_test false false true d e = cc
 extension_test false false false true e = refl
 extension_test false false false false e = cc
-
-both_true : (a b : Bool) → (a && b) ≡ true → (a ≡ true) × (b ≡ true)
-both_true true b e = (refl, e)
-both_true false b e = cc
-
-pub false_and : (a b : Bool) → a ≡ false → (a && b) ≡ false
-false_and a b e = ap (λ x. x && b) e
-
-pub and_false : (a b : Bool) → b ≡ false → (a && b) ≡ false
-and_false true b e = e
-and_false false b e = refl
 
 some_bytes : (xs : Text) → 0 < length xs → bytes_eq xs [] ≡ false
 some_bytes [] h = absurd (omega arith)

@@ -1,2 +1,4 @@
 pub mod Path
 pub mod Pattern
+pub mod Search
+pub mod Mappings

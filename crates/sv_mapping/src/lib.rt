@@ -2,5 +2,7 @@
 #![tactic(auto)]
 
 pub mod fault;
+pub mod mappings;
 pub mod path;
 pub mod pattern;
+mod search;

@@ -3,7 +3,8 @@ use Rattle.std.specs.List.{starts_with, ends_with}
 use Rattle.std.specs.Str.{bytes_eq}
 use Rattle.std.proofs.lemmas.Bool.Decides.{nat_tests}
 use Rattle.std.proofs.lemmas.Str.Pattern.{starts_text, ends_text}
-use Rattle.sv_mapping.proofs.PatternLemmas.{false_and, and_false, exact_form}
+use Rattle.sv_mapping.proofs.TestLemmas.{false_and, and_false}
+use Rattle.sv_mapping.proofs.PatternLemmas.{exact_form}
 use Rattle.sv_mapping.proofs.pattern.form_of.Goals as goal
 use Rattle.sv_mapping.proofs.pattern.form_of.Goals.{else-starts_with-via-then-starts_with+else-ends_with, else-starts_with-via-else-starts_with}
 
