@@ -1,2 +1,10 @@
 pub mod PastLemmas
 pub mod Moments
+pub mod Quiet
+pub mod Gates
+pub mod Committing
+pub mod EntryLemmas
+pub mod WalkLemmas
+pub mod GateLemmas
+pub mod HeadLemmas
+pub mod JournalLemmas

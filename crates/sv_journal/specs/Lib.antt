@@ -1,3 +1,9 @@
 pub mod Disk
 pub mod Past
 pub mod MemoryDisk
+pub mod Format
+pub mod Commit
+pub mod Walk
+pub mod Head
+pub mod Journal
+pub mod Opening
