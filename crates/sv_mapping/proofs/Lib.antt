@@ -2,3 +2,4 @@ pub mod TestLemmas
 pub mod PathLemmas
 pub mod PatternLemmas
 pub mod EntryLemmas
+pub mod TableLemmas

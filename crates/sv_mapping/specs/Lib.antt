@@ -1,4 +1,5 @@
 pub mod Path
 pub mod Pattern
 pub mod Search
+pub mod ServletMatch
 pub mod Mappings

@@ -6,3 +6,4 @@ pub mod mappings;
 pub mod path;
 pub mod pattern;
 mod search;
+pub mod servlet_match;

@@ -1,12 +1,83 @@
 //! The servlet patterns of a context, and the servlet of a path (Jakarta Servlet 6.0, section 12.1).
 
-/// The servlet of a path, and how the path is split (section 3.5).
-#[derive(Clone, Copy, Debug, PartialEq, Eq)]
-pub struct Match {
-    /// The number of the servlet.
-    pub servlet: usize,
-    /// The servlet path is the path up to this byte.
-    pub split: usize,
-    /// Whether the path from `split` on is the path info. Else there is none.
-    pub info: bool,
+ghost use Rattle.std.specs.Prelude.{◌≡◌, ◌↔◌, ◌<◌, ◌≤◌, ◌++◌, ℕ, false, IsTrue, IsNone, IfSome, OnOk, OnErr, IfErr, MatchOption, None, unwrap_or, option_map, length};
+ghost use Rattle.std.specs.FinMap as map;
+ghost use Rattle.std.specs.Coded.{coded_ℕ, coded_list};
+ghost use Rattle.std.specs.Str.{IsCharBoundary};
+ghost use Rattle.sv_mapping.specs.Search.{text_cmp};
+ghost use Rattle.sv_mapping.specs.ServletMatch.{shown};
+ghost use Rattle.sv_mapping.specs.Mappings.{refusal, HasNoMatch, IsBestMatch, AnswersByRule, mapped};
+
+use crate::fault::MappingFault;
+use crate::path::extension_of;
+use crate::pattern::{Pattern, PatternForm, form_of};
+use crate::search::search;
+use crate::servlet_match::Match;
+use std::alloc::Global;
+use std::marker::Model;
+
+/// The most patterns that the servlets of a context have in all.
+pub const MAX_PATTERNS: usize = 256;
+
+/// The servlet patterns of one context, each with the number of its servlet.
+///
+/// Contracts see it as a finite map from the texts of the patterns to the numbers.
+#[derive(Debug, Drop)]
+pub struct Mappings {
+    // in the order of the patterns' bytes
+    entries: Vec<(Pattern, usize)>,
+}
+
+impl Model for Mappings {
+    ghost Value = { map.FinMap text_cmp ℕ };
+
+    ghost coded = { map.code (coded_list coded_ℕ) coded_ℕ };
+
+    ghost view = { λ m. map.from_sorted m.entries.items };
+
+    ghost invariant = { λ m. IsTrue (map.is_sorted text_cmp m.entries.items) × (length m.entries.items ≤ 256) };
+}
+
+impl Mappings {
+    /// The mappings of a context without servlets.
+    pub fn new(alloc: Global) -> Mappings
+        ensures { result ≡ map.empty }
+    {
+        Mappings {
+            entries: Vec::new(alloc),
+        }
+    }
+
+    /// How many patterns are mapped.
+    pub fn len(&self) -> usize
+        ensures len { result ≡ map.len self.now }
+        ensures small { result ≤ MAX_PATTERNS }
+    {
+        self.entries.len()
+    }
+
+    /// Maps a pattern to a servlet, by the servlet's number.
+    ///
+    /// The pattern is dropped where it is refused.
+    pub fn add(&mut self, pattern: Pattern, servlet: usize) -> Result<(), MappingFault>
+        ensures ok { OnOk result ((refusal self.old pattern ≡ None) × (self.new ≡ map.insert self.old pattern servlet)) }
+        ensures err { OnErr result (self.new ≡ self.old) }
+        ensures fault { IfErr result (λ fault. fault ≡ unwrap_or (refusal self.old pattern) MappingFault.Memory) }
+    {
+        match search(&self.entries, pattern.as_str(), "") {
+            Ok(_) => Err(MappingFault::DuplicatePattern),
+            Err(_) if self.entries.len() >= MAX_PATTERNS => Err(MappingFault::TooMany),
+            Err(place) => Ok(self.entries.insert(place, (pattern, servlet))?),
+        }
+    }
+
+    /// The servlet of a pattern that is written as `front` followed by `back`.
+    fn servlet_of(&self, front: &str, back: &str) -> Option<usize>
+        ensures { result ≡ map.get self.now (front.now ++ back.now) }
+    {
+        match search(&self.entries, front, back) {
+            Ok(place) => Some(self.entries[place].1),
+            Err(_) => None,
+        }
+    }
 }
