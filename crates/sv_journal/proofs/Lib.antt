@@ -8,3 +8,4 @@ pub mod WalkLemmas
 pub mod GateLemmas
 pub mod HeadLemmas
 pub mod JournalLemmas
+pub mod BlankLemmas

@@ -6,4 +6,5 @@ pub mod Commit
 pub mod Walk
 pub mod Head
 pub mod Journal
+pub mod Blank
 pub mod Opening

@@ -15,6 +15,7 @@ pub const SHORTEST: u64 = 17;
 const OPENING: [u8; 8] = [OPEN, b'S', b'V', b'J', b'R', b'N', b'L', 1];
 
 /// The length of a disk, and its first byte where it has one.
+#[derive(Clone, Copy, Debug)]
 pub struct Head {
     pub len: u64,
     pub gate: Option<u8>,

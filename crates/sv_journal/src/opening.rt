@@ -2,9 +2,11 @@
 ghost use Rattle.std.specs.Prelude.{◌≡◌, ◌⊎◌, ◌≤◌, ◌<◌, ◌++◌, ◌∷◌, List, ℕ, length, drop, IfOk, IfErr, IsErr, OnOk, IsErrOf};
 ghost use Rattle.sv_journal.specs.Disk.{IsQuiet, TellsOn, Torn, LeavesOnly, Only, Counts, HasRisen};
 ghost use Rattle.sv_journal.specs.Commit.{IsSettled};
-ghost use Rattle.sv_journal.specs.Format.{front, IsJournal, IsOpen, Opens};
+ghost use Rattle.sv_journal.specs.Format.{front, IsJournal, IsOpen, IsShut, Opens};
 ghost use Rattle.sv_journal.specs.Head.{Shows};
 ghost use Rattle.sv_journal.specs.Journal.{Holds, OpensWithoutLoss};
+ghost use Rattle.sv_journal.specs.Opening.{journal_at};
+ghost use Rattle.sv_journal.specs.Blank.{IsBlank, IsBeingMade, first_image};
 
 use crate::commit::{CLOSED, commit};
 use crate::head::{Head, SHORTEST, generation_of, head_of};
@@ -17,6 +19,7 @@ const NEW: [u8; 16] = [
 ];
 
 /// Where a journal stands on its disk.
+#[derive(Clone, Copy, Debug)]
 pub struct Place {
     pub generation: u64,
     /// The place of the gate that ends the entries.
@@ -69,4 +72,66 @@ fn close<D: Disk>(disk: &mut D) -> Result<(), Device>
 {
     disk.write_at(0, &[CLOSED])?;
     disk.sync()
+}
+
+// Leaves a closed gate. One that is there stays as it is: written again, a stop could leave it open before what
+// stands behind it.
+fn shut<D: Disk>(disk: &mut D, head: Head) -> Result<(), Device>
+    requires { D.tells disk.old → Shows head (D.seen disk.old) }
+    ensures gate { OnOk result (D.tells disk.old → IsShut (D.seen disk.new)) }
+    ensures settled { OnOk result (D.tells disk.old → Only (D.seen disk.old) (D.may_leave disk.old) → Only (D.seen disk.new) (D.may_leave disk.new)) }
+    ensures short { OnOk result (D.tells disk.old → IsBlank (D.seen disk.old) → length (D.seen disk.new) ≤ 17) }
+    ensures any_moment { D.tells disk.old → IsBlank (D.seen disk.old) → Only (D.seen disk.old) (D.may_leave disk.old) → LeavesOnly D.moment D.left_since disk.old disk.new IsBlank }
+    ensures tells { TellsOn D.tells disk.old disk.new }
+    ensures count { Counts result (D.failed disk.old) (D.failed disk.new) }
+{
+    if head.is_closed() {
+        return Ok(());
+    }
+    close(disk)
+}
+
+// Makes the first journal.
+fn make<D: Disk>(disk: &mut D, head: Head) -> Result<(), Device>
+    requires { D.tells disk.old → Shows head (D.seen disk.old) }
+    ensures made { OnOk result (D.tells disk.old → IsBlank (D.seen disk.old) → Only (D.seen disk.old) (D.may_leave disk.old) → IsSettled first_image (D.seen disk.new) (D.may_leave disk.new)) }
+    ensures any_moment { D.tells disk.old → IsBlank (D.seen disk.old) → Only (D.seen disk.old) (D.may_leave disk.old) → LeavesOnly D.moment D.left_since disk.old disk.new IsBeingMade }
+    ensures tells { TellsOn D.tells disk.old disk.new }
+    ensures count { Counts result (D.failed disk.old) (D.failed disk.new) }
+{
+    shut(disk, head)?;
+    commit(disk, 0, &NEW)
+}
+
+/// Finds the journal of the two disks, or makes the first one on disk A.
+pub fn find_or_make<D: Disk>(a: &mut D, b: &mut D) -> Result<Place, JournalFault>
+    ensures holds { IfOk result (λ place. D.tells a.old → D.tells b.old → (entries : List (List ℕ)) × Opens (D.seen a.old) (D.seen b.old) entries × Holds D.seen D.may_leave (journal_at a.new b.new place) entries) }
+    ensures within { IfOk result (λ place. place.end < place.len) }
+    ensures damaged { IsErrOf result JournalFault.Damaged → D.tells a.old → D.tells b.old → (entries : List (List ℕ)) → Opens (D.seen a.old) (D.seen b.old) entries → ⊥ }
+    ensures any_moment { D.tells a.old → D.tells b.old → OpensWithoutLoss D.seen D.may_leave D.moment D.left_since a.old b.old a.new b.new }
+    ensures tells_a { TellsOn D.tells a.old a.new }
+    ensures tells_b { TellsOn D.tells b.old b.new }
+    ensures unchanged_a { IsErrOf result JournalFault.Damaged → D.seen a.new ≡ D.seen a.old }
+    ensures unchanged_b { D.seen b.new ≡ D.seen b.old }
+    ensures device { IsErrOf result JournalFault.Device → HasRisen (D.failed a.old) (D.failed a.new) ⊎ HasRisen (D.failed b.old) (D.failed b.new) }
+    ensures fault { IfErr result (λ e. (e ≡ JournalFault.Damaged) ⊎ (e ≡ JournalFault.Device)) }
+{
+    settle(a, b)?;
+    let other = head_of(b)?;
+    if other.is_open() {
+        return Err(JournalFault::Damaged);
+    }
+    let current = head_of(a)?;
+    if current.is_open() {
+        return find(a, current.len);
+    }
+    if current.len > SHORTEST || other.len > 1 {
+        return Err(JournalFault::Damaged);
+    }
+    make(a, current)?;
+    Ok(Place {
+        generation: 1,
+        end: HEADER,
+        len: SHORTEST,
+    })
 }
