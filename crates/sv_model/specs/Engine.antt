@@ -22,7 +22,7 @@ pub record EngineMeaning : Type 0 where
   pub hear : List (List ℕ) → Told → List (List ℕ)
 
 -- each listener's numbers behind a list of events
-unfoldable pub heard_all : EngineMeaning → List (List ℕ) → List Told → List (List ℕ)
+abbrev pub heard_all : EngineMeaning → List (List ℕ) → List Told → List (List ℕ)
 heard_all m heard [] = heard
 heard_all m heard (t ∷ ts) = heard_all m (m.hear heard t) ts
 

@@ -3,12 +3,14 @@
 ghost use Rattle.std.specs.Prelude.{◌≡◌, ℕ, List, IfOk};
 ghost use Rattle.std.specs.Option.{option_map};
 ghost use Rattle.sv_model.specs.Engine.{EngineMeaning, TouchesOnlyHanded, KeepsLimits, NamesKeys, heard_all};
+ghost use Rattle.sv_model.specs.declared.engine.EngineFault.TheVariants.{Memory};
 
 use crate::event::Told;
 use crate::key::{Key, Secret};
 use crate::outcome::Outcome;
 use crate::request::Request;
 use crate::session::Session;
+use std::alloc::AllocError;
 use thiserror::Error;
 
 /// Why a request was not served.
@@ -16,6 +18,14 @@ use thiserror::Error;
 pub enum EngineFault {
     #[error("memory was refused while a request was served")]
     Memory,
+}
+
+impl From<AllocError> for EngineFault {
+    ghost from_gives = { λ _ fault. fault ≡ Memory };
+
+    fn from(_: AllocError) -> Self {
+        EngineFault::Memory
+    }
 }
 
 /// What answers requests, and tells listeners what became durable.
@@ -58,11 +68,11 @@ pub trait Engine {
         ensures heard { heard self.new ≡ heard_all (meaning self.old) (heard self.old) told.now };
 
     /// With no session handed in none is touched.
-    ghost untouched: { (e : Self) → TouchesOnlyHanded (meaning e) };
+    ghost untouched: { (e : Self) → valid e → TouchesOnlyHanded (meaning e) };
 
     /// Handed a session within the limits, or none, it answers such sessions.
-    ghost within_limits: { (e : Self) → KeepsLimits (meaning e) };
+    ghost within_limits: { (e : Self) → valid e → KeepsLimits (meaning e) };
 
     /// A key that it names could have been made by a node.
-    ghost names_keys: { (e : Self) → NamesKeys (meaning e) };
+    ghost names_keys: { (e : Self) → valid e → NamesKeys (meaning e) };
 }

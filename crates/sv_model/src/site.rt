@@ -8,6 +8,7 @@ ghost use Rattle.sv_model.specs.declared.output.Output.{Output};
 ghost use Rattle.sv_model.specs.declared.site.StepFault.{StepFault};
 ghost use Rattle.sv_model.specs.declared.site.StepFault.TheVariants.{Memory};
 
+use crate::engine::EngineFault;
 use crate::input::Input;
 use crate::key::Moment;
 use crate::output::Output;
@@ -43,6 +44,14 @@ impl<T: Drop> From<AllocFailed<T>> for StepFault {
     ghost from_gives = { λ _ fault. fault ≡ Memory };
 
     fn from(_: AllocFailed<T>) -> Self {
+        StepFault::Memory
+    }
+}
+
+impl From<EngineFault> for StepFault {
+    ghost from_gives = { λ _ fault. fault ≡ Memory };
+
+    fn from(_: EngineFault) -> Self {
         StepFault::Memory
     }
 }

@@ -1,0 +1,3 @@
+pub mod Solo
+pub mod Target
+pub mod Reply

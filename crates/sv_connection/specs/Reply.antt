@@ -1,0 +1,30 @@
+-- What is said to a token: an answer, or a refusal with its cause (RFC 9110, section 15.6.4).
+use Rattle.std.specs.Prelude.{ℕ, ◌==◌, Bool, false, List, [], ◌∷◌, ◌++◌, codes}
+use Rattle.sv_model.specs.declared.response.Response.{Response}
+use Rattle.sv_model.specs.declared.output.Cause.{Cause}
+use Rattle.sv_model.specs.declared.output.Cause.TheVariants.{ParkFull, Deadline, TableFull, SerialsSpent, WantsSpent, JournalFull, Memory}
+use Rattle.sv_model.specs.declared.output.Output.{Output}
+use Rattle.sv_model.specs.declared.output.Output.TheVariants.{Answer, Refuse, Send, Moved, MoveRefused}
+use Rattle.sv_model.specs.Field.{plain_type}
+
+abbrev pub cause_name : Cause → List ℕ
+cause_name ParkFull = codes "ParkFull"
+cause_name Deadline = codes "Deadline"
+cause_name TableFull = codes "TableFull"
+cause_name SerialsSpent = codes "SerialsSpent"
+cause_name WantsSpent = codes "WantsSpent"
+cause_name JournalFull = codes "JournalFull"
+cause_name Memory = codes "Memory"
+
+-- status 503, with the cause's name in a line
+abbrev pub refusal : Cause → Bool → Bool → Response
+refusal cause head_only close =
+    record { status = 503; fields = plain_type ∷ []; body = codes "503 " ++ cause_name cause ++ codes "\n"; head_only = head_only; close = close }
+
+-- the output answers or refuses the token
+abbrev pub speaks_to : ℕ → Output → Bool
+speaks_to token (Answer to response) = to == token
+speaks_to token (Refuse to cause) = to == token
+speaks_to token (Send packet) = false
+speaks_to token Moved = false
+speaks_to token (MoveRefused why) = false

@@ -1,0 +1,68 @@
+//! What is said to a token: an answer, or a refusal with its cause.
+
+ghost use Rattle.std.specs.Prelude.{◌≡◌, IfOk, find};
+ghost use Rattle.std.specs.Option.{option_copied};
+ghost use Rattle.sv_connection.specs.Reply.{cause_name, refusal, speaks_to};
+
+use http::StatusCode;
+use std::alloc::{AllocError, Global};
+use sv_model::field::plain_type;
+use sv_model::output::{Cause, Output};
+use sv_model::response::Response;
+use sv_model::sequence::Sequence;
+
+/// The name of a cause, as it stands in a refusal's body.
+fn cause_name(cause: Cause) -> &'static str
+    ensures { result.now ≡ cause_name cause }
+{
+    match cause {
+        Cause::ParkFull => "ParkFull",
+        Cause::Deadline => "Deadline",
+        Cause::TableFull => "TableFull",
+        Cause::SerialsSpent => "SerialsSpent",
+        Cause::WantsSpent => "WantsSpent",
+        Cause::JournalFull => "JournalFull",
+        Cause::Memory => "Memory",
+    }
+}
+
+/// The response for a refused request: status 503 (RFC 9110, section 15.6.4), and the cause's name in the body.
+pub fn refusal(
+    alloc: Global,
+    cause: Cause,
+    head_only: bool,
+    close: bool,
+) -> Result<Response, AllocError>
+    ensures { IfOk result (λ response. response ≡ refusal cause head_only close) }
+{
+    let mut fields = Sequence::new(alloc);
+    fields.push(plain_type())?;
+    let mut body = Sequence::new(alloc);
+    body.extend_from_slice(b"503 ")?;
+    body.extend_from_slice(cause_name(cause).as_bytes())?;
+    body.extend_from_slice(b"\n")?;
+    Ok(Response {
+        status: StatusCode::SERVICE_UNAVAILABLE,
+        fields,
+        body,
+        head_only,
+        close,
+    })
+}
+
+/// An output answers or refuses the token.
+fn speaks_to(token: u64, output: &Output) -> bool
+    ensures { result ≡ speaks_to token output.now }
+{
+    match output {
+        Output::Answer { token: to, .. } | Output::Refuse { token: to, .. } => *to == token,
+        Output::Send(_) | Output::Moved | Output::MoveRefused(_) => false,
+    }
+}
+
+/// The first output that answers or refuses the token.
+pub fn reply_to(token: u64, outputs: &[Output]) -> Option<&Output>
+    ensures { option_copied result ≡ find (speaks_to token) outputs.now }
+{
+    outputs.iter().find(|output| speaks_to(token, output))
+}
