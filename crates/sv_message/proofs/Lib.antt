@@ -1,0 +1,4 @@
+mod FieldLemmas
+mod HeadLemmas
+mod MessageLemmas
+pub mod FaultLemmas

@@ -1,0 +1,10 @@
+pub mod Head
+pub mod Host
+pub mod Framing
+pub mod Persistence
+pub mod Message
+pub mod Fault
+pub mod Found
+pub mod Stream
+pub mod Reader
+pub mod Response
