@@ -3,3 +3,5 @@ pub mod PathLemmas
 pub mod PatternLemmas
 pub mod EntryLemmas
 pub mod TableLemmas
+pub mod MatchLemmas
+pub mod PrefixLemmas

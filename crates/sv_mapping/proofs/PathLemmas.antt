@@ -1,7 +1,7 @@
 -- What lies below a path, and what stands behind the last place of a byte.
-use Rattle.std.proofs.Common.{◌≡◌, ◌≢◌, ℕ, suc, ◌+◌, ◌-◌, ◌<◌, ◌||◌, ◌⊎◌, Bool, true, false, not, eqb, List, [], ◌∷◌, ◌++◌, length, get_or, drop, refl, sym, ap, ◌∙◌, inl, inr, ⊎_elim, Decides, arith, append_assoc, append-nil, length-append}
+use Rattle.std.proofs.Common.{◌≡◌, ◌≢◌, ℕ, suc, ◌+◌, ◌-◌, ◌<◌, ◌≤◌, ◌||◌, ◌⊎◌, Bool, true, false, not, eqb, List, [], ◌∷◌, ◌++◌, length, get_or, take, drop, refl, sym, ap, ◌∙◌, inl, inr, ⊎_elim, Decides, arith, append_assoc, append-nil, length-append}
 use Rattle.std.specs.List.{after_last, list_any, suffix_len}
-use Rattle.std.proofs.lemmas.List.{append_cancel_left}
+use Rattle.std.proofs.lemmas.List.{append_cancel_left, take_all, take-append-le, take-append-drop, get_or-append_right, drop_more}
 use Rattle.std.proofs.lemmas.Bool.{false≢true}
 use Rattle.std.proofs.lemmas.List.Sums.{suffix_len_is}
 use Rattle.std.proofs.lemmas.List.Folds.{list_any_none, list_any_at}
@@ -45,6 +45,41 @@ is_at_or_below-apart front path apart =
         | inl same ↦ absurd (apart [] (same ∙ sym (append-nil front)))
         | inr (rest, behind) ↦ absurd (apart (47 ∷ rest) behind)
       ])
+
+-- the front, by places of the path
+pub record IsFront (front path : Text) : Type 0 where
+  pub fits : length front ≤ length path
+  pub is : take (length front) path ≡ front
+  pub next : length front < length path → get_or path (length front) 0 ≡ 47
+
+front_of : (front path : Text) → IsAtOrBelow front path → IsFront front path
+front_of front path (inl same) = record {
+  fits = omega (arith, ap length same);
+  is = take_all (length front) path (omega (arith, ap length same)) ∙ same;
+  next = λ short. absurd (omega (arith, ap length same));
+}
+front_of front path (inr (rest, behind)) = record {
+  fits = omega (arith, ap length behind, length-append front (47 ∷ rest));
+  is = ap (take (length front)) behind ∙ take-append-le (length front) front (47 ∷ rest) (omega arith) ∙ take_all (length front) front (omega arith);
+  next = λ short. let none : length front - length front ≡ 0 = omega arith in ap (λ t. get_or t (length front) 0) behind ∙ get_or-append_right front (47 ∷ rest) (length front) (length front) 0 refl (omega arith) ∙ ap (λ n. get_or (47 ∷ rest) n 0) none;
+}
+
+pub IsFront-from_test : (front path : Text) → is_at_or_below front path ≡ true → IsFront front path
+IsFront-from_test front path below = front_of front path ((is_at_or_below-Decides front path).0 below)
+
+pub is_at_or_below-self : (path : Text) → is_at_or_below path path ≡ true
+is_at_or_below-self path = (is_at_or_below-Decides path path).1 (inl refl)
+
+-- a path lies below what stands before one of its slashes
+pub is_at_or_below-take : (path : Text) (n : ℕ) → n < length path → get_or path n 0 ≡ 47 → is_at_or_below (take n path) path ≡ true
+is_at_or_below-take path n short slash =
+    let rest = drop (n + 1) path in
+    let behind : path ≡ take n path ++ (47 ∷ rest) = sym (take-append-drop n path) ∙ ap (λ t. take n path ++ t) (drop_more path n 0 short ∙ ap (λ c. c ∷ rest) slash) in
+    (is_at_or_below-Decides (take n path) path).1 (inr (rest, behind))
+
+-- fronts of one length are equal
+pub IsFront-unique : (a b path : Text) → IsFront a path → IsFront b path → length a ≡ length b → a ≡ b
+IsFront-unique a b path f g e = sym f.is ∙ ap (λ n. take n path) e ∙ g.is
 
 module _ (c : ℕ) (xs : List ℕ) where
   -- the last c stands at k

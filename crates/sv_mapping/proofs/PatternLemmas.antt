@@ -2,13 +2,13 @@
 use Rattle.std.proofs.Common.{◌≡◌, ◌≢◌, ℕ, suc, ◌+◌, ◌-◌, ◌<◌, ◌≤◌, ◌||◌, ◌&&◌, ◌⊎◌, Bool, true, false, not, cond, eqb, List, [], ◌∷◌, ◌++◌, length, get_or, drop, take, refl, sym, ap, ◌∙◌, subst, inl, inr, Decides, arith, append_assoc, append-nil, length-append, codes}
 use Rattle.std.specs.List.{starts_with, ends_with}
 use Rattle.std.specs.Str.{bytes_eq}
-use Rattle.std.proofs.lemmas.List.{get_or-drop}
+use Rattle.std.proofs.lemmas.List.{get_or-drop, take_all, take-append-le}
 use Rattle.std.proofs.lemmas.List.Prefix.{end_rest}
 use Rattle.std.proofs.lemmas.Slice.Eq.{bytes_eq-Decides, starts_is, ends_is}
 use Rattle.std.proofs.lemmas.Bool.Decides.{Decides-eqb, same_from_decides, nat_tests}
 use Rattle.sv_mapping.specs.Path.{Text}
 use Rattle.sv_mapping.proofs.TestLemmas.{both_true}
-use Rattle.sv_mapping.specs.Pattern.{form_of, prefix_of, suffix_of}
+use Rattle.sv_mapping.specs.Pattern.{form_of, prefix_of, suffix_of, matches, matches_by, rule_of, rule_of_form}
 use Rattle.sv_mapping.specs.declared.pattern.PatternForm.{PatternForm}
 use Rattle.sv_mapping.specs.declared.pattern.PatternForm.TheVariants.{Exact, ContextRoot, Prefix, Extension, Default}
 
@@ -118,3 +118,74 @@ form_of-root = refl
 pub form_of-default : form_of (codes "/") ≡ Default
 unfolding form_of
 form_of-default = refl
+
+-- what stands before the `/*`
+pub prefix_of-append : (front : Text) → prefix_of (front ++ codes "/*") ≡ front
+prefix_of-append front =
+    let short : length (front ++ codes "/*") - 2 ≡ length front = omega (arith, length-append front (codes "/*")) in
+    ap (λ n. take n (front ++ codes "/*")) short ∙ take-append-le (length front) front (codes "/*") (omega arith) ∙ take_all (length front) front (omega arith)
+
+-- a form of the rule of a number
+pub rule_forms : (f : PatternForm) → rule_of_form f ≡ 1 → (f ≡ Exact) ⊎ (f ≡ ContextRoot)
+rule_forms Exact e = inl refl
+rule_forms ContextRoot e = inr refl
+rule_forms Prefix e = absurd (omega arith)
+rule_forms Extension e = absurd (omega arith)
+rule_forms Default e = absurd (omega arith)
+
+prefix_rule : (f : PatternForm) → rule_of_form f ≡ 2 → f ≡ Prefix
+prefix_rule Exact e = absurd (omega arith)
+prefix_rule ContextRoot e = absurd (omega arith)
+prefix_rule Prefix e = refl
+prefix_rule Extension e = absurd (omega arith)
+prefix_rule Default e = absurd (omega arith)
+
+extension_rule : (f : PatternForm) → rule_of_form f ≡ 3 → f ≡ Extension
+extension_rule Exact e = absurd (omega arith)
+extension_rule ContextRoot e = absurd (omega arith)
+extension_rule Prefix e = absurd (omega arith)
+extension_rule Extension e = refl
+extension_rule Default e = absurd (omega arith)
+
+default_rule : (f : PatternForm) → rule_of_form f ≡ 4 → f ≡ Default
+default_rule Exact e = absurd (omega arith)
+default_rule ContextRoot e = absurd (omega arith)
+default_rule Prefix e = absurd (omega arith)
+default_rule Extension e = absurd (omega arith)
+default_rule Default e = refl
+
+four_rules : (f : PatternForm) → (1 ≤ rule_of_form f) × (rule_of_form f ≤ 4)
+four_rules Exact = (omega arith, omega arith)
+four_rules ContextRoot = (omega arith, omega arith)
+four_rules Prefix = (omega arith, omega arith)
+four_rules Extension = (omega arith, omega arith)
+four_rules Default = (omega arith, omega arith)
+
+module _ (pattern : Text) where
+  pub rule_of-form : (f : PatternForm) → form_of pattern ≡ f → rule_of pattern ≡ rule_of_form f
+  unfolding rule_of
+  rule_of-form f e = ap rule_of_form e
+
+  pub exact_or_root : rule_of pattern ≡ 1 → (form_of pattern ≡ Exact) ⊎ (form_of pattern ≡ ContextRoot)
+  unfolding rule_of
+  exact_or_root e = rule_forms (form_of pattern) e
+
+  pub prefix_by_rule : rule_of pattern ≡ 2 → form_of pattern ≡ Prefix
+  unfolding rule_of
+  prefix_by_rule e = prefix_rule (form_of pattern) e
+
+  pub extension_by_rule : rule_of pattern ≡ 3 → form_of pattern ≡ Extension
+  unfolding rule_of
+  extension_by_rule e = extension_rule (form_of pattern) e
+
+  pub default_by_rule : rule_of pattern ≡ 4 → form_of pattern ≡ Default
+  unfolding rule_of
+  default_by_rule e = default_rule (form_of pattern) e
+
+  pub rule_of-bounds : (1 ≤ rule_of pattern) × (rule_of pattern ≤ 4)
+  unfolding rule_of
+  rule_of-bounds = four_rules (form_of pattern)
+
+  pub matches-form : (path : Text) (f : PatternForm) → form_of pattern ≡ f → matches pattern path ≡ matches_by f pattern path
+  unfolding matches
+  matches-form path f e = ap (λ g. matches_by g pattern path) e

@@ -19,3 +19,7 @@ true_test false h = absurd h
 
 pub test_true : (b : Bool) → b ≡ true → T b
 test_true b e = subst T (sym e) tt
+
+pub false_test : (b : Bool) → (b ≡ true → ⊥) → b ≡ false
+false_test true h = absurd (h refl)
+false_test false h = refl

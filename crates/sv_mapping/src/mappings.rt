@@ -71,6 +71,76 @@ impl Mappings {
         }
     }
 
+    /// The servlet of a path within the context, by the best pattern that matches it. Takes no memory.
+    ///
+    /// The path is decoded and begins with `/`; an empty one is handed in as `/`.
+    pub fn find(&self, path: &str) -> Option<Match>
+        ensures best { IfSome result (IsBestMatch self.now path.now) }
+        ensures none { IsNone result ↔ HasNoMatch self.now path.now }
+        ensures mapped { option_map (shown path.now) result ≡ mapped self.now path.now }
+        ensures boundary { IfSome result (λ found. IsCharBoundary path.now found.split) }
+    {
+        self.by_exact(path)
+            .or_else(|| self.by_prefix(path))
+            .or_else(|| self.by_extension(path))
+            .or_else(|| self.by_default(path))
+    }
+
+    /// By an exact pattern, or by the empty one.
+    fn by_exact(&self, path: &str) -> Option<Match>
+        ensures { AnswersByRule self.now path.now 1 result }
+    {
+        if path == "/" {
+            let servlet = self.servlet_of("", "")?;
+            return Some(Match {
+                servlet,
+                split: 0,
+                info: true,
+            });
+        }
+        let PatternForm::Exact = form_of(path) else {
+            return None;
+        };
+        let servlet = self.servlet_of(path, "")?;
+        Some(Match::whole(servlet, path))
+    }
+
+    /// By the longest prefix: the path is cut at its slashes, from the last to the first.
+    fn by_prefix(&self, path: &str) -> Option<Match>
+        ensures { AnswersByRule self.now path.now 2 result }
+    {
+        if !path.is_empty() && !path.starts_with('/') {
+            return None;
+        }
+        let mut front = path;
+        loop {
+            if let Some(servlet) = self.servlet_of(front, "/*") {
+                return Some(Match {
+                    servlet,
+                    split: front.len(),
+                    info: front.len() < path.len(),
+                });
+            }
+            let slash = front.rfind('/')?;
+            front = &front[..slash];
+        }
+    }
+
+    fn by_extension(&self, path: &str) -> Option<Match>
+        ensures { AnswersByRule self.now path.now 3 result }
+    {
+        let extension = extension_of(path)?;
+        let servlet = self.servlet_of("*.", extension)?;
+        Some(Match::whole(servlet, path))
+    }
+
+    fn by_default(&self, path: &str) -> Option<Match>
+        ensures { AnswersByRule self.now path.now 4 result }
+    {
+        let servlet = self.servlet_of("/", "")?;
+        Some(Match::whole(servlet, path))
+    }
+
     /// The servlet of a pattern that is written as `front` followed by `back`.
     fn servlet_of(&self, front: &str, back: &str) -> Option<usize>
         ensures { result ≡ map.get self.now (front.now ++ back.now) }
