@@ -5,7 +5,7 @@ use Rattle.std.proofs.lemmas.List.{append-nil}
 use Rattle.sv_journal.specs.Disk.{Only, LeavesOnly, IsQuiet}
 use Rattle.sv_journal.specs.Commit.{Rests, IsSettled, IsCommitting}
 use Rattle.sv_journal.specs.Format.{front, IsJournal, IsOpen, IsShut, OpensAsNew, Opens, OpensAlike}
-use Rattle.sv_journal.specs.Journal.{Holds, OpensWithoutLoss}
+use Rattle.sv_journal.specs.Journal.{Keeps, Holds, OpensWithoutLoss}
 use Rattle.sv_journal.specs.Opening.{journal_at}
 use Rattle.sv_journal.specs.declared.opening.Place.{Place}
 use Rattle.sv_journal.specs.Blank.{IsBlank, IsBeingMade, first_image}
@@ -52,55 +52,54 @@ module _ {D : Type 0} (tells : D → Type 0) (seen : D → List ℕ) (may_leave 
   pub rests_shut : (disk : D) → (s : IsShut (seen disk)) → Only (seen disk) (may_leave disk) → Rests seen may_leave disk [] s.0 s.1
   rests_shut disk s only = record { image = s.3; shut = s.2; durable = only }
 
-  -- The two disks were synced, then their heads were read, and disk A is blank and B has a byte at most. Then the
-  -- first journal was made on A.
-  module _ (only_now : (disk : D) (c : List ℕ) → tells disk → left_since disk (moment disk) c → may_leave disk c) (a a1 a2 a' b b1 b2 : D)
+  -- Disk A was synced, then its head was read, and it is blank. Then the first journal was made there.
+  module _ (only_now : (disk : D) (c : List ℕ) → tells disk → left_since disk (moment disk) c → may_leave disk c) (a a1 a2 a' : D)
       (qa1 : IsQuiet tells seen may_leave moment left_since a a1) (qa2 : IsQuiet tells seen may_leave moment left_since a1 a2)
-      (qb1 : IsQuiet tells seen may_leave moment left_since b b1) (qb2 : IsQuiet tells seen may_leave moment left_since b1 b2)
-      (told_a : tells a) (told_b : tells b) (settled_a : Only (seen a) (may_leave a1)) (settled_b : Only (seen b) (may_leave b1))
-      (closed : IsOpen (seen a1) → ⊥) (short : length (seen a1) ≤ 17) (few : length (seen b1) ≤ 1) where
+      (told_a : tells a) (settled_a : Only (seen a) (may_leave a1)) (closed : IsOpen (seen a1) → ⊥) (short : length (seen a1) ≤ 17) where
     qa : IsQuiet tells seen may_leave moment left_since a a2
     qa = quiet_then tells seen may_leave moment left_since only_now a a1 a2 qa1 qa2
-
-    few_b : length (seen b) ≤ 1
-    few_b = omega (arith, few, ap length qb1.same)
-
-    only_b : Only (seen b) (may_leave b2)
-    only_b = λ image left. settled_b image (qb2.stop (qb1.tells_after told_b) image left)
 
     blank : IsBlank (seen a)
     blank = (λ o. closed (subst IsOpen (sym qa1.same) o), omega (arith, short, ap length qa1.same))
 
-    told_read : tells a2
-    told_read = qa.tells_after told_a
+    -- what the making asks for
+    abbrev OfBlank : Type 0 → Type 0
+    OfBlank P = tells a2 → IsBlank (seen a2) → Only (seen a2) (may_leave a2) → P
 
-    blank_read : IsBlank (seen a2)
-    blank_read = subst IsBlank (sym qa.same) blank
+    of_blank : (P : Type 0) → OfBlank P → P
+    of_blank P made = made (qa.tells_after told_a) (subst IsBlank (sym qa.same) blank) (λ image left. settled_a image (qa2.stop (qa1.tells_after told_a) image left) ∙ sym qa.same)
 
-    only_read : Only (seen a2) (may_leave a2)
-    only_read = λ image left. settled_a image (qa2.stop (qa1.tells_after told_a) image left) ∙ sym qa.same
-
-    as_new : Opens (seen a) (seen b) []
-    as_new = opens_made (seen a) (seen b) few_b (inl blank)
-
-    pub without_loss : (tells a2 → IsBlank (seen a2) → Only (seen a2) (may_leave a2) → LeavesOnly moment left_since a2 a' IsBeingMade) → OpensWithoutLoss seen may_leave moment left_since a b a' b2
-    without_loss made = record {
-      of_a = leaves_then moment left_since a a2 a' (may_leave a) IsBeingMade (λ c. may_leave a c ⊎ OpensAlike (seen a) (seen b) c)
-      (λ c l. inl l) (λ c m. inr ([], as_new, opens_made c (seen b) few_b m)) (qa.left told_a) (made told_read blank_read only_read);
-      of_b = (quiet_then tells seen may_leave moment left_since only_now b b1 b2 qb1 qb2).left told_b;
-      apart = inl only_b;
-    }
-
-    pub held : (place : Place) → place.generation ≡ 1 → place.end ≡ 16 → place.len ≡ 17 → (tells a2 → IsBlank (seen a2) → Only (seen a2) (may_leave a2) → IsSettled first_image (seen a') (may_leave a'))
-        → (entries : List (List ℕ)) × Opens (seen a) (seen b) entries × Holds seen may_leave (journal_at a' b2 place) entries
-    held place generation end len made =
-        let s = made told_read blank_read only_read in
-        let same : seen b2 ≡ seen b = qb2.same ∙ qb1.same in
-        ([], as_new, record {
+    pub kept : (other : D) (place : Place) → place.generation ≡ 1 → place.end ≡ 16 → place.len ≡ 17 → OfBlank (IsSettled first_image (seen a') (may_leave a')) → Keeps seen may_leave (journal_at a' other place) []
+    kept other place generation end len made =
+        let s = of_blank (IsSettled first_image (seen a') (may_leave a')) made in
+        record {
           image = subst (λ (n : ℕ). IsJournal (seen a') n []) (sym generation) (first_journal (seen a') s.reads);
-          other = λ o. not_open (seen b) few_b (subst IsOpen same o);
           end_is = end ∙ ap (λ (n : ℕ). length (front n [])) (sym generation);
           len_is = len ∙ sym (ap length s.reads);
           durable = s.durable;
-          other_durable = λ image left. only_b image left ∙ sym same;
-        })
+        }
+
+    -- The same of disk B, which has a byte at most.
+    module _ (b b1 b2 : D) (qb1 : IsQuiet tells seen may_leave moment left_since b b1) (qb2 : IsQuiet tells seen may_leave moment left_since b1 b2)
+        (told_b : tells b) (settled_b : Only (seen b) (may_leave b1)) (few : length (seen b1) ≤ 1) where
+      few_b : length (seen b) ≤ 1
+      few_b = omega (arith, few, ap length qb1.same)
+
+      only_b : Only (seen b) (may_leave b2)
+      only_b = λ image left. settled_b image (qb2.stop (qb1.tells_after told_b) image left)
+
+      as_new : Opens (seen a) (seen b) []
+      as_new = opens_made (seen a) (seen b) few_b (inl blank)
+
+      pub without_loss : OfBlank (LeavesOnly moment left_since a2 a' IsBeingMade) → OpensWithoutLoss seen may_leave moment left_since a b a' b2
+      without_loss made = record {
+        of_a = leaves_then moment left_since a a2 a' (may_leave a) IsBeingMade (λ c. may_leave a c ⊎ OpensAlike (seen a) (seen b) c)
+        (λ c l. inl l) (λ c m. inr ([], as_new, opens_made c (seen b) few_b m)) (qa.left told_a) (of_blank (LeavesOnly moment left_since a2 a' IsBeingMade) made);
+        of_b = (quiet_then tells seen may_leave moment left_since only_now b b1 b2 qb1 qb2).left told_b;
+        apart = inl only_b;
+      }
+
+      pub held : (place : Place) → Keeps seen may_leave (journal_at a' b2 place) [] → (entries : List (List ℕ)) × Opens (seen a) (seen b) entries × Holds seen may_leave (journal_at a' b2 place) entries
+      held place keeps =
+          let same : seen b2 ≡ seen b = qb2.same ∙ qb1.same in
+          ([], as_new, record { keeps = keeps; other = λ o. not_open (seen b) few_b (subst IsOpen same o); other_durable = λ image left. only_b image left ∙ sym same })

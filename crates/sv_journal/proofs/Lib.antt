@@ -9,3 +9,4 @@ pub mod GateLemmas
 pub mod HeadLemmas
 pub mod JournalLemmas
 pub mod BlankLemmas
+pub mod Appending

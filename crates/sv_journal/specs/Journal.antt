@@ -17,19 +17,24 @@ pub record JournalView (D : Type 0) : Type 0 where
   -- no call of a disk has failed in an append since the journal was opened
   pub live : Bool
 
--- The current disk is an open journal of these entries, the other one isn't open, and both are synced.
-pub record Holds {D : Type 0} (seen : D → List ℕ) (may_leave : D → List ℕ → Type 0) (journal : JournalView D) (entries : List (List ℕ)) : Type 0 where
+-- The current disk, all of it synced, is an open journal of these entries, whose closing gate stands at `end`.
+pub record Keeps {D : Type 0} (seen : D → List ℕ) (may_leave : D → List ℕ → Type 0) (journal : JournalView D) (entries : List (List ℕ)) : Type 0 where
   pub image : IsJournal (seen journal.current) journal.generation entries
-  pub other : IsOpen (seen journal.other) → ⊥
   pub end_is : journal.end ≡ length (front journal.generation entries)
   pub len_is : journal.len ≡ length (seen journal.current)
   pub durable : Only (seen journal.current) (may_leave journal.current)
+
+-- The current disk keeps these entries, and the other one, all of it synced too, isn't open.
+pub record Holds {D : Type 0} (seen : D → List ℕ) (may_leave : D → List ℕ → Type 0) (journal : JournalView D) (entries : List (List ℕ)) : Type 0 where
+  pub keeps : Keeps seen may_leave journal entries
+  pub other : IsOpen (seen journal.other) → ⊥
   pub other_durable : Only (seen journal.other) (may_leave journal.other)
 
 -- what is true of each journal
 pub record IsSound {D : Type 0} (tells : D → Type 0) (seen : D → List ℕ) (may_leave : D → List ℕ → Type 0) (journal : JournalView D) : Type 0 where
+  pub behind_header : 16 ≤ journal.end
   pub within : journal.end < journal.len
-  pub holds : IsTrue journal.live → tells journal.current → tells journal.other → (entries : List (List ℕ)) × Holds seen may_leave journal entries
+  pub keeps : IsTrue journal.live → tells journal.current → (entries : List (List ℕ)) × Keeps seen may_leave journal entries
 
 -- the disks, in the order in which the journal took them
 abbrev pub disks : {D : Type 0} → JournalView D → D × D

@@ -4,7 +4,7 @@ ghost use Rattle.sv_journal.specs.Disk.{IsQuiet, TellsOn, Torn, LeavesOnly, Only
 ghost use Rattle.sv_journal.specs.Commit.{IsSettled};
 ghost use Rattle.sv_journal.specs.Format.{front, IsJournal, IsOpen, IsShut, Opens};
 ghost use Rattle.sv_journal.specs.Head.{Shows};
-ghost use Rattle.sv_journal.specs.Journal.{Holds, OpensWithoutLoss};
+ghost use Rattle.sv_journal.specs.Journal.{Keeps, Holds, OpensWithoutLoss};
 ghost use Rattle.sv_journal.specs.Opening.{journal_at};
 ghost use Rattle.sv_journal.specs.Blank.{IsBlank, IsBeingMade, first_image};
 
@@ -47,7 +47,7 @@ fn find<D: Disk>(disk: &mut D, len: u64) -> Result<Place, JournalFault>
     requires long { 17 ≤ len }
     ensures found { IfOk result (λ place. D.tells disk.old → (entries : List (List ℕ)) × IsJournal (D.seen disk.old) place.generation entries × (place.end ≡ length (front place.generation entries))) }
     ensures len { IfOk result (λ place. place.len ≡ len) }
-    ensures within { IfOk result (λ place. place.end < len) }
+    ensures within { IfOk result (λ place. (16 ≤ place.end) × (place.end < len)) }
     ensures damaged { IsErrOf result JournalFault.Damaged → D.tells disk.old → (generation : ℕ) (entries : List (List ℕ)) → IsJournal (D.seen disk.old) generation entries → ⊥ }
     ensures quiet { IsQuiet D.tells D.seen D.may_leave D.moment D.left_since disk.old disk.new }
     ensures count { OnOk result (D.failed disk.new ≡ D.failed disk.old) }
@@ -106,7 +106,8 @@ fn make<D: Disk>(disk: &mut D, head: Head) -> Result<(), Device>
 /// Finds the journal of the two disks, or makes the first one on disk A.
 pub fn find_or_make<D: Disk>(a: &mut D, b: &mut D) -> Result<Place, JournalFault>
     ensures holds { IfOk result (λ place. D.tells a.old → D.tells b.old → (entries : List (List ℕ)) × Opens (D.seen a.old) (D.seen b.old) entries × Holds D.seen D.may_leave (journal_at a.new b.new place) entries) }
-    ensures within { IfOk result (λ place. place.end < place.len) }
+    ensures keeps { IfOk result (λ place. D.tells a.old → (entries : List (List ℕ)) × Keeps D.seen D.may_leave (journal_at a.new b.new place) entries) }
+    ensures within { IfOk result (λ place. (16 ≤ place.end) × (place.end < place.len)) }
     ensures damaged { IsErrOf result JournalFault.Damaged → D.tells a.old → D.tells b.old → (entries : List (List ℕ)) → Opens (D.seen a.old) (D.seen b.old) entries → ⊥ }
     ensures any_moment { D.tells a.old → D.tells b.old → OpensWithoutLoss D.seen D.may_leave D.moment D.left_since a.old b.old a.new b.new }
     ensures tells_a { TellsOn D.tells a.old a.new }

@@ -1,6 +1,7 @@
 use Rattle.std.proofs.Common.{◌≡◌, ◌⊎◌, inl, inr, ◌≤◌, ℕ, List, [], length, sym, ◌∙◌, ap, subst, refl, arith, rules}
 use Rattle.sv_journal.specs.Format.{IsJournal, IsOpen, OpensOnA}
-use Rattle.sv_journal.proofs.BlankLemmas.{without_loss, held}
+use Rattle.sv_journal.specs.declared.opening.Place.{Place}
+use Rattle.sv_journal.proofs.BlankLemmas.{without_loss, kept, held}
 use Rattle.sv_journal.proofs.opening.find_or_make.Goals as goal
 
 pub returns-then-is_open-2-clause-damaged : goal.returns-then-is_open-2-clause-damaged
@@ -20,28 +21,40 @@ pub returns-in_err-make-clause-any_moment : goal.returns-in_err-make-clause-any_
 returns-in_err-make-clause-any_moment g c = λ told_a told_b.
     let d = g.D.Disk in
     let shows_a = c.in_ok-current.ensures.shows (c.settle.ensures.quiet_a.tells_after told_a) in
-    let shows_b = c.in_ok-other.ensures.shows (c.settle.ensures.quiet_b.tells_after told_b) in
     let closed : IsOpen (d.seen c.settle.new.a) → ⊥ = λ o. let no = (c.if-is_open-2.ensures.open (d.seen c.settle.new.a) shows_a).1 o in cc in
-    without_loss d.tells d.seen d.may_leave d.moment d.left_since g.met.D.Disk.only_now c.args.a.now c.settle.new.a c.head_of-2.new.disk c.make.new.disk c.args.b.now c.settle.new.b c.head_of.new.disk
-    c.settle.ensures.quiet_a c.head_of-2.ensures.quiet c.settle.ensures.quiet_b c.head_of.ensures.quiet told_a told_b (c.in_ok-settle.ensures.settled_a told_a) (c.in_ok-settle.ensures.settled_b told_b)
-    closed (omega (arith, shows_a.len)) (omega (arith, shows_b.len)) c.make.ensures.any_moment
+    let shows_b = c.in_ok-other.ensures.shows (c.settle.ensures.quiet_b.tells_after told_b) in
+    without_loss d.tells d.seen d.may_leave d.moment d.left_since g.met.D.Disk.only_now c.args.a.now c.settle.new.a c.head_of-2.new.disk c.make.new.disk
+    c.settle.ensures.quiet_a c.head_of-2.ensures.quiet told_a (c.in_ok-settle.ensures.settled_a told_a) closed (omega (arith, shows_a.len)) c.args.b.now c.settle.new.b c.head_of.new.disk
+    c.settle.ensures.quiet_b c.head_of.ensures.quiet told_b (c.in_ok-settle.ensures.settled_b told_b) (omega (arith, shows_b.len)) c.make.ensures.any_moment
 
 pub returns-clause-any_moment : goal.returns-clause-any_moment
 returns-clause-any_moment g c = λ told_a told_b.
     let d = g.D.Disk in
     let shows_a = c.in_ok-current.ensures.shows (c.settle.ensures.quiet_a.tells_after told_a) in
-    let shows_b = c.in_ok-other.ensures.shows (c.settle.ensures.quiet_b.tells_after told_b) in
     let closed : IsOpen (d.seen c.settle.new.a) → ⊥ = λ o. let no = (c.if-is_open-2.ensures.open (d.seen c.settle.new.a) shows_a).1 o in cc in
-    without_loss d.tells d.seen d.may_leave d.moment d.left_since g.met.D.Disk.only_now c.args.a.now c.settle.new.a c.head_of-2.new.disk c.make.new.disk c.args.b.now c.settle.new.b c.head_of.new.disk
-    c.settle.ensures.quiet_a c.head_of-2.ensures.quiet c.settle.ensures.quiet_b c.head_of.ensures.quiet told_a told_b (c.in_ok-settle.ensures.settled_a told_a) (c.in_ok-settle.ensures.settled_b told_b)
-    closed (omega (arith, shows_a.len)) (omega (arith, shows_b.len)) c.make.ensures.any_moment
+    let shows_b = c.in_ok-other.ensures.shows (c.settle.ensures.quiet_b.tells_after told_b) in
+    without_loss d.tells d.seen d.may_leave d.moment d.left_since g.met.D.Disk.only_now c.args.a.now c.settle.new.a c.head_of-2.new.disk c.make.new.disk
+    c.settle.ensures.quiet_a c.head_of-2.ensures.quiet told_a (c.in_ok-settle.ensures.settled_a told_a) closed (omega (arith, shows_a.len)) c.args.b.now c.settle.new.b c.head_of.new.disk
+    c.settle.ensures.quiet_b c.head_of.ensures.quiet told_b (c.in_ok-settle.ensures.settled_b told_b) (omega (arith, shows_b.len)) c.make.ensures.any_moment
 
 pub returns-clause-holds : goal.returns-clause-holds
 returns-clause-holds g c = λ told_a told_b.
     let d = g.D.Disk in
     let shows_a = c.in_ok-current.ensures.shows (c.settle.ensures.quiet_a.tells_after told_a) in
-    let shows_b = c.in_ok-other.ensures.shows (c.settle.ensures.quiet_b.tells_after told_b) in
     let closed : IsOpen (d.seen c.settle.new.a) → ⊥ = λ o. let no = (c.if-is_open-2.ensures.open (d.seen c.settle.new.a) shows_a).1 o in cc in
-    held d.tells d.seen d.may_leave d.moment d.left_since g.met.D.Disk.only_now c.args.a.now c.settle.new.a c.head_of-2.new.disk c.make.new.disk c.args.b.now c.settle.new.b c.head_of.new.disk
-    c.settle.ensures.quiet_a c.head_of-2.ensures.quiet c.settle.ensures.quiet_b c.head_of.ensures.quiet told_a told_b (c.in_ok-settle.ensures.settled_a told_a) (c.in_ok-settle.ensures.settled_b told_b)
-    closed (omega (arith, shows_a.len)) (omega (arith, shows_b.len)) (record { generation = 1; end = 16; len = 17 }) refl refl refl c.in_ok-make.ensures.made
+    let shows_b = c.in_ok-other.ensures.shows (c.settle.ensures.quiet_b.tells_after told_b) in
+    let place : Place = record { generation = 1; end = 16; len = 17 } in
+    held d.tells d.seen d.may_leave d.moment d.left_since g.met.D.Disk.only_now c.args.a.now c.settle.new.a c.head_of-2.new.disk c.make.new.disk
+    c.settle.ensures.quiet_a c.head_of-2.ensures.quiet told_a (c.in_ok-settle.ensures.settled_a told_a) closed (omega (arith, shows_a.len)) c.args.b.now c.settle.new.b c.head_of.new.disk
+    c.settle.ensures.quiet_b c.head_of.ensures.quiet told_b (c.in_ok-settle.ensures.settled_b told_b) (omega (arith, shows_b.len)) place
+    (kept d.tells d.seen d.may_leave d.moment d.left_since g.met.D.Disk.only_now c.args.a.now c.settle.new.a c.head_of-2.new.disk c.make.new.disk
+    c.settle.ensures.quiet_a c.head_of-2.ensures.quiet told_a (c.in_ok-settle.ensures.settled_a told_a) closed (omega (arith, shows_a.len)) c.head_of.new.disk place refl refl refl c.in_ok-make.ensures.made)
+
+pub returns-clause-keeps : goal.returns-clause-keeps
+returns-clause-keeps g c = λ told_a.
+    let d = g.D.Disk in
+    let shows_a = c.in_ok-current.ensures.shows (c.settle.ensures.quiet_a.tells_after told_a) in
+    let closed : IsOpen (d.seen c.settle.new.a) → ⊥ = λ o. let no = (c.if-is_open-2.ensures.open (d.seen c.settle.new.a) shows_a).1 o in cc in
+    let place : Place = record { generation = 1; end = 16; len = 17 } in
+    ([], kept d.tells d.seen d.may_leave d.moment d.left_since g.met.D.Disk.only_now c.args.a.now c.settle.new.a c.head_of-2.new.disk c.make.new.disk
+    c.settle.ensures.quiet_a c.head_of-2.ensures.quiet told_a (c.in_ok-settle.ensures.settled_a told_a) closed (omega (arith, shows_a.len)) c.head_of.new.disk place refl refl refl c.in_ok-make.ensures.made)
