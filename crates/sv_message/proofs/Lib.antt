@@ -1,4 +1,5 @@
 mod FieldLemmas
 mod HeadLemmas
 mod MessageLemmas
+mod CallLemmas
 pub mod FaultLemmas

@@ -7,4 +7,5 @@ pub mod Fault
 pub mod Found
 pub mod Stream
 pub mod Reader
+pub mod Calls
 pub mod Response

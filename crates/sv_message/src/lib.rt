@@ -11,6 +11,7 @@ pub mod fault;
 mod framing;
 mod head;
 mod host;
+pub mod laws;
 mod message;
 mod persistence;
 pub mod reader;
