@@ -5,3 +5,4 @@ pub mod EntryLemmas
 pub mod TableLemmas
 pub mod MatchLemmas
 pub mod PrefixLemmas
+pub mod BestLemmas

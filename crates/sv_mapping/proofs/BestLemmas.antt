@@ -1,0 +1,209 @@
+-- The best pattern: from the answers of the four rules, and among a list of patterns.
+use Rattle.std.proofs.Common.{◌≡◌, ◌≢◌, ℕ, suc, ◌+◌, ◌<◌, ◌≤◌, ◌⊎◌, ◌||◌, Bool, true, false, cond, List, [], ◌∷◌, length, Option, Some, None, IsTrue, IsNone, IfSome, MatchOption, refl, sym, ap, ◌∙◌, subst, inl, inr, arith}
+use Rattle.std.specs.Option.{is_some, option_map, option_and_then}
+use Rattle.std.specs.List.{list_any}
+use Rattle.std.specs.Ordering.{is_eq, eq_by_cmp}
+use Rattle.std.specs.Cmp.{tied_itself}
+use Rattle.std.specs.Cmp.Lexicographic.{nat_list_cmp_total}
+use Rattle.std.specs.FinMap.{get, contains_key, keys, contains_key-keys}
+use Rattle.std.specs.declared.cmp.Ordering.{Ordering}
+use Rattle.std.specs.declared.cmp.Ordering.TheVariants.{Less, Equal, Greater}
+use Rattle.std.proofs.lemmas.Option.{none-some, same_Some}
+use Rattle.std.proofs.lemmas.Bool.{false≢true, cases_lt}
+use Rattle.std.proofs.lemmas.Bool.Decides.{nat_tests}
+use Rattle.sv_mapping.specs.Path.{Text}
+use Rattle.sv_mapping.specs.Pattern.{matches, rule_of, precedes}
+use Rattle.sv_mapping.specs.Search.{text_cmp}
+use Rattle.sv_mapping.specs.ServletMatch.{Mapped, mapped_by, shown}
+use Rattle.sv_mapping.specs.Mappings.{Table, IsBest, HasNoMatch, better, best_pattern, mapped, IsMatchOf, IsBestMatch, IsBestByRule, AnswersByRule}
+use Rattle.sv_mapping.specs.declared.servlet_match.Match.{Match}
+use Rattle.sv_mapping.proofs.EntryLemmas.{same_text}
+use Rattle.sv_mapping.proofs.PatternLemmas.{rule_of-bounds}
+
+module _ (a b : Text) where
+  pub precedes-rule : rule_of a < rule_of b → precedes a b ≡ true
+  unfolding precedes
+  precedes-rule h = grind (arith, nat_tests)
+
+  pub precedes-longer : rule_of a ≡ rule_of b → length b < length a → precedes a b ≡ true
+  unfolding precedes
+  precedes-longer e h = grind (arith, nat_tests)
+
+  precedes-back : precedes a b ≡ true → precedes b a ≡ false
+  unfolding precedes
+  precedes-back h = grind (arith, nat_tests)
+
+-- the answers of the rules up to the n-th
+abbrev pub AnswersUpTo : Table → Text → ℕ → Option Match → Type 0
+AnswersUpTo table path n answer =
+    MatchOption answer
+      ((pattern : Text) → IsTrue (contains_key table pattern) → rule_of pattern ≤ n → matches pattern path ≡ false)
+      (IsBestMatch table path)
+
+module _ (table : Table) (path : Text) where
+  -- the best by a rule is the best, where no pattern matches by an earlier rule
+  best_by_rule : (n : ℕ) (found : Match) → ((pattern : Text) → IsTrue (contains_key table pattern) → rule_of pattern ≤ n → matches pattern path ≡ false) → IsBestByRule table path (n + 1) found → IsBestMatch table path found
+  best_by_rule n found none best =
+      let first : (other : Text) → IsTrue (contains_key table other) → IsTrue (matches other path) → (other ≡ best.pattern) ⊎ IsTrue (precedes best.pattern other) =
+          λ other listed matching. elim (cases_lt n (rule_of other)) [
+            | inr earlier ↦ absurd (false≢true (sym (none other listed earlier) ∙ matching))
+            | inl later ↦ elim (cases_lt (n + 1) (rule_of other)) [
+              | inl last ↦ inr (precedes-rule best.pattern other (omega (arith, best.goes_by)))
+              | inr same ↦ elim (best.longest other listed (omega arith) matching) [
+                | inl equal ↦ inl equal
+                | inr shorter ↦ inr (precedes-longer best.pattern other (omega (arith, best.goes_by)) shorter)
+              ]
+            ]
+          ] in
+      (best.pattern, record { listed = ap is_some best.match_of.servlet; matching = best.matching; first = first }, best.match_of)
+
+  pub answers_first : (answer : Option Match) → AnswersByRule table path 1 answer → AnswersUpTo table path 1 answer
+  answers_first None none = λ pattern listed upto. none pattern listed (omega (arith, rule_of-bounds pattern))
+  answers_first (Some found) best = best_by_rule 0 found (λ pattern listed upto. absurd (omega (arith, rule_of-bounds pattern))) best
+
+  pub answers_more : (n : ℕ) (before after : Option Match) → AnswersUpTo table path n before → MatchOption before (AnswersByRule table path (n + 1) after) (λ x. after ≡ Some x) → AnswersUpTo table path (n + 1) after
+  answers_more n (Some found) after best same = subst (AnswersUpTo table path (n + 1)) (sym same) best
+  answers_more n None None none here = λ pattern listed upto. elim (cases_lt n (rule_of pattern)) [
+    | inl later ↦ here pattern listed (omega arith)
+    | inr earlier ↦ none pattern listed earlier
+  ]
+  answers_more n None (Some found) none best = best_by_rule n found none best
+
+  pub no_match : (answer : Option Match) → AnswersUpTo table path 4 answer → IsNone answer → HasNoMatch table path
+  no_match None none h = λ pattern listed. none pattern listed (omega (arith, rule_of-bounds pattern))
+  no_match (Some found) best h = absurd (false≢true (sym h))
+
+  pub no_answer : (answer : Option Match) → AnswersUpTo table path 4 answer → HasNoMatch table path → IsNone answer
+  no_answer None none h = refl
+  no_answer (Some found) best h = absurd (false≢true (sym (h best.0 best.1.listed) ∙ best.1.matching))
+
+  pub best_answer : (answer : Option Match) → AnswersUpTo table path 4 answer → IfSome answer (IsBestMatch table path)
+  best_answer None none = tt
+  best_answer (Some found) best = best
+
+-- whether a text stands in a list
+abbrev has : Text → List Text → Bool
+has text = list_any (eq_by_cmp text_cmp text)
+
+equal_test : (r : Ordering) → is_eq r ≡ true → r ≡ Equal
+equal_test Less e = cc
+equal_test Equal e = refl
+equal_test Greater e = cc
+
+has_itself : (text : Text) (texts : List Text) → has text (text ∷ texts) ≡ true
+has_itself text texts = ap (λ r. is_eq r || has text texts) (tied_itself nat_list_cmp_total text)
+
+or_right : (a b : Bool) → b ≡ true → (a || b) ≡ true
+or_right true b e = refl
+or_right false b e = e
+
+either : (a b : Bool) → (a || b) ≡ true → (a ≡ true) ⊎ (b ≡ true)
+either true b e = inl refl
+either false b e = inr e
+
+has_cases : (text first : Text) (texts : List Text) → has text (first ∷ texts) ≡ true → (text ≡ first) ⊎ (has text texts ≡ true)
+has_cases text first texts h = elim (either _ _ h) [
+  | inl tied ↦ inl (same_text text first (equal_test _ tied))
+  | inr later ↦ inr later
+]
+
+module _ (path : Text) where
+  pub best_pattern-none : (texts : List Text) → ((text : Text) → has text texts ≡ true → matches text path ≡ false) → best_pattern texts path ≡ None
+  best_pattern-none [] none = refl
+  best_pattern-none (first ∷ texts) none =
+      ap (λ b. cond b (Some (better first (best_pattern texts path))) (best_pattern texts path)) (none first (has_itself first texts))
+      ∙ best_pattern-none texts (λ text h. none text (or_right _ _ h))
+
+  better_some : (first : Text) (texts : List Text) → matches first path ≡ true → best_pattern (first ∷ texts) path ≡ Some (better first (best_pattern texts path))
+  better_some first texts matching = ap (λ b. cond b (Some (better first (best_pattern texts path))) (best_pattern texts path)) matching
+
+  -- the best pattern is one of the list, and matches
+  pub best_pattern-listed : (texts : List Text) (best : Text) → best_pattern texts path ≡ Some best → (has best texts ≡ true) × (matches best path ≡ true)
+  best_pattern-listed [] best e = absurd (none-some best e)
+  best_pattern-listed (first ∷ texts) best e =
+      elim (matches first path) as (λ b. matches first path ≡ b → (has best (first ∷ texts) ≡ true) × (matches best path ≡ true)) [
+        | false ↦ λ no.
+            let later = best_pattern-listed texts best (sym (ap (λ b. cond b (Some (better first (best_pattern texts path))) (best_pattern texts path)) no) ∙ e) in
+            (or_right _ _ later.0, later.1)
+        | true ↦ λ yes.
+            let chosen = same_Some _ _ (sym (better_some first texts yes) ∙ e) in
+            let by_first : first ≡ best → (has best (first ∷ texts) ≡ true) × (matches best path ≡ true) =
+                λ is. (subst (λ t. has t (first ∷ texts) ≡ true) is (has_itself first texts), ap (λ t. matches t path) (sym is) ∙ yes) in
+            elim (best_pattern texts path) as (λ o. best_pattern texts path ≡ o → better first o ≡ best → (has best (first ∷ texts) ≡ true) × (matches best path ≡ true)) [
+              | None ↦ λ _ is. by_first is
+              | Some other ↦ λ found is.
+                  let later = best_pattern-listed texts other found in
+                  elim (precedes other first) as (λ b. cond b other first ≡ best → (has best (first ∷ texts) ≡ true) × (matches best path ≡ true)) [
+                    | true ↦ λ same. (or_right _ _ (subst (λ t. has t texts ≡ true) same later.0), ap (λ t. matches t path) (sym same) ∙ later.1)
+                    | false ↦ λ same. by_first same
+                  ] is
+            ] refl chosen
+      ] refl
+
+  -- what precedes every other pattern of the list that matches is the best
+  pub best_pattern-is : (texts : List Text) (best : Text) → has best texts ≡ true → matches best path ≡ true → ((text : Text) → has text texts ≡ true → matches text path ≡ true → (text ≡ best) ⊎ (precedes best text ≡ true)) → best_pattern texts path ≡ Some best
+  best_pattern-is [] best h matching first = absurd (false≢true h)
+  best_pattern-is (one ∷ texts) best h matching first =
+      let rest_first : (text : Text) → has text texts ≡ true → matches text path ≡ true → (text ≡ best) ⊎ (precedes best text ≡ true) = λ text listed. first text (or_right _ _ listed) in
+      elim (matches one path) as (λ b. matches one path ≡ b → best_pattern (one ∷ texts) path ≡ Some best) [
+        | false ↦ λ no.
+            let skipped : best_pattern (one ∷ texts) path ≡ best_pattern texts path = ap (λ b. cond b (Some (better one (best_pattern texts path))) (best_pattern texts path)) no in
+            elim (has_cases best one texts h) [
+              | inl same ↦ absurd (false≢true (sym no ∙ ap (λ t. matches t path) (sym same) ∙ matching))
+              | inr later ↦ skipped ∙ best_pattern-is texts best later matching rest_first
+            ]
+        | true ↦ λ yes. better_some one texts yes ∙ ap Some (elim (best_pattern texts path) as (λ o. best_pattern texts path ≡ o → better one o ≡ best) [
+            | None ↦ λ none. elim (has_cases best one texts h) [
+              | inl same ↦ sym same
+              | inr later ↦ absurd (none-some best (sym none ∙ best_pattern-is texts best later matching rest_first))
+            ]
+            | Some other ↦ λ found.
+                let both_best : other ≡ best → one ≡ best → cond (precedes other one) other one ≡ best =
+                    λ is_other is_one. elim (precedes other one) as (λ b. cond b other one ≡ best) [ true ↦ is_other | false ↦ is_one ] in
+                elim (has_cases best one texts h) [
+                  | inl same ↦
+                      let its = best_pattern-listed texts other found in
+                      elim (rest_first other its.0 its.1) [
+                        | inl equal ↦ both_best equal (sym same)
+                        | inr before ↦ ap (λ b. cond b other one) (ap (precedes other) (sym same) ∙ precedes-back best other before) ∙ sym same
+                      ]
+                  | inr later ↦
+                      let equal : other ≡ best = same_Some _ _ (sym found ∙ best_pattern-is texts best later matching rest_first) in
+                      elim (first one (has_itself one texts) yes) [
+                        | inl same ↦ both_best equal same
+                        | inr before ↦ ap (λ b. cond b other one) (ap (λ t. precedes t one) equal ∙ before) ∙ equal
+                      ]
+                ]
+          ] refl)
+      ] refl
+
+-- a table has a pattern where it stands among its keys
+keys_has : (table : Table) (text : Text) → has text (keys table) ≡ contains_key table text
+keys_has table text = sym (contains_key-keys table text)
+
+module _ (table : Table) (path : Text) where
+  mapped-none : HasNoMatch table path → mapped table path ≡ None
+  unfolding mapped
+  mapped-none none =
+      let nothing : best_pattern (keys table) path ≡ None = best_pattern-none path (keys table) (λ text listed. none text (sym (keys_has table text) ∙ listed)) in
+      rw nothing refl
+
+  pub mapped-best : (pattern : Text) (servlet : ℕ) → IsBest table path pattern → get table pattern ≡ Some servlet → mapped table path ≡ Some (mapped_by pattern servlet path)
+  unfolding mapped
+  mapped-best pattern servlet best listed =
+      let chosen : best_pattern (keys table) path ≡ Some pattern = best_pattern-is path (keys table) pattern (keys_has table pattern ∙ best.listed) best.matching (λ text its. best.first text (sym (keys_has table text) ∙ its)) in
+      rw (chosen, listed) refl
+
+  pub mapped_answer : (answer : Option Match) → AnswersUpTo table path 4 answer → option_map (shown path) answer ≡ mapped table path
+  mapped_answer None none = sym (mapped-none (λ pattern listed. none pattern listed (omega (arith, rule_of-bounds pattern))))
+  mapped_answer (Some found) best = ap Some best.2.parts ∙ sym (mapped-best best.0 found.servlet best.1 best.2.servlet)
+
+  -- the four answers, one after another
+  pub answers_all : (first second third fourth : Option Match) → AnswersByRule table path 1 first
+      → MatchOption first (AnswersByRule table path 2 second) (λ x. second ≡ Some x)
+      → MatchOption second (AnswersByRule table path 3 third) (λ x. third ≡ Some x)
+      → MatchOption third (AnswersByRule table path 4 fourth) (λ x. fourth ≡ Some x)
+      → AnswersUpTo table path 4 fourth
+  answers_all first second third fourth a b c d =
+      answers_more table path 3 third fourth (answers_more table path 2 second third (answers_more table path 1 first second (answers_first table path first a) b) c) d
+
