@@ -1,11 +1,10 @@
 //! The reply that servlets and filters write (Jakarta Servlet 6.0, chapter "The Response").
 
-ghost use Rattle.std.specs.Prelude.{◌≡◌, ◌++◌, ◌<◌, ◌≤◌, ◌+◌, ◌⊎◌, Bool, true, false, [], IsTrue, OnOk, OnErr, IfOk, IfErr, Err, ◌↔◌, ◌≢◌, length};
+ghost use Rattle.std.specs.Prelude.{◌≡◌, ◌≢◌, ◌⊎◌, Err, IfOk, IfErr};
 ghost use Rattle.http_header.specs.FieldName.{IsFieldName};
 ghost use Rattle.http_header.specs.FieldValue.{IsFieldValue, plain_value};
 ghost use Rattle.http_header.specs.Token.{lowercase};
-ghost use Rattle.sv_model.specs.Field.{with_field};
-ghost use Rattle.sv_servlet.specs.Reply.{new_reply, with_status, with_header, with_text, reset_reply, cleared, held, is_reserved, IsStatusFault, IsHeaderFault, IsWriteFault, IsFull, IsAccepted};
+ghost use Rattle.sv_servlet.specs.Reply.{fault_name, new_reply, Answers, HeaderAnswers, status_result, field_result, write_result, reset_reply, cleared, held, is_reserved, is_full};
 ghost use Rattle.sv_servlet.specs.declared.reply.ReplyFault.TheVariants.{Memory};
 
 use http::StatusCode;
@@ -43,6 +42,22 @@ pub enum ReplyFault {
     /// Fault 6.
     #[error("memory was refused for the reply")]
     Memory,
+}
+
+impl ReplyFault {
+    /// The fault's name, as an error page may show it.
+    pub fn name(self) -> &'static str
+        ensures { result.now ≡ fault_name self }
+    {
+        match self {
+            ReplyFault::BadStatus => "BadStatus",
+            ReplyFault::BadHeader => "BadHeader",
+            ReplyFault::Reserved => "Reserved",
+            ReplyFault::TooMany => "TooMany",
+            ReplyFault::TooLong => "TooLong",
+            ReplyFault::Memory => "Memory",
+        }
+    }
 }
 
 impl From<AllocError> for ReplyFault {
@@ -126,7 +141,7 @@ fn is_reserved(name: &HeaderName) -> bool
 
 /// Another field of this name finds no place.
 fn is_full(fields: &Sequence<Field>, name: &HeaderName) -> bool
-    ensures { IsTrue result ↔ IsFull fields.now name.now }
+    ensures { result ≡ is_full fields.now name.now }
 {
     place_of_field(fields.as_slice(), name).is_none() && fields.len() >= FIELD_LIMIT
 }
@@ -147,10 +162,8 @@ impl Reply {
 
     /// Sets the status, from 200 to 599; does nothing while held.
     pub fn status(&mut self, code: u16) -> Result<(), ReplyFault>
-        ensures ok { OnOk result (self.new ≡ with_status self.old code) }
-        ensures bad_status { (result ≡ Err ReplyFault.BadStatus) ↔ IsStatusFault self.old code }
-        ensures only_bad_status { IfErr result (λ f. f ≡ ReplyFault.BadStatus) }
-        ensures err { OnErr result (self.new ≡ self.old) }
+        ensures answer { Answers self.old (status_result self.old code) result self.new }
+        ensures takes_no_memory { result ≢ Err Memory }
     {
         if self.is_held {
             return Ok(());
@@ -167,37 +180,41 @@ impl Reply {
         }
     }
 
-    /// Sets a field: in the place of the first of its name, or last. Does nothing while held.
+    /// Sets a field of a name and a value; does nothing while held.
     ///
-    /// The name is kept in lower case. A name or value that is none is told before a reserved name, and that
-    /// before a 65th field.
+    /// The name may be in any case and is kept in lower case. A name or a value that is none is told before a
+    /// reserved name, and that before a 65th field.
     pub fn header(&mut self, name: &str, value: &str) -> Result<(), ReplyFault>
-        ensures ok { OnOk result (self.new ≡ with_header self.old name.now value.now) }
-        ensures accepted { OnOk result (IsAccepted self.old name.now value.now) }
-        ensures fault { IfErr result (IsHeaderFault self.old name.now value.now) }
-        ensures err { OnErr result (self.new ≡ self.old) }
+        ensures { HeaderAnswers self.old name.now value.now result self.new }
     {
         if self.is_held {
             return Ok(());
         }
         let name = read_name(self.alloc, name)?;
         let value = read_value(self.alloc, value)?;
-        if is_reserved(&name) {
+        self.set(Field { name, value })
+    }
+
+    /// Sets a field: in the place of the first of its name, or last. Does nothing while held.
+    pub fn set(&mut self, field: Field) -> Result<(), ReplyFault>
+        ensures { Answers self.old (field_result self.old field) result self.new }
+    {
+        if self.is_held {
+            return Ok(());
+        }
+        if is_reserved(&field.name) {
             return Err(ReplyFault::Reserved);
         }
-        if is_full(&self.fields, &name) {
+        if is_full(&self.fields, &field.name) {
             return Err(ReplyFault::TooMany);
         }
-        set_field(&mut self.fields, Field { name, value })?;
+        set_field(&mut self.fields, field)?;
         Ok(())
     }
 
-    /// Adds bytes to the body, up to 262,144 in all.
+    /// Adds bytes to the body, up to 262,144 in all; held or not.
     pub fn write(&mut self, text: &[u8]) -> Result<(), ReplyFault>
-        ensures ok { OnOk result (self.new ≡ with_text self.old text.now) }
-        ensures accepted { OnOk result (length self.old.body + length text.now ≤ BODY_LIMIT) }
-        ensures fault { IfErr result (IsWriteFault self.old text.now) }
-        ensures err { OnErr result (self.new ≡ self.old) }
+        ensures { Answers self.old (write_result self.old text.now) result self.new }
     {
         if text.len() > BODY_LIMIT - self.body.len() {
             return Err(ReplyFault::TooLong);

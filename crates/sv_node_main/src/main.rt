@@ -1,0 +1,7 @@
+//! The program `node`.
+#![tactic(auto)]
+
+mod hello;
+
+
+fn main() {}

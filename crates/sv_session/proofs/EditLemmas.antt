@@ -1,0 +1,9 @@
+-- Edits that go on.
+use Rattle.std.proofs.Common.{◌≡◌, refl, subst, sym}
+use Rattle.sv_session.specs.Edit.{Edit, KeepsEdit}
+
+-- an edit that nobody changed goes on
+pub same_edit : (old new : Edit) → new ≡ old → KeepsEdit old new
+same_edit old new is =
+    subst (λ (e : Edit). KeepsEdit old e) (sym is)
+    (record { context = refl; interval = refl; now = refl; fresh = refl; handed = refl; fate = λ h. h })
