@@ -1,9 +1,13 @@
 -- What follows over whole runs of a reader.
-use Rattle.std.specs.Prelude.{◌≡◌, ℕ, List, [], ◌∷◌, ◌++◌, Bool, false, Option, Some, None, Result, Ok, Err, OnOk, OnErr}
+use Rattle.std.specs.Prelude.{◌≡◌, ◌⊎◌, ℕ, List, [], ◌∷◌, ◌++◌, Bool, false, Option, Some, None, Result, Ok, Err, OnOk, OnErr}
+use Rattle.httparse.specs.Grammar.{EndsInTarget}
+use Rattle.httparse.specs.Spans.{RequestExceeds}
 use Rattle.sv_message.specs.declared.fault.ReadFault.{ReadFault}
+use Rattle.sv_message.specs.declared.fault.ReadFault.TheVariants.{BadHead, HeadTooLong}
 use Rattle.sv_message.specs.declared.request.RawRequest.{RawRequest}
 use Rattle.sv_message.specs.Message.{IsMessage}
-use Rattle.sv_message.specs.Fault.{IsFaultAt}
+use Rattle.sv_message.specs.Head.{field_limit}
+use Rattle.sv_message.specs.Fault.{IsFaultAt, HasNoMessage}
 use Rattle.sv_message.specs.Stream.{Stream}
 use Rattle.sv_message.specs.Reader.{Reads, Gives}
 
@@ -86,3 +90,23 @@ EndsStream =
     (old new : Stream)
     → (Does old (Next (Ok None)) new → BeginsNoMessage new.rest)
     × ((fault : ReadFault) → IsFaultAt old.rest fault → Does old (Next (Err fault)) new → BeginsNoMessage new.rest)
+
+-- where the reader answers none, no prefix is a message, and no fault stands but a bad head in a target that may
+-- still go on, and a field line too many
+abbrev pub IsUndecided : Type 0
+IsUndecided =
+    (s : List ℕ) → HasNoMessage s
+    → BeginsNoMessage s
+    × ((fault : ReadFault) → IsFaultAt s fault
+        → ((fault ≡ BadHead) × EndsInTarget s) ⊎ ((fault ≡ HeadTooLong) × RequestExceeds field_limit s))
+
+-- the head has a fault of its own, by its bytes or its length
+abbrev pub IsHeadFault : ReadFault → Type 0
+IsHeadFault fault = (fault ≡ BadHead) ⊎ (fault ≡ HeadTooLong)
+
+-- no fault stands where a message does, and no two do but the two of a head
+abbrev pub IsOneFault : Type 0
+IsOneFault =
+    (s : List ℕ) (fault : ReadFault) → IsFaultAt s fault
+    → BeginsNoMessage s
+    × ((other : ReadFault) → IsFaultAt s other → (fault ≡ other) ⊎ (IsHeadFault fault × IsHeadFault other))

@@ -17,3 +17,5 @@ mod persistence;
 pub mod reader;
 pub mod request;
 pub mod response;
+#[cfg(test)]
+mod tests;
