@@ -6,3 +6,4 @@ pub mod TableLemmas
 pub mod MatchLemmas
 pub mod PrefixLemmas
 pub mod BestLemmas
+pub mod ContextLemmas

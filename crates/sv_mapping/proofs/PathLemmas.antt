@@ -1,8 +1,10 @@
 -- What lies below a path, and what stands behind the last place of a byte.
-use Rattle.std.proofs.Common.{◌≡◌, ◌≢◌, ℕ, suc, ◌+◌, ◌-◌, ◌<◌, ◌≤◌, ◌||◌, ◌⊎◌, Bool, true, false, not, eqb, List, [], ◌∷◌, ◌++◌, length, get_or, take, drop, refl, sym, ap, ◌∙◌, inl, inr, ⊎_elim, Decides, arith, append_assoc, append-nil, length-append}
+use Rattle.std.proofs.Common.{◌≡◌, ◌≢◌, ℕ, suc, ◌+◌, ◌-◌, ◌<◌, ◌≤◌, ◌||◌, ◌⊎◌, Bool, true, false, not, eqb, List, [], ◌∷◌, ◌++◌, length, get_or, take, drop, refl, sym, ap, subst, ◌∙◌, inl, inr, ⊎_elim, Decides, arith, append_assoc, append-nil, length-append}
 use Rattle.std.specs.List.{after_last, list_any, suffix_len}
 use Rattle.std.proofs.lemmas.List.{append_cancel_left, take_all, take-append-le, take-append-drop, get_or-append_right, drop_more}
-use Rattle.std.proofs.lemmas.Bool.{false≢true}
+use Rattle.std.proofs.lemmas.Bool.{false≢true, cases_lt}
+use Rattle.std.specs.Str.{IsCharBoundary}
+use Rattle.std.proofs.lemmas.Str.{IsCharBoundary-end, IsCharBoundary-before_ascii}
 use Rattle.std.proofs.lemmas.List.Sums.{suffix_len_is}
 use Rattle.std.proofs.lemmas.List.Folds.{list_any_none, list_any_at}
 use Rattle.std.proofs.lemmas.List.Elements.{All-from_get_or}
@@ -76,6 +78,15 @@ is_at_or_below-take path n short slash =
     let rest = drop (n + 1) path in
     let behind : path ≡ take n path ++ (47 ∷ rest) = sym (take-append-drop n path) ∙ ap (λ t. take n path ++ t) (drop_more path n 0 short ∙ ap (λ c. c ∷ rest) slash) in
     (is_at_or_below-Decides (take n path) path).1 (inr (rest, behind))
+
+-- a path may be cut behind a front
+pub IsFront-boundary : (front path : Text) → IsFront front path → IsCharBoundary path (length front)
+IsFront-boundary front path f = elim (cases_lt (length front) (length path)) [
+  | inl short ↦ IsCharBoundary-before_ascii path (length front) short (omega (arith, f.next short))
+  | inr all ↦
+      let same : length path ≡ length front = omega (arith, f.fits) in
+      subst (λ n. IsCharBoundary path n) same (IsCharBoundary-end path)
+]
 
 -- fronts of one length are equal
 pub IsFront-unique : (a b path : Text) → IsFront a path → IsFront b path → length a ≡ length b → a ≡ b

@@ -1,12 +1,10 @@
 -- The search for the longest prefix, from the whole path back to its first slash.
 use Rattle.std.proofs.Common.{◌≡◌, ◌≢◌, ℕ, zero, suc, ◌+◌, ◌-◌, ◌<◌, ◌≤◌, ◌⊎◌, Bool, true, false, cond, ltb, List, [], ◌∷◌, ◌++◌, length, take, drop, get_or, Option, Some, None, refl, sym, ap, ◌∙◌, subst, inl, inr, IsTrue, codes, arith, length-append, length-drop}
 use Rattle.std.specs.Option.{is_some}
-use Rattle.std.specs.Str.{IsCharBoundary}
 use Rattle.std.specs.FinMap.{get, contains_key}
 use Rattle.std.proofs.lemmas.List.{take-take, get_or-take, get_or_append_left, length-take-le}
 use Rattle.std.proofs.lemmas.Bool.{false≢true, cases_lt}
 use Rattle.std.proofs.lemmas.Bool.Decides.{nat_tests}
-use Rattle.std.proofs.lemmas.Str.{IsCharBoundary-end, IsCharBoundary-before_ascii}
 use Rattle.sv_mapping.specs.Path.{Text, is_at_or_below}
 use Rattle.sv_mapping.specs.Pattern.{form_of, prefix_of, matches, rule_of}
 use Rattle.sv_mapping.specs.ServletMatch.{Mapped, nonempty_text, servlet_path_by, path_info_by, mapped_by, shown}
@@ -15,7 +13,7 @@ use Rattle.sv_mapping.specs.declared.servlet_match.Match.{Match}
 use Rattle.sv_mapping.specs.declared.pattern.PatternForm.{PatternForm}
 use Rattle.sv_mapping.specs.declared.pattern.PatternForm.TheVariants.{Prefix}
 use Rattle.sv_mapping.proofs.TestLemmas.{false_test}
-use Rattle.sv_mapping.proofs.PathLemmas.{IsFront, IsFront-from_test, IsFront-unique, is_at_or_below-self, is_at_or_below-take}
+use Rattle.sv_mapping.proofs.PathLemmas.{IsFront, IsFront-boundary, IsFront-from_test, IsFront-unique, is_at_or_below-self, is_at_or_below-take}
 use Rattle.sv_mapping.proofs.PatternLemmas.{prefix_text, prefix_slash, prefix_of-append, form_of-prefix, form_of-any, rule_of-form, prefix_by_rule, matches-form}
 use Rattle.sv_mapping.proofs.MatchLemmas.{absent}
 
@@ -118,14 +116,6 @@ module _ (table : Table) (path front : Text) (rooted : IsRooted path) (searched 
       let of_path : get_or front 0 0 ≡ get_or path 0 0 = ap (λ (t : Text). get_or t 0 0) (sym this.is) ∙ get_or-take (length front) path 0 0 long in
       of_path ∙ rooted (omega (arith, this.fits)))
 
-  front_boundary : IsCharBoundary path (length front)
-  front_boundary = elim (cases_lt (length front) (length path)) [
-    | inl short ↦ IsCharBoundary-before_ascii path (length front) short (omega (arith, this.next short))
-    | inr all ↦
-        let same : length path ≡ length front = omega (arith, this.fits) in
-        subst (λ n. IsCharBoundary path n) same (IsCharBoundary-end path)
-  ]
-
   front_parts : (servlet : ℕ) → shown path (record { servlet = servlet; split = length front; info = ltb (length front) (length path) }) ≡ mapped_by (front ++ codes "/*") servlet path
   unfolding shown mapped_by
   front_parts servlet =
@@ -159,5 +149,5 @@ module _ (table : Table) (path front : Text) (rooted : IsRooted path) (searched 
         goes_by = rule_of-form pattern Prefix front_form;
         matching = matches-form pattern path Prefix front_form ∙ ap (λ q. is_at_or_below q path) (prefix_of-append front) ∙ searched.below;
         longest = longer_last;
-        match_of = record { servlet = listed; parts = front_parts servlet; boundary = front_boundary };
+        match_of = record { servlet = listed; parts = front_parts servlet; boundary = IsFront-boundary front path this };
       }

@@ -3,3 +3,5 @@ pub mod Pattern
 pub mod Search
 pub mod ServletMatch
 pub mod Mappings
+pub mod Context
+pub mod Dispatcher

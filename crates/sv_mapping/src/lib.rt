@@ -1,6 +1,8 @@
 //! Mapping of requests to servlets and filters.
 #![tactic(auto)]
 
+pub mod context;
+pub mod dispatcher;
 pub mod fault;
 pub mod mappings;
 pub mod path;

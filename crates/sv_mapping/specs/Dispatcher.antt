@@ -1,0 +1,33 @@
+-- Dispatchers, and their words in a descriptor (Jakarta Servlet 6.0, section 6.2.5).
+use Rattle.std.specs.Prelude.{◌≡◌, Bool, List, [], ◌∷◌, Contains, Option, Some, None, codes, bytes_eq, if◌then◌else◌}
+use Rattle.sv_mapping.specs.Path.{Text}
+use Rattle.sv_mapping.specs.declared.dispatcher.Dispatcher.{Dispatcher}
+use Rattle.sv_mapping.specs.declared.dispatcher.Dispatcher.TheVariants.{Request, Forward, Include, Error}
+use Rattle.sv_mapping.specs.declared.dispatcher.Dispatchers.{Dispatchers}
+
+abbrev pub word_of : Dispatcher → Text
+word_of Request = codes "REQUEST"
+word_of Forward = codes "FORWARD"
+word_of Include = codes "INCLUDE"
+word_of Error = codes "ERROR"
+
+-- the dispatcher of a word
+unfoldable pub dispatcher_of : Text → Option Dispatcher
+dispatcher_of word =
+    if bytes_eq word (codes "REQUEST") then Some Request
+    else if bytes_eq word (codes "FORWARD") then Some Forward
+    else if bytes_eq word (codes "INCLUDE") then Some Include
+    else if bytes_eq word (codes "ERROR") then Some Error
+    else None
+
+-- a set of dispatchers has one
+abbrev pub carries : Dispatchers → Dispatcher → Bool
+carries dispatchers Request = dispatchers.request
+carries dispatchers Forward = dispatchers.forward
+carries dispatchers Include = dispatchers.include
+carries dispatchers Error = dispatchers.error
+
+-- a mapping that lists these dispatchers is for one: none listed means REQUEST
+abbrev pub IsListed : List Dispatcher → Dispatcher → Type 0
+IsListed [] dispatcher = dispatcher ≡ Request
+IsListed (first ∷ others) dispatcher = Contains (first ∷ others) dispatcher

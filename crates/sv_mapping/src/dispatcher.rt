@@ -1,0 +1,93 @@
+//! Dispatchers: how a request came to a servlet (Jakarta Servlet 6.0, section 6.2.5).
+
+ghost use Rattle.std.specs.Prelude.{◌≡◌, ◌↔◌, IsTrue, Contains, [], ◌∷◌};
+ghost use Rattle.std.specs.Result.{result_ok};
+ghost use Rattle.sv_mapping.specs.Dispatcher as spec;
+ghost use Rattle.sv_mapping.specs.declared.dispatcher.Dispatcher.{Dispatcher as Name};
+
+use std::str::FromStr;
+use thiserror::Error;
+
+/// How a request came to a servlet.
+#[derive(Clone, Copy, Debug, PartialEq, Eq)]
+pub enum Dispatcher {
+    /// From the client.
+    Request,
+    /// By a forward.
+    Forward,
+    /// By an include.
+    Include,
+    /// To an error page.
+    Error,
+}
+
+/// A word that is no dispatcher's.
+#[derive(Clone, Copy, Debug, PartialEq, Eq, Error)]
+#[error("a dispatcher is REQUEST, FORWARD, INCLUDE or ERROR")]
+pub struct UnknownDispatcher;
+
+impl Dispatcher {
+    /// Its word in a descriptor: `REQUEST`, `FORWARD`, `INCLUDE` or `ERROR`.
+    pub fn word(self) -> &'static str
+        ensures { result.now ≡ spec.word_of self }
+    {
+        match self {
+            Dispatcher::Request => "REQUEST",
+            Dispatcher::Forward => "FORWARD",
+            Dispatcher::Include => "INCLUDE",
+            Dispatcher::Error => "ERROR",
+        }
+    }
+}
+
+impl FromStr for Dispatcher {
+    type Err = UnknownDispatcher;
+
+    ghost from_str_gives = { λ word answer. result_ok answer ≡ spec.dispatcher_of word };
+
+    #[tactic(auto, unfolding(crate::specs::Dispatcher::dispatcher_of))]
+    fn from_str(word: &str) -> Result<Dispatcher, UnknownDispatcher> {
+        match word {
+            "REQUEST" => Ok(Dispatcher::Request),
+            "FORWARD" => Ok(Dispatcher::Forward),
+            "INCLUDE" => Ok(Dispatcher::Include),
+            "ERROR" => Ok(Dispatcher::Error),
+            _ => Err(UnknownDispatcher),
+        }
+    }
+}
+
+/// The dispatchers that a filter mapping is for.
+#[derive(Clone, Copy, Debug, PartialEq, Eq)]
+pub struct Dispatchers {
+    request: bool,
+    forward: bool,
+    include: bool,
+    error: bool,
+}
+
+impl Dispatchers {
+    /// The dispatchers of a mapping that lists these. None listed means REQUEST alone.
+    pub fn of(listed: &[Dispatcher]) -> Dispatchers
+        ensures { (dispatcher : Name) → IsTrue (spec.carries result dispatcher) ↔ spec.IsListed listed.now dispatcher }
+    {
+        Dispatchers {
+            request: listed.is_empty() || listed.contains(&Dispatcher::Request),
+            forward: listed.contains(&Dispatcher::Forward),
+            include: listed.contains(&Dispatcher::Include),
+            error: listed.contains(&Dispatcher::Error),
+        }
+    }
+
+    /// Whether a dispatcher is among them.
+    pub fn contains(self, dispatcher: Dispatcher) -> bool
+        ensures { result ≡ spec.carries self dispatcher }
+    {
+        match dispatcher {
+            Dispatcher::Request => self.request,
+            Dispatcher::Forward => self.forward,
+            Dispatcher::Include => self.include,
+            Dispatcher::Error => self.error,
+        }
+    }
+}
