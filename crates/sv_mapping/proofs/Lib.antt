@@ -7,3 +7,4 @@ pub mod MatchLemmas
 pub mod PrefixLemmas
 pub mod BestLemmas
 pub mod ContextLemmas
+pub mod ChainLemmas

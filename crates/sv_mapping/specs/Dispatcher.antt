@@ -1,5 +1,5 @@
 -- Dispatchers, and their words in a descriptor (Jakarta Servlet 6.0, section 6.2.5).
-use Rattle.std.specs.Prelude.{◌≡◌, Bool, List, [], ◌∷◌, Contains, Option, Some, None, codes, bytes_eq, if◌then◌else◌}
+use Rattle.std.specs.Prelude.{◌≡◌, ◌⊎◌, Bool, List, [], Contains, Option, Some, None, codes, bytes_eq, if◌then◌else◌}
 use Rattle.sv_mapping.specs.Path.{Text}
 use Rattle.sv_mapping.specs.declared.dispatcher.Dispatcher.{Dispatcher}
 use Rattle.sv_mapping.specs.declared.dispatcher.Dispatcher.TheVariants.{Request, Forward, Include, Error}
@@ -27,7 +27,6 @@ carries dispatchers Forward = dispatchers.forward
 carries dispatchers Include = dispatchers.include
 carries dispatchers Error = dispatchers.error
 
--- a mapping that lists these dispatchers is for one: none listed means REQUEST
+-- A mapping that lists these dispatchers is for one: it is listed, or none is and it is REQUEST.
 abbrev pub IsListed : List Dispatcher → Dispatcher → Type 0
-IsListed [] dispatcher = dispatcher ≡ Request
-IsListed (first ∷ others) dispatcher = Contains (first ∷ others) dispatcher
+IsListed listed dispatcher = Contains listed dispatcher ⊎ ((listed ≡ []) × (dispatcher ≡ Request))

@@ -5,3 +5,5 @@ pub mod ServletMatch
 pub mod Mappings
 pub mod Context
 pub mod Dispatcher
+pub mod Filter
+pub mod Chain

@@ -72,10 +72,10 @@ impl Dispatchers {
         ensures { (dispatcher : Name) → IsTrue (spec.carries result dispatcher) ↔ spec.IsListed listed.now dispatcher }
     {
         Dispatchers {
-            request: listed.is_empty() || listed.contains(&Dispatcher::Request),
-            forward: listed.contains(&Dispatcher::Forward),
-            include: listed.contains(&Dispatcher::Include),
-            error: listed.contains(&Dispatcher::Error),
+            request: is_listed(listed, Dispatcher::Request),
+            forward: is_listed(listed, Dispatcher::Forward),
+            include: is_listed(listed, Dispatcher::Include),
+            error: is_listed(listed, Dispatcher::Error),
         }
     }
 
@@ -89,5 +89,16 @@ impl Dispatchers {
             Dispatcher::Include => self.include,
             Dispatcher::Error => self.error,
         }
+    }
+}
+
+/// Whether a mapping that lists these dispatchers is for one.
+fn is_listed(listed: &[Dispatcher], dispatcher: Dispatcher) -> bool
+    ensures { IsTrue result ↔ spec.IsListed listed.now dispatcher }
+{
+    if listed.is_empty() {
+        dispatcher == Dispatcher::Request
+    } else {
+        listed.contains(&dispatcher)
     }
 }
