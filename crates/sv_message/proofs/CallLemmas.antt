@@ -1,7 +1,7 @@
 -- Runs of a reader, and the messages that a stream splits into.
-use Rattle.std.proofs.Common.{refl, subst, ◌≡◌, ℕ, List, [], ◌∷◌, ◌++◌, sym, ◌∙◌, ap, Bool, false, append-nil, append_assoc}
-use Rattle.std.specs.Prelude.{Option, Some, None, Result, Ok, Err, ⊤}
-use Rattle.httparse.specs.Grammar.{RequestHead, print_request, ReadsRequest}
+use Rattle.std.proofs.Common.{refl, subst, ◌≡◌, ℕ, List, [], ◌∷◌, ◌++◌, sym, ◌∙◌, ap, append-nil, append_assoc}
+use Rattle.std.specs.Prelude.{Some, None, Ok, Err}
+use Rattle.httparse.specs.Grammar.{print_request, ReadsRequest}
 use Rattle.httparse.proofs.GrammarLemmas.{ReadsRequest-append, request_unique}
 use Rattle.sv_message.specs.declared.fault.ReadFault.{ReadFault}
 use Rattle.sv_message.specs.declared.fault.ReadFault.TheVariants.{BadHead, HeadTooLong, BadHost, BadFraming, BodyTooLong, Coding, Expectation, Memory, Closed}
@@ -10,10 +10,9 @@ use Rattle.sv_message.specs.declared.framing.Framing.TheVariants.{Empty}
 use Rattle.sv_message.specs.declared.request.RawRequest.{RawRequest}
 use Rattle.sv_message.specs.Framing.{IsBody}
 use Rattle.sv_message.specs.Message.{IsMessage, request_of}
-use Rattle.sv_message.specs.Fault.{IsFaultAt}
 use Rattle.sv_message.specs.Stream.{Stream}
-use Rattle.sv_message.specs.Reader.{Reads, Gives}
-use Rattle.sv_message.specs.Calls.{Call, Feed, Next, Does, Runs, fresh, fed, given, Splits, BeginsNoMessage, IsPrefixFree, KeepsStream, GivesFirst, GivesSame, EndsStream}
+use Rattle.sv_message.specs.Reader.{Reads}
+use Rattle.sv_message.specs.Calls.{Call, Feed, Next, Runs, fresh, fed, given, Splits, BeginsNoMessage, IsPrefixFree, KeepsStream, GivesFirst, GivesSame}
 
 no_body : (framing : Framing) (text content : List ℕ) → IsBody framing text content → (text ≡ []) × (content ≡ [])
 no_body Empty text content body = body
@@ -52,7 +51,7 @@ keeps (Feed piece (Ok done) ∷ calls) old new (mid, does, runs) =
 keeps (Feed piece (Err fault) ∷ calls) old new (mid, does, runs) =
     subst (λ (s : Stream). Splits (s.rest ++ fed calls) (given calls) new.rest) does.1 (keeps calls mid new runs)
 keeps (Next (Ok (Some raw)) ∷ calls) old new (mid, does, runs) =
-    let takes = does.0 in (
+    let takes = does in (
       takes.text,
       mid.rest ++ fed calls,
       takes.message,
@@ -60,9 +59,9 @@ keeps (Next (Ok (Some raw)) ∷ calls) old new (mid, does, runs) =
       keeps calls mid new runs,
     )
 keeps (Next (Ok None) ∷ calls) old new (mid, does, runs) =
-    subst (λ (s : Stream). Splits (s.rest ++ fed calls) (given calls) new.rest) does.0.2 (keeps calls mid new runs)
+    subst (λ (s : Stream). Splits (s.rest ++ fed calls) (given calls) new.rest) does.2 (keeps calls mid new runs)
 keeps (Next (Err fault) ∷ calls) old new (mid, does, runs) =
-    subst (λ (s : List ℕ). Splits (s ++ fed calls) (given calls) new.rest) (leaves fault old mid does.0) (keeps calls mid new runs)
+    subst (λ (s : List ℕ). Splits (s ++ fed calls) (given calls) new.rest) (leaves fault old mid does) (keeps calls mid new runs)
   where
     leaves : (fault : ReadFault) (old new : Stream) → Reads old (Err fault) new → new.rest ≡ old.rest
     leaves BadHead old new reads = ap (λ (s : Stream). s.rest) reads.2
@@ -111,21 +110,3 @@ same_given calls others new other runs run same none no_other =
       sym (more.1 ∙ ap (λ (l : List RawRequest). given calls ++ l) end.0 ∙ append-nil (given calls)),
       end.1,
     )
-
--- a fault other than want of memory and a closed reader is no answer where a message stands
-not_given : (s : List ℕ) (raw : RawRequest) (fault : ReadFault) → IsFaultAt s fault → ¬ (Gives raw (Err fault))
-not_given s raw Memory at by = at
-not_given s raw other at by = by
-
-fault_leaves : (old new : Stream) (fault : ReadFault) → IsFaultAt old.rest fault → Reads old (Err fault) new → (old.closed ≡ false) × (new.rest ≡ old.rest)
-fault_leaves old new Memory at reads = absurd at
-fault_leaves old new Closed at reads = absurd at
-fault_leaves old new other at reads = (reads.0, ap (λ (s : Stream). s.rest) reads.2)
-
-pub ends_stream : EndsStream
-ends_stream old new = (
-  λ does text rest raw is message. does.1 raw text rest does.0.0 message (sym (ap (λ (s : Stream). s.rest) does.0.2) ∙ is),
-  λ fault at does text rest raw is message.
-      let left = fault_leaves old new fault at does.0 in
-      not_given old.rest raw fault at (does.1 raw text rest left.0 message (sym left.1 ∙ is)),
-)

@@ -1,7 +1,6 @@
 -- What stands at the front of a stream excludes what else may.
-use Rattle.std.proofs.Common.{refl, subst, ◌≡◌, ◌⊎◌, inl, inr, ℕ, ◌≤◌, ◌<◌, List, [], ◌++◌, length, take, sym, ◌∙◌, ap, arith, append_assoc}
-use Rattle.std.specs.Prelude.{Result, Ok, Err}
-use Rattle.httparse.specs.Grammar.{RequestHead, ReadsRequest, HasNoRequest, EndsInTarget, MayBecomeRequest}
+use Rattle.std.proofs.Common.{refl, subst, ◌≡◌, ◌⊎◌, inl, inr, ℕ, List, [], ◌++◌, sym, ap, arith}
+use Rattle.httparse.specs.Grammar.{RequestHead, EndsInTarget, MayBecomeRequest}
 use Rattle.httparse.specs.Spans.{RequestExceeds}
 use Rattle.httparse.proofs.GrammarLemmas.{ReadsRequest-append, request_unique}
 use Rattle.sv_message.specs.declared.fault.ReadFault.{ReadFault}

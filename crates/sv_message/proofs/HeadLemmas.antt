@@ -12,8 +12,8 @@ use Rattle.httparse.specs.declared.spans.HeaderSpan.{HeaderSpan}
 use Rattle.httparse.specs.declared.spans.RequestSpans.{RequestSpans}
 use Rattle.httparse.specs.Spans.{IsRequestAt, IsRequestOf, IsRequestWithin, RequestOverflows, RequestExceeds, header_bytes, name_and_value, span_bytes}
 use Rattle.httparse.proofs.GrammarLemmas.{ReadsRequest-append}
-use Rattle.sv_message.specs.Head.{AnswersHead, FailsBy, window, head_limit, BeginsHead, IsHeldBy, IsRefused, HasRefusedSpan, kept_field, head_of}
-use Rattle.sv_message.specs.Found.{FindsHead}
+use Rattle.sv_message.specs.Head.{head_limit, BeginsHead, IsRefused, kept_field}
+use Rattle.sv_message.specs.Found.{AnswersHead, FailsBy, window, IsHeldBy, HasRefusedSpan, head_of, FindsHead}
 use Rattle.sv_message.proofs.FieldLemmas.{same_byte}
 
 -- what is read in the window is read in the stream

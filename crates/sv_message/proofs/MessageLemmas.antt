@@ -10,9 +10,9 @@ use Rattle.sv_message.specs.declared.framing.Framing.{Framing}
 use Rattle.sv_message.specs.declared.framing.Framing.TheVariants.{Empty}
 use Rattle.sv_message.specs.declared.head.Head.{Head}
 use Rattle.sv_message.specs.declared.request.RawRequest.{RawRequest}
-use Rattle.sv_message.specs.Head.{BeginsHead, head_of, fields_of}
+use Rattle.sv_message.specs.Head.{BeginsHead, fields_of}
 use Rattle.sv_message.specs.Framing.{framing_of}
-use Rattle.sv_message.specs.Found.{FindsHead, FindsFault, AnswersMessage, HasMessage, message_of}
+use Rattle.sv_message.specs.Found.{head_of, FindsHead, FindsFault, AnswersMessage, HasMessage, message_of}
 use Rattle.sv_message.specs.Stream.{Stream}
 use Rattle.sv_message.specs.Reader.{Reads, Gives, closes_stream}
 

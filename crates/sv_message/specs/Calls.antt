@@ -1,5 +1,5 @@
 -- What follows over whole runs of a reader.
-use Rattle.std.specs.Prelude.{◌≡◌, ◌⊎◌, ℕ, List, [], ◌∷◌, ◌++◌, Bool, false, Option, Some, None, Result, Ok, Err, OnOk, OnErr}
+use Rattle.std.specs.Prelude.{◌≡◌, ◌⊎◌, ℕ, List, [], ◌∷◌, ◌++◌, false, Option, Some, None, Result, Ok, Err, OnOk, OnErr}
 use Rattle.httparse.specs.Grammar.{EndsInTarget}
 use Rattle.httparse.specs.Spans.{RequestExceeds}
 use Rattle.sv_message.specs.declared.fault.ReadFault.{ReadFault}
@@ -9,7 +9,7 @@ use Rattle.sv_message.specs.Message.{IsMessage}
 use Rattle.sv_message.specs.Head.{field_limit}
 use Rattle.sv_message.specs.Fault.{IsFaultAt, HasNoMessage}
 use Rattle.sv_message.specs.Stream.{Stream}
-use Rattle.sv_message.specs.Reader.{Reads, Gives}
+use Rattle.sv_message.specs.Reader.{Reads}
 
 -- a call of a reader with its answer
 pub data Call : Type 0 where
@@ -20,9 +20,7 @@ pub data Call : Type 0 where
 abbrev pub Does : Stream → Call → Stream → Type 0
 Does old (Feed piece answer) new =
     OnOk answer (new ≡ record old { rest = old.rest ++ piece }) × OnErr answer (new ≡ old)
-Does old (Next answer) new =
-    Reads old answer new
-    × ((raw : RawRequest) (text rest : List ℕ) → old.closed ≡ false → IsMessage text raw → old.rest ≡ text ++ rest → Gives raw answer)
+Does old (Next answer) new = Reads old answer new
 
 -- the calls lead from one state to the other
 abbrev pub Runs : Stream → List Call → Stream → Type 0
@@ -84,13 +82,6 @@ GivesSame =
     → fed calls ≡ fed others → BeginsNoMessage new.rest → BeginsNoMessage other.rest
     → (given calls ≡ given others) × (new.rest ≡ other.rest)
 
--- behind an answer that is none, and behind a fault of the stream, no message is left
-abbrev pub EndsStream : Type 0
-EndsStream =
-    (old new : Stream)
-    → (Does old (Next (Ok None)) new → BeginsNoMessage new.rest)
-    × ((fault : ReadFault) → IsFaultAt old.rest fault → Does old (Next (Err fault)) new → BeginsNoMessage new.rest)
-
 -- where the reader answers none, no prefix is a message, and no fault stands but a bad head in a target that may
 -- still go on, and a field line too many
 abbrev pub IsUndecided : Type 0
@@ -98,7 +89,7 @@ IsUndecided =
     (s : List ℕ) → HasNoMessage s
     → BeginsNoMessage s
     × ((fault : ReadFault) → IsFaultAt s fault
-        → ((fault ≡ BadHead) × EndsInTarget s) ⊎ ((fault ≡ HeadTooLong) × RequestExceeds field_limit s))
+    → ((fault ≡ BadHead) × EndsInTarget s) ⊎ ((fault ≡ HeadTooLong) × RequestExceeds field_limit s))
 
 -- the head has a fault of its own, by its bytes or its length
 abbrev pub IsHeadFault : ReadFault → Type 0

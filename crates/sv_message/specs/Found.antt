@@ -1,15 +1,53 @@
 -- What reading at the front of a stream answers.
-use Rattle.std.specs.Prelude.{◌≡◌, ℕ, ◌≤◌, List, [], length, take, drop, Option, Some, None, Result, Ok, Err, ⊤}
-use Rattle.httparse.specs.Grammar.{RequestHead}
+use Rattle.std.specs.Prelude.{◌≡◌, ℕ, ◌≤◌, List, [], length, take, drop, map, Any, Option, Some, None, Result, Ok, Err, ⊤}
+use Rattle.httparse.specs.Grammar.{RequestHead, print_request}
+use Rattle.httparse.specs.declared.spans.HeaderSpan.{HeaderSpan}
+use Rattle.httparse.specs.declared.spans.RequestSpans.{RequestSpans}
+use Rattle.httparse.specs.Spans.{span_bytes, header_bytes}
 use Rattle.sv_message.specs.declared.head.Head.{Head}
 use Rattle.sv_message.specs.declared.message.Message.{Message}
 use Rattle.sv_message.specs.declared.request.RawRequest.{RawRequest}
 use Rattle.sv_message.specs.declared.fault.ReadFault.{ReadFault}
 use Rattle.sv_message.specs.declared.fault.ReadFault.TheVariants.{BadHead, HeadTooLong, Memory}
-use Rattle.sv_message.specs.Head.{BeginsHead, head_of}
+use Rattle.sv_message.specs.Head.{head_limit, kept_field, fields_of, IsRefused, BeginsHead}
 use Rattle.sv_message.specs.Persistence.{closes}
 use Rattle.sv_message.specs.Message.{IsMessage}
 use Rattle.sv_message.specs.Fault.{IsBadHead, IsHeadTooLong, IsFaultAt, HasNoMessage}
+
+-- the parts of a head, and how many bytes it has
+abbrev pub head_of : RequestHead → Head
+head_of h = record { len = length (print_request h); method = h.method; target = h.target; minor = h.minor; fields = fields_of h }
+
+-- the bytes in which a head has to end
+abbrev pub window : List ℕ → List ℕ
+window s = take head_limit s
+
+-- the parts of the head that the spans name
+abbrev pub IsHeldBy : List ℕ → List HeaderSpan → RequestSpans → Head → Type 0
+IsHeldBy buf spans found head = head ≡ record {
+  len = found.len;
+  method = span_bytes buf found.method;
+  target = span_bytes buf found.path;
+  minor = found.version;
+  fields = map kept_field (map (header_bytes buf) (take found.headers spans));
+}
+
+-- a name or a value that a span covers is refused
+abbrev pub HasRefusedSpan : List ℕ → List HeaderSpan → Type 0
+HasRefusedSpan buf spans = Any IsRefused (map (header_bytes buf) spans)
+
+-- want of memory, or a bad head because of this
+abbrev pub FailsBy : Type 0 → ReadFault → Type 0
+FailsBy refused BadHead = refused
+FailsBy refused Memory = ⊤
+FailsBy refused other = ⊥
+
+-- a head at the front is answered, unless memory is refused
+abbrev pub AnswersHead : RequestHead → Result (Option Head) ReadFault → Type 0
+AnswersHead h (Ok (Some head)) = head ≡ head_of h
+AnswersHead h (Ok None) = ⊥
+AnswersHead h (Err Memory) = ⊤
+AnswersHead h (Err other) = ⊥
 
 -- a head at the front, or why there is none
 abbrev pub FindsHead : List ℕ → Result (Option Head) ReadFault → Type 0

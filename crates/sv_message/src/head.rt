@@ -4,9 +4,9 @@ ghost use Rattle.std.specs.Prelude.{◌≡◌, ◌≤◌, length, map, take, All
 ghost use Rattle.http_header.specs.Token.{IsToken};
 ghost use Rattle.httparse.specs.Grammar.{RequestHead};
 ghost use Rattle.httparse.specs.Spans.{IsHeaderWithin, IsRequestWithin, header_bytes, span_bytes};
-ghost use Rattle.sv_message.specs.Found.{FindsHead};
+ghost use Rattle.sv_message.specs.Found.{AnswersHead, FailsBy, FindsHead, HasRefusedSpan, IsHeldBy, window};
 ghost use Rattle.sv_message.specs.Head as spec;
-ghost use Rattle.sv_message.specs.Head.{BeginsHead, AnswersHead, FailsBy, HasRefusedSpan, IsHeldBy, kept_field, window};
+ghost use Rattle.sv_message.specs.Head.{BeginsHead, kept_field};
 
 use crate::fault::ReadFault;
 use http::Method;

@@ -1,9 +1,7 @@
 //! The message at the front of a stream.
 
 ghost use Rattle.std.specs.Prelude.{◌≡◌, ◌++◌, List, ℕ};
-ghost use Rattle.httparse.specs.Grammar.{RequestHead};
 ghost use Rattle.sv_message.specs.declared.request.RawRequest.{RawRequest as Raw};
-ghost use Rattle.sv_message.specs.Head.{head_of};
 ghost use Rattle.sv_message.specs.Message.{IsMessage};
 ghost use Rattle.sv_message.specs.Found.{FindsMessage, AnswersMessage, message_of};
 

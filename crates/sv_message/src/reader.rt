@@ -73,6 +73,7 @@ impl RequestReader {
 
     /// The next request; none where the bytes so far are no whole message, and more can make them one.
     ///
+    /// A target that is no UTF-8 is refused once its end has come, and a field too many once its line has ended.
     /// After a fault other than want of memory each call answers `Closed`.
     pub fn next(&mut self) -> Result<Option<RawRequest>, ReadFault>
         ensures next { Reads self.old result self.new }

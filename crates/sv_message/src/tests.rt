@@ -27,40 +27,176 @@ enum Want {
 const ROWS: [(&str, &str, Want); 36] = [
     ("no bytes", "", Want::Nothing),
     ("less than a method", "GE", Want::Nothing),
-    ("no empty line yet", "GET /a HTTP/1.1\r\nHost: h\r\n", Want::Nothing),
-    ("a head", "GET /a HTTP/1.1\r\nHost: h\r\n\r\n", Want::Stays("GET", "/a")),
-    ("another method", "BREW /pot HTTP/1.1\r\nHost: h:80\r\n\r\n", Want::Stays("BREW", "/pot")),
-    ("empty lines before a head", "\r\n\nGET /a HTTP/1.1\r\nHost: h\r\n\r\n", Want::Stays("GET", "/a")),
-    ("lines that end in LF alone", "GET /a HTTP/1.1\nHost: h\n\n", Want::Stays("GET", "/a")),
-    ("what follows stays", "GET /a HTTP/1.1\r\nHost: h\r\n\r\nrubbish\0", Want::Stays("GET", "/a")),
-    ("a control byte in the target", "GET /\0 HTTP/1.1\r\n", Want::Refused(ReadFault::BadHead)),
-    ("another version", "GET / HTTP/1.2\r\nHost: h\r\n\r\n", Want::Refused(ReadFault::BadHead)),
-    ("a space before the colon", "GET / HTTP/1.1\r\nHost : h\r\n\r\n", Want::Refused(ReadFault::BadHead)),
-    ("a folded line", "GET / HTTP/1.1\r\nHost: h\r\nA: b\r\n c\r\n\r\n", Want::Refused(ReadFault::BadHead)),
-    ("no Host", "GET / HTTP/1.1\r\nA: b\r\n\r\n", Want::Refused(ReadFault::BadHost)),
-    ("two Hosts", "GET / HTTP/1.1\r\nHost: h\r\nhOST: h\r\n\r\n", Want::Refused(ReadFault::BadHost)),
-    ("an empty Host", "GET / HTTP/1.1\r\nHost:\r\n\r\n", Want::Stays("GET", "/")),
-    ("a Host in brackets", "GET / HTTP/1.1\r\nHost: [::1]:8080\r\n\r\n", Want::Stays("GET", "/")),
-    ("a Host with a slash", "GET / HTTP/1.1\r\nHost: a/b\r\n\r\n", Want::Refused(ReadFault::BadHost)),
-    ("a Host with an at sign", "GET / HTTP/1.1\r\nHost: u@h\r\n\r\n", Want::Refused(ReadFault::BadHost)),
-    ("a Host with a space", "GET / HTTP/1.1\r\nHost: a b\r\n\r\n", Want::Refused(ReadFault::BadHost)),
-    ("HTTP/1.0 without Host", "GET / HTTP/1.0\r\n\r\n", Want::Closes("GET", "/")),
-    ("HTTP/1.0 with two Hosts", "GET / HTTP/1.0\r\nHost: h\r\nHost: h\r\n\r\n", Want::Refused(ReadFault::BadHost)),
-    ("HTTP/1.0 with a bad Host", "GET / HTTP/1.0\r\nHost: a/b\r\n\r\n", Want::Refused(ReadFault::BadHost)),
-    ("a length", "POST / HTTP/1.1\r\nHost: h\r\nContent-Length: 0\r\n\r\n", Want::Refused(ReadFault::BadFraming)),
-    ("a coding", "POST / HTTP/1.1\r\nHost: h\r\nTransfer-Encoding: chunked\r\n\r\n", Want::Refused(ReadFault::BadFraming)),
-    ("an expectation", "GET / HTTP/1.1\r\nHost: h\r\nExpect: 100-continue\r\n\r\n", Want::Refused(ReadFault::Expectation)),
-    ("HTTP/1.0 knows no expectation", "GET / HTTP/1.0\r\nExpect: 100-continue\r\n\r\n", Want::Closes("GET", "/")),
-    ("a bad head before a bad Host", "GET / HTTP/1.1\r\nA : b\r\n\r\n", Want::Refused(ReadFault::BadHead)),
-    ("a bad Host before a length", "GET / HTTP/1.1\r\nContent-Length: 0\r\n\r\n", Want::Refused(ReadFault::BadHost)),
-    ("a bad Host before an expectation", "GET / HTTP/1.1\r\nExpect: x\r\n\r\n", Want::Refused(ReadFault::BadHost)),
-    ("a length before an expectation", "GET / HTTP/1.1\r\nHost: h\r\nExpect: x\r\nContent-Length: 0\r\n\r\n", Want::Refused(ReadFault::BadFraming)),
-    ("close", "GET / HTTP/1.1\r\nHost: h\r\nConnection: close\r\n\r\n", Want::Closes("GET", "/")),
-    ("close in another case", "GET / HTTP/1.1\r\nHost: h\r\nConnection: CLOSE\r\n\r\n", Want::Closes("GET", "/")),
-    ("close among members", "GET / HTTP/1.1\r\nHost: h\r\nConnection: a,\t close ,b\r\n\r\n", Want::Closes("GET", "/")),
-    ("close in a second field", "GET / HTTP/1.1\r\nConnection: a\r\nHost: h\r\nConnection: Close\r\n\r\n", Want::Closes("GET", "/")),
-    ("no member close", "GET / HTTP/1.1\r\nHost: h\r\nConnection: closed, keep-alive\r\n\r\n", Want::Stays("GET", "/")),
-    ("close in another field", "GET / HTTP/1.1\r\nHost: h\r\nKeep-Alive: close\r\n\r\n", Want::Stays("GET", "/")),
+    (
+        "no empty line yet",
+        "GET /a HTTP/1.1\r\nHost: h\r\n",
+        Want::Nothing,
+    ),
+    (
+        "a head",
+        "GET /a HTTP/1.1\r\nHost: h\r\n\r\n",
+        Want::Stays("GET", "/a"),
+    ),
+    (
+        "another method",
+        "BREW /pot HTTP/1.1\r\nHost: h:80\r\n\r\n",
+        Want::Stays("BREW", "/pot"),
+    ),
+    (
+        "empty lines before a head",
+        "\r\n\nGET /a HTTP/1.1\r\nHost: h\r\n\r\n",
+        Want::Stays("GET", "/a"),
+    ),
+    (
+        "lines that end in LF alone",
+        "GET /a HTTP/1.1\nHost: h\n\n",
+        Want::Stays("GET", "/a"),
+    ),
+    (
+        "what follows stays",
+        "GET /a HTTP/1.1\r\nHost: h\r\n\r\nrubbish\0",
+        Want::Stays("GET", "/a"),
+    ),
+    (
+        "a control byte in the target",
+        "GET /\0 HTTP/1.1\r\n",
+        Want::Refused(ReadFault::BadHead),
+    ),
+    (
+        "another version",
+        "GET / HTTP/1.2\r\nHost: h\r\n\r\n",
+        Want::Refused(ReadFault::BadHead),
+    ),
+    (
+        "a space before the colon",
+        "GET / HTTP/1.1\r\nHost : h\r\n\r\n",
+        Want::Refused(ReadFault::BadHead),
+    ),
+    (
+        "a folded line",
+        "GET / HTTP/1.1\r\nHost: h\r\nA: b\r\n c\r\n\r\n",
+        Want::Refused(ReadFault::BadHead),
+    ),
+    (
+        "no Host",
+        "GET / HTTP/1.1\r\nA: b\r\n\r\n",
+        Want::Refused(ReadFault::BadHost),
+    ),
+    (
+        "two Hosts",
+        "GET / HTTP/1.1\r\nHost: h\r\nhOST: h\r\n\r\n",
+        Want::Refused(ReadFault::BadHost),
+    ),
+    (
+        "an empty Host",
+        "GET / HTTP/1.1\r\nHost:\r\n\r\n",
+        Want::Stays("GET", "/"),
+    ),
+    (
+        "a Host in brackets",
+        "GET / HTTP/1.1\r\nHost: [::1]:8080\r\n\r\n",
+        Want::Stays("GET", "/"),
+    ),
+    (
+        "a Host with a slash",
+        "GET / HTTP/1.1\r\nHost: a/b\r\n\r\n",
+        Want::Refused(ReadFault::BadHost),
+    ),
+    (
+        "a Host with an at sign",
+        "GET / HTTP/1.1\r\nHost: u@h\r\n\r\n",
+        Want::Refused(ReadFault::BadHost),
+    ),
+    (
+        "a Host with a space",
+        "GET / HTTP/1.1\r\nHost: a b\r\n\r\n",
+        Want::Refused(ReadFault::BadHost),
+    ),
+    (
+        "HTTP/1.0 without Host",
+        "GET / HTTP/1.0\r\n\r\n",
+        Want::Closes("GET", "/"),
+    ),
+    (
+        "HTTP/1.0 with two Hosts",
+        "GET / HTTP/1.0\r\nHost: h\r\nHost: h\r\n\r\n",
+        Want::Refused(ReadFault::BadHost),
+    ),
+    (
+        "HTTP/1.0 with a bad Host",
+        "GET / HTTP/1.0\r\nHost: a/b\r\n\r\n",
+        Want::Refused(ReadFault::BadHost),
+    ),
+    (
+        "a length",
+        "POST / HTTP/1.1\r\nHost: h\r\nContent-Length: 0\r\n\r\n",
+        Want::Refused(ReadFault::BadFraming),
+    ),
+    (
+        "a coding",
+        "POST / HTTP/1.1\r\nHost: h\r\nTransfer-Encoding: chunked\r\n\r\n",
+        Want::Refused(ReadFault::BadFraming),
+    ),
+    (
+        "an expectation",
+        "GET / HTTP/1.1\r\nHost: h\r\nExpect: 100-continue\r\n\r\n",
+        Want::Refused(ReadFault::Expectation),
+    ),
+    (
+        "HTTP/1.0 knows no expectation",
+        "GET / HTTP/1.0\r\nExpect: 100-continue\r\n\r\n",
+        Want::Closes("GET", "/"),
+    ),
+    (
+        "a bad head before a bad Host",
+        "GET / HTTP/1.1\r\nA : b\r\n\r\n",
+        Want::Refused(ReadFault::BadHead),
+    ),
+    (
+        "a bad Host before a length",
+        "GET / HTTP/1.1\r\nContent-Length: 0\r\n\r\n",
+        Want::Refused(ReadFault::BadHost),
+    ),
+    (
+        "a bad Host before an expectation",
+        "GET / HTTP/1.1\r\nExpect: x\r\n\r\n",
+        Want::Refused(ReadFault::BadHost),
+    ),
+    (
+        "a length before an expectation",
+        "GET / HTTP/1.1\r\nHost: h\r\nExpect: x\r\nContent-Length: 0\r\n\r\n",
+        Want::Refused(ReadFault::BadFraming),
+    ),
+    (
+        "close",
+        "GET / HTTP/1.1\r\nHost: h\r\nConnection: close\r\n\r\n",
+        Want::Closes("GET", "/"),
+    ),
+    (
+        "close in another case",
+        "GET / HTTP/1.1\r\nHost: h\r\nConnection: CLOSE\r\n\r\n",
+        Want::Closes("GET", "/"),
+    ),
+    (
+        "close among members",
+        "GET / HTTP/1.1\r\nHost: h\r\nConnection: a,\t close ,b\r\n\r\n",
+        Want::Closes("GET", "/"),
+    ),
+    (
+        "close in a second field",
+        "GET / HTTP/1.1\r\nConnection: a\r\nHost: h\r\nConnection: Close\r\n\r\n",
+        Want::Closes("GET", "/"),
+    ),
+    (
+        "no member close",
+        "GET / HTTP/1.1\r\nHost: h\r\nConnection: closed, keep-alive\r\n\r\n",
+        Want::Stays("GET", "/"),
+    ),
+    (
+        "close in another field",
+        "GET / HTTP/1.1\r\nHost: h\r\nKeep-Alive: close\r\n\r\n",
+        Want::Stays("GET", "/"),
+    ),
 ];
 
 fn expect_request(
@@ -106,7 +242,11 @@ fn rows(rt: HostRuntime) -> Result<(), Fail> {
         let answer = reader.next();
         expect_answer(&rt, row, answer, want);
         if let Want::Refused(_) = want {
-            assert_eq!(rt; reader.feed(b"GET"), Err(ReadFault::Closed), "feed behind {row}");
+            assert_eq!(rt;
+                reader.feed(b"GET"),
+                Err(ReadFault::Closed),
+                "feed behind {row}"
+            );
             expect_answer(&rt, row, reader.next(), Want::Refused(ReadFault::Closed));
         }
     }
@@ -203,14 +343,62 @@ const NOW: u64 = 784_111_777;
 const LAST: u64 = 253_402_300_799;
 
 const TEXTS: [(u16, bool, bool, u64, &str); 8] = [
-    (200, false, false, NOW, "HTTP/1.1 200 OK\r\nDate: Sun, 06 Nov 1994 08:49:37 GMT\r\ncontent-type: text/plain\r\nContent-Length: 6\r\n\r\nHello\n"),
-    (200, true, false, NOW, "HTTP/1.1 200 OK\r\nDate: Sun, 06 Nov 1994 08:49:37 GMT\r\ncontent-type: text/plain\r\nContent-Length: 6\r\n\r\n"),
-    (404, false, true, NOW, "HTTP/1.1 404 Not Found\r\nDate: Sun, 06 Nov 1994 08:49:37 GMT\r\ncontent-type: text/plain\r\nContent-Length: 6\r\nConnection: close\r\n\r\nHello\n"),
-    (204, false, false, NOW, "HTTP/1.1 204 No Content\r\nDate: Sun, 06 Nov 1994 08:49:37 GMT\r\ncontent-type: text/plain\r\n\r\n"),
-    (304, false, true, NOW, "HTTP/1.1 304 Not Modified\r\nDate: Sun, 06 Nov 1994 08:49:37 GMT\r\ncontent-type: text/plain\r\nConnection: close\r\n\r\n"),
-    (299, false, false, NOW, "HTTP/1.1 299 \r\nDate: Sun, 06 Nov 1994 08:49:37 GMT\r\ncontent-type: text/plain\r\nContent-Length: 6\r\n\r\nHello\n"),
-    (200, false, false, LAST, "HTTP/1.1 200 OK\r\nDate: Fri, 31 Dec 9999 23:59:59 GMT\r\ncontent-type: text/plain\r\nContent-Length: 6\r\n\r\nHello\n"),
-    (200, false, false, LAST + 1, "HTTP/1.1 200 OK\r\ncontent-type: text/plain\r\nContent-Length: 6\r\n\r\nHello\n"),
+    (
+        200,
+        false,
+        false,
+        NOW,
+        "HTTP/1.1 200 OK\r\nDate: Sun, 06 Nov 1994 08:49:37 GMT\r\ncontent-type: text/plain\r\nContent-Length: 6\r\n\r\nHello\n",
+    ),
+    (
+        200,
+        true,
+        false,
+        NOW,
+        "HTTP/1.1 200 OK\r\nDate: Sun, 06 Nov 1994 08:49:37 GMT\r\ncontent-type: text/plain\r\nContent-Length: 6\r\n\r\n",
+    ),
+    (
+        404,
+        false,
+        true,
+        NOW,
+        "HTTP/1.1 404 Not Found\r\nDate: Sun, 06 Nov 1994 08:49:37 GMT\r\ncontent-type: text/plain\r\nContent-Length: 6\r\nConnection: close\r\n\r\nHello\n",
+    ),
+    (
+        204,
+        false,
+        false,
+        NOW,
+        "HTTP/1.1 204 No Content\r\nDate: Sun, 06 Nov 1994 08:49:37 GMT\r\ncontent-type: text/plain\r\n\r\n",
+    ),
+    (
+        304,
+        false,
+        true,
+        NOW,
+        "HTTP/1.1 304 Not Modified\r\nDate: Sun, 06 Nov 1994 08:49:37 GMT\r\ncontent-type: text/plain\r\nConnection: close\r\n\r\n",
+    ),
+    (
+        299,
+        false,
+        false,
+        NOW,
+        "HTTP/1.1 299 \r\nDate: Sun, 06 Nov 1994 08:49:37 GMT\r\ncontent-type: text/plain\r\nContent-Length: 6\r\n\r\nHello\n",
+    ),
+    (
+        200,
+        false,
+        false,
+        LAST,
+        "HTTP/1.1 200 OK\r\nDate: Fri, 31 Dec 9999 23:59:59 GMT\r\ncontent-type: text/plain\r\nContent-Length: 6\r\n\r\nHello\n",
+    ),
+    (
+        200,
+        false,
+        false,
+        LAST + 1,
+        "HTTP/1.1 200 OK\r\ncontent-type: text/plain\r\nContent-Length: 6\r\n\r\nHello\n",
+    ),
 ];
 
 fn hello(
@@ -238,7 +426,11 @@ fn texts(rt: HostRuntime) -> Result<(), Fail> {
         let response = hello(rt.alloc(), StatusCode::from_u16(code)?, head_only, close)?;
         let mut out = b"before ".to_vec(rt.alloc())?;
         write_response(rt.alloc(), &response, now, &mut out)?;
-        assert_eq!(rt; out.strip_prefix(b"before "), Some(text.as_bytes()), "{code} at {now}");
+        assert_eq!(rt;
+            out.strip_prefix(b"before "),
+            Some(text.as_bytes()),
+            "{code} at {now}"
+        );
     }
     Ok(())
 }
@@ -269,7 +461,12 @@ fn refused_memory_changes_nothing(rt: HostRuntime) -> Result<(), Fail> {
         Err(ReadFault::Memory) => reader.next(),
         other => other,
     };
-    expect_answer(&rt, "a head behind refused memory", answer, Want::Stays("GET", "/a"));
+    expect_answer(
+        &rt,
+        "a head behind refused memory",
+        answer,
+        Want::Stays("GET", "/a"),
+    );
     expect_answer(&rt, "the rest", reader.next(), Want::Nothing);
     Ok(())
 }

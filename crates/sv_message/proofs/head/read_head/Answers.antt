@@ -2,7 +2,8 @@ use Rattle.std.proofs.Common.{rules, arith, ◌≡◌, ◌<◌, length, ℕ, inl
 use Rattle.std.proofs.lemmas.Result.{err_from_is_err_and}
 use Rattle.std.proofs.lemmas.List.{length-take, take_all}
 use Rattle.httparse.specs.Grammar.{NeverHasRequest}
-use Rattle.sv_message.specs.Head.{window, IsRefused}
+use Rattle.sv_message.specs.Head.{IsRefused}
+use Rattle.sv_message.specs.Found.{window}
 use Rattle.std.specs.Prelude.{Any}
 use Rattle.sv_message.proofs.HeadLemmas.{exceeds_more, never_more, finds_head, fails_head, fails_answers, held_head, in_window, no_overflow, method_is_token, target_is_text}
 use Rattle.sv_message.proofs.FieldLemmas.{no_refused_field}
