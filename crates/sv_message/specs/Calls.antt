@@ -54,7 +54,8 @@ Splits stream (raw ∷ raws) rest =
 
 -- no prefix is a message
 abbrev pub BeginsNoMessage : List ℕ → Type 0
-BeginsNoMessage stream = (text rest : List ℕ) (raw : RawRequest) → stream ≡ text ++ rest → ¬ (IsMessage text raw)
+BeginsNoMessage stream =
+    (text rest : List ℕ) (raw : RawRequest) → stream ≡ text ++ rest → ¬ (IsMessage text raw)
 
 -- ---- the laws
 
@@ -66,7 +67,8 @@ IsPrefixFree =
 
 -- what was fed is the messages of the requests given, in order, and the rest
 abbrev pub KeepsStream : Type 0
-KeepsStream = (calls : List Call) (new : Stream) → Runs fresh calls new → Splits (fed calls) (given calls) new.rest
+KeepsStream =
+    (calls : List Call) (new : Stream) → Runs fresh calls new → Splits (fed calls) (given calls) new.rest
 
 -- the requests that are given of a stream are the first that it holds, whatever comes behind it and however it is cut
 abbrev pub GivesFirst : Type 0

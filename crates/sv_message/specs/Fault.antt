@@ -9,11 +9,13 @@ use Rattle.sv_message.specs.Framing.{framing_of}
 
 -- no head begins here whatever bytes follow, or one does with a field that `http_header` refuses
 abbrev pub IsBadHead : List ℕ → Type 0
-IsBadHead s = NeverHasRequest s ⊎ ((h : RequestHead) × (rest : List ℕ) × ReadsRequest s h rest × HasRefusedField h)
+IsBadHead s =
+    NeverHasRequest s ⊎ ((h : RequestHead) × (rest : List ℕ) × ReadsRequest s h rest × HasRefusedField h)
 
 -- no head ends in as many bytes as one may have, or more field lines have ended than one may have
 abbrev pub IsHeadTooLong : List ℕ → Type 0
-IsHeadTooLong s = ((head_limit ≤ length s) × HasNoRequest (take head_limit s)) ⊎ RequestExceeds field_limit s
+IsHeadTooLong s =
+    ((head_limit ≤ length s) × HasNoRequest (take head_limit s)) ⊎ RequestExceeds field_limit s
 
 -- a head begins here whose fields have this fault first
 abbrev pub HasFaultyFields : List ℕ → ReadFault → Type 0

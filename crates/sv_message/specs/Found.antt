@@ -16,7 +16,13 @@ use Rattle.sv_message.specs.Fault.{IsBadHead, IsHeadTooLong, IsFaultAt, HasNoMes
 
 -- the parts of a head, and how many bytes it has
 abbrev pub head_of : RequestHead → Head
-head_of h = record { len = length (print_request h); method = h.method; target = h.target; minor = h.minor; fields = fields_of h }
+head_of h = record {
+  len = length (print_request h);
+  method = h.method;
+  target = h.target;
+  minor = h.minor;
+  fields = fields_of h;
+}
 
 -- the bytes in which a head has to end
 abbrev pub window : List ℕ → List ℕ
@@ -61,7 +67,13 @@ FindsHead s (Err other) = ⊥
 -- the message of a head that no body follows
 abbrev pub message_of : Head → Message
 message_of head = record {
-  request = record { method = head.method; target = head.target; fields = head.fields; body = []; close = closes head.minor head.fields };
+  request = record {
+    method = head.method;
+    target = head.target;
+    fields = head.fields;
+    body = [];
+    close = closes head.minor head.fields;
+  };
   len = head.len;
 }
 

@@ -84,7 +84,8 @@ fn keep_fields(
     spans: &[HeaderSpan],
 ) -> Result<Sequence<Field>, ReadFault>
     requires { All (IsHeaderWithin (length buf.now)) spans.now }
-    ensures ok { IfOk result (λ fields. fields ≡ map kept_field (map (header_bytes buf.now) spans.now)) }
+    ensures ok { IfOk result (λ fields. fields
+        ≡ map kept_field (map (header_bytes buf.now) spans.now)) }
     ensures err { IfErr result (FailsBy (HasRefusedSpan buf.now spans.now)) }
 {
     let mut fields = Vec::with_capacity(alloc, spans.len())?;
@@ -134,7 +135,8 @@ fn head_window(buf: &[u8]) -> &[u8]
 /// Reads the head at the front of a stream; none where more bytes can make one.
 pub(crate) fn read_head(alloc: Global, buf: &[u8]) -> Result<Option<Head>, ReadFault>
     ensures finds { FindsHead buf.now result }
-    ensures found { (h : RequestHead) (rest : List ℕ) → BeginsHead buf.now h rest → AnswersHead h result }
+    ensures found { (h : RequestHead) (rest : List ℕ) → BeginsHead buf.now h rest
+        → AnswersHead h result }
 {
     let window = head_window(buf);
     let mut spans = [EMPTY_HEADER_SPAN; FIELD_LIMIT];

@@ -46,7 +46,8 @@ fn bodiless(alloc: Global, head: Head) -> Message
 /// Reads the message at the front of a stream; none where more bytes can make one.
 pub(crate) fn read_message(alloc: Global, buf: &[u8]) -> Result<Option<Message>, ReadFault>
     ensures finds { FindsMessage buf.now result }
-    ensures found { (raw : Raw) (text : List ℕ) (rest : List ℕ) → IsMessage text raw → buf.now ≡ text ++ rest → AnswersMessage raw result }
+    ensures found { (raw : Raw) (text rest : List ℕ) → IsMessage text raw
+        → buf.now ≡ text ++ rest → AnswersMessage raw result }
 {
     match read_head(alloc, buf)? {
         None => Ok(None),

@@ -77,8 +77,8 @@ impl RequestReader {
     /// After a fault other than want of memory each call answers `Closed`.
     pub fn next(&mut self) -> Result<Option<RawRequest>, ReadFault>
         ensures next { Reads self.old result self.new }
-        ensures found { (raw : Raw) (text : List ℕ) (rest : List ℕ) → self.old.closed ≡ false → IsMessage text raw
-            → self.old.rest ≡ text ++ rest → Gives raw result }
+        ensures found { (raw : Raw) (text rest : List ℕ) → self.old.closed ≡ false
+            → IsMessage text raw → self.old.rest ≡ text ++ rest → Gives raw result }
     {
         if self.closed {
             return Err(ReadFault::Closed);

@@ -253,6 +253,17 @@ fn rows(rt: HostRuntime) -> Result<(), Fail> {
     Ok(())
 }
 
+#[test]
+fn a_target_is_judged_at_its_end(rt: HostRuntime) -> Result<(), Fail> {
+    let mut reader = RequestReader::new(rt.alloc());
+    reader.feed(b"GET /\xff")?;
+    expect_answer(&rt, "a target so far", reader.next(), Want::Nothing);
+    reader.feed(b" ")?;
+    let bad = Want::Refused(ReadFault::BadHead);
+    expect_answer(&rt, "a target that is no UTF-8", reader.next(), bad);
+    Ok(())
+}
+
 /// A head of this many bytes.
 fn head_of_len(alloc: Global, len: usize) -> Result<Vec<u8>, AllocError> {
     let mut head = Vec::new(alloc);
@@ -294,6 +305,11 @@ fn limits(rt: HostRuntime) -> Result<(), Fail> {
         reader.feed(&head[..cut])?;
         expect_answer(&rt, "a long head", reader.next(), want);
     }
+    let mut reader = RequestReader::new(rt.alloc());
+    reader.feed(b"\0")?;
+    reader.feed(&head_of_len(rt.alloc(), 9_000)?)?;
+    let bad = Want::Refused(ReadFault::BadHead);
+    expect_answer(&rt, "a long bad head", reader.next(), bad);
     for (count, want) in [(64, Want::Stays("GET", "/many")), (65, too_long)] {
         let head = head_of_fields(rt.alloc(), count)?;
         let mut reader = RequestReader::new(rt.alloc());
