@@ -37,24 +37,24 @@ module _ (a b : Text) where
 abbrev pub AnswersUpTo : Table → Text → ℕ → Option Match → Type 0
 AnswersUpTo table path n answer =
     MatchOption answer
-      ((pattern : Text) → IsTrue (contains_key table pattern) → rule_of pattern ≤ n → matches pattern path ≡ false)
-      (IsBestMatch table path)
+    ((pattern : Text) → IsTrue (contains_key table pattern) → rule_of pattern ≤ n → matches pattern path ≡ false)
+    (IsBestMatch table path)
 
 module _ (table : Table) (path : Text) where
   -- the best by a rule is the best, where no pattern matches by an earlier rule
   best_by_rule : (n : ℕ) (found : Match) → ((pattern : Text) → IsTrue (contains_key table pattern) → rule_of pattern ≤ n → matches pattern path ≡ false) → IsBestByRule table path (n + 1) found → IsBestMatch table path found
   best_by_rule n found none best =
       let first : (other : Text) → IsTrue (contains_key table other) → IsTrue (matches other path) → (other ≡ best.pattern) ⊎ IsTrue (precedes best.pattern other) =
-          λ other listed matching. elim (cases_lt n (rule_of other)) [
-            | inr earlier ↦ absurd (false≢true (sym (none other listed earlier) ∙ matching))
-            | inl later ↦ elim (cases_lt (n + 1) (rule_of other)) [
-              | inl last ↦ inr (precedes-rule best.pattern other (omega (arith, best.goes_by)))
-              | inr same ↦ elim (best.longest other listed (omega arith) matching) [
-                | inl equal ↦ inl equal
-                | inr shorter ↦ inr (precedes-longer best.pattern other (omega (arith, best.goes_by)) shorter)
-              ]
-            ]
-          ] in
+      λ other listed matching. elim (cases_lt n (rule_of other)) [
+        | inr earlier ↦ absurd (false≢true (sym (none other listed earlier) ∙ matching))
+        | inl later ↦ elim (cases_lt (n + 1) (rule_of other)) [
+          | inl last ↦ inr (precedes-rule best.pattern other (omega (arith, best.goes_by)))
+          | inr same ↦ elim (best.longest other listed (omega arith) matching) [
+            | inl equal ↦ inl equal
+            | inr shorter ↦ inr (precedes-longer best.pattern other (omega (arith, best.goes_by)) shorter)
+          ]
+        ]
+      ] in
       (best.pattern, record { listed = ap is_some best.match_of.servlet; matching = best.matching; first = first }, best.match_of)
 
   pub answers_first : (answer : Option Match) → AnswersByRule table path 1 answer → AnswersUpTo table path 1 answer
@@ -128,7 +128,7 @@ module _ (path : Text) where
         | true ↦ λ yes.
             let chosen = same_Some _ _ (sym (better_some first texts yes) ∙ e) in
             let by_first : first ≡ best → (has best (first ∷ texts) ≡ true) × (matches best path ≡ true) =
-                λ is. (subst (λ t. has t (first ∷ texts) ≡ true) is (has_itself first texts), ap (λ t. matches t path) (sym is) ∙ yes) in
+            λ is. (subst (λ t. has t (first ∷ texts) ≡ true) is (has_itself first texts), ap (λ t. matches t path) (sym is) ∙ yes) in
             elim (best_pattern texts path) as (λ o. best_pattern texts path ≡ o → better first o ≡ best → (has best (first ∷ texts) ≡ true) × (matches best path ≡ true)) [
               | None ↦ λ _ is. by_first is
               | Some other ↦ λ found is.
@@ -153,28 +153,28 @@ module _ (path : Text) where
               | inr later ↦ skipped ∙ best_pattern-is texts best later matching rest_first
             ]
         | true ↦ λ yes. better_some one texts yes ∙ ap Some (elim (best_pattern texts path) as (λ o. best_pattern texts path ≡ o → better one o ≡ best) [
-            | None ↦ λ none. elim (has_cases best one texts h) [
-              | inl same ↦ sym same
-              | inr later ↦ absurd (none-some best (sym none ∙ best_pattern-is texts best later matching rest_first))
-            ]
-            | Some other ↦ λ found.
-                let both_best : other ≡ best → one ≡ best → cond (precedes other one) other one ≡ best =
-                    λ is_other is_one. elim (precedes other one) as (λ b. cond b other one ≡ best) [ true ↦ is_other | false ↦ is_one ] in
-                elim (has_cases best one texts h) [
-                  | inl same ↦
-                      let its = best_pattern-listed texts other found in
-                      elim (rest_first other its.0 its.1) [
-                        | inl equal ↦ both_best equal (sym same)
-                        | inr before ↦ ap (λ b. cond b other one) (ap (precedes other) (sym same) ∙ precedes-back best other before) ∙ sym same
-                      ]
-                  | inr later ↦
-                      let equal : other ≡ best = same_Some _ _ (sym found ∙ best_pattern-is texts best later matching rest_first) in
-                      elim (first one (has_itself one texts) yes) [
-                        | inl same ↦ both_best equal same
-                        | inr before ↦ ap (λ b. cond b other one) (ap (λ t. precedes t one) equal ∙ before) ∙ equal
-                      ]
-                ]
-          ] refl)
+          | None ↦ λ none. elim (has_cases best one texts h) [
+            | inl same ↦ sym same
+            | inr later ↦ absurd (none-some best (sym none ∙ best_pattern-is texts best later matching rest_first))
+          ]
+          | Some other ↦ λ found.
+              let both_best : other ≡ best → one ≡ best → cond (precedes other one) other one ≡ best =
+              λ is_other is_one. elim (precedes other one) as (λ b. cond b other one ≡ best) [ true ↦ is_other | false ↦ is_one ] in
+              elim (has_cases best one texts h) [
+                | inl same ↦
+                    let its = best_pattern-listed texts other found in
+                    elim (rest_first other its.0 its.1) [
+                      | inl equal ↦ both_best equal (sym same)
+                      | inr before ↦ ap (λ b. cond b other one) (ap (precedes other) (sym same) ∙ precedes-back best other before) ∙ sym same
+                    ]
+                | inr later ↦
+                    let equal : other ≡ best = same_Some _ _ (sym found ∙ best_pattern-is texts best later matching rest_first) in
+                    elim (first one (has_itself one texts) yes) [
+                      | inl same ↦ both_best equal same
+                      | inr before ↦ ap (λ b. cond b other one) (ap (λ t. precedes t one) equal ∙ before) ∙ equal
+                    ]
+              ]
+        ] refl)
       ] refl
 
 -- a table has a pattern where it stands among its keys
@@ -206,4 +206,3 @@ module _ (table : Table) (path : Text) where
       → AnswersUpTo table path 4 fourth
   answers_all first second third fourth a b c d =
       answers_more table path 3 third fourth (answers_more table path 2 second third (answers_more table path 1 first second (answers_first table path first a) b) c) d
-

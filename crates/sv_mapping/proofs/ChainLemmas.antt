@@ -101,7 +101,7 @@ module _ (path : Text) (servlet : Option ℕ) (dispatcher : Dispatcher) (mapping
       let xs = filters_where by_path (filter its mappings) in
       let ys = filters_where by_name (filter its mappings) in
       let first : added_where (λ m. its m && by_path m) [] mappings ≡ fold added [] xs =
-          added_where-filter (λ m. its m && by_path m) [] mappings ∙ ap (λ t. fold added [] (map (λ (m : FilterMapping). m.filter) t)) (filter-both its by_path mappings) in
+      added_where-filter (λ m. its m && by_path m) [] mappings ∙ ap (λ t. fold added [] (map (λ (m : FilterMapping). m.filter) t)) (filter-both its by_path mappings) in
       let second : added_where (λ m. its m && by_name m) (fold added [] xs) mappings ≡ fold added (fold added [] xs) ys =
-          added_where-filter (λ m. its m && by_name m) (fold added [] xs) mappings ∙ ap (λ t. fold added (fold added [] xs) (map (λ (m : FilterMapping). m.filter) t)) (filter-both its by_name mappings) in
+      added_where-filter (λ m. its m && by_name m) (fold added [] xs) mappings ∙ ap (λ t. fold added (fold added [] xs) (map (λ (m : FilterMapping). m.filter) t)) (filter-both its by_name mappings) in
       ap (λ t. added_where (λ m. its m && by_name m) t mappings) first ∙ second ∙ sym (fold-append added [] xs ys) ∙ fold-added (xs ++ ys) [] ∙ filter-new (without_repeats (xs ++ ys))

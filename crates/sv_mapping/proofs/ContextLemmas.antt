@@ -33,9 +33,11 @@ module _ (path : Text) where
       where
         shorter : IsTrue (is_at_or_below c path) → length c < length (context_at cs later)
         shorter below = let test : leb (length (context_at cs later)) (length c) ≡ false = ap (λ b. b && leb (length (context_at cs later)) (length c)) (sym below) ∙ e in grind (arith, nat_tests)
+
         longest : (other : ℕ) → other < length (c ∷ cs) → IsTrue (is_at_or_below (context_at (c ∷ cs) other) path) → length (context_at (c ∷ cs) other) ≤ length (context_at cs later)
         longest zero l below = omega (arith, shorter below)
         longest (suc k) l below = chosen.longest k (omega arith) below
+
         first : (other : ℕ) → other < suc later → IsTrue (is_at_or_below (context_at (c ∷ cs) other) path) → length (context_at (c ∷ cs) other) < length (context_at cs later)
         first zero l below = shorter below
         first (suc k) l below = chosen.first k (omega arith) below
@@ -86,4 +88,3 @@ module _ (path : Text) where
     choose_step l e =
         step_of (chosen_context (drop (n + 1) cs) path) e
         ∙ ap (λ (t : List Text). option_map (λ k. n + k) (chosen_context t path)) (sym (drop_more cs n [] l))
-

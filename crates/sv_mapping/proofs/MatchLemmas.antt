@@ -56,9 +56,9 @@ module _ (table : Table) where
     whole_match pattern servlet f e path_is info_is listed = record {
       servlet = listed;
       parts =
-        let path_shown : take (length path) path ≡ servlet_path_by (form_of pattern) pattern path = take_all (length path) path (omega arith) ∙ sym (ap (λ g. servlet_path_by g pattern path) e ∙ path_is) in
-        let info_shown : None ≡ path_info_by (form_of pattern) pattern path = sym (ap (λ g. path_info_by g pattern path) e ∙ info_is) in
-        λ i. record { servlet = servlet; servlet_path = path_shown i; path_info = info_shown i };
+          let path_shown : take (length path) path ≡ servlet_path_by (form_of pattern) pattern path = take_all (length path) path (omega arith) ∙ sym (ap (λ g. servlet_path_by g pattern path) e ∙ path_is) in
+          let info_shown : None ≡ path_info_by (form_of pattern) pattern path = sym (ap (λ g. path_info_by g pattern path) e ∙ info_is) in
+          λ i. record { servlet = servlet; servlet_path = path_shown i; path_info = info_shown i };
       boundary = IsCharBoundary-end path;
     }
 
@@ -122,7 +122,7 @@ module _ (table : Table) where
 
     pub extension_missing : (x : Text) → extension_of path ≡ Some x → get table (codes "*." ++ x) ≡ None → AnswersByRule table path 3 None
     extension_missing x some none pattern listed rule = false_test _ (λ matching.
-      absent (codes "*." ++ x) none (ap (contains_key table) (sym (extension_pattern x some pattern rule matching)) ∙ listed))
+        absent (codes "*." ++ x) none (ap (contains_key table) (sym (extension_pattern x some pattern rule matching)) ∙ listed))
 
     pub extension_found : (x : Text) (servlet : ℕ) → extension_of path ≡ Some x → get table (codes "*." ++ x) ≡ Some servlet → IsBestByRule table path 3 (whole servlet path)
     extension_found x servlet some listed =

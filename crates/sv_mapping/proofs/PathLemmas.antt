@@ -21,9 +21,10 @@ unfolding is_at_or_below
 is_at_or_below-Decides front path =
     let slashed = front ++ (47 ∷ []) in
     let starts = starts_is Decides-eqb path slashed _ refl in
-    Decides-or _ _ (bytes_eq-Decides path front)
-      (λ t. (drop (length slashed) path, starts.0 t ∙ append_assoc front (47 ∷ []) _),
-       λ (rest, e). starts.1 rest (e ∙ sym (append_assoc front (47 ∷ []) rest)))
+    Decides-or _ _ (bytes_eq-Decides path front) (
+      λ t. (drop (length slashed) path, starts.0 t ∙ append_assoc front (47 ∷ []) _),
+      λ (rest, e). starts.1 rest (e ∙ sym (append_assoc front (47 ∷ []) rest)),
+    )
 
 -- behind the front, the path ends or goes on with a slash
 pub is_at_or_below-rest : (front path rest : Text) → path ≡ front ++ rest → is_at_or_below front path ≡ (eqb (length rest) 0 || eqb (get_or rest 0 0) 47)
@@ -35,7 +36,8 @@ is_at_or_below-rest front path (x ∷ xs) e =
       λ below. (Decides-eqb x 47).1 (elim below [
         | inl same ↦ absurd (omega (arith, length-append front (x ∷ xs), ap length (sym e ∙ same)))
         | inr (rest, behind) ↦ cc (append_cancel_left front (x ∷ xs) (47 ∷ rest) (sym e ∙ behind))
-      ]))
+      ]),
+    )
     ∙ ap (λ b. b || eqb x 47) (sym long)
 
 -- it goes on otherwise than behind the front
@@ -46,7 +48,8 @@ is_at_or_below-apart front path apart =
       λ below. elim below [
         | inl same ↦ absurd (apart [] (same ∙ sym (append-nil front)))
         | inr (rest, behind) ↦ absurd (apart (47 ∷ rest) behind)
-      ])
+      ],
+    )
 
 -- the front, by places of the path
 pub record IsFront (front path : Text) : Type 0 where

@@ -122,7 +122,7 @@ module _ (table : Table) (path front : Text) (rooted : IsRooted path) (searched 
       let pattern = front ++ codes "/*" in
       let path_shown : take (length front) path ≡ servlet_path_by (form_of pattern) pattern path = this.is ∙ sym (ap (λ g. servlet_path_by g pattern path) front_form ∙ prefix_of-append front) in
       let info_shown : cond (ltb (length front) (length path)) (Some (drop (length front) path)) None ≡ path_info_by (form_of pattern) pattern path =
-          info_behind (length front) path ∙ ap (λ (t : Text). nonempty_text (drop (length t) path)) (sym (prefix_of-append front)) ∙ sym (ap (λ g. path_info_by g pattern path) front_form) in
+      info_behind (length front) path ∙ ap (λ (t : Text). nonempty_text (drop (length t) path)) (sym (prefix_of-append front)) ∙ sym (ap (λ g. path_info_by g pattern path) front_form) in
       λ i. record { servlet = servlet; servlet_path = path_shown i; path_info = info_shown i }
 
   longer_last : (other : Text) → contains_key table other ≡ true → rule_of other ≡ 2 → matches other path ≡ true → (other ≡ front ++ codes "/*") ⊎ (length other < length (front ++ codes "/*"))

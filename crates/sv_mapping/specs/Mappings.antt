@@ -67,5 +67,5 @@ pub record IsBestByRule (table : Table) (path : Text) (rule : ℕ) (found : Matc
 abbrev pub AnswersByRule : Table → Text → ℕ → Option Match → Type 0
 AnswersByRule table path rule answer =
     MatchOption answer
-      ((pattern : Text) → IsTrue (contains_key table pattern) → rule_of pattern ≡ rule → matches pattern path ≡ false)
-      (IsBestByRule table path rule)
+    ((pattern : Text) → IsTrue (contains_key table pattern) → rule_of pattern ≡ rule → matches pattern path ≡ false)
+    (IsBestByRule table path rule)

@@ -8,6 +8,6 @@ use Rattle.sv_mapping.proofs.search.compare_joined.Goals as goal
 pub returns : goal.returns
 returns c =
     cmp_from_yields_List (λ x y. y ≡ x) c.chain.result nat_cmp c.cmp.result c.cmp.ensures.ran
-      (YieldsList-from_bytes c.args.text.now cc)
-      (λ it same. rw same (YieldsList-from_chain (YieldsList-from_bytes c.args.front.now cc) (YieldsList-from_bytes c.args.back.now cc) c.chain.ensures.first_done c.chain.ensures.second_done))
-      (λ x y. refl)
+    (YieldsList-from_bytes c.args.text.now cc)
+    (λ it same. rw same (YieldsList-from_chain (YieldsList-from_bytes c.args.front.now cc) (YieldsList-from_bytes c.args.back.now cc) c.chain.ensures.first_done c.chain.ensures.second_done))
+    (λ x y. refl)

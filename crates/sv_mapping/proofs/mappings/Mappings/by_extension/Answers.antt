@@ -9,9 +9,9 @@ returns-in_err-extension c =
 pub returns-in_err-servlet : goal.returns-in_err-servlet
 returns-in_err-servlet c =
     rw c.from_residual-in_err-servlet.ensures
-      (extension_missing c.args.self.now c.args.path.now c.in_ok-extension.extension.now (sym c.in_ok-extension.ensures) (sym c.in_err-servlet.ensures))
+    (extension_missing c.args.self.now c.args.path.now c.in_ok-extension.extension.now (sym c.in_ok-extension.ensures) (sym c.in_err-servlet.ensures))
 
 pub returns : goal.returns
 returns c =
     rw c.whole.ensures
-      (extension_found c.args.self.now c.args.path.now c.in_ok-extension.extension.now c.in_ok-servlet.servlet (sym c.in_ok-extension.ensures) (sym c.in_ok-servlet.ensures))
+    (extension_found c.args.self.now c.args.path.now c.in_ok-extension.extension.now c.in_ok-servlet.servlet (sym c.in_ok-extension.ensures) (sym c.in_ok-servlet.ensures))

@@ -1,0 +1,468 @@
+//! Outside cases. The tables say where each comes from.
+
+use crate::chain::filters_for;
+use crate::context::{choose_context, path_in_context};
+use crate::dispatcher::{Dispatcher, Dispatchers};
+use crate::fault::MappingFault;
+use crate::filter::{FilterMapping, FilterTarget};
+use crate::mappings::{MAX_PATTERNS, Mappings};
+use crate::path::is_at_or_below;
+use crate::pattern::{MAX_PATTERN_BYTES, Pattern, PatternForm};
+use std::alloc::Global;
+use std::process::Abort;
+use std::test::Fail;
+
+/// The patterns mapped to the servlets 0, 1 and so on.
+fn mappings_of(alloc: Global, patterns: &[&str]) -> Result<Mappings, MappingFault> {
+    let mut mappings = Mappings::new(alloc);
+    for (servlet, pattern) in patterns.iter().enumerate() {
+        mappings.add(Pattern::read(alloc, pattern)?, servlet)?;
+    }
+    Ok(mappings)
+}
+
+/// Asserts which servlet has a path, and its servlet path and path info.
+fn expect(
+    rt: &impl Abort,
+    mappings: &Mappings,
+    path: &str,
+    want: Option<(usize, &str, Option<&str>)>,
+) {
+    match (mappings.find(path), want) {
+        (Some(found), Some((servlet, servlet_path, path_info))) => {
+            assert_eq!(rt; found.servlet, servlet, "the servlet of {path}");
+            assert!(rt;
+                found.servlet_path(path) == servlet_path,
+                "the servlet path of {path}"
+            );
+            match (found.path_info(path), path_info) {
+                (Some(info), Some(wanted)) => assert!(rt;
+                    info == wanted,
+                    "the path info of {path}"
+                ),
+                (None, None) => {}
+                _ => panic!(rt; "whether {path} has a path info"),
+            }
+        }
+        (None, None) => {}
+        _ => panic!(rt; "whether {path} is mapped"),
+    }
+}
+
+// The example of Jakarta Servlet 6.0, section 12.2.2, with the servlet paths and path infos of section 3.5.
+#[test]
+fn maps_as_the_example_of_the_specification(rt: HostRuntime) -> Result<(), Fail> {
+    let patterns = ["/foo/bar/*", "/baz/*", "/catalog", "*.bop", "/"];
+    let mut mappings = mappings_of(rt.alloc(), &patterns)?;
+    for (path, servlet, servlet_path, path_info) in [
+        ("/foo/bar/index.html", 0, "/foo/bar", Some("/index.html")),
+        ("/foo/bar/index.bop", 0, "/foo/bar", Some("/index.bop")),
+        ("/baz", 1, "/baz", None),
+        ("/baz/index.html", 1, "/baz", Some("/index.html")),
+        ("/catalog", 2, "/catalog", None),
+        ("/catalog/index.html", 4, "/catalog/index.html", None),
+        ("/catalog/racecar.bop", 3, "/catalog/racecar.bop", None),
+        ("/index.bop", 3, "/index.bop", None),
+    ] {
+        expect(
+            &rt,
+            &mappings,
+            path,
+            Some((servlet, servlet_path, path_info)),
+        );
+    }
+    let again = mappings.add(Pattern::read(rt.alloc(), "/catalog")?, 7);
+    assert_eq!(rt; again, Err(MappingFault::DuplicatePattern));
+    expect(&rt, &mappings, "/catalog", Some((2, "/catalog", None)));
+    Ok(())
+}
+
+/// Asserts what these patterns, mapped to the servlets 0, 1 and so on, do with paths.
+fn expect_all(
+    rt: &impl Abort,
+    alloc: Global,
+    patterns: &[&str],
+    rows: &[(&str, Option<(usize, &str, Option<&str>)>)],
+) -> Result<(), MappingFault> {
+    let mappings = mappings_of(alloc, patterns)?;
+    for (path, want) in rows {
+        expect(rt, &mappings, path, *want);
+    }
+    Ok(())
+}
+
+// Section 12.2: a prefix holds at a `/` alone, and case counts.
+#[test]
+fn maps_prefixes_at_a_slash(rt: HostRuntime) -> Result<(), Fail> {
+    let rows = [
+        ("/a", Some((0, "/a", None))),
+        ("/a/", Some((0, "/a", Some("/")))),
+        ("/a/*", Some((0, "/a", Some("/*")))),
+        ("/ab", None),
+        ("/A", None),
+        ("/b/a", None),
+    ];
+    expect_all(&rt, rt.alloc(), &["/a/*"], &rows)?;
+    Ok(())
+}
+
+// Section 12.2: an extension is that of the last segment, behind its last `.`, and case counts.
+#[test]
+fn maps_extensions_of_the_last_segment(rt: HostRuntime) -> Result<(), Fail> {
+    let rows = [
+        ("/.x", Some((0, "/.x", None))),
+        ("/a.b.x", Some((0, "/a.b.x", None))),
+        ("/a.y/b.x", Some((0, "/a.y/b.x", None))),
+        ("/a.x/b", None),
+        ("/a.x.b", None),
+        ("/a.X", None),
+        ("/a.xx", None),
+        ("/x", None),
+    ];
+    expect_all(&rt, rt.alloc(), &["*.x"], &rows)?;
+    Ok(())
+}
+
+// Section 12.2: the empty pattern has the path `/` alone, `/` every path, and so has `/*`, as path info.
+#[test]
+fn maps_the_root_and_every_path(rt: HostRuntime) -> Result<(), Fail> {
+    let root = [("/", Some((0, "", Some("/")))), ("/a", None), ("", None)];
+    expect_all(&rt, rt.alloc(), &[""], &root)?;
+    let default = [
+        ("/", Some((0, "/", None))),
+        ("/a/b.x", Some((0, "/a/b.x", None))),
+    ];
+    expect_all(&rt, rt.alloc(), &["/"], &default)?;
+    let all = [
+        ("/", Some((0, "", Some("/")))),
+        ("/a/b", Some((0, "", Some("/a/b")))),
+    ];
+    expect_all(&rt, rt.alloc(), &["/*"], &all)?;
+    Ok(())
+}
+
+// Section 12.1: exact, then the longest prefix, then the extension, then the default.
+#[test]
+fn takes_the_best_pattern(rt: HostRuntime) -> Result<(), Fail> {
+    let prefixes = [
+        ("/a/b", Some((0, "/a/b", None))),
+        ("/a/b/c", Some((0, "/a/b", Some("/c")))),
+        ("/a/bc", Some((1, "/a", Some("/bc")))),
+        ("/ab", Some((2, "", Some("/ab")))),
+    ];
+    expect_all(&rt, rt.alloc(), &["/a/b/*", "/a/*", "/*"], &prefixes)?;
+    let rules = [
+        ("/a.x", Some((3, "/a.x", None))),
+        ("/b.x", Some((2, "", Some("/b.x")))),
+        ("/", Some((4, "", Some("/")))),
+    ];
+    expect_all(&rt, rt.alloc(), &["/", "*.x", "/*", "/a.x", ""], &rules)?;
+    let without_prefix = [
+        ("/b.x", Some((1, "/b.x", None))),
+        ("/b", Some((0, "/b", None))),
+    ];
+    expect_all(&rt, rt.alloc(), &["/", "*.x", ""], &without_prefix)?;
+    Ok(())
+}
+
+// A `*` elsewhere is an exact pattern, and a pattern is never decoded.
+#[test]
+fn takes_other_patterns_as_exact(rt: HostRuntime) -> Result<(), Fail> {
+    let patterns = ["/a*b", "/a/*/b", "*x", "hello", "/%41", "*.a.b", "*."];
+    let rows = [
+        ("/a*b", Some((0, "/a*b", None))),
+        ("/axb", None),
+        ("/a/*/b", Some((1, "/a/*/b", None))),
+        ("/a/x/b", None),
+        ("/x", None),
+        ("/hello", None),
+        ("/%41", Some((4, "/%41", None))),
+        ("/A", None),
+        ("/f.a.b", None),
+        ("/f.", Some((6, "/f.", None))),
+    ];
+    expect_all(&rt, rt.alloc(), &patterns, &rows)?;
+    Ok(())
+}
+
+// The forms of section 12.2.
+#[test]
+fn reads_patterns(rt: HostRuntime) -> Result<(), Fail> {
+    for (text, form) in [
+        ("", PatternForm::ContextRoot),
+        ("/", PatternForm::Default),
+        ("/*", PatternForm::Prefix),
+        ("/a/*", PatternForm::Prefix),
+        ("*.x", PatternForm::Extension),
+        ("/a", PatternForm::Exact),
+        ("/a*", PatternForm::Exact),
+        ("a/*", PatternForm::Exact),
+        ("/é ~", PatternForm::Exact),
+    ] {
+        let pattern = Pattern::read(rt.alloc(), text)?;
+        assert!(rt; pattern.form() == form, "the form of {text:?}");
+        assert!(rt; pattern.as_str() == text, "the text of {text:?}");
+        assert!(rt;
+            format!(in rt.alloc(); "{pattern}")?.as_str() == text,
+            "what {text:?} prints"
+        );
+    }
+    Ok(())
+}
+
+#[test]
+fn refuses_control_characters_and_long_patterns(rt: HostRuntime) -> Result<(), Fail> {
+    for text in ["\n", "/a\u{1f}", "/\u{7f}", "/\0"] {
+        assert!(rt;
+            matches!(
+                Pattern::read(rt.alloc(), text),
+                Err(MappingFault::BadPattern)
+            ),
+            "{text:?} is read"
+        );
+    }
+    let mut text = String::new(rt.alloc());
+    for _ in 0..MAX_PATTERN_BYTES {
+        text.push('/')?;
+    }
+    assert!(rt;
+        Pattern::read(rt.alloc(), &text).is_ok(),
+        "256 bytes are refused"
+    );
+    text.push('/')?;
+    assert!(rt;
+        matches!(
+            Pattern::read(rt.alloc(), &text),
+            Err(MappingFault::BadPattern)
+        ),
+        "257 bytes are read"
+    );
+    Ok(())
+}
+
+#[test]
+fn refuses_patterns_past_the_limit(rt: HostRuntime) -> Result<(), Fail> {
+    let mut mappings = Mappings::new(rt.alloc());
+    for n in 0..MAX_PATTERNS {
+        let text = format!(in rt.alloc(); "/{n}")?;
+        mappings.add(Pattern::read(rt.alloc(), &text)?, n)?;
+    }
+    assert_eq!(rt; mappings.len(), MAX_PATTERNS);
+    let more = mappings.add(Pattern::read(rt.alloc(), "/more")?, 1);
+    assert_eq!(rt; more, Err(MappingFault::TooMany));
+    let again = mappings.add(Pattern::read(rt.alloc(), "/7")?, 1);
+    assert_eq!(rt; again, Err(MappingFault::DuplicatePattern));
+    for n in 0..MAX_PATTERNS {
+        let path = format!(in rt.alloc(); "/{n}")?;
+        expect(&rt, &mappings, &path, Some((n, path.as_str(), None)));
+    }
+    expect(&rt, &mappings, "/more", None);
+    Ok(())
+}
+
+// Section 12.1: the longest context path, at a `/`.
+#[test]
+fn chooses_the_context(rt: HostRuntime) -> Result<(), Fail> {
+    let alloc = rt.alloc();
+    let mut contexts = Vec::new(alloc);
+    for path in ["/a", "/a/b", "/a"] {
+        contexts.push(String::from_str(alloc, path)?)?;
+    }
+    for (path, want) in [
+        ("/a/bc", Some(0)),
+        ("/a/b", Some(1)),
+        ("/a/b/c", Some(1)),
+        ("/a", Some(0)),
+        ("/a/", Some(0)),
+        ("/ab", None),
+        ("/", None),
+        ("/A", None),
+    ] {
+        assert_eq!(rt;
+            choose_context(&contexts, path),
+            want,
+            "the context of {path}"
+        );
+    }
+    contexts.push(String::new(alloc))?;
+    assert_eq!(rt;
+        choose_context(&contexts, "/ab"),
+        Some(3),
+        "the root context has every path"
+    );
+    assert_eq!(rt;
+        choose_context(&contexts, "/a/b"),
+        Some(1),
+        "the longest context has the path"
+    );
+    Ok(())
+}
+
+#[test]
+fn cuts_the_context_off_a_path(rt: HostRuntime) {
+    for (context, path, want) in [
+        ("/a", "/a/bc", "/bc"),
+        ("/a/b", "/a/b", "/"),
+        ("/a", "/a/", "/"),
+        ("", "/x", "/x"),
+    ] {
+        assert!(rt;
+            is_at_or_below(context, path),
+            "{path} is not below {context}"
+        );
+        assert!(rt;
+            path_in_context(context, path) == want,
+            "the path in {context} of {path}"
+        );
+    }
+    assert!(rt; !is_at_or_below("/a", "/ab"), "/ab is below /a");
+}
+
+fn by_pattern(
+    alloc: Global,
+    filter: usize,
+    pattern: &str,
+    listed: &[Dispatcher],
+) -> Result<FilterMapping, MappingFault> {
+    Ok(FilterMapping {
+        filter,
+        target: FilterTarget::Pattern(Pattern::read(alloc, pattern)?),
+        dispatchers: Dispatchers::of(listed),
+    })
+}
+
+fn by_servlet(filter: usize, servlet: usize, listed: &[Dispatcher]) -> FilterMapping {
+    FilterMapping {
+        filter,
+        target: FilterTarget::Servlet(servlet),
+        dispatchers: Dispatchers::of(listed),
+    }
+}
+
+// Section 6.2.4: the filters that are mapped by pattern, in order, then those that are mapped by servlet name.
+// Filter 0 is mapped to the servlet 0 and then to `/hello`, filter 1 to every path between the two.
+#[test]
+fn chains_filters_by_pattern_first(rt: HostRuntime) -> Result<(), Fail> {
+    let alloc = rt.alloc();
+    let mut mappings = Vec::new(alloc);
+    mappings.push(by_servlet(0, 0, &[]))?;
+    mappings.push(by_pattern(alloc, 1, "/*", &[])?)?;
+    mappings.push(by_pattern(alloc, 0, "/hello", &[])?)?;
+    let chain = filters_for(alloc, &mappings, "/hello", Some(0), Dispatcher::Request)?;
+    assert_eq!(rt;
+        chain.as_slice(),
+        [1, 0].as_slice(),
+        "the filter 0 is called by its pattern, once"
+    );
+    let named = filters_for(alloc, &mappings, "/other", Some(0), Dispatcher::Request)?;
+    assert_eq!(rt;
+        named.as_slice(),
+        [1, 0].as_slice(),
+        "the filter 0 is called by the servlet"
+    );
+    let other = filters_for(alloc, &mappings, "/other", Some(1), Dispatcher::Request)?;
+    assert_eq!(rt;
+        other.as_slice(),
+        [1].as_slice(),
+        "the filter 0 is of another servlet"
+    );
+    let unmapped = filters_for(alloc, &mappings, "/other", None, Dispatcher::Request)?;
+    assert_eq!(rt;
+        unmapped.as_slice(),
+        [1].as_slice(),
+        "no servlet has the path"
+    );
+    Ok(())
+}
+
+// Section 6.2.5: a mapping is for the dispatchers that it lists, and for REQUEST where it lists none.
+#[test]
+fn chains_filters_of_the_dispatcher(rt: HostRuntime) -> Result<(), Fail> {
+    let alloc = rt.alloc();
+    let mut mappings = Vec::new(alloc);
+    mappings.push(by_pattern(alloc, 3, "/", &[])?)?;
+    mappings.push(by_pattern(alloc, 2, "*.x", &[Dispatcher::Forward, Dispatcher::Include])?)?;
+    mappings.push(by_servlet(1, 5, &[Dispatcher::Error]))?;
+    mappings.push(by_pattern(
+        alloc,
+        0,
+        "/a.x",
+        &[Dispatcher::Request, Dispatcher::Include],
+    )?)?;
+    for (dispatcher, want) in [
+        (Dispatcher::Request, [3, 0].as_slice()),
+        (Dispatcher::Forward, [2].as_slice()),
+        (Dispatcher::Include, [2, 0].as_slice()),
+        (Dispatcher::Error, [1].as_slice()),
+    ] {
+        let chain = filters_for(alloc, &mappings, "/a.x", Some(5), dispatcher)?;
+        assert_eq!(rt; chain.as_slice(), want, "the chain of {dispatcher:?}");
+    }
+    Ok(())
+}
+
+#[test]
+fn reads_the_words_of_dispatchers(rt: HostRuntime) {
+    for (word, dispatcher) in [
+        ("REQUEST", Dispatcher::Request),
+        ("FORWARD", Dispatcher::Forward),
+        ("INCLUDE", Dispatcher::Include),
+        ("ERROR", Dispatcher::Error),
+    ] {
+        assert_eq!(rt;
+            word.parse::<Dispatcher>(),
+            Ok(dispatcher),
+            "the dispatcher {word}"
+        );
+        assert!(rt; dispatcher.word() == word, "the word {word}");
+    }
+    for word in ["request", "", "ASYNC", "REQUEST "] {
+        assert!(rt; word.parse::<Dispatcher>().is_err(), "{word:?} is read");
+    }
+}
+
+#[test]
+fn says_what_is_at_fault(rt: HostRuntime) -> Result<(), Fail> {
+    for (fault, want) in [
+        (
+            MappingFault::BadPattern,
+            "a pattern has at most 256 bytes and no control character",
+        ),
+        (
+            MappingFault::DuplicatePattern,
+            "the pattern is mapped to a servlet of this context already",
+        ),
+        (
+            MappingFault::TooMany,
+            "a context has at most 256 servlet patterns",
+        ),
+        (
+            MappingFault::Memory,
+            "memory was refused while patterns were read or mapped",
+        ),
+    ] {
+        let text = fault.to_string(rt.alloc())?;
+        assert!(rt; text.as_str() == want, "the text of {fault:?} is {text}");
+    }
+    Ok(())
+}
+
+// Passes wherever memory is refused: a call then answers Memory and leaves the table as it was.
+#[test]
+fn keeps_the_table_where_memory_is_refused(rt: HostRuntime) {
+    let mut mappings = Mappings::new(rt.alloc());
+    for (servlet, text) in ["/a", "/a/*", "*.x", "/", ""].iter().enumerate() {
+        let before = mappings.len();
+        let added = match Pattern::read(rt.alloc(), text) {
+            Ok(pattern) => mappings.add(pattern, servlet),
+            Err(fault) => Err(fault),
+        };
+        match added {
+            Ok(()) => assert_eq!(rt; mappings.len(), before + 1, "after {text:?}"),
+            Err(fault) => {
+                assert_eq!(rt; fault, MappingFault::Memory, "for {text:?}");
+                assert_eq!(rt; mappings.len(), before, "after {text:?}");
+            }
+        }
+    }
+}
