@@ -234,22 +234,29 @@ fn expect_answer(
     }
 }
 
-#[test]
-fn rows(rt: HostRuntime) -> Result<(), Fail> {
-    for (row, text, want) in ROWS {
+fn expect_rows(
+    rt: &(impl Abort + AllocGlobal),
+    rows: &[(&str, &str, Want)],
+) -> Result<(), ReadFault> {
+    for (row, text, want) in rows {
         let mut reader = RequestReader::new(rt.alloc());
         reader.feed(text.as_bytes())?;
-        let answer = reader.next();
-        expect_answer(&rt, row, answer, want);
+        expect_answer(rt, row, reader.next(), *want);
         if let Want::Refused(_) = want {
             assert_eq!(rt;
                 reader.feed(b"GET"),
                 Err(ReadFault::Closed),
                 "feed behind {row}"
             );
-            expect_answer(&rt, row, reader.next(), Want::Refused(ReadFault::Closed));
+            expect_answer(rt, row, reader.next(), Want::Refused(ReadFault::Closed));
         }
     }
+    Ok(())
+}
+
+#[test]
+fn rows(rt: HostRuntime) -> Result<(), Fail> {
+    expect_rows(&rt, &ROWS)?;
     Ok(())
 }
 
