@@ -1,0 +1,3 @@
+pub mod UnreadLemmas
+mod SaidLemmas
+mod ServeLemmas

@@ -1,0 +1,86 @@
+-- What a call of a connection leads to, put together.
+use Rattle.std.proofs.Common.{◌≡◌, ℕ, List, subst, Option, Some, None, Result, Ok, Err, inl, inr, [], refl, ◌∙◌}
+use Rattle.std.specs.Prelude.{Bool, true, find, IfSome}
+use Rattle.sv_model.specs.declared.key.Moment.{Moment}
+use Rattle.sv_model.specs.declared.request.Request.{Request}
+use Rattle.sv_model.specs.declared.input.Input.{Input}
+use Rattle.sv_model.specs.declared.input.Input.TheVariants.{Ask}
+use Rattle.sv_model.specs.declared.output.Output.{Output}
+use Rattle.sv_model.specs.declared.site.StepFault.{StepFault}
+use Rattle.sv_model.specs.declared.response.Response.{Response}
+use Rattle.sv_message.specs.Stream.{Stream}
+use Rattle.sv_message.specs.declared.request.RawRequest.{RawRequest}
+use Rattle.sv_message.specs.declared.fault.ReadFault.{ReadFault}
+use Rattle.sv_message.specs.declared.fault.ReadFault.TheVariants.{BadHead, HeadTooLong, BadHost, BadFraming, BodyTooLong, Coding, Expectation, Memory, Closed}
+use Rattle.sv_connection.specs.declared.answer.Manner.{Manner}
+use Rattle.sv_connection.specs.declared.outcome.RequestFault.{RequestFault}
+use Rattle.sv_connection.specs.declared.outcome.Outcome.{Outcome}
+use Rattle.sv_connection.specs.declared.outcome.Outcome.TheVariants.{Refused}
+use Rattle.sv_model.specs.Page.{plain_page}
+use Rattle.sv_connection.specs.declared.outcome.Served.{Served}
+use Rattle.sv_connection.specs.declared.arrive.Arrived.TheVariants.{Fault}
+use Rattle.sv_connection.specs.Arrive.{Arrives}
+use Rattle.sv_connection.specs.Manner.{manner_of}
+use Rattle.sv_connection.specs.Reply.{speaks_to}
+use Rattle.sv_connection.specs.Serve.{how, request_of, said_by, verdict, Follows, IsAnswered, IsStarved, IsSaid, IsPage, StandsAt}
+
+-- the site put out a list, and what it says to the token was said
+pub answered_ok : {S : Type 0} (steps : S → Moment → Input → Result (List Output) StepFault → S → Type 0) (moment : Moment) (token : ℕ) (single : Bool)
+    (raw : RawRequest) (request : Request) (manner : Manner) (seen outputs : List Output) (so sn : S) (wo wn : Option (List ℕ)) (closed : Bool) (served : Served)
+    → request ≡ request_of single raw → manner ≡ manner_of single raw moment.now → steps so moment (Ask token request) (Ok outputs) sn
+    → served.outputs.items ≡ outputs → seen ≡ outputs → Follows (said_by manner.head_only manner.close (find (speaks_to token) seen)) manner.now wo wn closed served.outcome
+    → IsAnswered steps (how moment token single) raw so sn wo wn closed served
+answered_ok steps moment token single raw request manner seen outputs so sn wo wn closed served asked made step listed same follows = record {
+  answer = Ok outputs;
+  step = subst (λ (r : Request). steps so moment (Ask token r) (Ok outputs) sn) asked step;
+  outputs = listed;
+  follows =
+      subst (λ (m : Manner). Follows (said_by m.head_only m.close (find (speaks_to token) outputs)) m.now wo wn closed served.outcome) made
+      (subst (λ (os : List Output). Follows (said_by manner.head_only manner.close (find (speaks_to token) os)) manner.now wo wn closed served.outcome) same follows);
+}
+
+-- the site refused the step, and what follows was said
+pub answered_err : {S : Type 0} (steps : S → Moment → Input → Result (List Output) StepFault → S → Type 0) (moment : Moment) (token : ℕ) (single : Bool)
+    (raw : RawRequest) (request : Request) (manner : Manner) (fault : StepFault) (so sn : S) (wo wn : Option (List ℕ)) (closed : Bool) (served : Served)
+    → request ≡ request_of single raw → manner ≡ manner_of single raw moment.now → steps so moment (Ask token request) (Err fault) sn
+    → served.outputs.items ≡ [] → Follows (verdict token manner.head_only manner.close (Err fault)) manner.now wo wn closed served.outcome
+    → IsAnswered steps (how moment token single) raw so sn wo wn closed served
+answered_err steps moment token single raw request manner fault so sn wo wn closed served asked made step listed follows = record {
+  answer = Err fault;
+  step = subst (λ (r : Request). steps so moment (Ask token r) (Err fault) sn) asked step;
+  outputs = listed;
+  follows = subst (λ (m : Manner). Follows (verdict token m.head_only m.close (Err fault)) m.now wo wn closed served.outcome) made follows;
+}
+
+starved_shut : (wo wn : Option (List ℕ)) (closed : Bool) (outcome : Outcome) → IsStarved wo wn closed outcome → closed ≡ true
+starved_shut wo wn closed outcome (inl h) = h.2
+starved_shut wo wn closed outcome (inr h) = h.1
+
+said_shut : (r : Response) (now : ℕ) (done : Outcome) (wo wn : Option (List ℕ)) (closed : Bool) (outcome : Outcome) → r.close ≡ true → IsSaid r now done wo wn closed outcome → closed ≡ true
+said_shut r now done wo wn closed outcome closes (inl (text, is, inl h)) = h.2 ∙ closes
+said_shut r now done wo wn closed outcome closes (inl (text, is, inr h)) = h.1
+said_shut r now done wo wn closed outcome closes (inr h) = starved_shut wo wn closed outcome h
+
+page_closes : (status : Option ℕ) (head_only : Bool) (now : ℕ) (fault : RequestFault) (wo wn : Option (List ℕ)) (closed : Bool) (outcome : Outcome)
+    → IsPage status head_only now fault wo wn closed outcome → closed ≡ true
+page_closes (Some status) head_only now fault wo wn closed outcome h =
+    said_shut (plain_page status [] head_only true) now (Refused fault) wo wn closed outcome refl h
+page_closes None head_only now fault wo wn closed outcome h = starved_shut wo wn closed outcome h
+
+-- behind a page the connection is closed
+pub page_shut : (status : Option ℕ) (head_only : Bool) (now : ℕ) (fault : RequestFault) (wo wn : Option (List ℕ)) (closed : Bool) (outcome : Outcome)
+    → IsPage status head_only now fault wo wn closed outcome → IsPage status head_only now fault wo wn true outcome
+page_shut status head_only now fault wo wn closed outcome h =
+    subst (λ (b : Bool). IsPage status head_only now fault wo wn b outcome) (page_closes status head_only now fault wo wn closed outcome h) h
+
+-- a fault that arrives stands at the front of what was unread
+pub stands : (u new : Option (List ℕ)) (after : Stream) (f : ReadFault) → Arrives u new after (Fault f) → StandsAt u f
+stands u new after BadHead h = h
+stands u new after HeadTooLong h = h
+stands u new after BadHost h = h
+stands u new after BadFraming h = h
+stands u new after BodyTooLong h = h
+stands u new after Coding h = h
+stands u new after Expectation h = h
+stands u new after Memory h = h
+stands u new after Closed h = h

@@ -1,0 +1,23 @@
+-- A connection as its callers see it.
+use Rattle.std.specs.Prelude.{◌≡◌, ℕ, List, [], Bool, false, Option}
+use Rattle.std.specs.Io.KnownBytes.{prepend_known}
+use Rattle.sv_connection.specs.declared.connection.Connection.{Connection}
+use Rattle.sv_connection.specs.Serve.{Sight, sight}
+
+-- one request is served, and the connection then closes
+abbrev pub is_single : Connection → Bool
+is_single c = c.single
+
+-- nothing is read or served any more
+abbrev pub is_closed : Connection → Bool
+is_closed c = c.closed
+
+-- it holds no bytes and is open
+pub record IsFresh (c : Connection) (single : Bool) : Type 0 where
+  pub empty : c.requests.rest ≡ []
+  pub single_is : is_single c ≡ single
+  pub not_closed : is_closed c ≡ false
+
+-- what a call sees of a connection, of what its reader has left, of what its writer holds, and of a site
+abbrev pub sight_of : {S : Type 0} → Connection → Option (List ℕ) → Option (List ℕ) → S → Sight S
+sight_of c to_come written site = sight (prepend_known c.requests.rest to_come) written site c.closed

@@ -1,0 +1,203 @@
+-- What one call of a connection does.
+use Rattle.std.specs.Prelude.{◌≡◌, ◌≢◌, ◌⊎◌, ℕ, ◌||◌, ◌++◌, List, [], Bool, true, false, Option, Some, None, Result, Ok, Err, IfSome, ⊤, codes, find}
+use Rattle.std.specs.Str.{bytes_eq}
+use Rattle.std.specs.Io.KnownBytes.{Consumes, Appends}
+use Rattle.sv_model.specs.declared.key.Moment.{Moment}
+use Rattle.sv_model.specs.declared.request.Request.{Request}
+use Rattle.sv_model.specs.declared.response.Response.{Response}
+use Rattle.sv_model.specs.declared.input.Input.{Input}
+use Rattle.sv_model.specs.declared.input.Input.TheVariants.{Ask}
+use Rattle.sv_model.specs.declared.output.Output.{Output}
+use Rattle.sv_model.specs.declared.output.Output.TheVariants.{Answer, Refuse, Send, Moved, MoveRefused}
+use Rattle.sv_model.specs.declared.output.Cause.TheVariants.{JournalFull, Memory as MemoryCause}
+use Rattle.sv_model.specs.declared.site.StepFault.{StepFault}
+use Rattle.sv_model.specs.declared.site.StepFault.TheVariants.{Failed, Full, Device, Memory as StepMemory}
+use Rattle.sv_model.specs.Page.{plain_page}
+use Rattle.sv_message.specs.Message.{IsMessage}
+use Rattle.sv_message.specs.Fault.{IsFaultAt, HasNoMessage}
+use Rattle.sv_message.specs.Response.{IsResponseText}
+use Rattle.sv_message.specs.declared.request.RawRequest.{RawRequest}
+use Rattle.sv_message.specs.declared.fault.ReadFault.{ReadFault}
+use Rattle.sv_message.specs.declared.fault.ReadFault.TheVariants.{BadHead, HeadTooLong, BadHost, BadFraming, BodyTooLong, Coding, Expectation, Memory, Closed as ReaderClosed}
+use Rattle.sv_connection.specs.declared.target.TargetFault.{TargetFault}
+use Rattle.sv_connection.specs.declared.target.TargetFault.TheVariants.{Connect, BadTarget, Memory as TargetMemory}
+use Rattle.sv_connection.specs.declared.outcome.RequestFault.{RequestFault}
+use Rattle.sv_connection.specs.declared.outcome.RequestFault.TheVariants.{Read, Target}
+use Rattle.sv_connection.specs.declared.outcome.Outcome.{Outcome}
+use Rattle.sv_connection.specs.declared.outcome.Outcome.TheVariants.{Answered, Parked, Closed, Refused, ReadFailed, WriteFailed, Failed as SiteFailed}
+use Rattle.sv_connection.specs.declared.outcome.Served.{Served}
+use Rattle.sv_connection.specs.Target.{fault_of_target}
+use Rattle.sv_connection.specs.Reply.{refusal, speaks_to}
+
+-- how a call is made
+pub record How : Type 0 where
+  pub moment : Moment
+  pub token : ℕ
+  pub single : Bool
+
+abbrev pub how : Moment → ℕ → Bool → How
+how moment token single = record { moment = moment; token = token; single = single }
+
+-- what a call sees: the unread bytes, the written ones, the site, and whether the connection is closed
+pub record Sight (S : Type 0) : Type 0 where
+  pub unread : Option (List ℕ)
+  pub written : Option (List ℕ)
+  pub site : S
+  pub closed : Bool
+
+abbrev pub sight : {S : Type 0} → Option (List ℕ) → Option (List ℕ) → S → Bool → Sight S
+sight unread written site closed = record { unread = unread; written = written; site = site; closed = closed }
+
+-- the request that the site is asked
+abbrev pub request_of : Bool → RawRequest → Request
+request_of single raw =
+    record {
+      method = raw.method;
+      raw_path = raw.target;
+      path = raw.target;
+      query = None;
+      fields = raw.fields;
+      cookies = [];
+      params = [];
+      body = raw.body;
+      close = raw.close || single;
+    }
+
+-- the answer has no body (RFC 9110, section 9.3.2)
+abbrev pub is_head : List ℕ → Bool
+is_head method = bytes_eq method (codes "HEAD")
+
+-- what follows from a step's answer
+pub data Verdict : Type 0 where
+  Says : (response : Response) → Verdict
+  Parks : Verdict
+  Fails : Verdict
+
+-- by the first output that speaks to the token
+abbrev pub said_by : Bool → Bool → Option Output → Verdict
+said_by head_only close None = Parks
+said_by head_only close (Some (Answer token response)) = Says response
+said_by head_only close (Some (Refuse token cause)) = Says (refusal cause head_only close)
+said_by head_only close (Some (Send packet)) = Parks
+said_by head_only close (Some Moved) = Parks
+said_by head_only close (Some (MoveRefused why)) = Parks
+
+abbrev pub verdict : ℕ → Bool → Bool → Result (List Output) StepFault → Verdict
+verdict token head_only close (Ok outputs) = said_by head_only close (find (speaks_to token) outputs)
+verdict token head_only close (Err Full) = Says (refusal JournalFull head_only close)
+verdict token head_only close (Err StepMemory) = Says (refusal MemoryCause head_only close)
+verdict token head_only close (Err Failed) = Fails
+verdict token head_only close (Err Device) = Fails
+
+-- the whole list of a step
+abbrev pub outputs_of : Result (List Output) StepFault → List Output
+outputs_of (Ok outputs) = outputs
+outputs_of (Err fault) = []
+
+-- what is written where memory is refused in reading a request or in making a text
+unfoldable pub memory_lines : List ℕ
+memory_lines = codes "HTTP/1.1 503 Service Unavailable\r\nContent-Length: 0\r\nConnection: close\r\n\r\n"
+
+-- a text was written whole, or the writing failed
+abbrev pub IsWritten : List ℕ → Outcome → Bool → Option (List ℕ) → Option (List ℕ) → Bool → Outcome → Type 0
+IsWritten text done closes wo wn closed outcome =
+    ((outcome ≡ done) × Appends wo wn text × (closed ≡ closes)) ⊎ ((outcome ≡ WriteFailed) × (closed ≡ true))
+
+-- memory was refused, and that was written
+abbrev pub IsStarved : Option (List ℕ) → Option (List ℕ) → Bool → Outcome → Type 0
+IsStarved wo wn closed outcome = IsWritten memory_lines (Refused (Read Memory)) true wo wn closed outcome
+
+-- the text of a response was written, or there was no memory for it
+abbrev pub IsSaid : Response → ℕ → Outcome → Option (List ℕ) → Option (List ℕ) → Bool → Outcome → Type 0
+IsSaid response now done wo wn closed outcome =
+    ((text : List ℕ) × IsResponseText response now text × IsWritten text done response.close wo wn closed outcome) ⊎ IsStarved wo wn closed outcome
+
+-- what is written, by a verdict
+abbrev pub Follows : Verdict → ℕ → Option (List ℕ) → Option (List ℕ) → Bool → Outcome → Type 0
+Follows (Says response) now wo wn closed outcome = IsSaid response now Answered wo wn closed outcome
+Follows Parks now wo wn closed outcome = (outcome ≡ Parked) × (wn ≡ wo) × (closed ≡ false)
+Follows Fails now wo wn closed outcome = (outcome ≡ SiteFailed) × (wn ≡ wo) × (closed ≡ true)
+
+-- the status of a fault's page (RFC 9110, section 15; RFC 6585, section 5)
+abbrev pub status_of_read : ReadFault → Option ℕ
+status_of_read BadHead = Some 400
+status_of_read HeadTooLong = Some 431
+status_of_read BadHost = Some 400
+status_of_read BadFraming = Some 400
+status_of_read BodyTooLong = Some 413
+status_of_read Coding = Some 501
+status_of_read Expectation = Some 417
+status_of_read Memory = None
+status_of_read ReaderClosed = None
+
+abbrev pub status_of_target : TargetFault → Option ℕ
+status_of_target Connect = Some 501
+status_of_target BadTarget = Some 400
+status_of_target TargetMemory = None
+
+-- the plain page of a fault was written, and the connection closes; without one that memory was refused
+abbrev pub IsPage : Option ℕ → Bool → ℕ → RequestFault → Option (List ℕ) → Option (List ℕ) → Bool → Outcome → Type 0
+IsPage (Some status) head_only now fault wo wn closed outcome = IsSaid (plain_page status [] head_only true) now (Refused fault) wo wn closed outcome
+IsPage None head_only now fault wo wn closed outcome = IsStarved wo wn closed outcome
+
+-- the fault stands at the front of the unread bytes; want of memory stands nowhere
+abbrev pub StandsAt : Option (List ℕ) → ReadFault → Type 0
+StandsAt unread BadHead = IfSome unread (λ xs. IsFaultAt xs BadHead)
+StandsAt unread HeadTooLong = IfSome unread (λ xs. IsFaultAt xs HeadTooLong)
+StandsAt unread BadHost = IfSome unread (λ xs. IsFaultAt xs BadHost)
+StandsAt unread BadFraming = IfSome unread (λ xs. IsFaultAt xs BadFraming)
+StandsAt unread BodyTooLong = IfSome unread (λ xs. IsFaultAt xs BodyTooLong)
+StandsAt unread Coding = IfSome unread (λ xs. IsFaultAt xs Coding)
+StandsAt unread Expectation = IfSome unread (λ xs. IsFaultAt xs Expectation)
+StandsAt unread Memory = ⊤
+StandsAt unread ReaderClosed = ⊥
+
+-- a call that took no request, and what it met in place of one
+pub data Idle {S : Type 0} (how : How) (old new : Sight S) (outcome : Outcome) : Type 0 where
+  -- the connection was closed, or the input ends in no whole message
+  AtEnd : (outcome ≡ Closed) → (old.closed ≡ true) ⊎ IfSome old.unread HasNoMessage → new.written ≡ old.written → Idle how old new outcome
+  -- the reader failed, or gave no whole message in as many reads as one call makes
+  Unread : (outcome ≡ ReadFailed) → new.written ≡ old.written → Idle how old new outcome
+  -- a fault of the message, and its page
+  Faulty : (fault : ReadFault) → StandsAt old.unread fault → IsPage (status_of_read fault) false how.moment.now (Read fault) old.written new.written new.closed outcome → Idle how old new outcome
+
+-- no request was taken, and the site stands as it stood
+pub record IsIdle {S : Type 0} (how : How) (old new : Sight S) (served : Served) : Type 0 where
+  pub site : new.site ≡ old.site
+  pub outputs : served.outputs.items ≡ []
+  pub closed : new.closed ≡ true
+  pub idle : Idle how old new served.outcome
+
+-- the site was stepped once, by the request, and what it answered was said
+pub record IsAnswered {S : Type 0} (steps : S → Moment → Input → Result (List Output) StepFault → S → Type 0) (how : How) (raw : RawRequest) (so sn : S) (wo wn : Option (List ℕ)) (closed : Bool) (served : Served) : Type 0 where
+  pub answer : Result (List Output) StepFault
+  pub step : steps so how.moment (Ask how.token (request_of how.single raw)) answer sn
+  pub outputs : served.outputs.items ≡ outputs_of answer
+  pub follows : Follows (verdict how.token (is_head raw.method) (raw.close || how.single) answer) how.moment.now wo wn closed served.outcome
+
+-- the method and the target have a fault, or there was no memory for the path: the site stands
+pub record IsMisdirected {S : Type 0} (how : How) (raw : RawRequest) (so sn : S) (wo wn : Option (List ℕ)) (closed : Bool) (served : Served) : Type 0 where
+  pub fault : TargetFault
+  pub has_fault : fault ≢ TargetMemory → fault_of_target raw.method raw.target ≡ Some fault
+  pub site : sn ≡ so
+  pub outputs : served.outputs.items ≡ []
+  pub closes : closed ≡ true
+  pub page : IsPage (status_of_target fault) (is_head raw.method) how.moment.now (Target fault) wo wn closed served.outcome
+
+-- what a request leads to: by its target it is refused, or the site is asked
+abbrev pub IsDirected : {S : Type 0} → (S → Moment → Input → Result (List Output) StepFault → S → Type 0) → How → RawRequest → S → S → Option (List ℕ) → Option (List ℕ) → Bool → Served → Type 0
+IsDirected steps how raw so sn wo wn closed served =
+    IsMisdirected how raw so sn wo wn closed served
+    ⊎ ((fault_of_target raw.method raw.target ≡ None) × IsAnswered steps how raw so sn wo wn closed served)
+
+-- a message was taken from the front of the unread bytes, and led to what it leads to
+pub record IsTaken {S : Type 0} (steps : S → Moment → Input → Result (List Output) StepFault → S → Type 0) (how : How) (old new : Sight S) (served : Served) : Type 0 where
+  pub raw : RawRequest
+  pub text : List ℕ
+  pub message : IsMessage text raw
+  pub taken : Consumes old.unread new.unread text
+  pub directed : IsDirected steps how raw old.site new.site old.written new.written new.closed served
+
+-- one call: no request was taken, or one was
+abbrev pub IsServed : {S : Type 0} → (S → Moment → Input → Result (List Output) StepFault → S → Type 0) → How → Sight S → Sight S → Served → Type 0
+IsServed steps how old new served = IsIdle how old new served ⊎ IsTaken steps how old new served

@@ -1,0 +1,157 @@
+//! Says what a step of the site leads to.
+
+ghost use Rattle.std.specs.Prelude.{◌≡◌, ℕ, Err, Some, find};
+ghost use Rattle.std.specs.Io.KnownBytes.{Appends};
+ghost use Rattle.sv_connection.specs.Manner.{manner_of};
+ghost use Rattle.sv_connection.specs.Reply.{refusal, speaks_to};
+ghost use Rattle.sv_connection.specs.Serve.{Follows, said_by, verdict, IsSaid, is_head, request_of};
+
+use crate::outcome::Outcome;
+use crate::reply::{refusal, reply_to};
+use crate::speak::{Sent, say, starve};
+use http::Method;
+use std::alloc::Global;
+use std::io::Write;
+use sv_message::request::RawRequest;
+use sv_model::output::{Cause, Output};
+use sv_model::request::Request;
+use sv_model::sequence::Sequence;
+use sv_model::site::StepFault;
+use sv_model::text::Text;
+
+/// How the response to a request is to be.
+#[derive(Clone, Copy, Debug, PartialEq, Eq)]
+pub struct Manner {
+    /// Without its body, as to a HEAD request.
+    pub head_only: bool,
+    /// The connection closes behind it.
+    pub close: bool,
+    /// The seconds of its Date field.
+    pub now: u64,
+}
+
+/// The answer has no body (RFC 9110, section 9.3.2).
+pub fn is_head(method: &Method) -> bool
+    ensures { result ≡ is_head method.now }
+{
+    method.as_str() == "HEAD"
+}
+
+/// How the response to a request is to be, at `now` in whole seconds.
+pub fn manner_of(raw: &RawRequest, single: bool, now: u64) -> Manner
+    ensures { result ≡ manner_of single raw.now now }
+{
+    Manner {
+        head_only: is_head(&raw.method),
+        close: raw.close || single,
+        now,
+    }
+}
+
+/// The request that the site is asked.
+pub fn request_of(alloc: Global, raw: RawRequest, path: Text, single: bool) -> Request
+    requires { path ≡ raw.target }
+    ensures { result ≡ request_of single raw }
+{
+    Request {
+        method: raw.method,
+        raw_path: raw.target,
+        path,
+        query: None,
+        fields: raw.fields,
+        cookies: Sequence::new(alloc),
+        params: Sequence::new(alloc),
+        body: raw.body,
+        close: raw.close || single,
+    }
+}
+
+/// The site will answer later.
+const PARKED: Sent = Sent {
+    outcome: Outcome::Parked,
+    closed: false,
+};
+
+/// Sends the response for a cause.
+fn say_refusal<W: Write>(
+    alloc: Global,
+    buffer: &mut Vec<u8>,
+    writer: &mut W,
+    cause: Cause,
+    manner: Manner,
+) -> Sent
+    ensures { IsSaid (refusal cause manner.head_only manner.close) manner.now Outcome.Answered (W.contents writer.old) (W.contents writer.new) result.closed result.outcome }
+{
+    match refusal(alloc, cause, manner.head_only, manner.close) {
+        Ok(response) => say(
+            alloc,
+            buffer,
+            writer,
+            &response,
+            manner.now,
+            Outcome::Answered,
+        ),
+        Err(_) => starve(writer),
+    }
+}
+
+/// Sends what an output says.
+fn say_output<W: Write>(
+    alloc: Global,
+    buffer: &mut Vec<u8>,
+    writer: &mut W,
+    output: &Output,
+    manner: Manner,
+) -> Sent
+    ensures { Follows (said_by manner.head_only manner.close (Some output.now)) manner.now (W.contents writer.old) (W.contents writer.new) result.closed result.outcome }
+{
+    match output {
+        Output::Answer { token: _, response } => say(
+            alloc,
+            buffer,
+            writer,
+            response,
+            manner.now,
+            Outcome::Answered,
+        ),
+        Output::Refuse { token: _, cause } => say_refusal(alloc, buffer, writer, *cause, manner),
+        Output::Send(_) | Output::Moved | Output::MoveRefused(_) => PARKED,
+    }
+}
+
+/// Sends what the first output says that speaks to the token; without one the request is parked.
+pub fn say_outputs<W: Write>(
+    alloc: Global,
+    buffer: &mut Vec<u8>,
+    writer: &mut W,
+    token: u64,
+    outputs: &[Output],
+    manner: Manner,
+) -> Sent
+    ensures { Follows (said_by manner.head_only manner.close (find (speaks_to token) outputs.now)) manner.now (W.contents writer.old) (W.contents writer.new) result.closed result.outcome }
+{
+    match reply_to(token, outputs) {
+        Some(output) => say_output(alloc, buffer, writer, output, manner),
+        None => PARKED,
+    }
+}
+
+/// Sends what a fault of the step leads to.
+pub fn say_step_fault<W: Write>(
+    alloc: Global,
+    buffer: &mut Vec<u8>,
+    writer: &mut W,
+    fault: StepFault,
+    manner: Manner,
+) -> Sent
+    ensures { (token : ℕ) → Follows (verdict token manner.head_only manner.close (Err fault)) manner.now (W.contents writer.old) (W.contents writer.new) result.closed result.outcome }
+{
+    match fault {
+        StepFault::Full => say_refusal(alloc, buffer, writer, Cause::JournalFull, manner),
+        StepFault::Memory => say_refusal(alloc, buffer, writer, Cause::Memory, manner),
+        StepFault::Failed | StepFault::Device => Sent {
+            outcome: Outcome::Failed,
+            closed: true,
+        },
+    }
+}

@@ -1,0 +1,184 @@
+//! Serves requests from a reader to a writer, over a site.
+
+ghost use Rattle.std.specs.Prelude.{◌≡◌, true};
+
+use crate::answer::{is_head, manner_of, request_of, say_outputs, say_step_fault};
+use crate::arrive::{Arrived, arrive};
+use crate::outcome::{Outcome, Served};
+use crate::speak::{say_read_fault, say_target_fault};
+use crate::target::read_target;
+use std::alloc::Global;
+use std::io::{Read, Write};
+use sv_message::reader::RequestReader;
+use sv_message::request::RawRequest;
+use sv_model::input::Input;
+use sv_model::key::Moment;
+use sv_model::site::Site;
+use sv_model::text::Text;
+
+/// One connection of a client (RFC 9112, section 9), with the bytes that were read and not yet served.
+#[derive(Drop)]
+pub struct Connection {
+    requests: RequestReader,
+    /// Holds the text of a response while it is written, and keeps its room for the next.
+    buffer: Vec<u8>,
+    single: bool,
+    closed: bool,
+    alloc: Global,
+    ghost shut: { requests.closed ≡ true → closed ≡ true },
+}
+
+impl Connection {
+    ghost use Rattle.std.specs.Prelude.{◌≡◌, false};
+    ghost use Rattle.sv_connection.specs.Serve.{how, IsAnswered, IsDirected, IsServed};
+    ghost use Rattle.sv_connection.specs.Connection.{IsFresh, is_single, sight_of};
+
+    /// A connection that has read nothing; `single` has it close behind its first answer.
+    pub fn new(alloc: Global, single: bool) -> Connection
+        ensures { IsFresh result single }
+    {
+        Connection {
+            requests: RequestReader::new(alloc),
+            buffer: Vec::new(alloc),
+            single,
+            closed: false,
+            alloc,
+        }
+    }
+
+    /// Steps the site by a request, and says what it answers.
+    fn ask<W: Write, S: Site>(
+        &mut self,
+        writer: &mut W,
+        site: &mut S,
+        moment: Moment,
+        token: u64,
+        raw: RawRequest,
+        path: Text,
+    ) -> Served
+        requires valid { S.site_valid site.old }
+        requires not_spent { self.old.requests.closed ≡ false }
+        requires path { path ≡ raw.target }
+        ensures valid { S.site_valid site.new }
+        ensures requests { self.new.requests ≡ self.old.requests }
+        ensures single { self.new.single ≡ self.old.single }
+        ensures answered { IsAnswered S.steps (how moment token self.old.single) raw site.old site.new (W.contents writer.old) (W.contents writer.new) self.new.closed result }
+    {
+        let manner = manner_of(&raw, self.single, moment.now);
+        let request = request_of(self.alloc, raw, path, self.single);
+        match site.step(moment, Input::Ask { token, request }) {
+            Ok(outputs) => {
+                let sent = say_outputs(
+                    self.alloc,
+                    &mut self.buffer,
+                    writer,
+                    token,
+                    outputs.as_slice(),
+                    manner,
+                );
+                self.closed = sent.closed;
+                Served {
+                    outcome: sent.outcome,
+                    outputs,
+                }
+            }
+            Err(fault) => {
+                let sent = say_step_fault(self.alloc, &mut self.buffer, writer, fault, manner);
+                self.closed = sent.closed;
+                Served {
+                    outcome: sent.outcome,
+                    outputs: Vec::new(self.alloc),
+                }
+            }
+        }
+    }
+
+    /// Reads one request, steps the site by it as an Ask with the token, and writes what the step says to the
+    /// token.
+    ///
+    /// A fault of the message, or of the method and the target, is answered with its plain page and not handed
+    /// on. Where the site's step is refused for want of room or memory, the answer is a 503 with the cause.
+    pub fn serve_next<R: Read, W: Write, S: Site>(
+        &mut self,
+        reader: &mut R,
+        writer: &mut W,
+        site: &mut S,
+        moment: Moment,
+        token: u64,
+    ) -> Served
+        requires { S.site_valid site.old }
+        ensures valid { S.site_valid site.new }
+        ensures single { is_single self.new ≡ is_single self.old }
+        ensures served { IsServed S.steps (how moment token (is_single self.old)) (sight_of self.old (R.remaining reader.old) (W.contents writer.old) site.old) (sight_of self.new (R.remaining reader.new) (W.contents writer.new) site.new) result }
+    {
+        let outputs = Vec::new(self.alloc);
+        if self.closed {
+            return Served {
+                outcome: Outcome::Closed,
+                outputs,
+            };
+        }
+        match arrive(&mut self.requests, reader) {
+            Arrived::Request(raw) => self.direct(writer, site, moment, token, raw),
+            Arrived::Fault(fault) => {
+                self.closed = true;
+                let sent = say_read_fault(self.alloc, &mut self.buffer, writer, fault, moment.now);
+                Served {
+                    outcome: sent.outcome,
+                    outputs,
+                }
+            }
+            Arrived::End => {
+                self.closed = true;
+                Served {
+                    outcome: Outcome::Closed,
+                    outputs,
+                }
+            }
+            Arrived::Broken => {
+                self.closed = true;
+                Served {
+                    outcome: Outcome::ReadFailed,
+                    outputs,
+                }
+            }
+        }
+    }
+
+    /// Reads the target of a request, and asks the site.
+    fn direct<W: Write, S: Site>(
+        &mut self,
+        writer: &mut W,
+        site: &mut S,
+        moment: Moment,
+        token: u64,
+        raw: RawRequest,
+    ) -> Served
+        requires valid { S.site_valid site.old }
+        requires not_spent { self.old.requests.closed ≡ false }
+        ensures valid { S.site_valid site.new }
+        ensures requests { self.new.requests ≡ self.old.requests }
+        ensures single { self.new.single ≡ self.old.single }
+        ensures directed { IsDirected S.steps (how moment token self.old.single) raw site.old site.new (W.contents writer.old) (W.contents writer.new) self.new.closed result }
+    {
+        match read_target(self.alloc, &raw.method, &raw.target) {
+            Ok(path) => self.ask(writer, site, moment, token, raw, path),
+            Err(fault) => {
+                self.closed = true;
+                let head_only = is_head(&raw.method);
+                let sent = say_target_fault(
+                    self.alloc,
+                    &mut self.buffer,
+                    writer,
+                    fault,
+                    head_only,
+                    moment.now,
+                );
+                Served {
+                    outcome: sent.outcome,
+                    outputs: Vec::new(self.alloc),
+                }
+            }
+        }
+    }
+}

@@ -1,0 +1,41 @@
+//! How a call of a connection ends.
+
+use crate::target::TargetFault;
+use sv_message::fault::ReadFault;
+use sv_model::output::Output;
+
+/// Why a request was refused by the connection.
+#[derive(Clone, Copy, Debug, PartialEq, Eq)]
+pub enum RequestFault {
+    /// A fault of the message, or want of memory.
+    Read(ReadFault),
+    /// A fault of the method and the target.
+    Target(TargetFault),
+}
+
+/// How a call ends. An outcome other than `Answered` and `Parked` closes the connection.
+#[derive(Clone, Copy, Debug, PartialEq, Eq)]
+pub enum Outcome {
+    /// An answer was written, or a refusal with status 503; the connection closes where that says so.
+    Answered,
+    /// The site will answer later; nothing was written.
+    Parked,
+    /// The input has ended with no whole message, or the connection was closed before.
+    Closed,
+    /// The plain page of the fault was written, or the lines that say that memory was refused.
+    Refused(RequestFault),
+    /// The reader failed, or gave no whole message in 1,048,576 reads.
+    ReadFailed,
+    /// The writer failed; how much went out isn't known.
+    WriteFailed,
+    /// The site has failed; nothing was written.
+    Failed,
+}
+
+/// What a call of a connection did.
+#[derive(Drop)]
+pub struct Served {
+    pub outcome: Outcome,
+    /// All that the site's step put out, in order; empty where it wasn't stepped.
+    pub outputs: Vec<Output>,
+}

@@ -1,0 +1,169 @@
+//! Writes responses, and what stands in their place where memory is refused.
+
+ghost use Rattle.std.specs.Prelude.{◌≡◌, true, false, []};
+ghost use Rattle.std.specs.Io.KnownBytes.{Appends};
+ghost use Rattle.sv_model.specs.Page.{plain_page};
+ghost use Rattle.sv_connection.specs.Serve.{IsWritten, IsSaid, IsStarved, IsPage, memory_lines, status_of_read, status_of_target};
+
+use crate::outcome::{Outcome, RequestFault};
+use crate::target::TargetFault;
+use http::StatusCode;
+use std::alloc::Global;
+use std::io::Write;
+use sv_message::fault::ReadFault;
+use sv_message::response::write_response;
+use sv_model::page::plain_page;
+use sv_model::response::Response;
+use sv_model::sequence::Sequence;
+
+/// How a text was sent, and whether the connection is closed behind it.
+#[derive(Clone, Copy, Debug, PartialEq, Eq)]
+pub struct Sent {
+    pub outcome: Outcome,
+    pub closed: bool,
+}
+
+/// What is written where memory is refused in reading a request or in making a text.
+#[tactic(auto, unfolding(crate::specs::Serve::memory_lines))]
+fn memory_lines() -> &'static [u8]
+    ensures { result.now ≡ memory_lines }
+{
+    b"HTTP/1.1 503 Service Unavailable\r\nContent-Length: 0\r\nConnection: close\r\n\r\n"
+}
+
+/// Writes a text whole, and flushes it.
+fn write_text<W: Write>(writer: &mut W, text: &[u8]) -> bool
+    ensures { result ≡ true → Appends (W.contents writer.old) (W.contents writer.new) text.now }
+{
+    match writer.write_all(text) {
+        Ok(()) => writer.flush().is_ok(),
+        Err(_) => false,
+    }
+}
+
+/// Sends a text, with the outcome where that is done.
+fn send<W: Write>(writer: &mut W, text: &[u8], done: Outcome, closes: bool) -> Sent
+    ensures { IsWritten text.now done closes (W.contents writer.old) (W.contents writer.new) result.closed result.outcome }
+{
+    if write_text(writer, text) {
+        Sent {
+            outcome: done,
+            closed: closes,
+        }
+    } else {
+        Sent {
+            outcome: Outcome::WriteFailed,
+            closed: true,
+        }
+    }
+}
+
+/// Says that memory was refused.
+pub fn starve<W: Write>(writer: &mut W) -> Sent
+    ensures { IsStarved (W.contents writer.old) (W.contents writer.new) result.closed result.outcome }
+{
+    send(
+        writer,
+        memory_lines(),
+        Outcome::Refused(RequestFault::Read(ReadFault::Memory)),
+        true,
+    )
+}
+
+/// Sends a response by way of a buffer, with the outcome where that is done.
+pub fn say<W: Write>(
+    alloc: Global,
+    buffer: &mut Vec<u8>,
+    writer: &mut W,
+    response: &Response,
+    now: u64,
+    done: Outcome,
+) -> Sent
+    ensures { IsSaid response.now now done (W.contents writer.old) (W.contents writer.new) result.closed result.outcome }
+{
+    buffer.clear();
+    match write_response(alloc, response, now, buffer) {
+        Ok(()) => send(writer, buffer.as_slice(), done, response.close),
+        Err(_) => starve(writer),
+    }
+}
+
+/// The status of the page of a message's fault; none where no page is made.
+fn status_of_read(fault: ReadFault) -> Option<StatusCode>
+    ensures { result ≡ status_of_read fault }
+{
+    match fault {
+        ReadFault::BadHead | ReadFault::BadHost | ReadFault::BadFraming => {
+            Some(StatusCode::BAD_REQUEST)
+        }
+        ReadFault::HeadTooLong => Some(StatusCode::REQUEST_HEADER_FIELDS_TOO_LARGE),
+        ReadFault::BodyTooLong => Some(StatusCode::PAYLOAD_TOO_LARGE),
+        ReadFault::Coding => Some(StatusCode::NOT_IMPLEMENTED),
+        ReadFault::Expectation => Some(StatusCode::EXPECTATION_FAILED),
+        ReadFault::Memory | ReadFault::Closed => None,
+    }
+}
+
+/// The status of the page of a target's fault; none where no page is made.
+fn status_of_target(fault: TargetFault) -> Option<StatusCode>
+    ensures { result ≡ status_of_target fault }
+{
+    match fault {
+        TargetFault::Connect => Some(StatusCode::NOT_IMPLEMENTED),
+        TargetFault::BadTarget => Some(StatusCode::BAD_REQUEST),
+        TargetFault::Memory => None,
+    }
+}
+
+/// Sends the plain page of a status, behind which the connection closes.
+fn say_page<W: Write>(
+    alloc: Global,
+    buffer: &mut Vec<u8>,
+    writer: &mut W,
+    status: StatusCode,
+    head_only: bool,
+    now: u64,
+    done: Outcome,
+) -> Sent
+    ensures { IsSaid (plain_page status [] head_only true) now done (W.contents writer.old) (W.contents writer.new) result.closed result.outcome }
+{
+    match plain_page(alloc, status, Sequence::new(alloc), head_only, true) {
+        Ok(page) => say(alloc, buffer, writer, &page, now, done),
+        Err(_) => starve(writer),
+    }
+}
+
+/// Sends the page of a message's fault.
+pub fn say_read_fault<W: Write>(
+    alloc: Global,
+    buffer: &mut Vec<u8>,
+    writer: &mut W,
+    fault: ReadFault,
+    now: u64,
+) -> Sent
+    ensures { IsPage (status_of_read fault) false now (RequestFault.Read fault) (W.contents writer.old) (W.contents writer.new) result.closed result.outcome }
+{
+    let done = Outcome::Refused(RequestFault::Read(fault));
+    match status_of_read(fault) {
+        Some(status) => say_page(alloc, buffer, writer, status, false, now, done),
+        None => starve(writer),
+    }
+}
+
+/// Sends the page of a target's fault, without its body to a request that wants none.
+pub fn say_target_fault<W: Write>(
+    alloc: Global,
+    buffer: &mut Vec<u8>,
+    writer: &mut W,
+    fault: TargetFault,
+    head_only: bool,
+    now: u64,
+) -> Sent
+    ensures { IsPage (status_of_target fault) head_only now (RequestFault.Target fault) (W.contents writer.old) (W.contents writer.new) result.closed result.outcome }
+{
+    let done = Outcome::Refused(RequestFault::Target(fault));
+    match status_of_target(fault) {
+        Some(status) => say_page(alloc, buffer, writer, status, head_only, now, done),
+        None => starve(writer),
+    }
+}
