@@ -94,7 +94,7 @@ module _ {D : Type 0} (tells : D → Type 0) (seen : D → List ℕ) (may_leave 
       pub without_loss : OfBlank (LeavesOnly moment left_since a2 a' IsBeingMade) → OpensWithoutLoss seen may_leave moment left_since a b a' b2
       without_loss made = record {
         of_a = leaves_then moment left_since a a2 a' (may_leave a) IsBeingMade (λ c. may_leave a c ⊎ OpensAlike (seen a) (seen b) c)
-        (λ c l. inl l) (λ c m. inr ([], as_new, opens_made c (seen b) few_b m)) (qa.left told_a) (of_blank (LeavesOnly moment left_since a2 a' IsBeingMade) made);
+            (λ c l. inl l) (λ c m. inr ([], as_new, opens_made c (seen b) few_b m)) (qa.left told_a) (of_blank (LeavesOnly moment left_since a2 a' IsBeingMade) made);
         of_b = (quiet_then tells seen may_leave moment left_since only_now b b1 b2 qb1 qb2).left told_b;
         apart = inl only_b;
       }

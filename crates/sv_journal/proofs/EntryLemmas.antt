@@ -19,9 +19,10 @@ head_is a b x y e = cc
 -- four bytes state one number
 one_number : (m n : ℕ) (r s : List ℕ) → m < 2 ^ 32 → n < 2 ^ 32 → to_be_bytes w32 m ++ r ≡ to_be_bytes w32 n ++ s → (m ≡ n) × (r ≡ s)
 one_number m n r s small other e =
-    let numbers : to_be_bytes w32 m ≡ to_be_bytes w32 n = sym (take_at (to_be_bytes w32 m) r 4 refl) ∙ ap (λ (l : List ℕ). take 4 l) e ∙ take_at (to_be_bytes w32 n) s 4 refl in
-    (sym (from_be_bytes-to_be_bytes_4 m small) ∙ ap (λ (l : List ℕ). from_be_bytes w32 l) numbers ∙ from_be_bytes-to_be_bytes_4 n other,
-     sym (drop_at (to_be_bytes w32 m) r 4 refl) ∙ ap (λ (l : List ℕ). drop 4 l) e ∙ drop_at (to_be_bytes w32 n) s 4 refl)
+    let numbers : to_be_bytes w32 m ≡ to_be_bytes w32 n = sym (take_at (to_be_bytes w32 m) r 4 refl) ∙ ap (λ (l : List ℕ). take 4 l) e ∙ take_at (to_be_bytes w32 n) s 4 refl in (
+      sym (from_be_bytes-to_be_bytes_4 m small) ∙ ap (λ (l : List ℕ). from_be_bytes w32 l) numbers ∙ from_be_bytes-to_be_bytes_4 n other,
+      sym (drop_at (to_be_bytes w32 m) r 4 refl) ∙ ap (λ (l : List ℕ). drop 4 l) e ∙ drop_at (to_be_bytes w32 n) s 4 refl,
+    )
 
 -- what begins with an entry begins with no other
 pub one_entry : (p q r s : List ℕ) → IsPayload p → IsPayload q → entry p ++ r ≡ entry q ++ s → (p ≡ q) × (r ≡ s)
@@ -115,10 +116,11 @@ head_entry head bytes n h is room =
     let opening = 165 ∷ to_be_bytes w32 n in
     let rest : drop 5 bytes ≡ f.0 = ap (λ (l : List ℕ). drop 5 l) f.1 ∙ drop_at opening f.0 5 refl in
     let p = take n (drop 5 bytes) in
-    let size : length p ≡ n = omega (arith, length-take n (drop 5 bytes), length-drop 5 bytes, room) in
-    (size,
-     f.1 ∙ ap (λ (l : List ℕ). opening ++ l) (sym rest ∙ sym (take-append-drop n (drop 5 bytes))) ∙ sym (append_assoc opening p (drop n (drop 5 bytes)))
-     ∙ ap (λ (k : ℕ). (165 ∷ to_be_bytes w32 k ++ p) ++ drop n (drop 5 bytes)) (sym size))
+    let size : length p ≡ n = omega (arith, length-take n (drop 5 bytes), length-drop 5 bytes, room) in (
+      size,
+      f.1 ∙ ap (λ (l : List ℕ). opening ++ l) (sym rest ∙ sym (take-append-drop n (drop 5 bytes))) ∙ sym (append_assoc opening p (drop n (drop 5 bytes)))
+          ∙ ap (λ (k : ℕ). (165 ∷ to_be_bytes w32 k ++ p) ++ drop n (drop 5 bytes)) (sym size),
+    )
 
 pub shut_front : (head bytes : List ℕ) → IsShut head → head ≡ take (length head) bytes → IsShut bytes
 shut_front head bytes h is =
@@ -156,10 +158,11 @@ pub begins_for_none : (bytes : List ℕ) → BeginsFor bytes 0
 begins_for_none bytes = ([], record { payloads = tt; whole = refl }, refl)
 
 pub begins_for_join : (bytes : List ℕ) (n m : ℕ) → BeginsFor bytes n → BeginsFor (drop n bytes) m → BeginsFor bytes (n + m)
-begins_for_join bytes n m b k =
-    (b.0 ++ k.0,
-     subst (λ (l : List ℕ). Begins bytes (b.0 ++ k.0) l) (drop-drop m n bytes) (begins_join bytes b.0 k.0 (drop n bytes) (drop m (drop n bytes)) b.1 k.1),
-     omega (arith, b.2, k.2, ap length (flat_map-append entry b.0 k.0), length-append (flat_map entry b.0) (flat_map entry k.0)))
+begins_for_join bytes n m b k = (
+  b.0 ++ k.0,
+  subst (λ (l : List ℕ). Begins bytes (b.0 ++ k.0) l) (drop-drop m n bytes) (begins_join bytes b.0 k.0 (drop n bytes) (drop m (drop n bytes)) b.1 k.1),
+  omega (arith, b.2, k.2, ap length (flat_map-append entry b.0 k.0), length-append (flat_map entry b.0) (flat_map entry k.0)),
+)
 
 pub ends_at_join : (bytes : List ℕ) (n m : ℕ) → BeginsFor bytes n → EndsAt (drop n bytes) m → EndsAt bytes (n + m)
 ends_at_join bytes n m b k =
@@ -168,10 +171,11 @@ ends_at_join bytes n m b k =
 pub begins_for_entry : (head bytes : List ℕ) (n : ℕ) → IsHead head n → head ≡ take (length head) bytes → n ≤ 131072 → 5 + n ≤ length bytes → BeginsFor bytes (5 + n)
 begins_for_entry head bytes n h is small room =
     let e = head_entry head bytes n h is room in
-    let p = take n (drop 5 bytes) in
-    (p ∷ [],
-     subst (λ (l : List ℕ). Begins bytes (p ∷ []) l) (drop-drop n 5 bytes) (begins_entry bytes p (drop n (drop 5 bytes)) (omega (arith, e.0, small)) e.1),
-     omega (arith, e.0, length_entry p, ap length (append-nil (entry p))))
+    let p = take n (drop 5 bytes) in (
+      p ∷ [],
+      subst (λ (l : List ℕ). Begins bytes (p ∷ []) l) (drop-drop n 5 bytes) (begins_entry bytes p (drop n (drop 5 bytes)) (omega (arith, e.0, small)) e.1),
+      omega (arith, e.0, length_entry p, ap length (append-nil (entry p))),
+    )
 
 pub ends_at_shut : (bytes : List ℕ) → IsShut bytes → EndsAt bytes 0
 ends_at_shut bytes shut = ([], shut, refl)

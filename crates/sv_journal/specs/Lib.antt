@@ -1,6 +1,7 @@
 pub mod Disk
 pub mod Past
 pub mod MemoryDisk
+pub mod FileDisk
 pub mod Format
 pub mod Commit
 pub mod Walk

@@ -176,7 +176,12 @@ fn staged(alloc: Global, payload: &[u8]) -> Result<Vec<u8>, AllocError>
 }
 
 // The bytes of a disk from one place to another.
-fn read_from<D: Disk>(alloc: Global, disk: &mut D, from: u64, to: u64) -> Result<Vec<u8>, JournalFault>
+fn read_from<D: Disk>(
+    alloc: Global,
+    disk: &mut D,
+    from: u64,
+    to: u64,
+) -> Result<Vec<u8>, JournalFault>
     requires ordered { from ≤ to }
     requires within { D.tells disk.old → to ≤ length (D.seen disk.old) }
     ensures bytes { IfOk result (λ bytes. D.tells disk.old → bytes.items ≡ take (to - from) (drop from (D.seen disk.old))) }

@@ -28,3 +28,5 @@ pub use journal_fault::JournalFault;
 pub use memory_disk::{DiskCall, MemoryDisk};
 pub use not_opened::NotOpened;
 
+#[cfg(test)]
+mod tests;

@@ -55,6 +55,8 @@ returns-clause-keeps g c = λ told_a.
     let d = g.D.Disk in
     let shows_a = c.in_ok-current.ensures.shows (c.settle.ensures.quiet_a.tells_after told_a) in
     let closed : IsOpen (d.seen c.settle.new.a) → ⊥ = λ o. let no = (c.if-is_open-2.ensures.open (d.seen c.settle.new.a) shows_a).1 o in cc in
-    let place : Place = record { generation = 1; end = 16; len = 17 } in
-    ([], kept d.tells d.seen d.may_leave d.moment d.left_since g.met.D.Disk.only_now c.args.a.now c.settle.new.a c.head_of-2.new.disk c.make.new.disk
-    c.settle.ensures.quiet_a c.head_of-2.ensures.quiet told_a (c.in_ok-settle.ensures.settled_a told_a) closed (omega (arith, shows_a.len)) c.head_of.new.disk place refl refl refl c.in_ok-make.ensures.made)
+    let place : Place = record { generation = 1; end = 16; len = 17 } in (
+      [],
+      kept d.tells d.seen d.may_leave d.moment d.left_since g.met.D.Disk.only_now c.args.a.now c.settle.new.a c.head_of-2.new.disk c.make.new.disk
+          c.settle.ensures.quiet_a c.head_of-2.ensures.quiet told_a (c.in_ok-settle.ensures.settled_a told_a) closed (omega (arith, shows_a.len)) c.head_of.new.disk place refl refl refl c.in_ok-make.ensures.made,
+    )

@@ -35,7 +35,7 @@ loop-piece-preserved g c =
     let reach : Reaches c.read.new.bytes (c.args.len - c.loop-piece.end) (Past c.in-Past.at) = rw c.in-Past.is at c.in_ok-at.ensures.reaches in
     record {
       quiet = quiet_then d.tells d.seen d.may_leave d.moment d.left_since g.met.D.Disk.only_now c.args.disk.now c.loop-piece.disk c.read.new.self i.quiet
-      (quiet_call d.tells d.seen d.may_leave d.moment d.left_since g.met.D.Disk.only_now c.loop-piece.disk c.read.new.self c.read.ensures.stop c.read.ensures.seen);
+          (quiet_call d.tells d.seen d.may_leave d.moment d.left_since g.met.D.Disk.only_now c.loop-piece.disk c.read.new.self c.read.ensures.stop c.read.ensures.seen);
       count = c.in_ok-read.ensures.count ∙ i.count;
       behind_header = omega (arith, i.behind_header);
       within = omega (arith, i.within, reach.1);

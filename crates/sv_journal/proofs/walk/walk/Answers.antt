@@ -24,9 +24,10 @@ returns-in-None-clause-reaches c =
     let head = take (length p - at) (drop at p) in
     let within : at ≤ length p = elim c.if-whole.branch [ then-whole w ↦ omega arith | else-whole+then-saturating_sub-ge-ENTRY_HEAD w ↦ omega arith ] in
     let shut : IsShut head = rw c.in-None.is at c.in_ok-payload_len.ensures.closed in
-    let one : 1 ≤ length head = omega (arith, ap length shut.3) in
-    (omega (arith, one, length-take (length p - at) (drop at p), length-drop at p, c.requires.within),
-     λ bytes size front. walk_shut p bytes head c.args.left at size front within refl (c.loop-left.invariant.begins bytes size front) shut)
+    let one : 1 ≤ length head = omega (arith, ap length shut.3) in (
+      omega (arith, one, length-take (length p - at) (drop at p), length-drop at p, c.requires.within),
+      λ bytes size front. walk_shut p bytes head c.args.left at size front within refl (c.loop-left.invariant.begins bytes size front) shut,
+    )
 
 pub loop-left-preserved : goal.loop-left-preserved
 loop-left-preserved c =
