@@ -1,5 +1,5 @@
 -- The best pattern: from the answers of the four rules, and among a list of patterns.
-use Rattle.std.proofs.Common.{◌≡◌, ◌≢◌, ℕ, suc, ◌+◌, ◌<◌, ◌≤◌, ◌⊎◌, ◌||◌, Bool, true, false, cond, List, [], ◌∷◌, length, Option, Some, None, IsTrue, IsNone, IfSome, MatchOption, refl, sym, ap, ◌∙◌, subst, inl, inr, arith}
+use Rattle.std.proofs.Common.{◌≡◌, ℕ, ◌+◌, ◌<◌, ◌≤◌, ◌⊎◌, ◌||◌, Bool, true, false, cond, List, [], ◌∷◌, ◌++◌, length, Option, Some, None, IsTrue, IsNone, IfSome, MatchOption, codes, length-append, refl, sym, ap, ◌∙◌, subst, inl, inr, arith}
 use Rattle.std.specs.Option.{is_some, option_map, option_and_then}
 use Rattle.std.specs.List.{list_any}
 use Rattle.std.specs.Ordering.{is_eq, eq_by_cmp}
@@ -12,13 +12,16 @@ use Rattle.std.proofs.lemmas.Option.{none-some, same_Some}
 use Rattle.std.proofs.lemmas.Bool.{false≢true, cases_lt}
 use Rattle.std.proofs.lemmas.Bool.Decides.{nat_tests}
 use Rattle.sv_mapping.specs.Path.{Text}
-use Rattle.sv_mapping.specs.Pattern.{matches, rule_of, precedes}
+use Rattle.sv_mapping.specs.Pattern.{prefix_of, matches, rule_of, precedes}
 use Rattle.sv_mapping.specs.Search.{text_cmp}
-use Rattle.sv_mapping.specs.ServletMatch.{Mapped, mapped_by, shown}
-use Rattle.sv_mapping.specs.Mappings.{Table, IsBest, HasNoMatch, better, best_pattern, mapped, IsMatchOf, IsBestMatch, IsBestByRule, AnswersByRule}
+use Rattle.sv_mapping.specs.ServletMatch.{mapped_by, shown}
+use Rattle.sv_mapping.specs.Mappings.{Table, IsBest, HasNoMatch, better, best_pattern, mapped, IsBestMatch, IsMappedByBest, IsBestByRule, AnswersByRule}
 use Rattle.sv_mapping.specs.declared.servlet_match.Match.{Match}
+use Rattle.sv_mapping.specs.declared.pattern.PatternForm.TheVariants.{Prefix}
 use Rattle.sv_mapping.proofs.EntryLemmas.{same_text}
-use Rattle.sv_mapping.proofs.PatternLemmas.{rule_of-bounds}
+use Rattle.sv_mapping.proofs.PathLemmas.{IsFront-from_test, IsFront-unique}
+use Rattle.sv_mapping.proofs.PatternLemmas.{prefix_text, extension_text, default_text, rule_of-bounds, prefix_by_rule, extension_by_rule, default_by_rule, matches-form}
+use Rattle.sv_mapping.proofs.MatchLemmas.{exact_text, extension_is, not_exact}
 
 module _ (a b : Text) where
   pub precedes-rule : rule_of a < rule_of b → precedes a b ≡ true
@@ -206,3 +209,161 @@ module _ (table : Table) (path : Text) where
       → AnswersUpTo table path 4 fourth
   answers_all first second third fourth a b c d =
       answers_more table path 3 third fourth (answers_more table path 2 second third (answers_more table path 1 first second (answers_first table path first a) b) c) d
+
+module _ (path a b : Text) (matches_a : matches a path ≡ true) (matches_b : matches b path ≡ true) where
+  equal_exact : rule_of a ≡ 1 → rule_of b ≡ 1 → a ≡ b
+  equal_exact rule_a rule_b = elim (exact_text a path matches_a rule_a) [
+    | inl (form, same) ↦ elim (exact_text b path matches_b rule_b) [
+      | inl (_, its) ↦ same ∙ sym its
+      | inr (_, root) ↦ absurd (not_exact a (same ∙ root) form)
+    ]
+    | inr (empty, root) ↦ elim (exact_text b path matches_b rule_b) [
+      | inl (form, its) ↦ absurd (not_exact b (its ∙ root) form)
+      | inr (its, _) ↦ empty ∙ sym its
+    ]
+  ]
+
+  equal_prefix : rule_of a ≡ 2 → rule_of b ≡ 2 → length a ≡ length b → a ≡ b
+  equal_prefix rule_a rule_b long =
+      let form_a = prefix_by_rule a rule_a in
+      let form_b = prefix_by_rule b rule_b in
+      let front_a = IsFront-from_test (prefix_of a) path (sym (matches-form a path Prefix form_a) ∙ matches_a) in
+      let front_b = IsFront-from_test (prefix_of b) path (sym (matches-form b path Prefix form_b) ∙ matches_b) in
+      let text_a : a ≡ prefix_of a ++ codes "/*" = prefix_text a form_a in
+      let text_b : b ≡ prefix_of b ++ codes "/*" = prefix_text b form_b in
+      let as_long : length (prefix_of a) ≡ length (prefix_of b) = omega (arith, ap length text_a, ap length text_b, length-append (prefix_of a) (codes "/*"), length-append (prefix_of b) (codes "/*")) in
+      text_a ∙ ap (λ t. t ++ codes "/*") (IsFront-unique (prefix_of a) (prefix_of b) path front_a front_b as_long) ∙ sym text_b
+
+  equal_extension : rule_of a ≡ 3 → rule_of b ≡ 3 → a ≡ b
+  equal_extension rule_a rule_b =
+      extension_text a (extension_by_rule a rule_a)
+      ∙ ap (λ t. codes "*." ++ t) (same_Some _ _ (sym (extension_is a path matches_a rule_a) ∙ extension_is b path matches_b rule_b))
+      ∙ sym (extension_text b (extension_by_rule b rule_b))
+
+  equal_default : rule_of a ≡ 4 → rule_of b ≡ 4 → a ≡ b
+  equal_default rule_a rule_b = default_text a (default_by_rule a rule_a) ∙ sym (default_text b (default_by_rule b rule_b))
+
+  -- two patterns of one rule and one length that match a path are one
+  equal_rule : rule_of a ≡ rule_of b → length a ≡ length b → a ≡ b
+  equal_rule same long =
+      let bounds = rule_of-bounds a in
+      elim (cases_lt (rule_of a) 2) [
+        | inl one ↦ equal_exact (omega arith) (omega arith)
+        | inr two ↦ elim (cases_lt (rule_of a) 3) [
+          | inl only ↦ equal_prefix (omega arith) (omega arith) long
+          | inr three ↦ elim (cases_lt (rule_of a) 4) [
+            | inl only ↦ equal_extension (omega arith) (omega arith)
+            | inr four ↦ equal_default (omega arith) (omega arith)
+          ]
+        ]
+      ]
+
+  -- of two patterns that match a path one precedes the other, unless they are one
+  comparable : (a ≡ b) ⊎ ((precedes a b ≡ true) ⊎ (precedes b a ≡ true))
+  comparable = elim (cases_lt (rule_of a) (rule_of b)) [
+    | inl earlier ↦ inr (inl (precedes-rule a b earlier))
+    | inr no_earlier ↦ elim (cases_lt (rule_of b) (rule_of a)) [
+      | inl later ↦ inr (inr (precedes-rule b a later))
+      | inr no_later ↦
+          let same : rule_of a ≡ rule_of b = omega arith in
+          elim (cases_lt (length b) (length a)) [
+            | inl longer ↦ inr (inl (precedes-longer a b same longer))
+            | inr no_longer ↦ elim (cases_lt (length a) (length b)) [
+              | inl shorter ↦ inr (inr (precedes-longer b a (sym same) shorter))
+              | inr no_shorter ↦ inl (equal_rule same (omega arith))
+            ]
+          ]
+    ]
+  ]
+
+precedes-trans : (a b c : Text) → precedes a b ≡ true → precedes b c ≡ true → precedes a c ≡ true
+unfolding precedes
+precedes-trans a b c h g = grind (arith, nat_tests)
+
+-- a text of the list that matches, and precedes every other that does
+record IsBestOf (texts : List Text) (path best : Text) : Type 0 where
+  listed : has best texts ≡ true
+  matching : matches best path ≡ true
+  first : (other : Text) → has other texts ≡ true → matches other path ≡ true → (other ≡ best) ⊎ (precedes best other ≡ true)
+
+-- the best of a list
+abbrev BestOf : List Text → Text → Option Text → Type 0
+BestOf texts path answer = MatchOption answer ((text : Text) → has text texts ≡ true → matches text path ≡ false) (IsBestOf texts path)
+
+module _ (path one : Text) (texts : List Text) where
+  skip : matches one path ≡ false → (answer : Option Text) → BestOf texts path answer → BestOf (one ∷ texts) path answer
+  skip no_match None none = λ text h. elim (has_cases text one texts h) [
+    | inl same ↦ ap (λ t. matches t path) same ∙ no_match
+    | inr later ↦ none text later
+  ]
+  skip no_match (Some best) is = record {
+    listed = or_right _ _ is.listed;
+    matching = is.matching;
+    first = λ other h matching. elim (has_cases other one texts h) [
+      | inl same ↦ absurd (false≢true (sym no_match ∙ ap (λ t. matches t path) (sym same) ∙ matching))
+      | inr later ↦ is.first other later matching
+    ];
+  }
+
+  take_one : matches one path ≡ true → ((other : Text) → has other texts ≡ true → matches other path ≡ true → (other ≡ one) ⊎ (precedes one other ≡ true)) → IsBestOf (one ∷ texts) path one
+  take_one hit first = record {
+    listed = has_itself one texts;
+    matching = hit;
+    first = λ other h matching. elim (has_cases other one texts h) [
+      | inl same ↦ inl same
+      | inr later ↦ first other later matching
+    ];
+  }
+
+  before_all : matches one path ≡ true → (best : Text) → IsBestOf texts path best → precedes best one ≡ false → (other : Text) → has other texts ≡ true → matches other path ≡ true → (other ≡ one) ⊎ (precedes one other ≡ true)
+  before_all hit best is no_before other h matching = elim (comparable path one best hit is.matching) [
+    | inl same ↦ elim (is.first other h matching) [
+      | inl its ↦ inl (its ∙ sym same)
+      | inr after ↦ inr (ap (λ t. precedes t other) same ∙ after)
+    ]
+    | inr either_way ↦ elim either_way [
+      | inl before ↦ elim (is.first other h matching) [
+        | inl its ↦ inr (ap (precedes one) its ∙ before)
+        | inr after ↦ inr (precedes-trans one best other before after)
+      ]
+      | inr behind ↦ absurd (false≢true (sym no_before ∙ behind))
+    ]
+  ]
+
+  choose : matches one path ≡ true → (answer : Option Text) → BestOf texts path answer → IsBestOf (one ∷ texts) path (better one answer)
+  choose hit None none = take_one hit (λ other h matching. absurd (false≢true (sym (none other h) ∙ matching)))
+  choose hit (Some best) is = elim (precedes best one) as (λ b. precedes best one ≡ b → IsBestOf (one ∷ texts) path (cond b best one)) [
+    | true ↦ λ before. record {
+      listed = or_right _ _ is.listed;
+      matching = is.matching;
+      first = λ other h matching. elim (has_cases other one texts h) [
+        | inl same ↦ inr (ap (precedes best) same ∙ before)
+        | inr later ↦ is.first other later matching
+      ];
+    }
+    | false ↦ λ no_before. take_one hit (before_all hit best is no_before)
+  ] refl
+
+best_pattern-best : (path : Text) (texts : List Text) → BestOf texts path (best_pattern texts path)
+best_pattern-best path [] = λ text h. absurd (false≢true h)
+best_pattern-best path (one ∷ texts) =
+    elim (matches one path) as (λ b. matches one path ≡ b → BestOf (one ∷ texts) path (cond b (Some (better one (best_pattern texts path))) (best_pattern texts path))) [
+      | true ↦ λ hit. choose path one texts hit (best_pattern texts path) (best_pattern-best path texts)
+      | false ↦ λ no_match. skip path one texts no_match (best_pattern texts path) (best_pattern-best path texts)
+    ] refl
+
+module _ (table : Table) (path : Text) where
+  mapped_of : (answer : Option Text) → BestOf (keys table) path answer → MatchOption (option_and_then (λ pattern. option_map (λ servlet. mapped_by pattern servlet path) (get table pattern)) answer) (HasNoMatch table path) (IsMappedByBest table path)
+  mapped_of None none = λ pattern listed. none pattern (keys_has table pattern ∙ listed)
+  mapped_of (Some pattern) is =
+      let listed : is_some (get table pattern) ≡ true = sym (keys_has table pattern) ∙ is.listed in
+      let best : IsBest table path pattern = record { listed = listed; matching = is.matching; first = λ other h matching. is.first other (keys_has table other ∙ h) matching } in
+      elim (get table pattern) as (λ o. get table pattern ≡ o → MatchOption (option_map (λ servlet. mapped_by pattern servlet path) o) (HasNoMatch table path) (IsMappedByBest table path)) [
+        | None ↦ λ none. absurd (false≢true (ap is_some (sym none) ∙ listed))
+        | Some servlet ↦ λ some. (pattern, best, servlet, some, refl)
+      ] refl
+
+  -- what a path is mapped to is the match of the best pattern
+  pub mapped_to_best : MatchOption (mapped table path) (HasNoMatch table path) (IsMappedByBest table path)
+  unfolding mapped
+  mapped_to_best = mapped_of (best_pattern (keys table) path) (best_pattern-best path (keys table))

@@ -1,20 +1,20 @@
 -- The match of the best pattern by each rule but the prefixes', from what the table has at a text.
-use Rattle.std.proofs.Common.{◌≡◌, ◌≢◌, ℕ, ◌+◌, ◌<◌, ◌≤◌, ◌⊎◌, Bool, true, false, List, [], ◌∷◌, ◌++◌, length, take, drop, get_or, Option, Some, None, refl, sym, ap, ◌∙◌, subst, inl, inr, IsTrue, codes, arith}
+use Rattle.std.proofs.Common.{◌≡◌, ◌≢◌, ℕ, ◌⊎◌, true, false, [], ◌++◌, length, take, get_or, Option, Some, None, refl, sym, ap, ◌∙◌, inl, inr, codes, arith}
 use Rattle.std.specs.Option.{is_some, option_map_or}
 use Rattle.std.proofs.lemmas.Option.{none-some, same_Some}
-use Rattle.std.specs.Str.{IsCharBoundary, bytes_eq}
+use Rattle.std.specs.Str.{bytes_eq}
 use Rattle.std.specs.FinMap.{get, contains_key}
 use Rattle.std.proofs.lemmas.List.{take_all}
 use Rattle.std.proofs.lemmas.Bool.{false≢true}
 use Rattle.std.proofs.lemmas.Str.{IsCharBoundary-end, IsCharBoundary-before_ascii}
 use Rattle.std.proofs.lemmas.Slice.Eq.{bytes_eq-Decides}
 use Rattle.sv_mapping.specs.Path.{Text, extension_of}
-use Rattle.sv_mapping.specs.Pattern.{form_of, matches, rule_of, rule_of_form, suffix_of, has_extension}
-use Rattle.sv_mapping.specs.ServletMatch.{Mapped, servlet_path_by, path_info_by, mapped_by, shown}
+use Rattle.sv_mapping.specs.Pattern.{form_of, matches, rule_of, suffix_of}
+use Rattle.sv_mapping.specs.ServletMatch.{servlet_path_by, path_info_by, mapped_by, shown}
 use Rattle.sv_mapping.specs.Mappings.{Table, IsMatchOf, IsBestByRule, AnswersByRule}
 use Rattle.sv_mapping.specs.declared.servlet_match.Match.{Match}
 use Rattle.sv_mapping.specs.declared.pattern.PatternForm.{PatternForm}
-use Rattle.sv_mapping.specs.declared.pattern.PatternForm.TheVariants.{Exact, ContextRoot, Prefix, Extension, Default}
+use Rattle.sv_mapping.specs.declared.pattern.PatternForm.TheVariants.{Exact, ContextRoot, Extension, Default}
 use Rattle.sv_mapping.proofs.TestLemmas.{false_test}
 use Rattle.sv_mapping.proofs.PatternLemmas.{root_text, default_text, extension_text, form_of-root, form_of-default, form_of-extension, rule_of-form, exact_or_root, extension_by_rule, default_by_rule, matches-form}
 
@@ -29,19 +29,19 @@ same_extension suffix (Some x) e = ap Some (sym ((bytes_eq-Decides suffix x).0 e
 
 module _ (pattern path : Text) (matching : matches pattern path ≡ true) where
   -- the patterns of the first rule
-  exact_text : rule_of pattern ≡ 1 → ((form_of pattern ≡ Exact) × (pattern ≡ path)) ⊎ ((pattern ≡ []) × (path ≡ codes "/"))
+  pub exact_text : rule_of pattern ≡ 1 → ((form_of pattern ≡ Exact) × (pattern ≡ path)) ⊎ ((pattern ≡ []) × (path ≡ codes "/"))
   exact_text rule = elim (exact_or_root pattern rule) [
     | inl form ↦ inl (form, sym ((bytes_eq-Decides path pattern).0 (sym (matches-form pattern path Exact form) ∙ matching)))
     | inr form ↦ inr (root_text pattern form, (bytes_eq-Decides path (codes "/")).0 (sym (matches-form pattern path ContextRoot form) ∙ matching))
   ]
 
   -- the one pattern of the third rule
-  extension_is : rule_of pattern ≡ 3 → extension_of path ≡ Some (suffix_of pattern)
+  pub extension_is : rule_of pattern ≡ 3 → extension_of path ≡ Some (suffix_of pattern)
   extension_is rule =
       same_extension (suffix_of pattern) (extension_of path) (sym (matches-form pattern path Extension (extension_by_rule pattern rule)) ∙ matching)
 
 -- the pattern `/` is not exact
-not_exact : (pattern : Text) → pattern ≡ codes "/" → form_of pattern ≡ Exact → ⊥
+pub not_exact : (pattern : Text) → pattern ≡ codes "/" → form_of pattern ≡ Exact → ⊥
 not_exact pattern slash form = let e : Exact ≡ Default = sym form ∙ ap form_of slash ∙ form_of-default in cc
 
 module _ (table : Table) where

@@ -1,16 +1,13 @@
 -- The search for the longest prefix, from the whole path back to its first slash.
-use Rattle.std.proofs.Common.{◌≡◌, ◌≢◌, ℕ, zero, suc, ◌+◌, ◌-◌, ◌<◌, ◌≤◌, ◌⊎◌, Bool, true, false, cond, ltb, List, [], ◌∷◌, ◌++◌, length, take, drop, get_or, Option, Some, None, refl, sym, ap, ◌∙◌, subst, inl, inr, IsTrue, codes, arith, length-append, length-drop}
-use Rattle.std.specs.Option.{is_some}
+use Rattle.std.proofs.Common.{◌≡◌, ◌≢◌, ℕ, suc, ◌+◌, ◌<◌, ◌≤◌, ◌⊎◌, Bool, true, cond, ltb, [], ◌∷◌, ◌++◌, length, take, drop, get_or, Some, None, sym, ap, ◌∙◌, inl, inr, codes, arith, length-append, length-drop}
 use Rattle.std.specs.FinMap.{get, contains_key}
 use Rattle.std.proofs.lemmas.List.{take-take, get_or-take, get_or_append_left, length-take-le}
-use Rattle.std.proofs.lemmas.Bool.{false≢true, cases_lt}
+use Rattle.std.proofs.lemmas.Bool.{cases_lt}
 use Rattle.std.proofs.lemmas.Bool.Decides.{nat_tests}
 use Rattle.sv_mapping.specs.Path.{Text, is_at_or_below}
 use Rattle.sv_mapping.specs.Pattern.{form_of, prefix_of, matches, rule_of}
-use Rattle.sv_mapping.specs.ServletMatch.{Mapped, nonempty_text, servlet_path_by, path_info_by, mapped_by, shown}
-use Rattle.sv_mapping.specs.Mappings.{Table, IsMatchOf, IsBestByRule, AnswersByRule}
-use Rattle.sv_mapping.specs.declared.servlet_match.Match.{Match}
-use Rattle.sv_mapping.specs.declared.pattern.PatternForm.{PatternForm}
+use Rattle.sv_mapping.specs.ServletMatch.{nonempty_text, servlet_path_by, path_info_by, mapped_by, shown}
+use Rattle.sv_mapping.specs.Mappings.{Table, IsBestByRule, AnswersByRule}
 use Rattle.sv_mapping.specs.declared.pattern.PatternForm.TheVariants.{Prefix}
 use Rattle.sv_mapping.proofs.TestLemmas.{false_test}
 use Rattle.sv_mapping.proofs.PathLemmas.{IsFront, IsFront-boundary, IsFront-from_test, IsFront-unique, is_at_or_below-self, is_at_or_below-take}

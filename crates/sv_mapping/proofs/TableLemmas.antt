@@ -1,14 +1,12 @@
 -- The table that sorted entries make.
-use Rattle.std.proofs.Common.{◌≡◌, ℕ, ◌<◌, ◌≤◌, Bool, true, false, cond, leb, List, [], length, get_or, Option, Some, None, refl, sym, ap, ◌∙◌, subst, arith}
+use Rattle.std.proofs.Common.{◌≡◌, ℕ, ◌<◌, ◌≤◌, true, false, leb, List, [], length, get_or, Some, None, refl, ap, ◌∙◌, arith}
 use Rattle.std.specs.List.{insert}
-use Rattle.std.specs.Option.{is_some}
-use Rattle.std.specs.FinMap.{get, len, contains_key, find, is_sorted, from_sorted, empty, empty_of_len, entries-from_sorted, get-from_sorted, len-entries, len-empty}
+use Rattle.std.specs.FinMap.{get, len, is_sorted, from_sorted, empty, empty_of_len, entries-from_sorted, get-from_sorted, len-entries}
 use Rattle.std.specs.FinMap as map
 use Rattle.std.proofs.lemmas.Bool.Decides.{nat_tests}
 use Rattle.sv_mapping.specs.Path.{Text}
 use Rattle.sv_mapping.specs.Search.{text_cmp, IsPlaceOf, IsGapFor}
 use Rattle.sv_mapping.specs.Mappings.{refusal}
-use Rattle.sv_mapping.specs.declared.fault.MappingFault.{MappingFault}
 use Rattle.sv_mapping.specs.declared.fault.MappingFault.TheVariants.{DuplicatePattern, TooMany}
 use Rattle.sv_mapping.proofs.TestLemmas.{test_true}
 use Rattle.sv_mapping.proofs.EntryLemmas.{find-at, find-gap, insert-gap, sorted_put, from_sorted-put}

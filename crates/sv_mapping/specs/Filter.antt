@@ -1,5 +1,5 @@
 -- The filters of a dispatch, in the order in which they are called (Jakarta Servlet 6.0, section 6.2.4).
-use Rattle.std.specs.Prelude.{ℕ, Bool, false, ◌==◌, not, List, [], ◌∷◌, ◌++◌, map, filter, Option, Some, None}
+use Rattle.std.specs.Prelude.{ℕ, Bool, false, ◌==◌, not, List, [], ◌∷◌, ◌++◌, map, filter, Option}
 use Rattle.std.specs.Option.{option_map_or}
 use Rattle.sv_mapping.specs.Path.{Text}
 use Rattle.sv_mapping.specs.Pattern.{matches}

@@ -1,5 +1,5 @@
 -- Which pattern of a context is best for a path (Jakarta Servlet 6.0, section 12.1).
-use Rattle.std.specs.Prelude.{◌≡◌, ℕ, false, true, ◌<◌, ◌⊎◌, List, [], ◌∷◌, length, nat_le, if◌then◌else◌, Option, Some, None, IsTrue, MatchOption, option_map, option_and_then}
+use Rattle.std.specs.Prelude.{◌≡◌, ℕ, false, ◌<◌, ◌⊎◌, List, [], ◌∷◌, length, nat_le, if◌then◌else◌, Option, Some, None, IsTrue, MatchOption, option_map, option_and_then}
 use Rattle.std.specs.FinMap.{FinMap, get, contains_key, keys, len}
 use Rattle.std.specs.Str.{IsCharBoundary}
 use Rattle.sv_mapping.specs.Path.{Text}
@@ -45,6 +45,11 @@ best_pattern (pattern ∷ patterns) path =
 -- what a path is mapped to
 unfoldable pub mapped : Table → Text → Option Mapped
 mapped table path = option_and_then (λ pattern. option_map (λ servlet. mapped_by pattern servlet path) (get table pattern)) (best_pattern (keys table) path)
+
+-- what a path is mapped to is what its best pattern says
+abbrev pub IsMappedByBest : Table → Text → Mapped → Type 0
+IsMappedByBest table path to =
+    (pattern : Text) × IsBest table path pattern × (servlet : ℕ) × (get table pattern ≡ Some servlet) × (to ≡ mapped_by pattern servlet path)
 
 -- a match is that of the pattern: its servlet, and what it shows of the path
 pub record IsMatchOf (table : Table) (path pattern : Text) (found : Match) : Type 0 where

@@ -1,5 +1,5 @@
 -- Texts of paths: what a path lies below, and its extension (Jakarta Servlet 6.0, section 12.1).
-use Rattle.std.specs.Prelude.{ℕ, Bool, ◌||◌, ◌==◌, List, ◌++◌, length, drop, Option, Some, None, codes, bytes_eq, if◌then◌else◌, nat_eq}
+use Rattle.std.specs.Prelude.{ℕ, Bool, ◌||◌, ◌==◌, List, ◌++◌, Option, Some, None, codes, bytes_eq, if◌then◌else◌, nat_eq}
 use Rattle.std.specs.List.{after_last, list_any, starts_with}
 
 -- a text, by its bytes

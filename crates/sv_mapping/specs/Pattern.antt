@@ -1,5 +1,5 @@
 -- The forms of a pattern, and the paths that it matches (Jakarta Servlet 6.0, sections 12.1 and 12.2).
-use Rattle.std.specs.Prelude.{ℕ, Bool, true, false, ◌&&◌, ◌||◌, ◌==◌, ◌-◌, nat_lt, nat_le, nat_eq, not, List, [], length, take, drop, codes, bytes_eq, if◌then◌else◌, Option, Some, None}
+use Rattle.std.specs.Prelude.{ℕ, Bool, true, false, ◌&&◌, ◌||◌, ◌==◌, ◌-◌, nat_lt, nat_le, nat_eq, not, [], length, take, drop, codes, bytes_eq, if◌then◌else◌}
 use Rattle.std.specs.List.{starts_with, ends_with, list_all}
 use Rattle.std.specs.Option.{option_map_or}
 use Rattle.sv_mapping.specs.Path.{Text, is_at_or_below, extension_of}

@@ -1,5 +1,5 @@
 -- What a servlet is shown of a path within its context (Jakarta Servlet 6.0, section 3.5).
-use Rattle.std.specs.Prelude.{ℕ, List, [], ◌∷◌, length, take, drop, codes, if◌then◌else◌, Option, Some, None}
+use Rattle.std.specs.Prelude.{ℕ, [], ◌∷◌, length, take, drop, codes, if◌then◌else◌, Option, Some, None}
 use Rattle.sv_mapping.specs.Path.{Text}
 use Rattle.sv_mapping.specs.Pattern.{form_of, prefix_of}
 use Rattle.sv_mapping.specs.declared.pattern.PatternForm.{PatternForm}

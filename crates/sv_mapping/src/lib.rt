@@ -13,6 +13,7 @@ pub mod context;
 pub mod dispatcher;
 pub mod fault;
 pub mod filter;
+pub mod laws;
 pub mod mappings;
 pub mod path;
 pub mod pattern;

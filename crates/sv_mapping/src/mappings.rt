@@ -56,6 +56,13 @@ impl Mappings {
         self.entries.len()
     }
 
+    /// Whether no pattern is mapped.
+    pub fn is_empty(&self) -> bool
+        ensures { IsTrue result ↔ (map.len self.now ≡ 0) }
+    {
+        self.len() == 0
+    }
+
     /// Maps a pattern to a servlet, by the servlet's number.
     ///
     /// The pattern is dropped where it is refused.

@@ -74,8 +74,8 @@ impl Pattern {
         form_of(self.text.as_str())
     }
 
-    #[tactic(auto, unfolding(crate::specs::Pattern::matches))]
     /// Whether it matches a path within its context. Case counts.
+    #[tactic(auto, unfolding(crate::specs::Pattern::matches))]
     pub fn matches(&self, path: &str) -> bool
         ensures { result ≡ spec.matches self.now path.now }
     {

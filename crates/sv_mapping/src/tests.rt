@@ -243,6 +243,7 @@ fn refuses_control_characters_and_long_patterns(rt: HostRuntime) -> Result<(), F
 #[test]
 fn refuses_patterns_past_the_limit(rt: HostRuntime) -> Result<(), Fail> {
     let mut mappings = Mappings::new(rt.alloc());
+    assert!(rt; mappings.is_empty(), "patterns without any added");
     for n in 0..MAX_PATTERNS {
         let text = format!(in rt.alloc(); "/{n}")?;
         mappings.add(Pattern::read(rt.alloc(), &text)?, n)?;

@@ -1,7 +1,6 @@
 use Rattle.std.proofs.Common.{None, Some, refl, ◌∙◌, arith}
-use Rattle.std.specs.List.{after_last}
 use Rattle.std.proofs.lemmas.Str.Pattern.{rfind_char}
-use Rattle.sv_mapping.specs.Path.{last_segment, is_dot, extension_of}
+use Rattle.sv_mapping.specs.Path.{extension_of}
 use Rattle.sv_mapping.proofs.PathLemmas.{after_last-at, list_any-none, list_any-at}
 use Rattle.sv_mapping.proofs.path.extension_of.Goals as goal
 

@@ -1,4 +1,4 @@
-use Rattle.std.proofs.Common.{◌≡◌, ◌∙◌, ◌++◌, ◌||◌, eqb, length, get_or, sym, ap, arith}
+use Rattle.std.proofs.Common.{◌≡◌, ◌∙◌, ◌++◌, eqb, get_or, sym, ap, arith}
 use Rattle.std.proofs.lemmas.Bool.Decides.{same_from_decides, Decides-eqb, nat_tests}
 use Rattle.std.proofs.lemmas.Str.Pattern.{starts_char}
 use Rattle.sv_mapping.proofs.PathLemmas.{is_at_or_below-rest, is_at_or_below-apart}

@@ -1,6 +1,5 @@
-use Rattle.std.proofs.Common.{◌≡◌, ◌&&◌, false, eqb, length, [], sym, ap, ◌∙◌, codes, arith}
+use Rattle.std.proofs.Common.{◌≡◌, ◌&&◌, false, eqb, sym, ◌∙◌, codes, arith}
 use Rattle.std.specs.List.{starts_with, ends_with}
-use Rattle.std.specs.Str.{bytes_eq}
 use Rattle.std.proofs.lemmas.Bool.Decides.{nat_tests}
 use Rattle.std.proofs.lemmas.Str.Pattern.{starts_text, ends_text}
 use Rattle.sv_mapping.proofs.TestLemmas.{false_and, and_false}

@@ -1,8 +1,6 @@
-use Rattle.std.proofs.Common.{◌≡◌, ◌+◌, ◌-◌, ◌<◌, length, get_or, ap, sym, subst, ◌∙◌, codes, arith}
-use Rattle.std.proofs.lemmas.List.{get_or-drop}
-use Rattle.std.proofs.lemmas.List.Prefix.{front_fits, end_rest}
+use Rattle.std.proofs.Common.{◌-◌, length, arith}
 use Rattle.std.proofs.lemmas.Str.{IsCharBoundary-before_ascii}
-use Rattle.sv_mapping.proofs.PatternLemmas.{prefix_text, prefix_len, prefix_slash_at}
+use Rattle.sv_mapping.proofs.PatternLemmas.{prefix_len, prefix_slash_at}
 use Rattle.sv_mapping.proofs.pattern.prefix_of.Goals as goal
 
 pub overflow_sub-pattern : goal.overflow_sub-pattern

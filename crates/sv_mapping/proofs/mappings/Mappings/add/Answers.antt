@@ -1,11 +1,8 @@
-use Rattle.std.proofs.Common.{◌≡◌, ◌+◌, ◌<◌, ◌≤◌, ◌∙◌, ◌++◌, [], length, vec_len, Some, None, refl, ap, append-nil, arith}
+use Rattle.std.proofs.Common.{◌≡◌, ◌≤◌, ◌∙◌, ◌++◌, [], length, refl, append-nil, arith}
 use Rattle.std.specs.List.{insert}
-use Rattle.std.specs.Option.{unwrap_or}
 use Rattle.std.proofs.lemmas.List.Edits.{length-insert}
 use Rattle.std.proofs.lemmas.Result.{err_from_is_err_and}
 use Rattle.sv_mapping.specs.Search.{IsPlaceOf, IsGapFor}
-use Rattle.sv_mapping.specs.Mappings.{refusal}
-use Rattle.sv_mapping.specs.declared.fault.MappingFault.TheVariants.{Memory, DuplicatePattern, TooMany}
 use Rattle.sv_mapping.proofs.TableLemmas.{insert_sorted, from_sorted-insert, refusal-place, refusal-full, refusal-none}
 use Rattle.sv_mapping.proofs.mappings.Mappings.add.Goals as goal
 

@@ -1,4 +1,4 @@
-use Rattle.std.proofs.Common.{◌≡◌, ◌∙◌, ◌++◌, Some, sym, ap}
+use Rattle.std.proofs.Common.{◌∙◌, ◌++◌, Some, sym, ap}
 use Rattle.std.specs.FinMap.{get}
 use Rattle.sv_mapping.specs.Search.{IsPlaceOf, IsGapFor}
 use Rattle.sv_mapping.proofs.TableLemmas.{get-place, get-gap}
