@@ -1,10 +1,10 @@
 -- The first journal on a blank disk.
-use Rattle.std.proofs.Common.{◌≡◌, ◌≢◌, ◌⊎◌, inl, inr, ℕ, ◌+◌, ◌≤◌, ◌<◌, max, List, [], ◌∷◌, ◌++◌, length, drop, refl, sym, ◌∙◌, ap, subst, arith, length-drop, slice_index}
+use Rattle.std.proofs.Common.{◌≡◌, ◌≢◌, ◌⊎◌, inl, inr, ℕ, ◌≤◌, max, List, [], ◌∷◌, ◌++◌, length, drop, refl, sym, ◌∙◌, ap, subst, arith, length-drop, slice_index}
 use Rattle.std.proofs.lemmas.Bool.{cases_eq}
 use Rattle.std.proofs.lemmas.List.{append-nil}
 use Rattle.sv_journal.specs.Disk.{Only, LeavesOnly, IsQuiet}
 use Rattle.sv_journal.specs.Commit.{Rests, IsSettled, IsCommitting}
-use Rattle.sv_journal.specs.Format.{front, IsJournal, IsOpen, IsShut, OpensAsNew, Opens, OpensAlike}
+use Rattle.sv_journal.specs.Format.{front, IsJournal, IsOpen, IsShut, Opens, OpensAlike}
 use Rattle.sv_journal.specs.Journal.{Keeps, Holds, OpensWithoutLoss}
 use Rattle.sv_journal.specs.Opening.{journal_at}
 use Rattle.sv_journal.specs.declared.opening.Place.{Place}

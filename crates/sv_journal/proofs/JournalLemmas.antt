@@ -1,8 +1,8 @@
 -- Which images are journals.
-use Rattle.std.proofs.Common.{◌≡◌, ◌≢◌, ◌⊎◌, inl, inr, ℕ, ◌^◌, ◌+◌, ◌<◌, ◌≤◌, List, [], ◌∷◌, ◌++◌, length, take, drop, refl, sym, ◌∙◌, ap, subst, arith, length-append, take-append-drop, slice_index}
+use Rattle.std.proofs.Common.{◌≡◌, ◌≢◌, inl, inr, ℕ, ◌^◌, ◌<◌, List, [], ◌∷◌, ◌++◌, length, take, drop, refl, sym, ◌∙◌, ap, arith, length-append, take-append-drop, slice_index}
 use Rattle.std.proofs.lemmas.List.{append_assoc}
 use Rattle.std.specs.List.{flat_map, AllByRecursion}
-use Rattle.sv_journal.specs.Format.{entry, header, front, IsPayload, IsJournal, IsOpen, OpensOnA, OpensAsNew, Opens, HasEntries, Begins}
+use Rattle.sv_journal.specs.Format.{entry, header, IsPayload, IsJournal, IsOpen, Opens, HasEntries}
 use Rattle.sv_journal.proofs.EntryLemmas.{ends, one_list}
 
 -- entries, laid end to end before a gate that isn't open

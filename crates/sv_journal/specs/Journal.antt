@@ -1,7 +1,7 @@
 -- What a journal holds.
 use Rattle.std.specs.Prelude.{◌≡◌, ◌⊎◌, ℕ, ◌<◌, ◌≤◌, List, length, Bool, IsTrue}
 use Rattle.sv_journal.specs.Disk.{Only, LeavesOnly}
-use Rattle.sv_journal.specs.Format.{front, IsJournal, IsOpen, Opens, OpensAlike}
+use Rattle.sv_journal.specs.Format.{front, IsJournal, IsOpen, OpensAlike}
 
 -- A journal as its callers see it.
 pub record JournalView (D : Type 0) : Type 0 where

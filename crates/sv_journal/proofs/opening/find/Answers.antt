@@ -1,5 +1,5 @@
-use Rattle.std.proofs.Common.{◌≡◌, ◌≤◌, ◌+◌, ◌-◌, ℕ, List, length, drop, take, subst, ap, sym, ◌∙◌, refl, arith, rules}
-use Rattle.sv_journal.specs.Format.{HasEntries, header}
+use Rattle.std.proofs.Common.{ℕ, List, drop, subst, sym, arith, rules}
+use Rattle.sv_journal.specs.Format.{HasEntries}
 use Rattle.sv_journal.proofs.JournalLemmas.{journal_entries, journal_from}
 use Rattle.sv_journal.proofs.opening.find.Goals as goal
 

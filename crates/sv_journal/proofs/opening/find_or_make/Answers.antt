@@ -1,4 +1,4 @@
-use Rattle.std.proofs.Common.{◌≡◌, ◌⊎◌, inl, inr, ◌≤◌, ℕ, List, [], length, sym, ◌∙◌, ap, subst, refl, arith, rules}
+use Rattle.std.proofs.Common.{◌≡◌, inl, inr, ℕ, List, [], sym, ◌∙◌, subst, refl, arith}
 use Rattle.sv_journal.specs.Format.{IsJournal, IsOpen, OpensOnA}
 use Rattle.sv_journal.specs.declared.opening.Place.{Place}
 use Rattle.sv_journal.proofs.BlankLemmas.{without_loss, kept, held}

@@ -1,4 +1,4 @@
-use Rattle.std.proofs.Common.{◌≡◌, ◌⊎◌, inl, inr, ◌≤◌, ℕ, List, [], ◌++◌, length, drop, max, refl, ap, arith}
+use Rattle.std.proofs.Common.{inl, ◌≤◌, [], ◌++◌, length, drop, max, refl, ap, arith}
 use Rattle.std.proofs.lemmas.Result.{on_ok_weaker}
 use Rattle.sv_journal.specs.Blank.{IsBlank, IsBeingMade}
 use Rattle.sv_journal.specs.Commit.{IsCommitting}

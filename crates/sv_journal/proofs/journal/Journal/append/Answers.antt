@@ -1,4 +1,4 @@
-use Rattle.std.proofs.Common.{◌++◌, ◌∷◌, [], ◌+◌, List, ℕ, length, true, refl, sym, ◌∙◌, arith, rules}
+use Rattle.std.proofs.Common.{◌++◌, ◌∷◌, [], ◌+◌, length, true, refl, sym, ◌∙◌, arith, rules}
 use Rattle.sv_journal.specs.Journal.{JournalView, Keeps, Holds}
 use Rattle.sv_journal.specs.Format.{front}
 use Rattle.sv_journal.proofs.Appending.{rests, gate_within, kept, moments}

@@ -1,6 +1,6 @@
-use Rattle.std.proofs.Common.{◌≡◌, ◌+◌, ◌-◌, List, ℕ, length, take, drop, refl, sym, ◌∙◌, ap, subst, arith, rules}
+use Rattle.std.proofs.Common.{◌≡◌, List, ℕ, sym, ◌∙◌, subst, arith, rules}
 use Rattle.std.proofs.lemmas.Result.{IfOk-weaker}
-use Rattle.sv_journal.specs.Journal.{JournalView, Keeps, Holds}
+use Rattle.sv_journal.specs.Journal.{JournalView, Holds}
 use Rattle.sv_journal.specs.Format.{HasEntries, payloads}
 use Rattle.sv_journal.proofs.Appending.{gate_within, live_part}
 use Rattle.sv_journal.proofs.journal.Journal.records.Goals as goal
