@@ -9,6 +9,7 @@ use sv_model::request::Param;
 /// A request as one servlet sees it (Jakarta Servlet 6.0, chapter "The Request").
 ///
 /// It borrows what stays the same over the dispatches of a request, so that a dispatch copies no body.
+#[derive(Drop)]
 pub struct Call<'a> {
     pub method: &'a Method,
     /// The path as it was sent, or that of the dispatch.

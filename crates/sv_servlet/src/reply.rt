@@ -165,18 +165,13 @@ impl Reply {
         ensures answer { Answers self.old (status_result self.old code) result self.new }
         ensures takes_no_memory { result ≢ Err Memory }
     {
-        if self.is_held {
-            return Ok(());
-        }
-        if code < 200 || code > 599 {
-            return Err(ReplyFault::BadStatus);
-        }
         match StatusCode::from_u16(code) {
-            Ok(status) => {
+            _ if self.is_held => Ok(()),
+            Ok(status) if code >= 200 && code <= 599 => {
                 self.status = status;
                 Ok(())
             }
-            Err(_) => Err(ReplyFault::BadStatus),
+            _ => Err(ReplyFault::BadStatus),
         }
     }
 
