@@ -5,3 +5,4 @@ pub mod Session
 pub mod Engine
 pub mod Site
 pub mod Step
+pub mod Method

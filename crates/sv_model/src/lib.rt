@@ -13,6 +13,7 @@ pub mod event;
 pub mod field;
 pub mod input;
 pub mod key;
+pub mod method;
 pub mod outcome;
 pub mod output;
 pub mod packet;

@@ -2,6 +2,6 @@
 #![tactic(auto)]
 
 mod hello;
-
+mod thin;
 
 fn main() {}
