@@ -1,1 +1,3 @@
 mod HelloLemmas
+mod ThinLemmas
+mod WordLemmas

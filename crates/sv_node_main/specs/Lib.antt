@@ -1,2 +1,4 @@
 pub mod Hello
 pub mod Thin
+pub mod Once
+pub mod Words

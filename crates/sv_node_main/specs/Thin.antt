@@ -7,6 +7,7 @@ use Rattle.sv_model.specs.declared.key.Secret.{Secret}
 use Rattle.sv_model.specs.declared.request.Request.{Request}
 use Rattle.sv_model.specs.declared.response.Response.{Response}
 use Rattle.sv_model.specs.declared.event.Told.{Told}
+use Rattle.sv_model.specs.declared.field.Field.{Field}
 use Rattle.sv_model.specs.declared.event.Event.TheVariants.{RequestIn, RequestOut}
 use Rattle.sv_model.specs.declared.outcome.Outcome.{Outcome}
 use Rattle.sv_model.specs.declared.outcome.Fate.TheVariants.{Untouched}
@@ -58,13 +59,17 @@ call_of r =
 abbrev pub edit_at : ℕ → Key × Secret → Edit
 edit_at now fresh = begun None 0 (pos 1800) now fresh
 
--- the reply as a response, and the plain page of status 500 in place of what is not served yet
+-- the plain page in place of what is not served yet, behind the fields that were set so far
+abbrev pub error_page : Request → List Field → Response
+error_page r fields = plain_page 500 fields (is_head r.method) r.close
+
+-- the reply as a response, or that page
 abbrev pub replied : Request → ReplyState → Next → Response
 replied r reply Done = record { status = reply.status; fields = reply.fields; body = reply.body; head_only = is_head r.method; close = r.close }
-replied r reply (Forward path) = plain_page 500 reply.fields (is_head r.method) r.close
-replied r reply (Include path resume) = plain_page 500 reply.fields (is_head r.method) r.close
-replied r reply (SendError code text) = plain_page 500 reply.fields (is_head r.method) r.close
-replied r reply (Fault name) = plain_page 500 reply.fields (is_head r.method) r.close
+replied r reply (Forward path) = error_page r reply.fields
+replied r reply (Include path resume) = error_page r reply.fields
+replied r reply (SendError code text) = error_page r reply.fields
+replied r reply (Fault name) = error_page r reply.fields
 
 abbrev pub response_by : Request → Answer → Response
 response_by r a = replied r a.lent.reply a.next

@@ -1,7 +1,122 @@
-//! The program `node`.
+//! The program `node`: serves servlets over HTTP/1.1.
+//!
+//! `node --once CONFIG NOW` serves standard input to its end on one node that stands alone, at the moment NOW in
+//! whole seconds since 1970, and writes the responses to standard output. CONFIG `-` is the built-in deployment:
+//! the context `/shop` with a servlet at `/hello`. A fault prints one line `node: ` and its name on standard error
+//! and ends the program with its status.
 #![tactic(auto)]
 
 mod hello;
+mod once;
+#[cfg(test)]
+mod tests;
 mod thin;
+mod words;
 
-fn main() {}
+use hello::Hello;
+use once::{OnceFault, once};
+use std::alloc::{AllocError, Global};
+use std::process::ExitCode;
+use std::rt::Env;
+use std::{env, fmt, io};
+use sv_servlet::servlet::Servlet;
+use thin::Thin;
+use words::{Words, read_words};
+
+/// Why the program ends before its work is done.
+#[derive(Clone, Copy, Debug, PartialEq, Eq)]
+enum Fault {
+    /// Status 2: the words are none that the program takes.
+    Arguments,
+    /// Status 3: the CONFIG can't be read.
+    Unreadable,
+    /// Status 5: standard input can't be read.
+    Input,
+    /// Status 5: standard output can't be written.
+    Output,
+    /// Status 5: memory was refused before the first request.
+    Memory,
+}
+
+impl fmt::Display for Fault {
+    fn fmt<W: fmt::Write>(&self, f: &mut fmt::Formatter<W>) -> fmt::Result {
+        match self {
+            Fault::Arguments => write!(f, "Arguments"),
+            Fault::Unreadable => write!(f, "Unreadable"),
+            Fault::Input => write!(f, "Input"),
+            Fault::Output => write!(f, "Output"),
+            Fault::Memory => write!(f, "Memory"),
+        }
+    }
+}
+
+impl From<AllocError> for Fault {
+    fn from(_: AllocError) -> Self {
+        Fault::Memory
+    }
+}
+
+impl From<OnceFault> for Fault {
+    fn from(fault: OnceFault) -> Self {
+        match fault {
+            OnceFault::Input => Fault::Input,
+            OnceFault::Output => Fault::Output,
+        }
+    }
+}
+
+/// The exit status of a fault.
+fn status_of(fault: Fault) -> u8 {
+    match fault {
+        Fault::Arguments => 2,
+        Fault::Unreadable => 3,
+        Fault::Input | Fault::Output | Fault::Memory => 5,
+    }
+}
+
+/// The words behind the program's name.
+fn words_of<R: Env + AllocGlobal>(rt: &R) -> Result<Vec<String>, Fault> {
+    let mut words = Vec::new(rt.alloc());
+    let Ok(args) = env::args(rt) else {
+        return Err(Fault::Memory);
+    };
+    for word in args.skip(1) {
+        if words.push(word).is_err() {
+            return Err(Fault::Memory);
+        }
+    }
+    Ok(words)
+}
+
+/// Serves standard input with the built-in deployment.
+fn serve_input(rt: &HostRuntime, now: u64) -> Result<(), Fault> {
+    let alloc = rt.alloc();
+    let Ok(hello) = Box::new(alloc, Hello::new(alloc)) else {
+        return Err(Fault::Memory);
+    };
+    let servlet: Box<dyn Servlet> = hello;
+    let engine = Thin::start(alloc, servlet);
+    let mut reader = rt.reader();
+    let mut writer = io::writer(rt);
+    once(alloc, engine, now, &mut reader, &mut writer)?;
+    Ok(())
+}
+
+fn run(rt: &HostRuntime) -> Result<(), Fault> {
+    let words = words_of(rt)?;
+    match read_words(words.as_slice()) {
+        Ok(Words::Once { config: "-", now }) => serve_input(rt, now),
+        Ok(Words::Once { .. }) => Err(Fault::Unreadable),
+        Ok(Words::Node { .. }) | Err(_) => Err(Fault::Arguments),
+    }
+}
+
+fn main(rt: HostRuntime) -> ExitCode {
+    match run(&rt) {
+        Ok(()) => ExitCode::SUCCESS,
+        Err(fault) => {
+            let _ = eprintln!(rt; "node: {fault}");
+            ExitCode::from(status_of(fault))
+        }
+    }
+}

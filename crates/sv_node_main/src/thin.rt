@@ -5,12 +5,13 @@ ghost use Rattle.sv_model.specs.Engine.{heard_all};
 ghost use Rattle.sv_servlet.specs.Reply.{new_reply};
 ghost use Rattle.sv_servlet.specs.Servlet.{lent};
 ghost use Rattle.sv_servlet.specs.declared.servlet.Phase.TheVariants.{New, Ready};
-ghost use Rattle.sv_node_main.specs.Thin.{IsMarked, call_of, edit_at, events_for, is_hello, is_in_context, not_found, replied, response_by, thin_meaning};
+ghost use Rattle.sv_node_main.specs.Thin.{IsMarked, call_of, edit_at, error_page, events_for, is_hello, is_in_context, not_found, replied, response_by, thin_meaning};
 
 use http::StatusCode;
 use std::alloc::{AllocError, Global};
 use sv_model::engine::{Engine, EngineFault};
 use sv_model::event::{Event, Told};
+use sv_model::field::Field;
 use sv_model::key::{Key, Secret};
 use sv_model::method::is_head;
 use sv_model::outcome::{Birth, Fate, Outcome};
@@ -83,6 +84,24 @@ fn not_found(alloc: Global, request: &Request) -> Result<Response, AllocError>
     )
 }
 
+/// The page in place of what is not served yet, behind the fields that were set so far.
+fn error_page(
+    alloc: Global,
+    request: &Request,
+    fields: Sequence<Field>,
+) -> Result<Response, AllocError>
+    ensures { IfOk result (λ response. response ≡ error_page request.now fields) }
+{
+    let head_only = is_head(&request.method);
+    plain_page(
+        alloc,
+        StatusCode::INTERNAL_SERVER_ERROR,
+        fields,
+        head_only,
+        request.close,
+    )
+}
+
 /// The response for a reply and for what is to follow it.
 fn replied(
     alloc: Global,
@@ -106,13 +125,7 @@ fn replied(
             head_only,
             close: request.close,
         }),
-        _ => plain_page(
-            alloc,
-            StatusCode::INTERNAL_SERVER_ERROR,
-            fields,
-            head_only,
-            request.close,
-        ),
+        _ => error_page(alloc, request, fields),
     }
 }
 

@@ -1,0 +1,8 @@
+-- How a stream of requests is served.
+use Rattle.std.specs.Prelude.{ℕ, List, ◌++◌, replicate}
+use Rattle.std.specs.Int.{to_be_bytes, w64}
+use Rattle.sv_model.specs.declared.key.Secret.{Secret}
+
+-- the number in 16 big-endian bytes
+abbrev pub secret_of : ℕ → Secret
+secret_of number = record { 0 = replicate 8 0 ++ to_be_bytes w64 number }
