@@ -1,3 +1,4 @@
 pub mod UnreadLemmas
 mod SaidLemmas
 mod ServeLemmas
+mod QuietLemmas

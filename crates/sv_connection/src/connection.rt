@@ -29,9 +29,10 @@ pub struct Connection {
 }
 
 impl Connection {
-    ghost use Rattle.std.specs.Prelude.{◌≡◌, false};
+    ghost use Rattle.std.specs.Prelude.{◌≡◌, true, false};
     ghost use Rattle.sv_connection.specs.Serve.{how, IsAnswered, IsDirected, IsServed};
-    ghost use Rattle.sv_connection.specs.Connection.{IsFresh, is_single, sight_of};
+    ghost use Rattle.sv_connection.specs.Connection.{IsFresh, is_closed, is_single, sight_of};
+    ghost use Rattle.sv_connection.specs.declared.outcome.Outcome.TheVariants.{Closed};
 
     /// A connection that has read nothing; `single` has it close behind its first answer.
     pub fn new(alloc: Global, single: bool) -> Connection
@@ -109,6 +110,7 @@ impl Connection {
         requires { S.site_valid site.old }
         ensures valid { S.site_valid site.new }
         ensures single { is_single self.new ≡ is_single self.old }
+        ensures once_closed { is_closed self.old ≡ true → (result.outcome ≡ Closed) × (R.remaining reader.new ≡ R.remaining reader.old) }
         ensures served { IsServed S.steps (how moment token (is_single self.old)) (sight_of self.old (R.remaining reader.old) (W.contents writer.old) site.old) (sight_of self.new (R.remaining reader.new) (W.contents writer.new) site.new) result }
     {
         let outputs = Vec::new(self.alloc);

@@ -13,3 +13,5 @@ pub mod reply;
 pub mod solo;
 mod speak;
 pub mod target;
+#[cfg(test)]
+mod tests;

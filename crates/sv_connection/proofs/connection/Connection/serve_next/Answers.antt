@@ -6,11 +6,11 @@ use Rattle.sv_connection.proofs.connection.Connection.serve_next.Goals as goal
 
 pub returns-in-Fault-clause-served : goal.returns-in-Fault-clause-served
 returns-in-Fault-clause-served g c =
-  let before = prepend_known c.args.self.now.requests.rest (g.R.Read.remaining c.args.reader.now) in
-  let after = prepend_known c.arrive.new.requests.rest (g.R.Read.remaining c.arrive.new.reader) in
-  inl (record {
-  site = refl;
-  outputs = c.new-outputs.ensures.items;
-  closed = refl;
-  idle = Faulty c.in-Fault.fault (stands before after c.arrive.new.requests c.in-Fault.fault c.in-Fault.ensures) (page_shut _ _ _ _ _ _ _ _ c.say_read_fault-sent.ensures);
-})
+    let before = prepend_known c.args.self.now.requests.rest (g.R.Read.remaining c.args.reader.now) in
+    let after = prepend_known c.arrive.new.requests.rest (g.R.Read.remaining c.arrive.new.reader) in
+    inl (record {
+      site = refl;
+      outputs = c.new-outputs.ensures.items;
+      closed = refl;
+      idle = Faulty c.in-Fault.fault (stands before after c.arrive.new.requests c.in-Fault.fault c.in-Fault.ensures) (page_shut _ _ _ _ _ _ _ _ c.say_read_fault-sent.ensures);
+    })
