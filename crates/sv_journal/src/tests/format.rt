@@ -1,6 +1,6 @@
 //! The format, byte for byte.
 use super::fixtures::{HEADER, added, image, joined, new_journal, opened, read, records_of, shown};
-use crate::JournalFault;
+use crate::{JournalFault, MemoryDisk};
 use std::alloc::Global;
 use std::process::Abort;
 use std::test::Fail;
@@ -183,5 +183,25 @@ fn a_long_journal_is_read_in_pieces(rt: HostRuntime) -> Result<(), Fail> {
     }
     assert_eq!(rt; found[200].as_slice(), long.as_slice());
     assert_eq!(rt; found[201].as_slice(), b"last".as_slice());
+    Ok(())
+}
+
+#[test]
+fn a_fault_says_what_is_at_fault(rt: HostRuntime) -> Result<(), Fail> {
+    let alloc = rt.alloc();
+    let wanted = "the disks hold no journal that can be read";
+    let text = format!(in alloc; "{}", JournalFault::Damaged)?;
+    assert!(rt; text.as_str() == wanted);
+    let (a, b) = (
+        MemoryDisk::with(alloc, b"\0\0")?,
+        MemoryDisk::with(alloc, b"\0\0")?,
+    );
+    match opened(alloc, a, b) {
+        Ok(_) => assert!(rt; false, "two bytes on B"),
+        Err(refused) => {
+            let text = format!(in alloc; "{refused}")?;
+            assert!(rt; text.as_str() == wanted);
+        }
+    }
     Ok(())
 }
