@@ -7,6 +7,7 @@
 //! and RFC 6265. Nothing here reads or writes bytes of a connection or of a disk.
 #![tactic(auto)]
 
+pub mod attributes;
 pub mod commit;
 pub mod engine;
 pub mod event;
@@ -18,11 +19,13 @@ pub mod outcome;
 pub mod output;
 pub mod packet;
 pub mod page;
+pub mod record;
 pub mod request;
 pub mod response;
 pub mod sequence;
 pub mod session;
 pub mod site;
+pub mod state;
 #[cfg(test)]
 mod tests;
 pub mod text;

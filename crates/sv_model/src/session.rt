@@ -1,9 +1,7 @@
 //! A session with its attributes (Jakarta Servlet 6.0, chapter "Sessions").
 
+use crate::attributes::Attributes;
 use crate::key::Secret;
-use std::alloc::Global;
-use std::collections::BTreeMap;
-use std::marker::Model;
 
 /// The contexts of a deployment, at most.
 pub const CONTEXT_LIMIT: u8 = 16;
@@ -19,35 +17,6 @@ pub const VALUE_LIMIT: usize = 4_096;
 
 /// The bytes of a session's names and values together, at most.
 pub const SESSION_LIMIT: usize = 32_768;
-
-/// The attributes of a session, seen by contracts as the list of their names and values in order of the
-/// names' bytes.
-#[derive(Drop)]
-pub struct Attributes {
-    by_name: BTreeMap<String, Vec<u8>>,
-}
-
-impl Model for Attributes {
-    ghost use Rattle.std.specs.Prelude.{ℕ, List, map};
-    ghost use Rattle.sv_model.specs.Attributes.{entry_of};
-
-    ghost Value = { List (List ℕ × List ℕ) };
-
-    ghost view = { λ a. map entry_of a.by_name.entries };
-}
-
-impl Attributes {
-    ghost use Rattle.std.specs.Prelude.{◌≡◌, []};
-
-    /// No attributes.
-    pub fn new(alloc: Global) -> Self
-        ensures { result ≡ [] }
-    {
-        Attributes {
-            by_name: BTreeMap::new(alloc),
-        }
-    }
-}
 
 /// An HTTP session.
 #[derive(Drop)]

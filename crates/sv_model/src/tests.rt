@@ -1,9 +1,9 @@
 //! Plain pages, fields and the plain values that contracts see as lists.
 
+use crate::attributes::Attributes;
 use crate::field::{Field, place_of_field, plain_type, set_field};
 use crate::page::{phrase, plain_body, plain_page};
 use crate::sequence::Sequence;
-use crate::session::Attributes;
 use crate::text::Text;
 use http::StatusCode;
 use http_header::{HeaderName, HeaderValue};

@@ -3,9 +3,10 @@
 use crate::edit::{Edited, SessionEdit};
 use std::alloc::Global;
 use std::test::Fail;
+use sv_model::attributes::Attributes;
 use sv_model::key::{Key, Secret};
 use sv_model::outcome::{Birth, Fate};
-use sv_model::session::{Attributes, Session};
+use sv_model::session::Session;
 
 const SECRET: Secret = Secret([7; 16]);
 

@@ -1,0 +1,63 @@
+//! What a step of a node makes durable.
+
+use crate::key::Key;
+use crate::session::Session;
+use crate::state::KeyState;
+
+/// What a commit makes of one key.
+#[derive(Drop)]
+pub enum Change {
+    /// There is no such key, or nothing has changed.
+    Absent,
+    /// The session is active, and this.
+    Alive { key: Key, session: Session },
+    /// The session has ended, and its key is spent.
+    Ended(Key),
+}
+
+/// One record of a node's journal. Node numbers are below 8, epochs and serials are from 1.
+#[derive(Drop)]
+pub enum Record {
+    /// Kind 1: the node starts, for the time that the number says.
+    Boot(u64),
+    /// Kind 2: a request was served. At least one of the two isn't absent.
+    Commit {
+        /// The session that the request names.
+        named: Change,
+        /// The session that was made.
+        born: Change,
+    },
+    /// Kind 3: a session that nothing had named for its interval was ended.
+    Expired(Key),
+    /// Kind 4: a session is handed to another node under a higher epoch.
+    Sent {
+        key: Key,
+        epoch: u64,
+        to: u8,
+        session: Session,
+    },
+    /// Kind 5: a session was taken over from another node.
+    Taken {
+        key: Key,
+        epoch: u64,
+        from: u8,
+        session: Session,
+    },
+    /// Kind 6: the other node has acknowledged the session.
+    Gone {
+        key: Key,
+        epoch: u64,
+    },
+    /// Kind 7: what the node keeps of a key, in a snapshot.
+    State {
+        key: Key,
+        state: KeyState,
+    },
+    /// Kind 8: the head of a snapshot.
+    Counters {
+        /// The number of the last start.
+        boot: u64,
+        /// The serial of the next session that is made here.
+        next: u64,
+    },
+}

@@ -1,0 +1,30 @@
+//! What a node keeps of a session's key.
+
+use crate::session::Session;
+
+/// What a node knows of a key; of a key that it has never heard of it keeps nothing.
+///
+/// The epoch counts the nodes that have held the session, from 1. It is never forgotten and never falls.
+#[derive(Drop)]
+pub enum KeyState {
+    /// The session is active here.
+    Active {
+        epoch: u64,
+        session: Session,
+    },
+    /// The session was handed to a node that has yet to acknowledge it.
+    Sent {
+        /// The epoch under which the other node holds it.
+        epoch: u64,
+        session: Session,
+        to: u8,
+    },
+    /// The session was handed to a node that has acknowledged it.
+    Gone {
+        epoch: u64,
+    },
+    /// The session was ended here.
+    Ended {
+        epoch: u64,
+    },
+}
