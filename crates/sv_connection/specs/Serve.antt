@@ -1,6 +1,5 @@
 -- What one call of a connection does.
 use Rattle.std.specs.Prelude.{◌≡◌, ◌≢◌, ◌⊎◌, ℕ, ◌||◌, ◌++◌, List, [], Bool, true, false, Option, Some, None, Result, Ok, Err, IfSome, ⊤, codes, find}
-use Rattle.std.specs.Str.{bytes_eq}
 use Rattle.std.specs.Io.KnownBytes.{Consumes, Appends}
 use Rattle.sv_model.specs.declared.key.Moment.{Moment}
 use Rattle.sv_model.specs.declared.request.Request.{Request}
@@ -12,6 +11,7 @@ use Rattle.sv_model.specs.declared.output.Output.TheVariants.{Answer, Refuse, Se
 use Rattle.sv_model.specs.declared.output.Cause.TheVariants.{JournalFull, Memory as MemoryCause}
 use Rattle.sv_model.specs.declared.site.StepFault.{StepFault}
 use Rattle.sv_model.specs.declared.site.StepFault.TheVariants.{Failed, Full, Device, Memory as StepMemory}
+use Rattle.sv_model.specs.Method.{is_head}
 use Rattle.sv_model.specs.Page.{plain_page}
 use Rattle.sv_message.specs.Message.{IsMessage}
 use Rattle.sv_message.specs.Fault.{IsFaultAt, HasNoMessage}
@@ -62,10 +62,6 @@ request_of single raw =
       body = raw.body;
       close = raw.close || single;
     }
-
--- the answer has no body (RFC 9110, section 9.3.2)
-abbrev pub is_head : List ℕ → Bool
-is_head method = bytes_eq method (codes "HEAD")
 
 -- what follows from a step's answer
 pub data Verdict : Type 0 where

@@ -1,8 +1,20 @@
 -- A Solo, seen without where it lies.
-use Rattle.std.specs.Prelude.{ℕ, List}
+use Rattle.std.specs.Prelude.{◌≡◌, ℕ, List, Result}
+use Rattle.sv_model.specs.declared.key.Moment.{Moment}
+use Rattle.sv_model.specs.declared.input.Input.{Input}
+use Rattle.sv_model.specs.declared.output.Output.{Output}
+use Rattle.sv_model.specs.declared.site.StepFault.{StepFault}
 use Rattle.sv_model.specs.Engine.{EngineMeaning}
-use Rattle.sv_model.specs.Step.{View}
+use Rattle.sv_model.specs.Step.{View, Steps}
 use Rattle.sv_connection.specs.declared.solo.Solo.{Solo}
 
 abbrev pub view_of : {E : Type 0} → (E → EngineMeaning) → (E → List (List ℕ)) → Solo E → View
 view_of meaning heard s = record { meaning = meaning s.engine; heard = heard s.engine }
+
+-- a Solo's step is the node's step, by what is seen of it
+abbrev pub solo_steps : {E : Type 0} → (E → EngineMeaning) → (E → List (List ℕ)) → Solo E → Moment → Input → Result (List Output) StepFault → Solo E → Type 0
+solo_steps meaning heard old moment input answer new = Steps (view_of meaning heard old) moment input answer (view_of meaning heard new)
+
+-- a Solo over an engine that has served nothing
+pub record IsNew {E : Type 0} (s : Solo E) (engine : E) : Type 0 where
+  pub over : s.engine ≡ engine

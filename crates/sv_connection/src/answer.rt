@@ -4,15 +4,15 @@ ghost use Rattle.std.specs.Prelude.{◌≡◌, ℕ, Err, Some, find};
 ghost use Rattle.std.specs.Io.KnownBytes.{Appends};
 ghost use Rattle.sv_connection.specs.Manner.{manner_of};
 ghost use Rattle.sv_connection.specs.Reply.{refusal, speaks_to};
-ghost use Rattle.sv_connection.specs.Serve.{Follows, said_by, verdict, IsSaid, is_head, request_of};
+ghost use Rattle.sv_connection.specs.Serve.{Follows, said_by, verdict, IsSaid, request_of};
 
 use crate::outcome::Outcome;
 use crate::reply::{refusal, reply_to};
 use crate::speak::{Sent, say, starve};
-use http::Method;
 use std::alloc::Global;
 use std::io::Write;
 use sv_message::request::RawRequest;
+use sv_model::method::is_head;
 use sv_model::output::{Cause, Output};
 use sv_model::request::Request;
 use sv_model::sequence::Sequence;
@@ -28,13 +28,6 @@ pub struct Manner {
     pub close: bool,
     /// The seconds of its Date field.
     pub now: u64,
-}
-
-/// The answer has no body (RFC 9110, section 9.3.2).
-pub fn is_head(method: &Method) -> bool
-    ensures { result ≡ is_head method.now }
-{
-    method.as_str() == "HEAD"
 }
 
 /// How the response to a request is to be, at `now` in whole seconds.

@@ -2,7 +2,7 @@
 
 ghost use Rattle.std.specs.Prelude.{◌≡◌, true};
 
-use crate::answer::{is_head, manner_of, request_of, say_outputs, say_step_fault};
+use crate::answer::{manner_of, request_of, say_outputs, say_step_fault};
 use crate::arrive::{Arrived, arrive};
 use crate::outcome::{Outcome, Served};
 use crate::speak::{say_read_fault, say_target_fault};
@@ -13,6 +13,7 @@ use sv_message::reader::RequestReader;
 use sv_message::request::RawRequest;
 use sv_model::input::Input;
 use sv_model::key::Moment;
+use sv_model::method::is_head;
 use sv_model::site::Site;
 use sv_model::text::Text;
 

@@ -4,7 +4,7 @@ ghost use Rattle.std.specs.Prelude.{◌≡◌, vec_items};
 ghost use Rattle.sv_model.specs.Site.{with_list};
 ghost use Rattle.sv_model.specs.Step.{Steps, fresh_of, is_birth};
 ghost use Rattle.sv_model.specs.declared.input.Input.TheVariants.{Ask};
-ghost use Rattle.sv_connection.specs.Solo.{view_of};
+ghost use Rattle.sv_connection.specs.Solo.{view_of, solo_steps, IsNew};
 
 use std::alloc::Global;
 use sv_model::engine::Engine;
@@ -43,7 +43,7 @@ fn is_birth(birth: &Birth) -> bool
 impl<E> Solo<E> {
     /// A node over an engine.
     pub fn new(alloc: Global, engine: E) -> Self
-        ensures { result.engine ≡ engine }
+        ensures { IsNew result engine }
     {
         Solo { engine, alloc }
     }
@@ -81,7 +81,7 @@ impl<E: Engine> Solo<E> {
 }
 
 impl<E: Engine> Site for Solo<E> {
-    ghost steps = { λ old moment input answer new. Steps (view_of E.meaning E.heard old) moment input answer (view_of E.meaning E.heard new) };
+    ghost steps = { solo_steps E.meaning E.heard };
 
     ghost site_valid = { λ s. E.valid s.engine };
 

@@ -1,3 +1,4 @@
 mod HelloLemmas
+mod OnceLemmas
 mod ThinLemmas
 mod WordLemmas

@@ -1,7 +1,7 @@
 //! Serves one stream of requests on a node that stands alone.
 
 ghost use Rattle.std.specs.Prelude.{◌≡◌};
-ghost use Rattle.sv_node_main.specs.Once.{secret_of};
+ghost use Rattle.sv_node_main.specs.Once.{secret_of, ending, HasServed};
 
 use std::alloc::Global;
 use std::io::{Read, Write};
@@ -30,6 +30,18 @@ fn secret_of(number: u64) -> Secret
     Secret(bytes)
 }
 
+/// What the outcome of a call makes of the whole stream; none where another request is taken.
+fn ending(outcome: Outcome) -> Option<Result<(), OnceFault>>
+    ensures { result ≡ ending outcome }
+{
+    match outcome {
+        Outcome::Answered | Outcome::Parked => None,
+        Outcome::Closed | Outcome::Refused(_) | Outcome::Failed => Some(Ok(())),
+        Outcome::ReadFailed => Some(Err(OnceFault::Input)),
+        Outcome::WriteFailed => Some(Err(OnceFault::Output)),
+    }
+}
+
 /// Serves the reader's requests on a Solo until its connection closes, all at `now` in whole seconds since 1970.
 ///
 /// The n-th request has the token n, and the secret n in 16 big-endian bytes.
@@ -41,20 +53,19 @@ pub fn once<E: Engine + Drop, R: Read, W: Write>(
     writer: &mut W,
 ) -> Result<(), OnceFault>
     requires { E.valid engine }
+    ensures { HasServed E.meaning E.heard engine now (R.remaining reader.old) (W.contents writer.old) (R.remaining reader.new) (W.contents writer.new) result }
 {
     let mut site = Solo::new(alloc, engine);
     let mut connection = Connection::new(alloc, false);
-    for number in 1..=u64::MAX {
+    for count in 0..u64::MAX {
+        let number = count + 1;
         let moment = Moment {
             now,
             secret: secret_of(number),
         };
         let served = connection.serve_next(reader, writer, &mut site, moment, number);
-        match served.outcome {
-            Outcome::Answered | Outcome::Parked => {}
-            Outcome::Closed | Outcome::Refused(_) | Outcome::Failed => return Ok(()),
-            Outcome::ReadFailed => return Err(OnceFault::Input),
-            Outcome::WriteFailed => return Err(OnceFault::Output),
+        if let Some(end) = ending(served.outcome) {
+            return end;
         }
     }
     Ok(())

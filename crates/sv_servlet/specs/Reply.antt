@@ -65,10 +65,10 @@ IsHeader r name value = (r.is_held ≡ true) ⊎ (IsFieldName name × IsFieldVal
 abbrev pub IsHeaderSet : ReplyState → List ℕ → List ℕ → Result (Unit {0}) ReplyFault → ReplyState → Type 0
 IsHeaderSet old name value result new = IsHeader old name value × Answers old (field_result old (header_field name value)) result new
 
--- they are none of a field, or memory was refused for them
+-- they are none of a field, or memory was refused for them; a name that is none is told before that
 abbrev pub IsNoHeader : ReplyState → List ℕ → List ℕ → Result (Unit {0}) ReplyFault → Type 0
 IsNoHeader r name value result =
-    (r.is_held ≡ false) × ((result ≡ Err Memory) ⊎ ((result ≡ Err BadHeader) × ((¬ (IsFieldName name)) ⊎ (¬ (IsFieldValue value)))))
+    (r.is_held ≡ false) × (((result ≡ Err Memory) × ¬ (¬ (IsFieldName name))) ⊎ ((result ≡ Err BadHeader) × ((¬ (IsFieldName name)) ⊎ (¬ (IsFieldValue value)))))
 
 -- a name and a value are set as a field is, or they are none and the reply is as it was
 abbrev pub HeaderAnswers : ReplyState → List ℕ → List ℕ → Result (Unit {0}) ReplyFault → ReplyState → Type 0

@@ -1,6 +1,6 @@
 //! The reply that servlets and filters write (Jakarta Servlet 6.0, chapter "The Response").
 
-ghost use Rattle.std.specs.Prelude.{◌≡◌, ◌≢◌, ◌⊎◌, Err, IfOk, IfErr};
+ghost use Rattle.std.specs.Prelude.{◌≡◌, ◌≢◌, ◌⊎◌, true, Err, IfOk, IfErr, IsOk};
 ghost use Rattle.http_header.specs.FieldName.{IsFieldName};
 ghost use Rattle.http_header.specs.FieldValue.{IsFieldValue, plain_value};
 ghost use Rattle.http_header.specs.Token.{lowercase};
@@ -103,7 +103,7 @@ impl Model for Reply {
 /// The name of a field, in lower case.
 fn read_name(alloc: Global, name: &str) -> Result<HeaderName, ReplyFault>
     ensures ok { IfOk result (λ n. (n ≡ lowercase name.now) × IsFieldName name.now) }
-    ensures fault { IfErr result (λ f. (f ≡ Memory) ⊎ ((f ≡ ReplyFault.BadHeader) × ¬ (IsFieldName name.now))) }
+    ensures fault { IfErr result (λ f. ((f ≡ Memory) × ¬ (¬ (IsFieldName name.now))) ⊎ ((f ≡ ReplyFault.BadHeader) × ¬ (IsFieldName name.now))) }
 {
     match HeaderName::from_bytes(alloc, name.as_bytes()) {
         Ok(name) => Ok(name),
@@ -115,7 +115,7 @@ fn read_name(alloc: Global, name: &str) -> Result<HeaderName, ReplyFault>
 /// The value of a field.
 fn read_value(alloc: Global, value: &str) -> Result<HeaderValue, ReplyFault>
     ensures ok { IfOk result (λ v. (v ≡ plain_value value.now) × IsFieldValue value.now) }
-    ensures fault { IfErr result (λ f. (f ≡ Memory) ⊎ ((f ≡ ReplyFault.BadHeader) × ¬ (IsFieldValue value.now))) }
+    ensures fault { IfErr result (λ f. ((f ≡ Memory) × ¬ (¬ (IsFieldValue value.now))) ⊎ ((f ≡ ReplyFault.BadHeader) × ¬ (IsFieldValue value.now))) }
 {
     match HeaderValue::from_str(alloc, value) {
         Ok(value) => Ok(value),
@@ -180,7 +180,8 @@ impl Reply {
     /// The name may be in any case and is kept in lower case. A name or a value that is none is told before a
     /// reserved name, and that before a 65th field.
     pub fn header(&mut self, name: &str, value: &str) -> Result<(), ReplyFault>
-        ensures { HeaderAnswers self.old name.now value.now result self.new }
+        ensures answer { HeaderAnswers self.old name.now value.now result self.new }
+        ensures held { self.old.is_held ≡ true → IsOk result }
     {
         if self.is_held {
             return Ok(());
@@ -192,7 +193,8 @@ impl Reply {
 
     /// Sets a field: in the place of the first of its name, or last. Does nothing while held.
     pub fn set(&mut self, field: Field) -> Result<(), ReplyFault>
-        ensures { Answers self.old (field_result self.old field) result self.new }
+        ensures answer { Answers self.old (field_result self.old field) result self.new }
+        ensures held { self.old.is_held ≡ true → IsOk result }
     {
         if self.is_held {
             return Ok(());
