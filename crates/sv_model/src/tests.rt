@@ -1,6 +1,7 @@
 //! Plain pages, fields and the plain values that contracts see as lists.
 
-use crate::attributes::Attributes;
+mod attributes;
+
 use crate::field::{Field, place_of_field, plain_type, set_field};
 use crate::page::{phrase, plain_body, plain_page};
 use crate::sequence::Sequence;
@@ -132,6 +133,5 @@ fn lists_and_texts(rt: HostRuntime) -> Result<(), Fail> {
     assert_eq!(rt; text.into_string().as_str(), "käg");
     assert_eq!(rt; Text::from_str(alloc, "bramble")?.as_str(), "bramble");
     assert_eq!(rt; Text::new(alloc).as_str(), "");
-    let _none = Attributes::new(alloc);
     Ok(())
 }

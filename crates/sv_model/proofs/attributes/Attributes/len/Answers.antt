@@ -1,0 +1,5 @@
+use Rattle.sv_model.proofs.AttributesLemmas.{rises}
+use Rattle.sv_model.proofs.attributes.Attributes.len.Goals as goal
+
+pub returns-clause-rising : goal.returns-clause-rising
+returns-clause-rising c = rises c.self.inside.by_name.entries c.args.self.now c.self.view_is c.len.ensures.ordered
