@@ -6,3 +6,6 @@ pub mod Engine
 pub mod Site
 pub mod Step
 pub mod Method
+pub mod Keys
+pub mod Container
+pub mod Node

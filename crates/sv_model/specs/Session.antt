@@ -1,5 +1,5 @@
 -- The limits of a session.
-use Rattle.std.specs.Prelude.{ℕ, ◌<◌, ◌≤◌, length, All}
+use Rattle.std.specs.Prelude.{ℕ, pos, ◌+ℤ◌, ◌<◌, ◌≤◌, int_lt, int_le, Bool, ◌&&◌, length, All}
 use Rattle.sv_model.specs.Attributes.{attributes_size}
 use Rattle.sv_model.specs.declared.session.Session.{Session}
 use Rattle.sv_model.specs.declared.session.TheConstants.{CONTEXT_LIMIT, ATTRIBUTE_LIMIT, NAME_LIMIT, VALUE_LIMIT, SESSION_LIMIT}
@@ -16,3 +16,7 @@ pub record IsWithinLimits (s : Session) : Type 0 where
   pub names : All (λ e. length e.0 ≤ NAME_LIMIT) s.attributes
   pub values : All (λ e. length e.1 ≤ VALUE_LIMIT) s.attributes
   pub size : session_size s ≤ SESSION_LIMIT
+
+-- nothing has named it for its interval; an interval of 0 and less never passes
+abbrev pub is_expired : Session → ℕ → Bool
+is_expired s now = int_lt (pos 0) s.interval && int_le (pos s.last +ℤ s.interval) (pos now)

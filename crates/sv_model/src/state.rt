@@ -2,6 +2,12 @@
 
 use crate::session::Session;
 
+/// The keys that a node knows, at most.
+pub const KEY_LIMIT: usize = 65_536;
+
+/// The requests that wait at a node for their sessions, at most.
+pub const PARK_LIMIT: usize = 64;
+
 /// What a node knows of a key; of a key that it has never heard of it keeps nothing.
 ///
 /// The epoch counts the nodes that have held the session, from 1. It is never forgotten and never falls.
