@@ -1,0 +1,13 @@
+use Rattle.std.proofs.Common.{◌≡◌, ◌++◌, map, sym, ap, ◌∙◌, rules, tests}
+use Rattle.std.proofs.lemmas.Iterator.Consumers.{YieldsList-end}
+use Rattle.std.proofs.lemmas.Iterator.Splits.{YieldsList-from_slice_split}
+use Rattle.sv_target.specs.Blanks.{trim}
+use Rattle.sv_target.specs.Cookies.{is_semicolon, pairs_among, pairs_of}
+use Rattle.sv_target.proofs.CookieLemmas.{map-map}
+use Rattle.sv_target.proofs.cookies.add_pairs.Goals as goal
+
+pub returns : goal.returns
+unfolding pairs_of
+returns c =
+    let all = YieldsList-end (YieldsList-from_slice_split _ is_semicolon c.args.value.now (cc) (cc) (cc) (λ x b q k. search (rules, tests))) c.loop-part.yielded _ c.loop-part.yielded_by _ _ c.in-None.is c.next.ensures.steps in
+    c.loop-part.invariant ∙ ap (λ parts. c.args.cookies.now ++ pairs_among parts) (sym (map-map trim (λ part. part.now) c.loop-part.yielded) ∙ ap (map trim) all.0)

@@ -1,0 +1,45 @@
+-- The cookie that names a session (Jakarta Servlet 6.0, section 7.1.1).
+use Rattle.std.specs.Prelude.{ℕ, Bool, ◌&&◌, ◌==◌, nat_lt, List, [], ◌∷◌, ◌++◌, slice_get, slice_index, slice_range, codes, bytes_eq, Option, Some, None, option_and_then, if◌then◌else◌}
+use Rattle.std.specs.List.{filter_map, list_any}
+use Rattle.std.specs.Char.{is_ascii_uppercase}
+use Rattle.std.specs.Result.{result_ok}
+use Rattle.std.specs.Int.{w64, to_be_bytes, from_be_bytes}
+use Rattle.hex.specs.Hex.{encode_lower, decode_sized}
+use Rattle.sv_model.specs.declared.key.Key.{Key}
+use Rattle.sv_model.specs.declared.key.Secret.{Secret}
+use Rattle.sv_model.specs.declared.request.Cookie.{Cookie}
+
+-- what names a session, in 26 bytes: the context, the home, the serial (8 bytes, the highest first) and the secret
+abbrev pub session_bytes : ℕ → Key → Secret → List ℕ
+session_bytes context key secret = context ∷ key.home ∷ (to_be_bytes w64 key.serial ++ secret.0)
+
+-- the value of a session's cookie: those bytes in 52 digits of `0-9a-f`
+unfoldable pub cookie_text : ℕ → Key → Secret → List ℕ
+cookie_text context key secret = encode_lower (session_bytes context key secret)
+
+-- the 26 bytes that a value spells, where it is 52 digits of `0-9a-f`
+unfoldable pub spelled_bytes : List ℕ → Option (List ℕ)
+spelled_bytes value = if list_any is_ascii_uppercase value then None else result_ok (decode_sized value 26)
+
+abbrev pub key_of : List ℕ → Key
+key_of bytes = record { home = slice_index bytes 1; serial = from_be_bytes w64 (slice_range bytes 2 10) }
+
+abbrev pub secret_of : List ℕ → Secret
+secret_of bytes = record { 0 = slice_range bytes 10 26 }
+
+-- the bytes are of this context, and a key could be so: a home below 8 and a serial above 0
+abbrev pub is_named : ℕ → List ℕ → Bool
+is_named context bytes = slice_index bytes 0 == context && nat_lt (key_of bytes).home 8 && nat_lt 0 (key_of bytes).serial
+
+-- the session of a context that such bytes name
+unfoldable pub named_by_bytes : ℕ → List ℕ → Option (Key × Secret)
+named_by_bytes context bytes = if is_named context bytes then Some (key_of bytes, secret_of bytes) else None
+
+-- the session of a context that a cookie names
+unfoldable pub named_by : ℕ → Cookie → Option (Key × Secret)
+named_by context cookie =
+    if bytes_eq cookie.name (codes "JSESSIONID") then option_and_then (named_by_bytes context) (spelled_bytes cookie.value) else None
+
+-- the session of a context that cookies name: the first of those that each names
+unfoldable pub session_cookie : List Cookie → ℕ → Option (Key × Secret)
+session_cookie cookies context = slice_get (filter_map (named_by context) cookies) 0

@@ -1,0 +1,12 @@
+//! What a request's head says beside its method: today its cookies.
+//!
+//! A floor above the plain data, below the connection. [`cookies::cookies`] gives the pairs of the Cookie fields
+//! (RFC 6265, sections 4.2.1 and 5.4); [`session_cookie`] spells and reads the cookie that names a session (Jakarta
+//! Servlet 6.0, section 7.1.1). Contracts cite `Cookies.cookies_of`, `SessionCookie.cookie_text` and
+//! `SessionCookie.session_cookie`; [`laws`] says that the last two are each other's inverse. Nothing here knows
+//! whether a session that is named exists.
+#![tactic(auto)]
+
+mod blanks;
+pub mod cookies;
+pub mod session_cookie;

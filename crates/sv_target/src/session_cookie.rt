@@ -1,0 +1,112 @@
+//! The cookie that names a session (Jakarta Servlet 6.0, section 7.1.1).
+
+ghost use Rattle.std.specs.Prelude.{◌≡◌};
+ghost use Rattle.std.specs.Char.{is_ascii_uppercase};
+ghost use Rattle.std.specs.List.{list_any};
+ghost use Rattle.sv_target.specs.SessionCookie as spec;
+
+use hex::FromHex;
+use sv_model::key::{Key, Secret};
+use sv_model::request::Cookie;
+
+/// The name of the cookie.
+pub const NAME: &str = "JSESSIONID";
+
+/// The bytes that its value spells, two digits each.
+const BYTES: usize = 26;
+
+/// The nodes of a cluster, at most.
+const NODE_LIMIT: u8 = 8;
+
+/// The value of a session's cookie: in digits of `0-9a-f` the context's number (2), the home (2), the serial (16) and
+/// the secret (32).
+#[tactic(auto, unfolding(crate::specs::SessionCookie::cookie_text))]
+pub fn cookie_text(context: u8, key: Key, secret: Secret) -> [u8; 52]
+    ensures { result ≡ spec.cookie_text context key secret }
+{
+    let mut text = [0; 52];
+    hex::encode_to_slice(session_bytes(context, key, secret), &mut text).unwrap();
+    text
+}
+
+fn session_bytes(context: u8, key: Key, secret: Secret) -> [u8; BYTES]
+    ensures { result ≡ spec.session_bytes context key secret }
+{
+    let mut bytes = [0; BYTES];
+    bytes[0] = context;
+    bytes[1] = key.home;
+    bytes[2..10].copy_from_slice(&key.serial.to_be_bytes());
+    bytes[10..].copy_from_slice(&secret.0);
+    bytes
+}
+
+/// The session of a context that a request's cookies name, with the secret that has to be the session's own. Takes no
+/// memory.
+///
+/// It is that of the first cookie which names one: a `JSESSIONID` of another form or of another context is passed over.
+/// Whether there is such a session isn't asked here.
+pub fn session_cookie(cookies: &[Cookie], context: u8) -> Option<(Key, Secret)>
+    ensures { result ≡ spec.session_cookie cookies.now context }
+{
+    for cookie in cookies {
+        if let Some(named) = named_by(cookie, context) {
+            return Some(named);
+        }
+    }
+    None
+}
+
+#[tactic(auto, unfolding(crate::specs::SessionCookie::named_by))]
+fn named_by(cookie: &Cookie, context: u8) -> Option<(Key, Secret)>
+    ensures { result ≡ spec.named_by context cookie.now }
+{
+    if cookie.name.as_slice() != NAME.as_bytes() {
+        return None;
+    }
+    let bytes = spelled_bytes(cookie.value.as_slice())?;
+    named_by_bytes(bytes, context)
+}
+
+fn has_uppercase(value: &[u8]) -> bool
+    ensures { result ≡ list_any is_ascii_uppercase value.now }
+{
+    value.iter().any(|byte| byte.is_ascii_uppercase())
+}
+
+#[tactic(auto, unfolding(crate::specs::SessionCookie::spelled_bytes))]
+fn spelled_bytes(value: &[u8]) -> Option<[u8; BYTES]>
+    ensures { result ≡ spec.spelled_bytes value.now }
+{
+    if has_uppercase(value) {
+        return None;
+    }
+    <[u8; BYTES]>::from_hex(value).ok()
+}
+
+#[tactic(auto, unfolding(crate::specs::SessionCookie::named_by_bytes))]
+fn named_by_bytes(bytes: [u8; BYTES], context: u8) -> Option<(Key, Secret)>
+    ensures { result ≡ spec.named_by_bytes context bytes }
+{
+    let key = key_of(bytes);
+    let is_named = bytes[0] == context && key.home < NODE_LIMIT && key.serial > 0;
+    is_named.then_some((key, secret_of(bytes)))
+}
+
+fn key_of(bytes: [u8; BYTES]) -> Key
+    ensures { result ≡ spec.key_of bytes }
+{
+    let mut serial = [0; 8];
+    serial.copy_from_slice(&bytes[2..10]);
+    Key {
+        home: bytes[1],
+        serial: u64::from_be_bytes(serial),
+    }
+}
+
+fn secret_of(bytes: [u8; BYTES]) -> Secret
+    ensures { result ≡ spec.secret_of bytes }
+{
+    let mut secret = [0; 16];
+    secret.copy_from_slice(&bytes[10..26]);
+    Secret(secret)
+}
