@@ -10,3 +10,5 @@
 mod blanks;
 pub mod cookies;
 pub mod session_cookie;
+#[cfg(test)]
+mod tests;
