@@ -1,1 +1,5 @@
+mod ByteLemmas
 mod CookieLemmas
+mod NamedLemmas
+mod SessionCookieLemmas
+mod SpellingLemmas

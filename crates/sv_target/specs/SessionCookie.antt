@@ -1,5 +1,5 @@
 -- The cookie that names a session (Jakarta Servlet 6.0, section 7.1.1).
-use Rattle.std.specs.Prelude.{ℕ, Bool, ◌&&◌, ◌==◌, nat_lt, List, [], ◌∷◌, ◌++◌, slice_get, slice_index, slice_range, codes, bytes_eq, Option, Some, None, option_and_then, if◌then◌else◌}
+use Rattle.std.specs.Prelude.{◌≡◌, ℕ, ◌<◌, ◌^◌, Bool, ◌&&◌, ◌==◌, nat_lt, All, List, length, ◌∷◌, ◌++◌, slice_get, slice_index, slice_range, codes, bytes_eq, Option, Some, None, option_and_then, if◌then◌else◌}
 use Rattle.std.specs.List.{filter_map, list_any}
 use Rattle.std.specs.Char.{is_ascii_uppercase}
 use Rattle.std.specs.Result.{result_ok}
@@ -43,3 +43,16 @@ named_by context cookie =
 -- the session of a context that cookies name: the first of those that each names
 unfoldable pub session_cookie : List Cookie → ℕ → Option (Key × Secret)
 session_cookie cookies context = slice_get (filter_map (named_by context) cookies) 0
+
+-- a cookie is that of a session
+abbrev pub IsCookieOf : ℕ → Key → Secret → Cookie → Type 0
+IsCookieOf context key secret cookie = (cookie.name ≡ codes "JSESSIONID") × (cookie.value ≡ cookie_text context key secret)
+
+-- a session that a cookie can name: numbers within their types, a home below 8 and a serial above 0
+pub record IsNameable (context : ℕ) (key : Key) (secret : Secret) : Type 0 where
+  pub context_fits : context < 2 ^ 8
+  pub home : key.home < 8
+  pub serial : 0 < key.serial
+  pub serial_fits : key.serial < 2 ^ 64
+  pub secret_len : length secret.0 ≡ 16
+  pub secret_fits : All (λ b. b < 2 ^ 8) secret.0

@@ -9,6 +9,7 @@
 
 mod blanks;
 pub mod cookies;
+pub mod laws;
 pub mod session_cookie;
 #[cfg(test)]
 mod tests;

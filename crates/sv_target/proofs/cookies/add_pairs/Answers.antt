@@ -1,4 +1,4 @@
-use Rattle.std.proofs.Common.{◌≡◌, ◌++◌, map, sym, ap, ◌∙◌, rules, tests}
+use Rattle.std.proofs.Common.{◌++◌, map, sym, ap, ◌∙◌, rules, tests}
 use Rattle.std.proofs.lemmas.Iterator.Consumers.{YieldsList-end}
 use Rattle.std.proofs.lemmas.Iterator.Splits.{YieldsList-from_slice_split}
 use Rattle.sv_target.specs.Blanks.{trim}

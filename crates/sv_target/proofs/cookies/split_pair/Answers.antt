@@ -1,4 +1,4 @@
-use Rattle.std.proofs.Common.{◌+◌, ap, arith, drop, sym, take, ◌∙◌}
+use Rattle.std.proofs.Common.{◌+◌, ap, drop, sym, take, ◌∙◌}
 use Rattle.std.proofs.lemmas.List.{take_rest}
 use Rattle.std.specs.Prelude.{is_some}
 use Rattle.sv_target.specs.Cookies.{is_equals, is_pair, pair_of}

@@ -1,4 +1,4 @@
-use Rattle.std.proofs.Common.{◌≡◌, ◌+◌, ◌∷◌, ap, arith, drop, length, sym, ◌∙◌}
+use Rattle.std.proofs.Common.{◌+◌, ◌∷◌, ap, arith, drop, sym, ◌∙◌}
 use Rattle.std.specs.Prelude.{slice_get}
 use Rattle.std.specs.List.{cons_option, filter_map}
 use Rattle.std.proofs.lemmas.List.{drop_all, drop_more}

@@ -1,0 +1,145 @@
+-- The session that is read is one that can be named, and what was read is its cookie.
+use Rattle.std.proofs.Common.{◌≡◌, ℕ, suc, ◌<◌, ◌^◌, Bool, true, false, cond, Option, Some, None, Result, Ok, Err, List, [], ◌∷◌, ◌++◌, length, take, drop, slice_index, refl, sym, ap, ◌∙◌, arith}
+use Rattle.std.specs.Prelude.{Any, bytes_eq, codes, slice_get}
+use Rattle.std.specs.Char.{is_ascii_uppercase}
+use Rattle.std.specs.List.{cons_option, filter_map, list_any}
+use Rattle.std.specs.Option.{option_and_then}
+use Rattle.std.specs.Result.{result_ok}
+use Rattle.std.specs.Int.{w64, from_be_bytes}
+use Rattle.std.proofs.lemmas.Bool.{and_parts, eqb-true}
+use Rattle.std.proofs.lemmas.Bool.Decides.{nat_tests}
+use Rattle.std.proofs.lemmas.List.{length-drop, length-take, take-append-drop, take_all}
+use Rattle.std.proofs.lemmas.Nat.{be_bytes_8}
+use Rattle.std.proofs.lemmas.Slice.Eq.{bytes_eq-Decides}
+use Rattle.std.proofs.lemmas.Option.{cond_some, option_and_then_some, same_Some}
+use Rattle.hex.specs.Hex.{IsBytes, decode_sized, encode_lower}
+use Rattle.hex.specs.declared.error.FromHexError.{FromHexError}
+use Rattle.hex.proofs.HexLemmas.{decode_of-even, decode_of-ok, decode_sized-ok, decode_sized-twice}
+use Rattle.sv_model.specs.declared.key.Key.{Key}
+use Rattle.sv_model.specs.declared.key.Secret.{Secret}
+use Rattle.sv_model.specs.declared.request.Cookie.{Cookie}
+use Rattle.sv_target.proofs.ByteLemmas.{All-from_bytes, IsBytes-drop, IsBytes-take}
+use Rattle.sv_target.proofs.SpellingLemmas.{encode_lower-decode_pairs}
+use Rattle.sv_target.specs.SessionCookie.{IsCookieOf, IsNameable, cookie_text, is_named, key_of, named_by, named_by_bytes, secret_of, session_bytes, session_cookie, spelled_bytes}
+
+-- what a value spells
+record Spells (value bytes : List ℕ) : Type 0 where
+  text : encode_lower bytes ≡ value
+  len : length bytes ≡ 26
+  fit : IsBytes bytes
+
+Spells-decoded : (value bytes : List ℕ) → list_any is_ascii_uppercase value ≡ false → decode_sized value 26 ≡ Ok bytes → Spells value bytes
+Spells-decoded value bytes lower decoded =
+    let len = decode_sized-ok value 26 bytes decoded in
+    let whole = sym (decode_sized-twice value 26 len) ∙ decoded in
+    let parts = decode_of-ok value bytes whole in
+    record {
+      text = encode_lower-decode_pairs 0 value bytes (sym (decode_of-even value parts.0) ∙ whole) lower;
+      len = omega (arith, parts.2);
+      fit = parts.3;
+    }
+
+unless : {Y : Type 0} (b : Bool) (o : Option Y) (y : Y) → cond b None o ≡ Some y → (b ≡ false) × (o ≡ Some y)
+unless false o y some = (refl, some)
+unless true o y some = cc some
+
+ok_of : {Y : Type 0} (r : Result Y FromHexError) (y : Y) → result_ok r ≡ Some y → r ≡ Ok y
+ok_of (Ok x) y some = ap Ok (same_Some x y some)
+ok_of (Err e) y some = cc some
+
+Spells-spelled_bytes : (value bytes : List ℕ) → spelled_bytes value ≡ Some bytes → Spells value bytes
+unfolding spelled_bytes
+Spells-spelled_bytes value bytes spelled =
+    let parts = unless (list_any is_ascii_uppercase value) (result_ok (decode_sized value 26)) bytes spelled in
+    Spells-decoded value bytes parts.0 (ok_of (decode_sized value 26) bytes parts.1)
+
+-- 26 bytes are those of the session that they name
+session_bytes-of : (bytes : List ℕ) → length bytes ≡ 26 → IsBytes bytes → session_bytes (slice_index bytes 0) (key_of bytes) (secret_of bytes) ≡ bytes
+session_bytes-of [] len fit = absurd (omega arith)
+session_bytes-of (a ∷ []) len fit = absurd (omega arith)
+session_bytes-of (a ∷ b ∷ rest) len fit =
+    let behind : IsBytes rest = λ i. fit (suc (suc i)) in
+    let eight : length (take 8 rest) ≡ 8 = omega (arith, length-take 8 rest) in
+    let serial = be_bytes_8 (take 8 rest) (from_be_bytes w64 (take 8 rest)) eight (IsBytes-take 8 rest behind) refl in
+    let secret = take_all 16 (drop 8 rest) (omega (arith, length-drop 8 rest)) in
+    ap (λ t. a ∷ b ∷ (t ++ take 16 (drop 8 rest))) serial ∙ ap (λ t. a ∷ b ∷ (take 8 rest ++ t)) secret ∙ ap (λ t. a ∷ b ∷ t) (take-append-drop 8 rest)
+
+from_be_bytes-lt : (bytes : List ℕ) → IsBytes bytes → from_be_bytes w64 bytes < 2 ^ 64
+from_be_bytes-lt bytes fit = omega (arith, fit 0, fit 1, fit 2, fit 3, fit 4, fit 5, fit 6, fit 7)
+
+IsNameable-of : (bytes : List ℕ) → length bytes ≡ 26 → IsBytes bytes → (key_of bytes).home < 8 → 0 < (key_of bytes).serial
+    → IsNameable (slice_index bytes 0) (key_of bytes) (secret_of bytes)
+IsNameable-of bytes len fit home serial =
+    let last = drop 10 bytes in
+    record {
+      context_fits = fit 0;
+      home = home;
+      serial = serial;
+      serial_fits = from_be_bytes-lt (take 8 (drop 2 bytes)) (IsBytes-take 8 (drop 2 bytes) (IsBytes-drop 2 bytes fit));
+      secret_len = omega (arith, length-take 16 last, length-drop 10 bytes);
+      secret_fits = All-from_bytes (take 16 last) (IsBytes-take 16 last (IsBytes-drop 10 bytes fit));
+    }
+
+-- what bytes name
+record Names (context : ℕ) (bytes : List ℕ) (key : Key) (secret : Secret) : Type 0 where
+  context_is : slice_index bytes 0 ≡ context
+  home : (key_of bytes).home < 8
+  serial : 0 < (key_of bytes).serial
+  key_is : key_of bytes ≡ key
+  secret_is : secret_of bytes ≡ secret
+
+Names-named_by_bytes : (context : ℕ) (bytes : List ℕ) (key : Key) (secret : Secret) → named_by_bytes context bytes ≡ Some (key, secret) → Names context bytes key secret
+unfolding named_by_bytes
+Names-named_by_bytes context bytes key secret named =
+    let parts = cond_some (is_named context bytes) _ _ named in
+    let tests = and_parts _ _ parts.0 in
+    let first = and_parts _ _ tests.0 in
+    record {
+      context_is = eqb-true _ _ first.0;
+      home = grind (arith, nat_tests, first.1);
+      serial = grind (arith, nat_tests, tests.1);
+      key_is = ap (λ (p : Key × Secret). p.0) parts.1;
+      secret_is = ap (λ (p : Key × Secret). p.1) parts.1;
+    }
+
+nameable_of : (context : ℕ) (value bytes : List ℕ) (key : Key) (secret : Secret) → Spells value bytes → Names context bytes key secret
+    → IsNameable context key secret × (value ≡ cookie_text context key secret)
+unfolding cookie_text
+nameable_of context value bytes key secret spells names =
+    rw (← names.context_is, ← names.key_is, ← names.secret_is) (
+      IsNameable-of bytes spells.len spells.fit names.home names.serial,
+      sym (ap encode_lower (session_bytes-of bytes spells.len spells.fit) ∙ spells.text),
+    )
+
+only_if : {Y : Type 0} (b : Bool) (o : Option Y) (y : Y) → cond b o None ≡ Some y → (b ≡ true) × (o ≡ Some y)
+only_if true o y some = (refl, some)
+only_if false o y some = cc some
+
+pub IsCookieOf-named_by : (context : ℕ) (cookie : Cookie) (key : Key) (secret : Secret) → named_by context cookie ≡ Some (key, secret)
+    → IsNameable context key secret × IsCookieOf context key secret cookie
+unfolding named_by
+IsCookieOf-named_by context cookie key secret named =
+    let parts = only_if (bytes_eq cookie.name (codes "JSESSIONID")) (option_and_then (named_by_bytes context) (spelled_bytes cookie.value)) (key, secret) named in
+    option_and_then_some (named_by_bytes context) (spelled_bytes cookie.value) (key, secret) parts.1
+    (λ bytes spelled by_bytes.
+    let its = nameable_of context cookie.value bytes key secret (Spells-spelled_bytes cookie.value bytes spelled) (Names-named_by_bytes context bytes key secret by_bytes) in
+    (its.0, ((bytes_eq-Decides cookie.name (codes "JSESSIONID")).0 parts.0, its.1)))
+
+-- the first that is named is named by one of the list
+Any-by_first : {X Y : Type 0} (names : X → Option Y) (x : X) (xs : List X) (y : Y) (o : Option Y) → names x ≡ o
+    → slice_get (cons_option o (filter_map names xs)) 0 ≡ Some y → (slice_get (filter_map names xs) 0 ≡ Some y → Any (λ x. names x ≡ Some y) xs)
+    → Any (λ x. names x ≡ Some y) (x ∷ xs)
+Any-by_first names x xs y None is first others = let later = others first in (suc later.0, later.1, omega (arith, later.2), later.3, later.4)
+Any-by_first names x xs y (Some z) is first others = (0, x, omega arith, refl, is ∙ first)
+
+Any-first : {X Y : Type 0} (names : X → Option Y) (xs : List X) (y : Y) → slice_get (filter_map names xs) 0 ≡ Some y → Any (λ x. names x ≡ Some y) xs
+Any-first names [] y first = cc first
+Any-first names (x ∷ xs) y first = Any-by_first names x xs y (names x) refl first (Any-first names xs y)
+
+pub IsCookieOf-session_cookie : (context : ℕ) (key : Key) (secret : Secret) (cookies : List Cookie) → session_cookie cookies context ≡ Some (key, secret)
+    → IsNameable context key secret × Any (IsCookieOf context key secret) cookies
+unfolding session_cookie
+IsCookieOf-session_cookie context key secret cookies read =
+    let some = Any-first (named_by context) cookies (key, secret) read in
+    let its = IsCookieOf-named_by context some.1 key secret some.4 in
+    (its.0, (some.0, some.1, some.2, some.3, its.1))
