@@ -9,14 +9,16 @@ ghost use Rattle.sv_target.specs.SessionCookie.{IsCookieOf, IsNameable, session_
 /// The cookie of a session is read back as that session, also among other cookies, where none before it names a session
 /// of the context.
 pub fn written_is_read()
-    ensures { (context : ℕ) (key : Key) (secret : Secret) (before after : List Cookie) (cookie : Cookie) → IsNameable context key secret
-        → IsCookieOf context key secret cookie → session_cookie before context ≡ None
+    ensures { (context : ℕ) (key : Key) (secret : Secret)
+        (before after : List Cookie) (cookie : Cookie)
+        → IsNameable context key secret → IsCookieOf context key secret cookie
+        → session_cookie before context ≡ None
         → session_cookie (before ++ cookie ∷ after) context ≡ Some (key, secret) }
 {}
 
-/// A session that is read is one that a cookie can name, and its own cookie is among those that were read. So a session
-/// has one text.
+/// A session that is read can be named, and its own cookie is among those that were read: so it has one text.
 pub fn read_is_written()
-    ensures { (context : ℕ) (key : Key) (secret : Secret) (cookies : List Cookie) → session_cookie cookies context ≡ Some (key, secret)
+    ensures { (context : ℕ) (key : Key) (secret : Secret) (cookies : List Cookie)
+        → session_cookie cookies context ≡ Some (key, secret)
         → IsNameable context key secret × Any (IsCookieOf context key secret) cookies }
 {}
