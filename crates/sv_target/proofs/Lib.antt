@@ -1,5 +1,6 @@
 mod ByteLemmas
 mod CookieLemmas
+mod CookieStringLemmas
 mod NamedLemmas
 mod SessionCookieLemmas
 mod SpellingLemmas

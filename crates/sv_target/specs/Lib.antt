@@ -1,3 +1,4 @@
 pub mod Blanks
 pub mod Cookies
+pub mod CookieString
 pub mod SessionCookie

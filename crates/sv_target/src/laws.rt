@@ -1,10 +1,18 @@
-//! Laws of the session cookie, over its definitions alone.
+//! Laws of cookies, over the definitions alone.
 
-ghost use Rattle.std.specs.Prelude.{◌≡◌, ℕ, List, ◌∷◌, ◌++◌, Some, None, Any};
+ghost use Rattle.std.specs.Prelude.{◌≡◌, ℕ, List, ◌∷◌, ◌++◌, Some, None, All, Any};
 ghost use Rattle.sv_model.specs.declared.key.Key.{Key};
 ghost use Rattle.sv_model.specs.declared.key.Secret.{Secret};
 ghost use Rattle.sv_model.specs.declared.request.Cookie.{Cookie};
+ghost use Rattle.sv_target.specs.Cookies.{pairs_of};
+ghost use Rattle.sv_target.specs.CookieString.{IsSendable, cookie_string};
 ghost use Rattle.sv_target.specs.SessionCookie.{IsCookieOf, IsNameable, session_cookie};
+
+/// What a client sends of its cookies is read as those cookies, where each is one that a server may set.
+pub fn sent_is_read()
+    ensures { (cookies : List Cookie) → All IsSendable cookies
+        → pairs_of (cookie_string cookies) ≡ cookies }
+{}
 
 /// The cookie of a session is read back as that session, also among other cookies, where none before it names a session
 /// of the context.

@@ -3,8 +3,8 @@
 //! A floor above the plain data, below the connection. [`cookies::cookies`] gives the pairs of the Cookie fields
 //! (RFC 6265, sections 4.2.1 and 5.4); [`session_cookie`] spells and reads the cookie that names a session (Jakarta
 //! Servlet 6.0, section 7.1.1). Contracts cite `Cookies.cookies_of`, `SessionCookie.cookie_text` and
-//! `SessionCookie.session_cookie`; [`laws`] says that the last two are each other's inverse. Nothing here knows
-//! whether a session that is named exists.
+//! `SessionCookie.session_cookie`. [`laws`] says that what a client sends is read back, and that a session's cookie and
+//! what is read of it are each other's inverse. Nothing here knows whether a session that is named exists.
 #![tactic(auto)]
 
 mod blanks;
