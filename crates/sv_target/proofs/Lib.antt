@@ -1,6 +1,6 @@
 mod ByteLemmas
 mod CookieLemmas
-mod CookieStringLemmas
-mod NamedLemmas
-mod SessionCookieLemmas
+pub mod CookieStringLemmas
+pub mod NamedLemmas
+pub mod SessionCookieLemmas
 mod SpellingLemmas

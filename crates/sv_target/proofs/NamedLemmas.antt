@@ -1,6 +1,6 @@
 -- The session that is read is one that can be named, and what was read is its cookie.
 use Rattle.std.proofs.Common.{◌≡◌, ℕ, suc, ◌<◌, ◌^◌, Bool, true, false, cond, Option, Some, None, Result, Ok, Err, List, [], ◌∷◌, ◌++◌, length, take, drop, slice_index, refl, sym, ap, ◌∙◌, arith}
-use Rattle.std.specs.Prelude.{Any, bytes_eq, codes, slice_get}
+use Rattle.std.specs.Prelude.{Any, IfSome, bytes_eq, codes, slice_get}
 use Rattle.std.specs.Char.{is_ascii_uppercase}
 use Rattle.std.specs.List.{cons_option, filter_map, list_any}
 use Rattle.std.specs.Option.{option_and_then}
@@ -20,7 +20,7 @@ use Rattle.sv_model.specs.declared.key.Secret.{Secret}
 use Rattle.sv_model.specs.declared.request.Cookie.{Cookie}
 use Rattle.sv_target.proofs.ByteLemmas.{All-from_bytes, IsBytes-drop, IsBytes-take}
 use Rattle.sv_target.proofs.SpellingLemmas.{encode_lower-decode_pairs}
-use Rattle.sv_target.specs.SessionCookie.{IsCookieOf, IsNameable, cookie_text, is_named, key_of, named_by, named_by_bytes, secret_of, session_bytes, session_cookie, spelled_bytes}
+use Rattle.sv_target.specs.SessionCookie.{IsCookieOf, IsNameable, cookie_text, names_session, key_of, session_of_cookie, session_of_bytes, secret_of, session_bytes, session_cookie, spelled_bytes}
 
 -- what a value spells
 record Spells (value bytes : List ℕ) : Type 0 where
@@ -88,10 +88,10 @@ record Names (context : ℕ) (bytes : List ℕ) (key : Key) (secret : Secret) : 
   key_is : key_of bytes ≡ key
   secret_is : secret_of bytes ≡ secret
 
-Names-named_by_bytes : (context : ℕ) (bytes : List ℕ) (key : Key) (secret : Secret) → named_by_bytes context bytes ≡ Some (key, secret) → Names context bytes key secret
-unfolding named_by_bytes
-Names-named_by_bytes context bytes key secret named =
-    let parts = cond_some (is_named context bytes) _ _ named in
+Names-session_of_bytes : (context : ℕ) (bytes : List ℕ) (key : Key) (secret : Secret) → session_of_bytes context bytes ≡ Some (key, secret) → Names context bytes key secret
+unfolding session_of_bytes
+Names-session_of_bytes context bytes key secret named =
+    let parts = cond_some (names_session context bytes) _ _ named in
     let tests = and_parts _ _ parts.0 in
     let first = and_parts _ _ tests.0 in
     record {
@@ -115,14 +115,14 @@ only_if : {Y : Type 0} (b : Bool) (o : Option Y) (y : Y) → cond b o None ≡ S
 only_if true o y some = (refl, some)
 only_if false o y some = cc some
 
-pub IsCookieOf-named_by : (context : ℕ) (cookie : Cookie) (key : Key) (secret : Secret) → named_by context cookie ≡ Some (key, secret)
+pub IsCookieOf-session_of_cookie : (context : ℕ) (cookie : Cookie) (key : Key) (secret : Secret) → session_of_cookie context cookie ≡ Some (key, secret)
     → IsNameable context key secret × IsCookieOf context key secret cookie
-unfolding named_by
-IsCookieOf-named_by context cookie key secret named =
-    let parts = only_if (bytes_eq cookie.name (codes "JSESSIONID")) (option_and_then (named_by_bytes context) (spelled_bytes cookie.value)) (key, secret) named in
-    option_and_then_some (named_by_bytes context) (spelled_bytes cookie.value) (key, secret) parts.1
+unfolding session_of_cookie
+IsCookieOf-session_of_cookie context cookie key secret named =
+    let parts = only_if (bytes_eq cookie.name (codes "JSESSIONID")) (option_and_then (session_of_bytes context) (spelled_bytes cookie.value)) (key, secret) named in
+    option_and_then_some (session_of_bytes context) (spelled_bytes cookie.value) (key, secret) parts.1
     (λ bytes spelled by_bytes.
-    let its = nameable_of context cookie.value bytes key secret (Spells-spelled_bytes cookie.value bytes spelled) (Names-named_by_bytes context bytes key secret by_bytes) in
+    let its = nameable_of context cookie.value bytes key secret (Spells-spelled_bytes cookie.value bytes spelled) (Names-session_of_bytes context bytes key secret by_bytes) in
     (its.0, ((bytes_eq-Decides cookie.name (codes "JSESSIONID")).0 parts.0, its.1)))
 
 -- the first that is named is named by one of the list
@@ -140,6 +140,16 @@ pub IsCookieOf-session_cookie : (context : ℕ) (key : Key) (secret : Secret) (c
     → IsNameable context key secret × Any (IsCookieOf context key secret) cookies
 unfolding session_cookie
 IsCookieOf-session_cookie context key secret cookies read =
-    let some = Any-first (named_by context) cookies (key, secret) read in
-    let its = IsCookieOf-named_by context some.1 key secret some.4 in
+    let some = Any-first (session_of_cookie context) cookies (key, secret) read in
+    let its = IsCookieOf-session_of_cookie context some.1 key secret some.4 in
     (its.0, (some.0, some.1, some.2, some.3, its.1))
+
+-- a key that is read is one that a node can make
+IfSome-read : (cookies : List Cookie) (context : ℕ) (o : Option (Key × Secret)) → session_cookie cookies context ≡ o → IfSome o (λ n. (n.0.home < 8) × (0 < n.0.serial))
+IfSome-read cookies context None read = tt
+IfSome-read cookies context (Some n) read =
+    let its = IsCookieOf-session_cookie context n.0 n.1 cookies read in
+    (its.0.home, its.0.serial)
+
+pub IfSome-session_cookie : (cookies : List Cookie) (context : ℕ) → IfSome (session_cookie cookies context) (λ n. (n.0.home < 8) × (0 < n.0.serial))
+IfSome-session_cookie cookies context = IfSome-read cookies context (session_cookie cookies context) refl

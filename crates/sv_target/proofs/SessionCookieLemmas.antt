@@ -14,7 +14,7 @@ use Rattle.sv_model.specs.declared.key.Key.{Key}
 use Rattle.sv_model.specs.declared.key.Secret.{Secret}
 use Rattle.sv_model.specs.declared.request.Cookie.{Cookie}
 use Rattle.sv_target.proofs.ByteLemmas.{IsBytes-bytes_high_first, IsBytes-cons, IsBytes-from_All}
-use Rattle.sv_target.specs.SessionCookie.{IsCookieOf, IsNameable, cookie_text, is_named, key_of, named_by, named_by_bytes, secret_of, session_bytes, session_cookie, spelled_bytes}
+use Rattle.sv_target.specs.SessionCookie.{IsCookieOf, IsNameable, cookie_text, names_session, key_of, session_of_cookie, session_of_bytes, secret_of, session_bytes, session_cookie, spelled_bytes}
 
 -- what a test refuses of each of a table and of 0, it refuses at each place
 refuses_at : (p : ℕ → Bool) (table : List ℕ) (d : ℕ) → list_any p table ≡ false → p 0 ≡ false → p (slice_index table d) ≡ false
@@ -46,30 +46,30 @@ IsBytes-session_bytes context key secret nameable =
 -- bytes in which such a key and a secret stand name that session
 named_when : (context : ℕ) (key : Key) (secret : Secret) (bytes : List ℕ) → slice_index bytes 0 ≡ context → slice_index bytes 1 ≡ key.home
     → from_be_bytes w64 (slice_range bytes 2 10) ≡ key.serial → slice_range bytes 10 26 ≡ secret.0 → key.home < 8 → 0 < key.serial
-    → named_by_bytes context bytes ≡ Some (key, secret)
-unfolding named_by_bytes
+    → session_of_bytes context bytes ≡ Some (key, secret)
+unfolding session_of_bytes
 named_when context key secret bytes of_context home serial is_secret low above =
     let its_key : key_of bytes ≡ key = λ i. record { home = home i; serial = serial i } in
     let its_secret : secret_of bytes ≡ secret = λ i. record { 0 = is_secret i } in
-    let passes : is_named context bytes ≡ true = grind (arith, nat_tests) in
+    let passes : names_session context bytes ≡ true = grind (arith, nat_tests) in
     cond-true _ _ _ passes ∙ ap (λ (n : Key × Secret). Some n) (λ i. (its_key i, its_secret i))
 
 -- what the bytes of a session name is that session
-named_by_bytes-session_bytes : (context : ℕ) (key : Key) (secret : Secret) → IsNameable context key secret
-    → named_by_bytes context (session_bytes context key secret) ≡ Some (key, secret)
-named_by_bytes-session_bytes context key secret nameable =
+session_of_bytes-session_bytes : (context : ℕ) (key : Key) (secret : Secret) → IsNameable context key secret
+    → session_of_bytes context (session_bytes context key secret) ≡ Some (key, secret)
+session_of_bytes-session_bytes context key secret nameable =
     named_when context key secret (session_bytes context key secret) refl refl
     (from_be_bytes-to_be_bytes_8 key.serial nameable.serial_fits)
     (take_all 16 secret.0 (omega arith)) nameable.home nameable.serial
 
 -- a session's cookie names it
-pub named_by-session : (context : ℕ) (key : Key) (secret : Secret) (cookie : Cookie) → IsNameable context key secret → IsCookieOf context key secret cookie
-    → named_by context cookie ≡ Some (key, secret)
-unfolding named_by cookie_text
-named_by-session context key secret cookie nameable is_its =
+pub session_of_cookie-session : (context : ℕ) (key : Key) (secret : Secret) (cookie : Cookie) → IsNameable context key secret → IsCookieOf context key secret cookie
+    → session_of_cookie context cookie ≡ Some (key, secret)
+unfolding session_of_cookie cookie_text
+session_of_cookie-session context key secret cookie nameable is_its =
     let bytes = session_bytes context key secret in
     let spelled = spelled_bytes-encode_lower bytes (omega arith) (IsBytes-session_bytes context key secret nameable) in
-    rw (is_its.0, is_its.1, spelled) (named_by_bytes-session_bytes context key secret nameable)
+    rw (is_its.0, is_its.1, spelled) (session_of_bytes-session_bytes context key secret nameable)
 
 -- where none before it names a session, the first that is named is the one that it names
 behind_none : {Y : Type 0} (o : Option Y) (front whole : List Y) (y : Y) → slice_get (cons_option o front) 0 ≡ None
@@ -88,4 +88,4 @@ pub session_cookie-session : (context : ℕ) (key : Key) (secret : Secret) (befo
     → session_cookie before context ≡ None → session_cookie (before ++ cookie ∷ after) context ≡ Some (key, secret)
 unfolding session_cookie
 session_cookie-session context key secret before after cookie nameable is_its none =
-    first_named (named_by context) before after cookie (key, secret) none (named_by-session context key secret cookie nameable is_its)
+    first_named (session_of_cookie context) before after cookie (key, secret) none (session_of_cookie-session context key secret cookie nameable is_its)

@@ -9,15 +9,15 @@ use Rattle.sv_model.specs.declared.key.Key.{Key}
 use Rattle.sv_model.specs.declared.key.Secret.{Secret}
 use Rattle.sv_model.specs.declared.request.Cookie.{Cookie}
 
--- what names a session, in 26 bytes: the context, the home, the serial (8 bytes, the highest first) and the secret
+-- what a session's cookie says, in 26 bytes: the context, the home, the serial (8 bytes, the highest first), the secret
 abbrev pub session_bytes : ℕ → Key → Secret → List ℕ
 session_bytes context key secret = context ∷ key.home ∷ (to_be_bytes w64 key.serial ++ secret.0)
 
--- the value of a session's cookie: those bytes in 52 digits of `0-9a-f`
+-- the value of a session's cookie: these bytes in 52 digits of `0-9a-f`
 unfoldable pub cookie_text : ℕ → Key → Secret → List ℕ
 cookie_text context key secret = encode_lower (session_bytes context key secret)
 
--- the 26 bytes that a value spells, where it is 52 digits of `0-9a-f`
+-- the 26 bytes of a value that is 52 digits of `0-9a-f`
 unfoldable pub spelled_bytes : List ℕ → Option (List ℕ)
 spelled_bytes value = if list_any is_ascii_uppercase value then None else result_ok (decode_sized value 26)
 
@@ -27,26 +27,22 @@ key_of bytes = record { home = slice_index bytes 1; serial = from_be_bytes w64 (
 abbrev pub secret_of : List ℕ → Secret
 secret_of bytes = record { 0 = slice_range bytes 10 26 }
 
--- the bytes are of this context, and a key could be so: a home below 8 and a serial above 0
-abbrev pub is_named : ℕ → List ℕ → Bool
-is_named context bytes = slice_index bytes 0 == context && nat_lt (key_of bytes).home 8 && nat_lt 0 (key_of bytes).serial
+-- the bytes are of this context, and their key is one that a node can make: a home below 8 and a serial above 0
+abbrev pub names_session : ℕ → List ℕ → Bool
+names_session context bytes = slice_index bytes 0 == context && nat_lt (key_of bytes).home 8 && nat_lt 0 (key_of bytes).serial
 
 -- the session of a context that such bytes name
-unfoldable pub named_by_bytes : ℕ → List ℕ → Option (Key × Secret)
-named_by_bytes context bytes = if is_named context bytes then Some (key_of bytes, secret_of bytes) else None
+unfoldable pub session_of_bytes : ℕ → List ℕ → Option (Key × Secret)
+session_of_bytes context bytes = if names_session context bytes then Some (key_of bytes, secret_of bytes) else None
 
--- the session of a context that a cookie names
-unfoldable pub named_by : ℕ → Cookie → Option (Key × Secret)
-named_by context cookie =
-    if bytes_eq cookie.name (codes "JSESSIONID") then option_and_then (named_by_bytes context) (spelled_bytes cookie.value) else None
+-- the session of a context that one cookie names
+unfoldable pub session_of_cookie : ℕ → Cookie → Option (Key × Secret)
+session_of_cookie context cookie =
+    if bytes_eq cookie.name (codes "JSESSIONID") then option_and_then (session_of_bytes context) (spelled_bytes cookie.value) else None
 
--- the session of a context that cookies name: the first of those that each names
+-- the session of a context that cookies name: the first of those that they name
 unfoldable pub session_cookie : List Cookie → ℕ → Option (Key × Secret)
-session_cookie cookies context = slice_get (filter_map (named_by context) cookies) 0
-
--- a cookie is that of a session
-abbrev pub IsCookieOf : ℕ → Key → Secret → Cookie → Type 0
-IsCookieOf context key secret cookie = (cookie.name ≡ codes "JSESSIONID") × (cookie.value ≡ cookie_text context key secret)
+session_cookie cookies context = slice_get (filter_map (session_of_cookie context) cookies) 0
 
 -- a session that a cookie can name: numbers within their types, a home below 8 and a serial above 0
 pub record IsNameable (context : ℕ) (key : Key) (secret : Secret) : Type 0 where
@@ -56,3 +52,7 @@ pub record IsNameable (context : ℕ) (key : Key) (secret : Secret) : Type 0 whe
   pub serial_fits : key.serial < 2 ^ 64
   pub secret_len : length secret.0 ≡ 16
   pub secret_fits : All (λ b. b < 2 ^ 8) secret.0
+
+-- a cookie is the cookie of a session
+abbrev pub IsCookieOf : ℕ → Key → Secret → Cookie → Type 0
+IsCookieOf context key secret cookie = (cookie.name ≡ codes "JSESSIONID") × (cookie.value ≡ cookie_text context key secret)

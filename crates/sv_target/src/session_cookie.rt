@@ -49,22 +49,22 @@ pub fn session_cookie(cookies: &[Cookie], context: u8) -> Option<(Key, Secret)>
     ensures { result ≡ spec.session_cookie cookies.now context }
 {
     for cookie in cookies {
-        if let Some(named) = named_by(cookie, context) {
+        if let Some(named) = session_of_cookie(cookie, context) {
             return Some(named);
         }
     }
     None
 }
 
-#[tactic(auto, unfolding(crate::specs::SessionCookie::named_by))]
-fn named_by(cookie: &Cookie, context: u8) -> Option<(Key, Secret)>
-    ensures { result ≡ spec.named_by context cookie.now }
+#[tactic(auto, unfolding(crate::specs::SessionCookie::session_of_cookie))]
+fn session_of_cookie(cookie: &Cookie, context: u8) -> Option<(Key, Secret)>
+    ensures { result ≡ spec.session_of_cookie context cookie.now }
 {
     if cookie.name.as_slice() != NAME.as_bytes() {
         return None;
     }
     let bytes = spelled_bytes(cookie.value.as_slice())?;
-    named_by_bytes(bytes, context)
+    session_of_bytes(bytes, context)
 }
 
 fn has_uppercase(value: &[u8]) -> bool
@@ -83,9 +83,9 @@ fn spelled_bytes(value: &[u8]) -> Option<[u8; BYTES]>
     <[u8; BYTES]>::from_hex(value).ok()
 }
 
-#[tactic(auto, unfolding(crate::specs::SessionCookie::named_by_bytes))]
-fn named_by_bytes(bytes: [u8; BYTES], context: u8) -> Option<(Key, Secret)>
-    ensures { result ≡ spec.named_by_bytes context bytes }
+#[tactic(auto, unfolding(crate::specs::SessionCookie::session_of_bytes))]
+fn session_of_bytes(bytes: [u8; BYTES], context: u8) -> Option<(Key, Secret)>
+    ensures { result ≡ spec.session_of_bytes context bytes }
 {
     let key = key_of(bytes);
     let is_named = bytes[0] == context && key.home < NODE_LIMIT && key.serial > 0;

@@ -2,13 +2,13 @@ use Rattle.std.proofs.Common.{◌+◌, ◌∷◌, ap, arith, drop, sym, ◌∙�
 use Rattle.std.specs.Prelude.{slice_get}
 use Rattle.std.specs.List.{cons_option, filter_map}
 use Rattle.std.proofs.lemmas.List.{drop_all, drop_more}
-use Rattle.sv_target.specs.SessionCookie.{named_by, session_cookie}
+use Rattle.sv_target.specs.SessionCookie.{session_of_cookie, session_cookie}
 use Rattle.sv_target.proofs.session_cookie.session_cookie.Goals as goal
 
 pub returns-in-Some : goal.returns-in-Some
 unfolding session_cookie
 returns-in-Some c =
-    let names = named_by c.args.context in
+    let names = session_of_cookie c.args.context in
     let cookies = c.args.cookies.now in
     let i = c.loop-cookie.cookie-index in
     let here = drop_more cookies i c.cookie-item.result c.loop-cookie-test.true ∙ ap (λ item. item ∷ drop (i + 1) cookies) (sym c.cookie-item.is) in
@@ -18,6 +18,6 @@ returns-in-Some c =
 pub returns : goal.returns
 unfolding session_cookie
 returns c =
-    let names = named_by c.args.context in
+    let names = session_of_cookie c.args.context in
     let none = drop_all c.loop-cookie.cookie-index c.args.cookies.now (omega arith) in
     sym (ap (λ named. slice_get named 0) (c.loop-cookie.invariant ∙ ap (filter_map names) none))
