@@ -1,5 +1,5 @@
 -- The state of an edit (Jakarta Servlet 6.0, chapter "Sessions").
-use Rattle.std.specs.Prelude.{ℕ, ℤ, Bool, true, false, Option, Some, None, List, [], ◌≡◌, ⊤}
+use Rattle.std.specs.Prelude.{ℕ, ◌<◌, ℤ, Bool, true, false, Option, Some, None, List, [], ◌++◌, ◌≡◌, ⊤}
 use Rattle.sv_model.specs.declared.key.Key.{Key}
 use Rattle.sv_model.specs.declared.key.Secret.{Secret}
 use Rattle.sv_model.specs.declared.session.Session.{Session}
@@ -8,6 +8,8 @@ use Rattle.sv_model.specs.declared.outcome.Fate.{Fate}
 use Rattle.sv_model.specs.declared.outcome.Fate.TheVariants.{Untouched, Kept, Ended as FateEnded}
 use Rattle.sv_model.specs.declared.outcome.Birth.{Birth}
 use Rattle.sv_model.specs.declared.outcome.Birth.TheVariants.{Absent, Alive, Ended as BirthEnded}
+use Rattle.sv_model.specs.declared.session.TheConstants.{CONTEXT_LIMIT}
+use Rattle.sv_model.specs.Engine.{KeepsWithin, BringsWithin}
 
 -- an edit: where and when it is made, the key of the session that was handed in, and what has become of all
 pub record Edit : Type 0 where
@@ -45,7 +47,7 @@ begun held context interval now fresh =
     }
 
 -- the session that is held: the one that was made, or else the one that was handed in
-abbrev pub held_of : Edit → Option (Key × Session)
+unfoldable pub held_of : Edit → Option (Key × Session)
 held_of e = held_by e.birth e.fate e.handed e.fresh
   where
     kept : Fate → Option Key → Option (Key × Session)
@@ -58,6 +60,24 @@ held_of e = held_by e.birth e.fate e.handed e.fresh
     held_by Absent fate handed fresh = kept fate handed
     held_by (Alive s) fate handed fresh = Some (fresh.0, s)
     held_by BirthEnded fate handed fresh = kept fate handed
+
+-- the edit with this session in the place of the one that is held
+abbrev pub with_held : Edit → Session → Edit
+with_held e s = put e.birth
+  where
+    put : Birth → Edit
+    put Absent = record e { fate = Kept s }
+    put (Alive old) = record e { birth = Alive s }
+    put BirthEnded = record e { fate = Kept s }
+
+-- the edit once the session that is held has ended
+abbrev pub without_held : Edit → Edit
+without_held e = end e.birth
+  where
+    end : Birth → Edit
+    end Absent = record e { fate = FateEnded }
+    end (Alive old) = record e { birth = BirthEnded }
+    end BirthEnded = record e { fate = FateEnded }
 
 -- a session was made in this edit
 abbrev pub has_made : Edit → Bool
@@ -77,7 +97,14 @@ IsFateOf (Some k) Untouched = ⊥
 IsFateOf (Some k) (Kept s) = ⊤
 IsFateOf (Some k) FateEnded = ⊤
 
--- the edit goes on: it is for the same request, and what was handed in is still all that can be kept or ended
+-- what an edit leaves is within the limits of sessions
+pub record IsWithin (e : Edit) : Type 0 where
+  pub context : e.context < CONTEXT_LIMIT
+  pub fate : KeepsWithin e.fate
+  pub birth : BringsWithin e.birth
+
+-- the edit goes on: it is for the same request, what was handed in is still all that can be kept or ended, what was
+-- told stays told, and the limits are kept
 pub record KeepsEdit (old new : Edit) : Type 0 where
   pub context : new.context ≡ old.context
   pub interval : new.interval ≡ old.interval
@@ -85,3 +112,5 @@ pub record KeepsEdit (old new : Edit) : Type 0 where
   pub fresh : new.fresh ≡ old.fresh
   pub handed : new.handed ≡ old.handed
   pub fate : IsFateOf old.handed old.fate → IsFateOf new.handed new.fate
+  pub events : (more : List Told) × (new.events ≡ old.events ++ more)
+  pub within : IsWithin old → IsWithin new

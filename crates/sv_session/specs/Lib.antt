@@ -1,1 +1,4 @@
 pub mod Edit
+pub mod Fault
+pub mod Calls
+pub mod Expiry

@@ -1,7 +1,10 @@
 //! The edit of a session, from its beginning to what it leaves.
 
-ghost use Rattle.std.specs.Prelude.{◌≡◌, Option};
-ghost use Rattle.sv_session.specs.Edit.{begun, key_of, fate_of};
+mod attributes;
+mod life;
+
+ghost use Rattle.std.specs.Prelude.{◌≡◌, Option, option_map};
+ghost use Rattle.sv_session.specs.Edit.{begun, key_of, fate_of, held_of};
 
 use std::alloc::Global;
 use std::marker::Model;
@@ -32,7 +35,8 @@ pub struct SessionEdit {
     handed: Option<Key>,
     fate: Fate,
     birth: Birth,
-    events: Sequence<Told>,
+    events: Vec<Told>,
+    alloc: Global,
 }
 
 impl Model for SessionEdit {
@@ -40,7 +44,7 @@ impl Model for SessionEdit {
 
     ghost Value = { Edit };
 
-    ghost view = { λ e. record { context = e.context; interval = e.interval; now = e.now; fresh = e.fresh; handed = e.handed; fate = e.fate; birth = e.birth; events = e.events } };
+    ghost view = { λ e. record { context = e.context; interval = e.interval; now = e.now; fresh = e.fresh; handed = e.handed; fate = e.fate; birth = e.birth; events = e.events.items } };
 }
 
 /// The key of the session that is handed in, and its fate as long as nobody ends it.
@@ -78,7 +82,8 @@ impl SessionEdit {
             handed,
             fate,
             birth: Birth::Absent,
-            events: Sequence::new(alloc),
+            events: Vec::new(alloc),
+            alloc,
         }
     }
 
@@ -97,11 +102,24 @@ impl SessionEdit {
             fate,
             birth,
             events,
+            alloc: _,
         } = self;
         Edited {
             fate,
             birth,
-            events,
+            events: Sequence::from_vec(events),
+        }
+    }
+
+    #[tactic(auto, unfolding(crate::specs::Edit::held_of))]
+    /// The session that is held, with its key.
+    fn held(&self) -> Option<(Key, &Session)>
+        ensures { option_map (λ held. (held.0, held.1.now)) result ≡ held_of self.entry.now }
+    {
+        match (&self.birth, &self.fate, self.handed) {
+            (Birth::Alive(session), _, _) => Some((self.fresh.0, session)),
+            (_, Fate::Kept(session), Some(key)) => Some((key, session)),
+            _ => None,
         }
     }
 }

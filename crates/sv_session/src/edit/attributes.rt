@@ -1,0 +1,186 @@
+//! The attributes of the session that is held.
+
+ghost use Rattle.std.specs.Prelude.{◌≡◌, ◌<◌, ◌≤◌, ◌^◌, length, Option, option_copied, IfOk, OnOk, OnErr};
+ghost use Rattle.sv_model.specs.declared.session.TheConstants.{NAME_LIMIT, VALUE_LIMIT};
+ghost use Rattle.sv_model.specs.Attributes.{attributes_size, value_of, with_attribute};
+ghost use Rattle.sv_session.specs.Calls.{Admits, Answers, Gives, is_name, is_too_large, set_event, seen_value, get_result, names_result, set_result, value_result, remove_result};
+
+use super::SessionEdit;
+use crate::fault::SessionFault;
+use std::alloc::{AllocError, Global};
+use sv_model::attributes::Attributes;
+use sv_model::event::{Event, Told};
+use sv_model::key::Key;
+use sv_model::outcome::{Birth, Fate};
+use sv_model::sequence::Sequence;
+use sv_model::session::{ATTRIBUTE_LIMIT, NAME_LIMIT, SESSION_LIMIT, Session, VALUE_LIMIT};
+use sv_model::text::Text;
+
+/// The name can be that of an attribute.
+fn is_name(name: &str) -> bool
+    ensures { result ≡ is_name name.now }
+{
+    !name.is_empty() && name.len() <= NAME_LIMIT
+}
+
+/// The attributes would be too many, or too large in all, with this value at this name.
+fn is_too_large(attributes: &Attributes, name: &str, value: &[u8]) -> bool
+    requires name { length name.now ≤ NAME_LIMIT }
+    requires value { length value.now ≤ VALUE_LIMIT }
+    ensures { result ≡ is_too_large (with_attribute attributes.now name.now value.now) }
+{
+    match attributes.get(name) {
+        Some(old) => {
+            attributes.len() > ATTRIBUTE_LIMIT
+                || attributes.size() - old.len() > SESSION_LIMIT - value.len()
+        }
+        None => {
+            attributes.len() >= ATTRIBUTE_LIMIT
+                || attributes.size() > SESSION_LIMIT - (name.len() + value.len())
+        }
+    }
+}
+
+/// Puts a value at a name, and makes what is told of it.
+fn put(
+    alloc: Global,
+    key: Key,
+    session: &mut Session,
+    name: &str,
+    value: &[u8],
+) -> Result<Event, AllocError>
+    requires { attributes_size (with_attribute session.old.attributes name.now value.now) < 2 ^ 64 }
+    ensures event { IfOk result (λ event. event ≡ set_event key name.now value.now (value_of session.old.attributes name.now)) }
+    ensures ok { OnOk result (session.new ≡ record session.old { attributes = with_attribute session.old.attributes name.now value.now }) }
+    ensures err { OnErr result (session.new ≡ session.old) }
+{
+    let told = Text::from_str(alloc, name)?;
+    let shown = match session.attributes.get(name) {
+        Some(_) => Vec::new(alloc),
+        None => Vec::from_slice(alloc, value)?,
+    };
+    let name = Text::from_str(alloc, name)?;
+    let value = Vec::from_slice(alloc, value)?;
+    match session.attributes.insert(name, Sequence::from_vec(value))? {
+        Some(old) => Ok(Event::Replaced {
+            key,
+            name: told,
+            old,
+        }),
+        None => Ok(Event::Added {
+            key,
+            name: told,
+            value: Sequence::from_vec(shown),
+        }),
+    }
+}
+
+impl SessionEdit {
+    #[tactic(auto, unfolding(crate::specs::Calls::get_result))]
+    /// The value of an attribute.
+    ///
+    /// Without a session NoSession, and BadName where the name has not 1 to 128 bytes.
+    pub fn get(&self, name: &str) -> Result<Option<&[u8]>, SessionFault>
+        ensures { seen_value result ≡ get_result self.entry.now name.now }
+    {
+        let (_, session) = self.held().ok_or(SessionFault::NoSession)?;
+        if !is_name(name) {
+            return Err(SessionFault::BadName);
+        }
+        Ok(session.attributes.get(name))
+    }
+
+    #[tactic(auto, unfolding(crate::specs::Calls::names_result))]
+    /// The names of the attributes in order of their bytes; without a session NoSession.
+    pub fn names(&self) -> Result<Sequence<Text>, SessionFault>
+        ensures { Gives (names_result self.entry.now) result }
+    {
+        let (_, session) = self.held().ok_or(SessionFault::NoSession)?;
+        Ok(session.attributes.names(self.alloc)?)
+    }
+
+    #[tactic(auto, unfolding(crate::specs::Calls::value_result))]
+    /// A value can be set at a name.
+    fn admits(&self, name: &str, value: &[u8]) -> Result<(), SessionFault>
+        ensures { Admits (value_result self.entry.now name.now value.now) result }
+    {
+        let (_, session) = self.held().ok_or(SessionFault::NoSession)?;
+        if !is_name(name) {
+            return Err(SessionFault::BadName);
+        }
+        if value.len() > VALUE_LIMIT {
+            return Err(SessionFault::ValueTooLong);
+        }
+        if is_too_large(&session.attributes, name, value) {
+            return Err(SessionFault::SessionTooLarge);
+        }
+        Ok(())
+    }
+
+    #[tactic(auto, unfolding(crate::specs::Calls::value_result, crate::specs::Edit::held_of))]
+    /// Sets an attribute to a value.
+    fn put(&mut self, name: &str, value: &[u8]) -> Result<(), SessionFault>
+        ensures { Answers self.old (value_result self.old name.now value.now) result self.new }
+    {
+        self.admits(name, value)?;
+        self.events.reserve(1)?;
+        let alloc = self.alloc;
+        let event = match (&mut self.birth, &mut self.fate, self.handed) {
+            (Birth::Alive(session), _, _) => put(alloc, self.fresh.0, session, name, value)?,
+            (_, Fate::Kept(session), Some(key)) => put(alloc, key, session, name, value)?,
+            _ => return Err(SessionFault::NoSession),
+        };
+        let context = self.context;
+        self.events.push(Told { context, event }).unwrap();
+        Ok(())
+    }
+
+    /// Sets an attribute to a value, which is told as Added or as Replaced with the old value; no value removes the
+    /// attribute.
+    ///
+    /// The first of these is told: NoSession; BadName where the name has not 1 to 128 bytes; ValueTooLong past 4,096
+    /// bytes; SessionTooLarge where the session would have more than 64 attributes, or names and values of more
+    /// than 32,768 bytes in all.
+    pub fn set(&mut self, name: &str, value: Option<&[u8]>) -> Result<(), SessionFault>
+        ensures { Answers self.old (set_result self.old name.now (option_copied value.entry)) result self.new }
+    {
+        match value {
+            Some(value) => self.put(name, value),
+            None => self.remove(name),
+        }
+    }
+
+    #[tactic(auto, unfolding(crate::specs::Calls::remove_result, crate::specs::Edit::held_of))]
+    /// Removes an attribute, which is told as Removed with the value that it had; nothing is told where there is
+    /// none.
+    ///
+    /// Without a session NoSession, and BadName where the name has not 1 to 128 bytes.
+    pub fn remove(&mut self, name: &str) -> Result<(), SessionFault>
+        ensures { Answers self.old (remove_result self.old name.now) result self.new }
+    {
+        let (key, session) = self.held().ok_or(SessionFault::NoSession)?;
+        if !is_name(name) {
+            return Err(SessionFault::BadName);
+        }
+        if session.attributes.get(name).is_none() {
+            return Ok(());
+        }
+        let told = Text::from_str(self.alloc, name)?;
+        self.events.reserve(1)?;
+        let removed = match (&mut self.birth, &mut self.fate) {
+            (Birth::Alive(session), _) => session.attributes.remove(name),
+            (_, Fate::Kept(session)) => session.attributes.remove(name),
+            _ => None,
+        };
+        if let Some(old) = removed {
+            let context = self.context;
+            let event = Event::Removed {
+                key,
+                name: told,
+                old,
+            };
+            self.events.push(Told { context, event }).unwrap();
+        }
+        Ok(())
+    }
+}

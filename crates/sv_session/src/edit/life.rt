@@ -1,0 +1,115 @@
+//! The life of the session that is held.
+
+ghost use Rattle.std.specs.Prelude.{◌≡◌, ◌≢◌, Err};
+ghost use Rattle.sv_session.specs.Edit.{has_made};
+ghost use Rattle.sv_session.specs.Calls.{Answers, create_result, held_key, interval_result, invalidate_result, new_result};
+ghost use Rattle.sv_session.specs.declared.fault.SessionFault.TheVariants.{Memory};
+
+use super::SessionEdit;
+use crate::fault::SessionFault;
+use sv_model::attributes::Attributes;
+use sv_model::event::{Event, Told};
+use sv_model::key::Key;
+use sv_model::outcome::{Birth, Fate};
+use sv_model::session::Session;
+
+impl SessionEdit {
+    #[tactic(auto, unfolding(crate::specs::Calls::held_key))]
+    /// The key of the session that is held.
+    pub fn key(&self) -> Option<Key>
+        ensures { result ≡ held_key self.entry.now }
+    {
+        match self.held() {
+            Some((key, _)) => Some(key),
+            None => None,
+        }
+    }
+
+    #[tactic(auto, unfolding(crate::specs::Calls::new_result))]
+    /// No request has named the session yet; without a session NoSession.
+    pub fn is_new(&self) -> Result<bool, SessionFault>
+        ensures { result ≡ new_result self.entry.now }
+    {
+        match self.held() {
+            Some((_, session)) => Ok(session.fresh),
+            None => Err(SessionFault::NoSession),
+        }
+    }
+
+    #[tactic(auto, unfolding(crate::specs::Calls::interval_result, crate::specs::Edit::held_of))]
+    /// Sets the seconds without a request after which the session expires, never where they are 0 or less; without
+    /// a session NoSession.
+    pub fn set_interval(&mut self, seconds: i32) -> Result<(), SessionFault>
+        ensures answer { Answers self.old (interval_result self.old seconds) result self.new }
+        ensures takes_no_memory { result ≢ Err Memory }
+    {
+        match (&mut self.birth, &mut self.fate, self.handed) {
+            (Birth::Alive(session), _, _) => {
+                session.interval = seconds;
+                Ok(())
+            }
+            (_, Fate::Kept(session), Some(_)) => {
+                session.interval = seconds;
+                Ok(())
+            }
+            _ => Err(SessionFault::NoSession),
+        }
+    }
+
+    #[tactic(auto, unfolding(crate::specs::Calls::invalidate_result, crate::specs::Edit::held_of))]
+    /// Ends the session, which is told as Destroyed alone; without a session NoSession.
+    pub fn invalidate(&mut self) -> Result<(), SessionFault>
+        ensures { Answers self.old (invalidate_result self.old) result self.new }
+    {
+        let (key, _) = self.held().ok_or(SessionFault::NoSession)?;
+        self.events.push(Told {
+            context: self.context,
+            event: Event::Destroyed(key),
+        })?;
+        match self.birth {
+            Birth::Alive(_) => self.birth = Birth::Ended,
+            Birth::Absent | Birth::Ended => self.fate = Fate::Ended,
+        }
+        Ok(())
+    }
+
+    /// A session was made in this edit.
+    fn has_made(&self) -> bool
+        ensures { result ≡ has_made self.entry.now }
+    {
+        match self.birth {
+            Birth::Absent => false,
+            Birth::Alive(_) | Birth::Ended => true,
+        }
+    }
+
+    #[tactic(auto, unfolding(crate::specs::Calls::create_result))]
+    /// Makes a session where none is held, which is told as Created.
+    ///
+    /// The answer is that one was made. Where the request has made one before and none is held, SecondCreation.
+    pub fn create(&mut self) -> Result<bool, SessionFault>
+        ensures { Answers self.old (create_result self.old) result self.new }
+    {
+        if self.held().is_some() {
+            return Ok(false);
+        }
+        if self.has_made() {
+            return Err(SessionFault::SecondCreation);
+        }
+        let (key, secret) = self.fresh;
+        self.events.push(Told {
+            context: self.context,
+            event: Event::Created(key),
+        })?;
+        self.birth = Birth::Alive(Session {
+            context: self.context,
+            secret,
+            created: self.now,
+            last: self.now,
+            interval: self.interval,
+            fresh: true,
+            attributes: Attributes::new(self.alloc),
+        });
+        Ok(true)
+    }
+}

@@ -1,0 +1,24 @@
+//! When a session expires, and how a request names it (Jakarta Servlet 6.0, section "Session Timeouts").
+
+ghost use Rattle.std.specs.Prelude.{◌≡◌};
+ghost use Rattle.sv_session.specs.Expiry.{is_expired, joined};
+
+use sv_model::session::Session;
+
+/// Nothing has named the session for its interval, at `now` in whole seconds; one whose interval is 0 or less never
+/// expires.
+pub fn expired(session: &Session, now: u64) -> bool
+    ensures { result ≡ is_expired session.now now }
+{
+    session.interval > 0
+        && now >= session.last
+        && now - session.last >= u64::from(session.interval.unsigned_abs())
+}
+
+/// Joins a session to a request that names it, at `now` in whole seconds.
+pub fn join(session: &mut Session, now: u64)
+    ensures { session.new ≡ joined session.old now }
+{
+    session.last = session.last.max(now);
+    session.fresh = false;
+}
