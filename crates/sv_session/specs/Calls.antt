@@ -1,5 +1,5 @@
 -- The calls of an edit (Jakarta Servlet 6.0, chapter "Sessions"): what is expected of each, from the edit that it is made on.
-use Rattle.std.specs.Prelude.{◌≡◌, ℕ, ℤ, ◌&&◌, ◌||◌, Bool, true, false, Option, Some, None, Result, Ok, Err, IsOk, List, [], ◌∷◌, ◌++◌, length, is_some, nat_lt, nat_le, if◌then◌else◌, MatchResult, option_copied, option_map}
+use Rattle.std.specs.Prelude.{◌≡◌, ℕ, ◌+◌, ℤ, ◌&&◌, ◌||◌, Bool, true, false, Option, Some, None, Result, Ok, Err, IsOk, IsOkAnd, List, [], ◌∷◌, ◌++◌, length, is_some, nat_lt, nat_le, if◌then◌else◌, MatchResult, option_copied, option_map}
 use Rattle.std.specs.Borrow.{Bor}
 use Rattle.sv_model.specs.Attributes.{attributes_size, names_of, value_of, with_attribute, without_attribute}
 use Rattle.sv_model.specs.declared.event.Event.{Event}
@@ -16,23 +16,28 @@ use Rattle.sv_session.specs.declared.fault.SessionFault.TheVariants.{NoSession, 
 abbrev pub Expected : Type 0 → Type 0
 Expected A = Result (A × Edit) SessionFault
 
--- a fault is the one that is expected, or it is Memory in place of success
-abbrev pub IsFaultOf : {A : Type 0} → Result A SessionFault → SessionFault → Type 0
-IsFaultOf expected NoSession = expected ≡ Err NoSession
-IsFaultOf expected BadName = expected ≡ Err BadName
-IsFaultOf expected ValueTooLong = expected ≡ Err ValueTooLong
-IsFaultOf expected SessionTooLarge = expected ≡ Err SessionTooLarge
-IsFaultOf expected SecondCreation = expected ≡ Err SecondCreation
-IsFaultOf expected Memory = IsOk expected
+-- a fault is the one that is expected, or it is Memory, where that may be told
+abbrev pub IsFaultOf : {A : Type 0} → Result A SessionFault → Type 0 → SessionFault → Type 0
+IsFaultOf expected memory NoSession = expected ≡ Err NoSession
+IsFaultOf expected memory BadName = expected ≡ Err BadName
+IsFaultOf expected memory ValueTooLong = expected ≡ Err ValueTooLong
+IsFaultOf expected memory SessionTooLarge = expected ≡ Err SessionTooLarge
+IsFaultOf expected memory SecondCreation = expected ≡ Err SecondCreation
+IsFaultOf expected memory Memory = memory
 
--- what a call that reads an edit answers
+-- what a call that reads an edit answers; Memory stands in place of success
 abbrev pub Gives : {A : Type 0} → Result A SessionFault → Result A SessionFault → Type 0
-Gives expected result = MatchResult result (λ a. expected ≡ Ok a) (IsFaultOf expected)
+Gives expected result = MatchResult result (λ a. expected ≡ Ok a) (IsFaultOf expected (IsOk expected))
 
--- what a call that changes an edit answers and leaves: behind a fault the edit is as it was
+-- a call that succeeds with one more event
+abbrev pub Tells : {A : Type 0} → Edit → Expected A → Type 0
+Tells old expected = IsOkAnd expected (λ r. length r.1.events ≡ length old.events + 1)
+
+-- what a call that changes an edit answers and leaves: behind a fault the edit is as it was; Memory stands in place of
+-- what would be told
 abbrev pub Answers : {A : Type 0} → Edit → Expected A → Result A SessionFault → Edit → Type 0
 Answers old expected (Ok a) new = expected ≡ Ok (a, new)
-Answers old expected (Err fault) new = IsFaultOf expected fault × (new ≡ old)
+Answers old expected (Err fault) new = IsFaultOf expected (Tells old expected) fault × (new ≡ old)
 
 -- the edit behind a call
 abbrev pub after : {A : Type 0} → Edit → Expected A → Edit
@@ -87,9 +92,9 @@ value_set e held name value =
 unfoldable pub value_result : Edit → List ℕ → List ℕ → Expected (Unit {0})
 value_result e name value =
     on_session (held_of e) (λ held. on_name name (
-      if nat_lt VALUE_LIMIT (length value) then Err ValueTooLong
-      else if is_too_large (with_attribute held.1.attributes name value) then Err SessionTooLarge
-      else done (value_set e held name value)))
+    if nat_lt VALUE_LIMIT (length value) then Err ValueTooLong
+    else if is_too_large (with_attribute held.1.attributes name value) then Err SessionTooLarge
+    else done (value_set e held name value)))
 
 -- the session that is held loses its attribute of a name, if it has one
 abbrev pub removed : Edit → Key × Session → List ℕ → Option (List ℕ) → Edit

@@ -1,9 +1,15 @@
 //! The edit's beginning and end.
 
+mod attributes;
+mod expiry;
+mod faults;
+mod life;
+
 use crate::edit::{Edited, SessionEdit};
 use std::alloc::Global;
 use std::test::Fail;
 use sv_model::attributes::Attributes;
+use sv_model::event::{Event, Told};
 use sv_model::key::{Key, Secret};
 use sv_model::outcome::{Birth, Fate};
 use sv_model::session::Session;
@@ -22,6 +28,72 @@ fn session(alloc: Global) -> Session {
         fresh: false,
         attributes: Attributes::new(alloc),
     }
+}
+
+/// The key of the session that is handed in.
+const KEY: Key = Key { home: 1, serial: 4 };
+
+/// An edit of a session that is handed in.
+fn of_a_session(alloc: Global) -> SessionEdit {
+    SessionEdit::begin(alloc, Some((KEY, session(alloc))), 3, 600, 1_100, FRESH)
+}
+
+/// An edit of a request that names no session.
+fn of_none(alloc: Global) -> SessionEdit {
+    SessionEdit::begin(alloc, None, 3, 600, 1_100, FRESH)
+}
+
+/// An event, as its context, what it is, the key, and a name with its value.
+fn line(alloc: Global, told: &Told) -> Result<String, Fail> {
+    let context = told.context;
+    match &told.event {
+        Event::Created(key) => Ok(format!(in alloc;
+            "{context} created {}.{}",
+            key.home, key.serial
+        )?),
+        Event::Destroyed(key) => Ok(format!(in alloc;
+            "{context} destroyed {}.{}",
+            key.home, key.serial
+        )?),
+        Event::Added { key, name, value } => {
+            let value = str::from_utf8(value.as_slice())?;
+            Ok(format!(in alloc;
+                "{context} added {}.{} {}={value}",
+                key.home,
+                key.serial,
+                name.as_str()
+            )?)
+        }
+        Event::Removed { key, name, old } => {
+            let old = str::from_utf8(old.as_slice())?;
+            Ok(format!(in alloc;
+                "{context} removed {}.{} {}={old}",
+                key.home,
+                key.serial,
+                name.as_str()
+            )?)
+        }
+        Event::Replaced { key, name, old } => {
+            let old = str::from_utf8(old.as_slice())?;
+            Ok(format!(in alloc;
+                "{context} replaced {}.{} {}={old}",
+                key.home,
+                key.serial,
+                name.as_str()
+            )?)
+        }
+        _ => Err("an edit tells no such event".into()),
+    }
+}
+
+/// What an edit tells, a line each.
+fn lines(alloc: Global, events: &[Told]) -> Result<String, Fail> {
+    let mut text = String::new(alloc);
+    for told in events {
+        text.push_str(line(alloc, told)?.as_str())?;
+        text.push_str("\n")?;
+    }
+    Ok(text)
 }
 
 /// A session that is handed in and not touched is kept as it was.
