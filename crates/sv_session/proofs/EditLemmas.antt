@@ -1,12 +1,11 @@
 -- Edits that go on, whatever their calls answer, and the limits that they keep.
-use Rattle.std.proofs.Common.{◌≡◌, ℕ, ℤ, ◌<◌, ◌≤◌, ◌+◌, ◌&&◌, ◌||◌, Bool, true, false, Option, Some, None, Result, Ok, Err, IfSome, List, [], ◌∷◌, ◌++◌, length, All, cond, refl, sym, ap, ◌∙◌, subst, append-nil, append_assoc, arith}
+use Rattle.std.proofs.Common.{◌≡◌, ℕ, ℤ, ◌<◌, ◌≤◌, ◌&&◌, ◌||◌, Bool, true, false, Option, Some, None, Result, Ok, Err, IfSome, List, [], ◌∷◌, ◌++◌, length, cond, refl, sym, ap, ◌∙◌, subst, append-nil, append_assoc, arith}
 use Rattle.std.specs.Prelude.{nat_lt, nat_le, is_some}
 use Rattle.std.proofs.lemmas.Bool.Decides.{nat_tests}
 use Rattle.std.proofs.lemmas.List.Elements.{All-nil}
 use Rattle.std.proofs.lemmas.Option.{same_Some}
 use Rattle.sv_model.specs.Attributes.{Attribute, attributes_size, value_of, with_attribute, without_attribute}
-use Rattle.sv_model.specs.Engine.{KeepsWithin, BringsWithin}
-use Rattle.sv_model.specs.Session.{IsWithinLimits, session_size}
+use Rattle.sv_model.specs.Session.{IsWithinLimits}
 use Rattle.sv_model.specs.declared.event.Event.{Event}
 use Rattle.sv_model.specs.declared.event.Event.TheVariants.{Created, Destroyed, Removed}
 use Rattle.sv_model.specs.declared.event.Told.{Told}
@@ -18,11 +17,11 @@ use Rattle.sv_model.specs.declared.outcome.Fate.{Fate}
 use Rattle.sv_model.specs.declared.outcome.Fate.TheVariants.{Untouched, Kept, Ended as FateEnded}
 use Rattle.sv_model.specs.declared.session.Session.{Session}
 use Rattle.sv_model.specs.declared.session.TheConstants.{CONTEXT_LIMIT, ATTRIBUTE_LIMIT, NAME_LIMIT, VALUE_LIMIT, SESSION_LIMIT}
-use Rattle.sv_model.proofs.AttributesLemmas.{All-names-with_attribute, All-values-with_attribute, All-without_attribute, without_attribute-takes, Takes, attributes_size-nil, size_removed}
-use Rattle.sv_session.specs.Edit.{Edit, IsFateOf, IsWithin, KeepsEdit, begun, held_of, with_held, without_held, has_made}
-use Rattle.sv_session.specs.Calls.{Expected, after, done, on_session, on_name, is_name, is_too_large, tell, with_attributes, set_event, value_set, removed, made_session, value_result, remove_result, set_result, interval_result, invalidate_result, create_result}
+use Rattle.sv_model.proofs.AttributesLemmas.{All-names-with_attribute, All-values-with_attribute, All-without_attribute, attributes_size-nil, size_removed}
+use Rattle.sv_session.specs.Edit.{Edit, IsWithin, KeepsEdit, begun, held_of, with_held, without_held, has_made}
+use Rattle.sv_session.specs.Calls.{Expected, Answers, after, done, on_session, on_name, is_name, is_too_large, tell, with_attributes, set_event, value_set, removed, made_session, value_result, remove_result, set_result, interval_result, invalidate_result, create_result}
 use Rattle.sv_session.specs.declared.fault.SessionFault.{SessionFault}
-use Rattle.sv_session.specs.declared.fault.SessionFault.TheVariants.{NoSession, BadName, ValueTooLong, SessionTooLarge, SecondCreation}
+use Rattle.sv_session.specs.declared.fault.SessionFault.TheVariants.{BadName, ValueTooLong, SessionTooLarge, SecondCreation}
 
 -- ---- going on
 
@@ -45,6 +44,12 @@ KeepsEdit-trans a b c first then =
 -- an edit that nobody changed goes on
 pub same_edit : (old new : Edit) → new ≡ old → KeepsEdit old new
 same_edit old new is = subst (λ (e : Edit). KeepsEdit old e) (sym is) (KeepsEdit-refl old)
+
+-- a call that keeps the edit where it does what is expected keeps it whatever it answers
+pub answers_keep : {A : Type 0} (old new : Edit) (expected : Expected A) (result : Result A SessionFault) → Answers old expected result new → KeepsEdit old (after old expected)
+    → KeepsEdit old new
+answers_keep old new expected (Ok a) is keeps = subst (λ (r : Expected _). KeepsEdit old (after old r)) is keeps
+answers_keep old new expected (Err fault) is keeps = same_edit old new is.1
 
 -- one more event
 tell_keeps : (e : Edit) (event : Event) → KeepsEdit e (tell e event)

@@ -1,8 +1,9 @@
 -- Attributes that would be too many, or too large in all, once a value is set.
-use Rattle.std.proofs.Common.{◌≡◌, ◌∙◌, ℕ, ◌+◌, ◌-◌, ◌<◌, ◌≤◌, ◌||◌, Bool, true, false, List, length, Some, None, sym, arith}
+use Rattle.std.proofs.Common.{◌≡◌, ◌∙◌, ℕ, ◌+◌, ◌-◌, ◌<◌, ◌≤◌, true, false, List, length, Some, None, sym, arith}
 use Rattle.std.specs.Prelude.{nat_lt, nat_le}
 use Rattle.std.proofs.lemmas.Bool.Decides.{nat_tests}
 use Rattle.sv_model.specs.Attributes.{Attribute, attributes_size, NamesRise, value_of, with_attribute}
+use Rattle.sv_model.specs.declared.session.TheConstants.{ATTRIBUTE_LIMIT, NAME_LIMIT, VALUE_LIMIT, SESSION_LIMIT}
 use Rattle.sv_model.proofs.AttributesLemmas.{size_replaced, size_added, size_removed}
 use Rattle.sv_session.specs.Calls.{is_too_large}
 
@@ -19,11 +20,11 @@ false_test : (a b : ℕ) → b ≤ a → nat_lt a b ≡ false
 false_test a b h = grind (arith, nat_tests)
 
 module _ (es : List Attribute) where
-  too_many : 64 < length es → is_too_large es ≡ true
-  too_many many = rw (true_test 64 (length es) many)
+  too_many : ATTRIBUTE_LIMIT < length es → is_too_large es ≡ true
+  too_many many = rw (true_test ATTRIBUTE_LIMIT (length es) many)
 
-  by_size : (a b : ℕ) → length es ≤ 64 → (a < b → 32768 < attributes_size es) → (32768 < attributes_size es → a < b) → nat_lt a b ≡ is_too_large es
-  by_size a b few there back = rw (false_test 64 (length es) few) (same_test a b 32768 (attributes_size es) there back)
+  by_size : (a b : ℕ) → length es ≤ ATTRIBUTE_LIMIT → (a < b → SESSION_LIMIT < attributes_size es) → (SESSION_LIMIT < attributes_size es → a < b) → nat_lt a b ≡ is_too_large es
+  by_size a b few there back = rw (false_test ATTRIBUTE_LIMIT (length es) few) (same_test a b SESSION_LIMIT (attributes_size es) there back)
 
 -- attributes of this number and this size
 module _ (es : List Attribute) (n size : ℕ) (count : n ≡ length es) (total : size ≡ attributes_size es) (rise : NamesRise es) (name value : List ℕ) where
@@ -31,26 +32,26 @@ module _ (es : List Attribute) (n size : ℕ) (count : n ≡ length es) (total :
   new = with_attribute es name value
 
   module _ (was : List ℕ) (found : Some was ≡ value_of es name) where
-    pub too_many_replaced : 64 < n → nat_lt 64 n ≡ is_too_large new
+    pub too_many_replaced : ATTRIBUTE_LIMIT < n → nat_lt ATTRIBUTE_LIMIT n ≡ is_too_large new
     too_many_replaced many =
         let sizes = size_replaced es name value was rise found in
-        let more : 64 < length new = omega (arith, sizes.1) in
-        true_test 64 n many ∙ sym (too_many new more)
+        let more : ATTRIBUTE_LIMIT < length new = omega (arith, sizes.1) in
+        true_test ATTRIBUTE_LIMIT n many ∙ sym (too_many new more)
 
-    pub too_large_replaced : n ≤ 64 → length value ≤ 4096 → nat_lt (32768 - length value) (size - length was) ≡ is_too_large new
+    pub too_large_replaced : n ≤ ATTRIBUTE_LIMIT → length value ≤ VALUE_LIMIT → nat_lt (SESSION_LIMIT - length value) (size - length was) ≡ is_too_large new
     too_large_replaced few short =
         let sizes = size_replaced es name value was rise found in
         let there = size_removed es name was found in
-        by_size new (32768 - length value) (size - length was) (omega (arith, sizes.1)) (λ h. omega (arith, sizes.0, there.0)) (λ h. omega (arith, sizes.0, there.0))
+        by_size new (SESSION_LIMIT - length value) (size - length was) (omega (arith, sizes.1)) (λ h. omega (arith, sizes.0, there.0)) (λ h. omega (arith, sizes.0, there.0))
 
   module _ (absent : None ≡ value_of es name) where
-    pub too_many_added : 64 ≤ n → nat_le 64 n ≡ is_too_large new
+    pub too_many_added : ATTRIBUTE_LIMIT ≤ n → nat_le ATTRIBUTE_LIMIT n ≡ is_too_large new
     too_many_added many =
         let sizes = size_added es name value rise absent in
-        let more : 64 < length new = omega (arith, sizes.1) in
-        sym (true_test_le 64 n many) ∙ sym (too_many new more)
+        let more : ATTRIBUTE_LIMIT < length new = omega (arith, sizes.1) in
+        sym (true_test_le ATTRIBUTE_LIMIT n many) ∙ sym (too_many new more)
 
-    pub too_large_added : n < 64 → length name ≤ 128 → length value ≤ 4096 → nat_lt (32768 - (length name + length value)) size ≡ is_too_large new
+    pub too_large_added : n < ATTRIBUTE_LIMIT → length name ≤ NAME_LIMIT → length value ≤ VALUE_LIMIT → nat_lt (SESSION_LIMIT - (length name + length value)) size ≡ is_too_large new
     too_large_added few named short =
         let sizes = size_added es name value rise absent in
-        by_size new (32768 - (length name + length value)) size (omega (arith, sizes.1)) (λ h. omega (arith, sizes.0)) (λ h. omega (arith, sizes.0))
+        by_size new (SESSION_LIMIT - (length name + length value)) size (omega (arith, sizes.1)) (λ h. omega (arith, sizes.0)) (λ h. omega (arith, sizes.0))

@@ -3,12 +3,13 @@
 mod attributes;
 mod life;
 
-ghost use Rattle.std.specs.Prelude.{◌≡◌, Option, option_map};
+ghost use Rattle.std.specs.Prelude.{◌≡◌, Option, option_map, OnOk, OnErr};
+ghost use Rattle.sv_session.specs.Calls.{tell};
 ghost use Rattle.sv_session.specs.Edit.{begun, key_of, fate_of, held_of};
 
-use std::alloc::Global;
+use std::alloc::{AllocError, Global};
 use std::marker::Model;
-use sv_model::event::Told;
+use sv_model::event::{Event, Told};
 use sv_model::key::{Key, Secret};
 use sv_model::outcome::{Birth, Fate};
 use sv_model::sequence::Sequence;
@@ -111,8 +112,8 @@ impl SessionEdit {
         }
     }
 
-    #[tactic(auto, unfolding(crate::specs::Edit::held_of))]
     /// The session that is held, with its key.
+    #[tactic(auto, unfolding(crate::specs::Edit::held_of))]
     fn held(&self) -> Option<(Key, &Session)>
         ensures { option_map (λ held. (held.0, held.1.now)) result ≡ held_of self.entry.now }
     {
@@ -121,5 +122,15 @@ impl SessionEdit {
             (_, Fate::Kept(session), Some(key)) => Some((key, session)),
             _ => None,
         }
+    }
+
+    /// Tells an event to the listeners of the context.
+    fn tell(&mut self, event: Event) -> Result<(), AllocError>
+        ensures ok { OnOk result (self.new ≡ tell self.old event) }
+        ensures err { OnErr result (self.new ≡ self.old) }
+    {
+        let context = self.context;
+        self.events.push(Told { context, event })?;
+        Ok(())
     }
 }

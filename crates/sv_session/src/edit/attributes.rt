@@ -41,6 +41,16 @@ fn is_too_large(attributes: &Attributes, name: &str, value: &[u8]) -> bool
     }
 }
 
+/// What is told of a value that is put at a name, by the value that was there.
+fn set_event(key: Key, name: Text, value: Sequence<u8>, old: Option<Sequence<u8>>) -> Event
+    ensures { result ≡ set_event key name value old }
+{
+    match old {
+        Some(old) => Event::Replaced { key, name, old },
+        None => Event::Added { key, name, value },
+    }
+}
+
 /// Puts a value at a name, and makes what is told of it.
 fn put(
     alloc: Global,
@@ -55,31 +65,22 @@ fn put(
     ensures err { OnErr result (session.new ≡ session.old) }
 {
     let told = Text::from_str(alloc, name)?;
+    // Of a value that is replaced the old one is shown.
     let shown = match session.attributes.get(name) {
         Some(_) => Vec::new(alloc),
         None => Vec::from_slice(alloc, value)?,
     };
     let name = Text::from_str(alloc, name)?;
     let value = Vec::from_slice(alloc, value)?;
-    match session.attributes.insert(name, Sequence::from_vec(value))? {
-        Some(old) => Ok(Event::Replaced {
-            key,
-            name: told,
-            old,
-        }),
-        None => Ok(Event::Added {
-            key,
-            name: told,
-            value: Sequence::from_vec(shown),
-        }),
-    }
+    let old = session.attributes.insert(name, Sequence::from_vec(value))?;
+    Ok(set_event(key, told, Sequence::from_vec(shown), old))
 }
 
 impl SessionEdit {
-    #[tactic(auto, unfolding(crate::specs::Calls::get_result))]
     /// The value of an attribute.
     ///
     /// Without a session NoSession, and BadName where the name has not 1 to 128 bytes.
+    #[tactic(auto, unfolding(crate::specs::Calls::get_result))]
     pub fn get(&self, name: &str) -> Result<Option<&[u8]>, SessionFault>
         ensures { seen_value result ≡ get_result self.entry.now name.now }
     {
@@ -90,8 +91,8 @@ impl SessionEdit {
         Ok(session.attributes.get(name))
     }
 
-    #[tactic(auto, unfolding(crate::specs::Calls::names_result))]
     /// The names of the attributes in order of their bytes; without a session NoSession.
+    #[tactic(auto, unfolding(crate::specs::Calls::names_result))]
     pub fn names(&self) -> Result<Sequence<Text>, SessionFault>
         ensures { Gives (names_result self.entry.now) result }
     {
@@ -99,8 +100,8 @@ impl SessionEdit {
         Ok(session.attributes.names(self.alloc)?)
     }
 
-    #[tactic(auto, unfolding(crate::specs::Calls::value_result))]
     /// A value can be set at a name.
+    #[tactic(auto, unfolding(crate::specs::Calls::value_result))]
     fn admits(&self, name: &str, value: &[u8]) -> Result<(), SessionFault>
         ensures { Admits (value_result self.entry.now name.now value.now) result }
     {
@@ -117,12 +118,13 @@ impl SessionEdit {
         Ok(())
     }
 
-    #[tactic(auto, unfolding(crate::specs::Calls::value_result, crate::specs::Edit::held_of))]
     /// Sets an attribute to a value.
-    fn put(&mut self, name: &str, value: &[u8]) -> Result<(), SessionFault>
+    #[tactic(auto, unfolding(crate::specs::Calls::value_result, crate::specs::Edit::held_of))]
+    fn set_value(&mut self, name: &str, value: &[u8]) -> Result<(), SessionFault>
         ensures { Answers self.old (value_result self.old name.now value.now) result self.new }
     {
         self.admits(name, value)?;
+        // The event's place comes first: behind the change nothing may fail.
         self.events.reserve(1)?;
         let alloc = self.alloc;
         let event = match (&mut self.birth, &mut self.fate, self.handed) {
@@ -145,16 +147,16 @@ impl SessionEdit {
         ensures { Answers self.old (set_result self.old name.now (option_copied value.entry)) result self.new }
     {
         match value {
-            Some(value) => self.put(name, value),
+            Some(value) => self.set_value(name, value),
             None => self.remove(name),
         }
     }
 
-    #[tactic(auto, unfolding(crate::specs::Calls::remove_result, crate::specs::Edit::held_of))]
     /// Removes an attribute, which is told as Removed with the value that it had; nothing is told where there is
     /// none.
     ///
     /// Without a session NoSession, and BadName where the name has not 1 to 128 bytes.
+    #[tactic(auto, unfolding(crate::specs::Calls::remove_result, crate::specs::Edit::held_of))]
     pub fn remove(&mut self, name: &str) -> Result<(), SessionFault>
         ensures { Answers self.old (remove_result self.old name.now) result self.new }
     {

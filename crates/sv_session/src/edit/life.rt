@@ -8,14 +8,14 @@ ghost use Rattle.sv_session.specs.declared.fault.SessionFault.TheVariants.{Memor
 use super::SessionEdit;
 use crate::fault::SessionFault;
 use sv_model::attributes::Attributes;
-use sv_model::event::{Event, Told};
+use sv_model::event::Event;
 use sv_model::key::Key;
 use sv_model::outcome::{Birth, Fate};
 use sv_model::session::Session;
 
 impl SessionEdit {
-    #[tactic(auto, unfolding(crate::specs::Calls::held_key))]
     /// The key of the session that is held.
+    #[tactic(auto, unfolding(crate::specs::Calls::held_key))]
     pub fn key(&self) -> Option<Key>
         ensures { result ≡ held_key self.entry.now }
     {
@@ -25,8 +25,8 @@ impl SessionEdit {
         }
     }
 
-    #[tactic(auto, unfolding(crate::specs::Calls::new_result))]
     /// No request has named the session yet; without a session NoSession.
+    #[tactic(auto, unfolding(crate::specs::Calls::new_result))]
     pub fn is_new(&self) -> Result<bool, SessionFault>
         ensures { result ≡ new_result self.entry.now }
     {
@@ -36,9 +36,9 @@ impl SessionEdit {
         }
     }
 
-    #[tactic(auto, unfolding(crate::specs::Calls::interval_result, crate::specs::Edit::held_of))]
     /// Sets the seconds without a request after which the session expires, never where they are 0 or less; without
     /// a session NoSession.
+    #[tactic(auto, unfolding(crate::specs::Calls::interval_result, crate::specs::Edit::held_of))]
     pub fn set_interval(&mut self, seconds: i32) -> Result<(), SessionFault>
         ensures answer { Answers self.old (interval_result self.old seconds) result self.new }
         ensures takes_no_memory { result ≢ Err Memory }
@@ -56,16 +56,13 @@ impl SessionEdit {
         }
     }
 
-    #[tactic(auto, unfolding(crate::specs::Calls::invalidate_result, crate::specs::Edit::held_of))]
     /// Ends the session, which is told as Destroyed alone; without a session NoSession.
+    #[tactic(auto, unfolding(crate::specs::Calls::invalidate_result, crate::specs::Edit::held_of))]
     pub fn invalidate(&mut self) -> Result<(), SessionFault>
         ensures { Answers self.old (invalidate_result self.old) result self.new }
     {
         let (key, _) = self.held().ok_or(SessionFault::NoSession)?;
-        self.events.push(Told {
-            context: self.context,
-            event: Event::Destroyed(key),
-        })?;
+        self.tell(Event::Destroyed(key))?;
         match self.birth {
             Birth::Alive(_) => self.birth = Birth::Ended,
             Birth::Absent | Birth::Ended => self.fate = Fate::Ended,
@@ -83,10 +80,10 @@ impl SessionEdit {
         }
     }
 
-    #[tactic(auto, unfolding(crate::specs::Calls::create_result))]
     /// Makes a session where none is held, which is told as Created.
     ///
     /// The answer is that one was made. Where the request has made one before and none is held, SecondCreation.
+    #[tactic(auto, unfolding(crate::specs::Calls::create_result))]
     pub fn create(&mut self) -> Result<bool, SessionFault>
         ensures { Answers self.old (create_result self.old) result self.new }
     {
@@ -97,10 +94,7 @@ impl SessionEdit {
             return Err(SessionFault::SecondCreation);
         }
         let (key, secret) = self.fresh;
-        self.events.push(Told {
-            context: self.context,
-            event: Event::Created(key),
-        })?;
+        self.tell(Event::Created(key))?;
         self.birth = Birth::Alive(Session {
             context: self.context,
             secret,
