@@ -2,3 +2,5 @@ pub mod UnreadLemmas
 mod SaidLemmas
 mod ServeLemmas
 mod QuietLemmas
+mod TableLemmas
+mod SoloLemmas

@@ -26,6 +26,7 @@ use Rattle.sv_connection.specs.declared.outcome.RequestFault.TheVariants.{Read, 
 use Rattle.sv_connection.specs.declared.outcome.Outcome.{Outcome}
 use Rattle.sv_connection.specs.declared.outcome.Outcome.TheVariants.{Answered, Parked, Closed, Refused, ReadFailed, WriteFailed, Failed as SiteFailed}
 use Rattle.sv_connection.specs.declared.outcome.Served.{Served}
+use Rattle.sv_target.specs.Cookies.{cookies_of}
 use Rattle.sv_connection.specs.Target.{fault_of_target}
 use Rattle.sv_connection.specs.Reply.{refusal, speaks_to}
 
@@ -57,7 +58,7 @@ request_of single raw =
       path = raw.target;
       query = None;
       fields = raw.fields;
-      cookies = [];
+      cookies = cookies_of raw.fields;
       params = [];
       body = raw.body;
       close = raw.close || single;
@@ -171,7 +172,7 @@ pub record IsAnswered {S : Type 0} (steps : S → Moment → Input → Result (L
   pub outputs : served.outputs.items ≡ outputs_of answer
   pub follows : Follows (verdict how.token (is_head raw.method) (raw.close || how.single) answer) how.moment.now wo wn closed served.outcome
 
--- the method and the target have a fault, or there was no memory for the path: the site stands
+-- the method and the target have a fault, or there was no memory for the path and the cookies: the site stands
 pub record IsMisdirected {S : Type 0} (how : How) (raw : RawRequest) (so sn : S) (wo wn : Option (List ℕ)) (closed : Bool) (served : Served) : Type 0 where
   pub fault : TargetFault
   pub has_fault : fault ≢ TargetMemory → fault_of_target raw.method raw.target ≡ Some fault

@@ -4,11 +4,13 @@ ghost use Rattle.std.specs.Prelude.{◌≡◌, ℕ, Err, Some, find};
 ghost use Rattle.std.specs.Io.KnownBytes.{Appends};
 ghost use Rattle.sv_connection.specs.Manner.{manner_of};
 ghost use Rattle.sv_connection.specs.Reply.{refusal, speaks_to};
+ghost use Rattle.sv_target.specs.Cookies.{cookies_of};
 ghost use Rattle.sv_connection.specs.Serve.{Follows, said_by, verdict, IsSaid, request_of};
 
 use crate::outcome::Outcome;
 use crate::reply::{refusal, reply_to};
 use crate::speak::{Sent, say, starve};
+use crate::target::ReadTarget;
 use std::alloc::Global;
 use std::io::Write;
 use sv_message::request::RawRequest;
@@ -17,7 +19,6 @@ use sv_model::output::{Cause, Output};
 use sv_model::request::Request;
 use sv_model::sequence::Sequence;
 use sv_model::site::StepFault;
-use sv_model::text::Text;
 
 /// How the response to a request is to be.
 #[derive(Clone, Copy, Debug, PartialEq, Eq)]
@@ -42,17 +43,19 @@ pub fn manner_of(raw: &RawRequest, single: bool, now: u64) -> Manner
 }
 
 /// The request that the site is asked.
-pub fn request_of(alloc: Global, raw: RawRequest, path: Text, single: bool) -> Request
-    requires { path ≡ raw.target }
+pub fn request_of(alloc: Global, raw: RawRequest, read: ReadTarget, single: bool) -> Request
+    requires path { read.path ≡ raw.target }
+    requires cookies { read.cookies ≡ cookies_of raw.fields }
     ensures { result ≡ request_of single raw }
 {
+    let ReadTarget { path, cookies } = read;
     Request {
         method: raw.method,
         raw_path: raw.target,
         path,
         query: None,
         fields: raw.fields,
-        cookies: Sequence::new(alloc),
+        cookies,
         params: Sequence::new(alloc),
         body: raw.body,
         close: raw.close || single,

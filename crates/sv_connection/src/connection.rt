@@ -6,7 +6,7 @@ use crate::answer::{manner_of, request_of, say_outputs, say_step_fault};
 use crate::arrive::{Arrived, arrive};
 use crate::outcome::{Outcome, Served};
 use crate::speak::{say_read_fault, say_target_fault};
-use crate::target::read_target;
+use crate::target::{ReadTarget, read_request};
 use std::alloc::Global;
 use std::io::{Read, Write};
 use sv_message::reader::RequestReader;
@@ -15,7 +15,6 @@ use sv_model::input::Input;
 use sv_model::key::Moment;
 use sv_model::method::is_head;
 use sv_model::site::Site;
-use sv_model::text::Text;
 
 /// One connection of a client (RFC 9112, section 9), with the bytes that were read and not yet served.
 #[derive(Drop)]
@@ -31,6 +30,7 @@ pub struct Connection {
 
 impl Connection {
     ghost use Rattle.std.specs.Prelude.{◌≡◌, true, false};
+    ghost use Rattle.sv_target.specs.Cookies.{cookies_of};
     ghost use Rattle.sv_connection.specs.Serve.{how, IsAnswered, IsDirected, IsServed};
     ghost use Rattle.sv_connection.specs.Connection.{IsFresh, is_closed, is_single, sight_of};
     ghost use Rattle.sv_connection.specs.declared.outcome.Outcome.TheVariants.{Closed};
@@ -56,18 +56,19 @@ impl Connection {
         moment: Moment,
         token: u64,
         raw: RawRequest,
-        path: Text,
+        read: ReadTarget,
     ) -> Served
         requires valid { S.site_valid site.old }
         requires not_spent { self.old.requests.closed ≡ false }
-        requires path { path ≡ raw.target }
+        requires path { read.path ≡ raw.target }
+        requires cookies { read.cookies ≡ cookies_of raw.fields }
         ensures valid { S.site_valid site.new }
         ensures requests { self.new.requests ≡ self.old.requests }
         ensures single { self.new.single ≡ self.old.single }
         ensures answered { IsAnswered S.steps (how moment token self.old.single) raw site.old site.new (W.contents writer.old) (W.contents writer.new) self.new.closed result }
     {
         let manner = manner_of(&raw, self.single, moment.now);
-        let request = request_of(self.alloc, raw, path, self.single);
+        let request = request_of(self.alloc, raw, read, self.single);
         match site.step(moment, Input::Ask { token, request }) {
             Ok(outputs) => {
                 let sent = say_outputs(
@@ -148,7 +149,7 @@ impl Connection {
         }
     }
 
-    /// Reads the target of a request, and asks the site.
+    /// Reads the target and the cookies of a request, and asks the site.
     fn direct<W: Write, S: Site>(
         &mut self,
         writer: &mut W,
@@ -164,8 +165,8 @@ impl Connection {
         ensures single { self.new.single ≡ self.old.single }
         ensures directed { IsDirected S.steps (how moment token self.old.single) raw site.old site.new (W.contents writer.old) (W.contents writer.new) self.new.closed result }
     {
-        match read_target(self.alloc, &raw.method, &raw.target) {
-            Ok(path) => self.ask(writer, site, moment, token, raw, path),
+        match read_request(self.alloc, &raw) {
+            Ok(read) => self.ask(writer, site, moment, token, raw, read),
             Err(fault) => {
                 self.closed = true;
                 let head_only = is_head(&raw.method);

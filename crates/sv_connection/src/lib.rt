@@ -12,6 +12,7 @@ pub mod outcome;
 pub mod reply;
 pub mod solo;
 mod speak;
+mod table;
 pub mod target;
 #[cfg(test)]
 mod tests;

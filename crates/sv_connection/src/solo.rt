@@ -1,33 +1,48 @@
 //! A site with one node and no disk.
 
-ghost use Rattle.std.specs.Prelude.{◌≡◌, vec_items};
+ghost use Rattle.std.specs.Prelude.{◌≡◌, ◌+◌, ◌≤◌, length, vec_items, Ok};
 ghost use Rattle.sv_model.specs.Site.{with_list};
-ghost use Rattle.sv_model.specs.Step.{Steps, fresh_of, is_birth};
-ghost use Rattle.sv_model.specs.declared.input.Input.TheVariants.{Ask};
-ghost use Rattle.sv_connection.specs.Solo.{view_of, solo_steps, IsNew};
+ghost use Rattle.sv_model.specs.Node.{is_birth, no_birth};
+ghost use Rattle.sv_model.specs.declared.input.Input.TheVariants.{Ask, Tick};
+ghost use Rattle.sv_model.specs.declared.state.TheConstants.{KEY_LIMIT};
+ghost use Rattle.std.specs.FinMap.{get};
+ghost use Rattle.sv_connection.specs.Table.{own_key, keys_of, node_of, refusal_for};
 
+use crate::table::{add_born, expire, named_place, session_at, settle, state_at};
 use std::alloc::Global;
 use sv_model::engine::Engine;
 use sv_model::input::Input;
 use sv_model::key::{Key, Moment, Secret};
-use sv_model::outcome::Birth;
+use sv_model::outcome::{Birth, Outcome};
 use sv_model::output::{Cause, MoveRefusal, Output};
 use sv_model::request::Request;
+use sv_model::session::Session;
 use sv_model::site::{Site, StepFault};
+use sv_model::state::KEY_LIMIT;
 
-/// One node that stands alone and keeps no session: each request is served without one, and a session that
-/// would be made is refused with [`Cause::TableFull`].
+/// One node that stands alone and keeps its sessions in memory.
+///
+/// Each session that it makes has the next serial, from 1; no key is ever forgotten, and after 65,536 of them a session
+/// that would be made is refused with [`Cause::TableFull`].
 #[derive(Drop)]
 pub struct Solo<E> {
     pub engine: E,
+    /// The sessions by their serials from 1; where one has ended there is none.
+    sessions: Vec<Option<Session>>,
     alloc: Global,
+    ghost few: { length sessions.items ≤ KEY_LIMIT },
 }
 
-/// The key and the secret of a session that is made.
-fn fresh_of(moment: Moment) -> (Key, Secret)
-    ensures { result ≡ fresh_of moment }
+/// The key and the secret of a session that is made behind these.
+fn fresh_of(sessions: &[Option<Session>], moment: Moment) -> (Key, Secret)
+    requires { length sessions.now ≤ KEY_LIMIT }
+    ensures { result ≡ (own_key (length sessions.now + 1), moment.secret) }
 {
-    (Key { home: 0, serial: 1 }, moment.secret)
+    let key = Key {
+        home: 0,
+        serial: sessions.len() as u64 + 1,
+    };
+    (key, moment.secret)
 }
 
 /// A session was made.
@@ -40,16 +55,49 @@ fn is_birth(birth: &Birth) -> bool
     }
 }
 
+/// Why a session can't be made beside these.
+fn no_birth(sessions: &[Option<Session>], birth: &Birth) -> Option<Cause>
+    requires { length sessions.now ≤ KEY_LIMIT }
+    ensures { result ≡ no_birth (node_of sessions.now).durable birth.now }
+{
+    if !is_birth(birth) {
+        return None;
+    }
+    if sessions.len() >= KEY_LIMIT {
+        return Some(Cause::TableFull);
+    }
+    None
+}
+
+/// Why the session of a key isn't handed to another node, of which there is none.
+fn move_refusal(sessions: &[Option<Session>], key: Key) -> MoveRefusal
+    ensures { result ≡ refusal_for (get (keys_of sessions.now) key) }
+{
+    match state_at(sessions, key) {
+        None => MoveRefusal::UnknownKey,
+        Some(None) => MoveRefusal::NotActive,
+        Some(Some(_)) => MoveRefusal::BadPeer,
+    }
+}
+
 impl<E> Solo<E> {
+    ghost use Rattle.sv_connection.specs.Solo.{IsNew};
+
     /// A node over an engine.
     pub fn new(alloc: Global, engine: E) -> Self
         ensures { IsNew result engine }
     {
-        Solo { engine, alloc }
+        Solo {
+            engine,
+            sessions: Vec::new(alloc),
+            alloc,
+        }
     }
 }
 
 impl<E: Engine> Solo<E> {
+    ghost use Rattle.sv_connection.specs.Solo.{solo_steps};
+
     /// Serves one request.
     fn ask(
         &mut self,
@@ -59,28 +107,49 @@ impl<E: Engine> Solo<E> {
     ) -> Result<Vec<Output>, StepFault>
         requires { E.valid self.old.engine }
         ensures valid { E.valid self.new.engine }
-        ensures step { Steps (view_of E.meaning E.heard self.old) moment (Ask token request) (with_list vec_items result) (view_of E.meaning E.heard self.new) }
+        ensures step { solo_steps E.meaning E.heard self.old moment (Ask token request) (with_list vec_items result) self.new }
     {
         let mut outputs = Vec::with_capacity(self.alloc, 1)?;
-        let fresh = fresh_of(moment);
-        let outcome = self.engine.serve(&request, None, moment.now, fresh)?;
-        if is_birth(&outcome.birth) {
-            outputs.push_reserved(Output::Refuse {
-                token,
-                cause: Cause::TableFull,
-            });
+        self.sessions.try_reserve(1)?;
+        let named = self.engine.names(&request);
+        let place = named_place(self.sessions.as_slice(), named);
+        let fresh = fresh_of(self.sessions.as_slice(), moment);
+        let held = session_at(self.sessions.as_slice(), named, place);
+        let outcome = self.engine.serve(&request, held, moment.now, fresh)?;
+        if let Some(cause) = no_birth(self.sessions.as_slice(), &outcome.birth) {
+            outputs.push_reserved(Output::Refuse { token, cause });
             return Ok(outputs);
         }
-        self.engine.tell(outcome.events.as_slice());
-        outputs.push_reserved(Output::Answer {
-            token,
-            response: outcome.response,
-        });
+        let Outcome {
+            response,
+            fate,
+            birth,
+            events,
+        } = outcome;
+        settle(&mut self.sessions, place, fate);
+        add_born(&mut self.sessions, birth);
+        self.engine.tell(events.as_slice());
+        outputs.push_reserved(Output::Answer { token, response });
         Ok(outputs)
+    }
+
+    /// Ends the session of the least key that has expired.
+    fn tick(&mut self, moment: Moment) -> Vec<Output>
+        requires { E.valid self.old.engine }
+        ensures valid { E.valid self.new.engine }
+        ensures step { solo_steps E.meaning E.heard self.old moment Tick (Ok result.items) self.new }
+    {
+        let Some(told) = expire(&mut self.sessions, moment.now) else {
+            return Vec::new(self.alloc);
+        };
+        self.engine.tell(&[told]);
+        Vec::new(self.alloc)
     }
 }
 
 impl<E: Engine> Site for Solo<E> {
+    ghost use Rattle.sv_connection.specs.Solo.{solo_steps};
+
     ghost steps = { solo_steps E.meaning E.heard };
 
     ghost site_valid = { λ s. E.valid s.engine };
@@ -88,10 +157,12 @@ impl<E: Engine> Site for Solo<E> {
     fn step(&mut self, moment: Moment, input: Input) -> Result<Vec<Output>, StepFault> {
         match input {
             Input::Ask { token, request } => self.ask(moment, token, request),
-            Input::Packet(_) | Input::Poke | Input::Tick => Ok(Vec::new(self.alloc)),
-            Input::Move { key: _, to: _ } => {
+            Input::Tick => Ok(self.tick(moment)),
+            Input::Packet(_) | Input::Poke => Ok(Vec::new(self.alloc)),
+            Input::Move { key, to: _ } => {
                 let mut outputs = Vec::with_capacity(self.alloc, 1)?;
-                outputs.push_reserved(Output::MoveRefused(MoveRefusal::UnknownKey));
+                let why = move_refusal(self.sessions.as_slice(), key);
+                outputs.push_reserved(Output::MoveRefused(why));
                 Ok(outputs)
             }
         }

@@ -2,12 +2,17 @@
 
 ghost use Rattle.std.specs.Prelude.{◌≡◌, ◌≢◌, Some, None, IfOk, IfErr};
 ghost use Rattle.std.specs.List.{list_all};
+ghost use Rattle.sv_target.specs.Cookies.{cookies_of};
 ghost use Rattle.sv_connection.specs.Target.{is_plain_byte, is_rooted, is_plain_path, fault_of_target};
 ghost use Rattle.sv_connection.specs.declared.target.TargetFault.TheVariants.{Memory};
 
 use http::Method;
 use std::alloc::{AllocError, Global};
+use sv_message::request::RawRequest;
+use sv_model::request::Cookie;
+use sv_model::sequence::Sequence;
 use sv_model::text::Text;
+use sv_target::cookies::cookies;
 use thiserror::Error;
 
 /// Why a request's target isn't served.
@@ -75,4 +80,23 @@ pub fn read_target(alloc: Global, method: &Method, target: &Text) -> Result<Text
     }
     let path = Text::from_str(alloc, target.as_str())?;
     Ok(path)
+}
+
+/// What a request's target and fields are read as.
+#[derive(Drop)]
+pub struct ReadTarget {
+    pub path: Text,
+    pub cookies: Sequence<Cookie>,
+}
+
+/// The path of a request's target, and the cookies of its fields.
+pub fn read_request(alloc: Global, raw: &RawRequest) -> Result<ReadTarget, TargetFault>
+    ensures path { IfOk result (λ read. read.path ≡ raw.now.target) }
+    ensures cookies { IfOk result (λ read. read.cookies ≡ cookies_of raw.now.fields) }
+    ensures ok { IfOk result (λ read. fault_of_target raw.now.method raw.now.target ≡ None) }
+    ensures fault { IfErr result (λ fault. fault ≢ Memory → fault_of_target raw.now.method raw.now.target ≡ Some fault) }
+{
+    let path = read_target(alloc, &raw.method, &raw.target)?;
+    let cookies = cookies(alloc, raw.fields.as_slice())?;
+    Ok(ReadTarget { path, cookies })
 }

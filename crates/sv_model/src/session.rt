@@ -1,5 +1,8 @@
 //! A session with its attributes (Jakarta Servlet 6.0, chapter "Sessions").
 
+ghost use Rattle.std.specs.Prelude.{◌≡◌};
+ghost use Rattle.sv_model.specs.Session.{is_expired};
+
 use crate::attributes::Attributes;
 use crate::key::Secret;
 
@@ -33,4 +36,20 @@ pub struct Session {
     /// No request has named it yet.
     pub fresh: bool,
     pub attributes: Attributes,
+}
+
+impl Session {
+    /// Nothing has named it for its interval, at `now` in whole seconds. An interval of 0 and less never passes.
+    pub fn is_expired(&self, now: u64) -> bool
+        ensures { result ≡ is_expired self.now now }
+    {
+        let Ok(interval) = u64::try_from(self.interval) else {
+            return false;
+        };
+        interval > 0
+            && match self.last.checked_add(interval) {
+                Some(end) => end <= now,
+                None => false,
+            }
+    }
 }

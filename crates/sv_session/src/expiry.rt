@@ -1,7 +1,8 @@
 //! When a session expires, and how a request names it (Jakarta Servlet 6.0, section "Session Timeouts").
 
 ghost use Rattle.std.specs.Prelude.{◌≡◌};
-ghost use Rattle.sv_session.specs.Expiry.{is_expired, joined};
+ghost use Rattle.sv_model.specs.Session.{is_expired};
+ghost use Rattle.sv_session.specs.Expiry.{joined};
 
 use sv_model::session::Session;
 
@@ -10,9 +11,7 @@ use sv_model::session::Session;
 pub fn expired(session: &Session, now: u64) -> bool
     ensures { result ≡ is_expired session.now now }
 {
-    session.interval > 0
-        && now >= session.last
-        && now - session.last >= u64::from(session.interval.unsigned_abs())
+    session.is_expired(now)
 }
 
 /// Joins a session to a request that names it, at `now` in whole seconds.

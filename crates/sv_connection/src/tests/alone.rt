@@ -2,19 +2,21 @@
 
 ghost use Rattle.std.specs.Prelude.{◌≡◌, ⊤, refl, [], false, None, IfOk};
 ghost use Rattle.sv_model.specs.declared.outcome.Fate.TheVariants.{Untouched};
-ghost use Rattle.sv_model.specs.declared.outcome.Birth.TheVariants.{Absent, Ended};
+ghost use Rattle.sv_model.specs.declared.outcome.Birth.TheVariants.{Absent};
+ghost use Rattle.sv_connection.specs.Turns.{made_at};
 
 use super::AT;
 use crate::solo::Solo;
 use http::{Method, StatusCode};
 use std::alloc::{AllocError, Global};
 use std::test::Fail;
+use sv_model::attributes::Attributes;
 use sv_model::engine::{Engine, EngineFault};
 use sv_model::event::Told;
 use sv_model::input::Input;
-use sv_model::key::{Key, Secret};
+use sv_model::key::{Key, Moment, Secret};
 use sv_model::outcome::{Birth, Fate, Outcome};
-use sv_model::output::{Cause, MoveRefusal, Output};
+use sv_model::output::{MoveRefusal, Output};
 use sv_model::packet::Packet;
 use sv_model::request::Request;
 use sv_model::response::Response;
@@ -88,62 +90,98 @@ impl Engine for Greeter {
     ghost names_keys = { λ e v r. tt };
 }
 
-/// Makes a session for each request, which ends in it.
+/// Ends the session that is handed in, and makes one where none is; counts what its listeners are told.
 #[derive(Drop)]
-struct Maker {
+struct Turner {
     alloc: Global,
+    named: Option<(Key, Secret)>,
+    told: usize,
 }
 
-impl Engine for Maker {
-    ghost meaning = { λ e. record {
-      names = λ r. None;
-      serve = λ r held now fresh. record {
-        response = record { status = 200; fields = []; body = r.raw_path; head_only = false; close = r.close };
-        fate = Untouched;
-        birth = Ended;
-        events = [];
-      };
-      hear = λ heard told. heard;
-    } };
+/// A session that expires after 60 seconds.
+fn made_at(alloc: Global, now: u64, fresh: (Key, Secret)) -> Session
+    ensures { result ≡ made_at now fresh }
+{
+    Session {
+        context: 0,
+        secret: fresh.1,
+        created: now,
+        last: now,
+        interval: 60,
+        fresh: true,
+        attributes: Attributes::new(alloc),
+    }
+}
+
+impl Engine for Turner {
+    ghost use Rattle.std.specs.Prelude.{refl, IfSome, [], ◌<◌};
+    ghost use Rattle.sv_connection.specs.Turns.{turns};
+    ghost use Rattle.sv_connection.specs.TurnLaws.{turns_within};
+
+    ghost meaning = { λ e. turns e.named };
 
     ghost heard = { λ e. [] };
 
-    ghost valid = { λ e. ⊤ };
+    ghost valid = { λ e. IfSome e.named (λ n. (n.0.home < 8) × (0 < n.0.serial)) };
 
     fn names(&self, _request: &Request) -> Option<(Key, Secret)> {
-        None
+        self.named
     }
 
     fn serve(
         &mut self,
         request: &Request,
-        _session: Option<(Key, &Session)>,
-        _now: u64,
-        _fresh: (Key, Secret),
+        session: Option<(Key, &Session)>,
+        now: u64,
+        fresh: (Key, Secret),
     ) -> Result<Outcome, EngineFault> {
-        Ok(Outcome {
-            response: said(self.alloc, request)?,
-            fate: Fate::Untouched,
-            birth: Birth::Ended,
-            events: Sequence::new(self.alloc),
-        })
+        let response = said(self.alloc, request)?;
+        let events = Sequence::new(self.alloc);
+        match session {
+            Some(_) => Ok(Outcome {
+                response,
+                fate: Fate::Ended,
+                birth: Birth::Absent,
+                events,
+            }),
+            None => Ok(Outcome {
+                response,
+                fate: Fate::Untouched,
+                birth: Birth::Alive(made_at(self.alloc, now, fresh)),
+                events,
+            }),
+        }
     }
 
-    fn tell(&mut self, _told: &[Told]) {}
+    fn tell(&mut self, told: &[Told]) {
+        self.told = self.told.saturating_add(told.len());
+    }
 
     ghost untouched = { λ e v r now fresh. refl };
 
-    ghost within_limits = { λ e v r held now fresh within. (tt, tt) };
+    ghost within_limits = { λ e v. turns_within e.named };
 
-    ghost names_keys = { λ e v r. tt };
+    ghost names_keys = { λ e v r. v };
 }
 
 /// Steps a site as any caller of one does.
+fn step_at<S: Site>(site: &mut S, now: u64, input: Input) -> Result<Vec<Output>, StepFault>
+    requires { S.site_valid site.old }
+    ensures { S.site_valid site.new }
+{
+    let moment = Moment {
+        now,
+        secret: AT.secret,
+    };
+    site.step(moment, input)
+}
+
+/// The same at one moment.
 fn step_once<S: Site>(site: &mut S, input: Input) -> Result<Vec<Output>, StepFault>
     requires { S.site_valid site.old }
     ensures { S.site_valid site.new }
 {
-    site.step(AT, input)
+    step_at(site, AT.now, input)
 }
 
 fn ask(alloc: Global, token: u64) -> Result<Input, AllocError> {
@@ -185,28 +223,100 @@ fn a_node_alone_answers(rt: HostRuntime) -> Result<(), Fail> {
     Ok(())
 }
 
-/// It keeps no session, so that one which is made is refused, also where it has already ended.
+/// The first session, of the only node.
+const FIRST: (Key, Secret) = (Key { home: 0, serial: 1 }, Secret([7; 16]));
+
+/// The output is a refusal of a move, for this reason.
+fn is_refusal(outputs: &[Output], reason: MoveRefusal) -> bool {
+    match outputs {
+        [Output::MoveRefused(why)] => *why == reason,
+        _ => false,
+    }
+}
+
+/// Each request names the first session: where it isn't active one is made, where it is it ends.
 #[test]
-fn a_node_alone_refuses_a_session(rt: HostRuntime) -> Result<(), Fail> {
+fn a_node_alone_keeps_its_sessions(rt: HostRuntime) -> Result<(), Fail> {
     let alloc = rt.alloc();
-    let mut site = Solo::new(alloc, Maker { alloc });
-    let outputs = step_once(&mut site, ask(alloc, 5)?)?;
-    assert_eq!(rt; outputs.len(), 1);
-    let refused = matches!(
-        &outputs[0],
-        Output::Refuse {
-            token: 5,
-            cause: Cause::TableFull
-        }
+    let mut site = Solo::new(
+        alloc,
+        Turner {
+            alloc,
+            named: Some(FIRST),
+            told: 0,
+        },
     );
-    assert!(rt; refused);
+    // Nothing is known of the session, then it was made, then it has ended.
+    let reasons = [
+        MoveRefusal::UnknownKey,
+        MoveRefusal::BadPeer,
+        MoveRefusal::NotActive,
+    ];
+    for reason in reasons {
+        let input = Input::Move {
+            key: FIRST.0,
+            to: 1,
+        };
+        let outputs = step_once(&mut site, input)?;
+        assert!(rt; is_refusal(outputs.as_slice(), reason), "{reason:?}");
+        let outputs = step_once(&mut site, ask(alloc, 7)?)?;
+        assert!(rt; matches!(outputs.as_slice(), [Output::Answer { token: 7, .. }]));
+    }
+    // The third request made the second session, since the first had ended.
+    let second = Key { home: 0, serial: 2 };
+    let outputs = step_once(&mut site, Input::Move { key: second, to: 0 })?;
+    assert!(rt; is_refusal(outputs.as_slice(), MoveRefusal::BadPeer));
+    Ok(())
+}
+
+/// A session that nothing has named for its 60 seconds ends at a tick, and not before; the listeners are told it once.
+#[test]
+fn a_node_alone_ends_what_has_expired(rt: HostRuntime) -> Result<(), Fail> {
+    let alloc = rt.alloc();
+    let mut site = Solo::new(
+        alloc,
+        Turner {
+            alloc,
+            named: None,
+            told: 0,
+        },
+    );
+    for _ in 0..2 {
+        step_once(&mut site, ask(alloc, 7)?)?;
+    }
+    // Two sessions were made at the moment of the requests: each tick ends the least key that has expired.
+    let end = AT.now.saturating_add(60);
+    let rows = [
+        (
+            AT.now.saturating_add(59),
+            MoveRefusal::BadPeer,
+            MoveRefusal::BadPeer,
+            0,
+        ),
+        (end, MoveRefusal::NotActive, MoveRefusal::BadPeer, 1),
+        (end, MoveRefusal::NotActive, MoveRefusal::NotActive, 2),
+        (end, MoveRefusal::NotActive, MoveRefusal::NotActive, 2),
+    ];
+    for (now, first, second, told) in rows {
+        let outputs = step_at(&mut site, now, Input::Tick)?;
+        assert_eq!(rt; outputs.len(), 0);
+        for (serial, why) in [(1, first), (2, second)] {
+            let key = Key { home: 0, serial };
+            let outputs = step_once(&mut site, Input::Move { key, to: 1 })?;
+            assert!(rt;
+                is_refusal(outputs.as_slice(), why),
+                "session {serial} at {now}"
+            );
+        }
+        assert_eq!(rt; site.engine.told, told, "told at {now}");
+    }
     Ok(())
 }
 
 #[test]
 fn a_node_alone_has_no_peers(rt: HostRuntime) -> Result<(), Fail> {
     let alloc = rt.alloc();
-    let mut site = Solo::new(alloc, Maker { alloc });
+    let mut site = Solo::new(alloc, Greeter { alloc });
     let key = Key { home: 0, serial: 1 };
     let no = Packet::No {
         from: 1,
