@@ -1,0 +1,69 @@
+-- The packets between nodes: the version, the kind, the sender, the addressee and the fields.
+use Rattle.std.specs.Prelude.{ℕ, List, Result}
+use Rattle.sv_model.specs.declared.key.Key.{Key}
+use Rattle.sv_model.specs.declared.session.Session.{Session}
+use Rattle.sv_model.specs.declared.packet.Packet.{Packet}
+use Rattle.sv_model.specs.declared.packet.Packet.TheVariants.{Want, Grant, Ack, No}
+use Rattle.sv_record.specs.declared.fault.RecordFault.{RecordFault}
+use Rattle.sv_record.specs.declared.fault.RecordFault.TheVariants.{Foreign}
+use Rattle.sv_record.specs.declared.version.Version.{Version}
+use Rattle.sv_record.specs.declared.version.Version.TheVariants.{One}
+use Rattle.sv_record.specs.Format.{Format, ByKind, pair, kind_at, no_kind, tagged}
+use Rattle.sv_record.specs.Field.{long, counting, node, key}
+use Rattle.sv_record.specs.Session.{session}
+use Rattle.sv_record.specs.Version.{written, whole}
+
+-- the sender and the addressee
+abbrev pub ends : Format (ℕ × ℕ)
+ends = pair node node
+
+-- a want and its answer: the key, the boot and the number of the want
+abbrev pub asked : Format ((ℕ × ℕ) × (Key × (ℕ × ℕ)))
+asked = pair ends (pair key (pair long long))
+
+abbrev pub granted : Version → Format ((ℕ × ℕ) × (Key × (ℕ × Session)))
+granted v = pair ends (pair key (pair counting (session v)))
+
+abbrev pub acknowledged : Format ((ℕ × ℕ) × (Key × ℕ))
+acknowledged = pair ends (pair key counting)
+
+abbrev pub kind_of : Packet → ℕ
+kind_of (Want from to k boot want) = 1
+kind_of (Grant from to k e s) = 2
+kind_of (Ack from to k e) = 3
+kind_of (No from to k boot want) = 4
+
+abbrev pub fields : Version → Packet → List ℕ
+fields v (Want from to k boot want) = asked.text ((from, to), (k, (boot, want)))
+fields v (Grant from to k e s) = (granted v).text ((from, to), (k, (e, s)))
+fields v (Ack from to k e) = acknowledged.text ((from, to), (k, e))
+fields v (No from to k boot want) = asked.text ((from, to), (k, (boot, want)))
+
+abbrev pub FieldsFit : Version → Packet → Type 0
+FieldsFit v (Want from to k boot want) = asked.Fits ((from, to), (k, (boot, want)))
+FieldsFit v (Grant from to k e s) = (granted v).Fits ((from, to), (k, (e, s)))
+FieldsFit v (Ack from to k e) = acknowledged.Fits ((from, to), (k, e))
+FieldsFit v (No from to k boot want) = asked.Fits ((from, to), (k, (boot, want)))
+
+abbrev pub by_kind : Version → ByKind Packet
+by_kind v =
+    kind_at 1 asked (λ x. Want x.0.0 x.0.1 x.1.0 x.1.1.0 x.1.1.1) (
+    kind_at 2 (granted v) (λ x. Grant x.0.0 x.0.1 x.1.0 x.1.1.0 x.1.1.1) (
+    kind_at 3 acknowledged (λ x. Ack x.0.0 x.0.1 x.1.0 x.1.1) (
+    kind_at 4 asked (λ x. No x.0.0 x.0.1 x.1.0 x.1.1.0 x.1.1.1) (
+    no_kind Foreign))))
+
+unfoldable pub packet_format : Version → Format Packet
+packet_format v = tagged kind_of (fields v) (FieldsFit v) (by_kind v)
+
+-- the bytes of a packet
+abbrev pub spelling : Packet → List ℕ
+spelling = written packet_format
+
+-- the packets that have a spelling
+abbrev pub HasSpelling : Packet → Type 0
+HasSpelling = (packet_format One).Fits
+
+-- what all of the bytes are
+abbrev pub packet_of : List ℕ → Result Packet RecordFault
+packet_of = whole packet_format
