@@ -4,6 +4,8 @@
 
 mod fault;
 mod frame;
+mod key;
+mod number;
 mod version;
 
 pub use fault::RecordFault;

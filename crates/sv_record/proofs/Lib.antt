@@ -1,0 +1,4 @@
+pub mod Laws
+pub mod FieldLaws
+pub mod KindLaws
+pub mod WholeLaws
