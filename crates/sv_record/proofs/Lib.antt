@@ -2,3 +2,5 @@ pub mod Laws
 pub mod FieldLaws
 pub mod KindLaws
 pub mod WholeLaws
+pub mod FrameLaws
+pub mod SizeLemmas

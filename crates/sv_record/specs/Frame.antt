@@ -55,13 +55,18 @@ command_at payload = number_at w8 payload >>= λ kind. command_by_kind kind.0 ki
 unfoldable pub payload_at : ℕ → List ℕ → Result Frame RecordFault
 payload_at first payload = if first == PEER then (packet.packet_of payload >>= λ p. Ok (Peer p)) else command_at payload
 
--- the payload behind a length, where all of it is there
+-- a payload of so many bytes, where all of it is there
+abbrev pub so_many_at : ℕ → List ℕ → Result (Option (List ℕ)) RecordFault
+so_many_at n bytes =
+    if nat_lt PAYLOAD_LIMIT n then Err BadField
+    else if nat_lt (length bytes) n then Ok None
+    else Ok (Some (take n bytes))
+
+-- a length and the payload, where all of both is there
 unfoldable pub sized_at : List ℕ → Result (Option (List ℕ)) RecordFault
 sized_at bytes =
     if nat_lt (length bytes) 4 then Ok None
-    else if nat_lt PAYLOAD_LIMIT (from_be_bytes w32 (take 4 bytes)) then Err BadField
-    else if nat_lt (length (drop 4 bytes)) (from_be_bytes w32 (take 4 bytes)) then Ok None
-    else Ok (Some (take (from_be_bytes w32 (take 4 bytes)) (drop 4 bytes)))
+    else so_many_at (from_be_bytes w32 (take 4 bytes)) (drop 4 bytes)
 
 -- a payload's frame and the bytes that it takes, and none where there is no whole payload
 abbrev pub taken_at : ℕ → Option (List ℕ) → Result (Option (Frame × ℕ)) RecordFault
