@@ -3,7 +3,7 @@ use Rattle.std.proofs.Common.{◌≡◌, ◌⊎◌, inl, inr, ℕ, zero, suc, �
 use Rattle.std.specs.Prelude.{◌||◌}
 use Rattle.std.specs.Int.{w8, w32, byte_len, to_be_bytes, from_be_bytes}
 use Rattle.std.proofs.lemmas.Bool.{cases_lt, ltb-false, le-ltb, lt-ltb, ltb-true, eqb-true}
-use Rattle.std.proofs.lemmas.List.{append-nil, nil_from_length, take_at, drop_at, take-append-drop, length-append, length-take, length-drop, length-replicate}
+use Rattle.std.proofs.lemmas.List.{append-nil, nil_from_length, take_at, drop_at, take-append-drop, take-append-le, drop-append-le, length-append, length-take, length-drop, length-replicate}
 use Rattle.sv_model.specs.declared.key.Key.{Key}
 use Rattle.sv_record.specs.declared.fault.RecordFault.{RecordFault}
 use Rattle.sv_record.specs.declared.fault.RecordFault.TheVariants.{Foreign, BadField}
@@ -367,3 +367,46 @@ none_is_front (first ∷ bytes) fits e =
       where
         some_none : (found : Frame × ℕ) → found_frame found ≡ none_found → ⊥
         some_none found e = absurd cc
+
+-- the length is whole, and the payload that it says is not
+sized_short : (bytes missing payload : List ℕ) → 4 ≤ length bytes → 0 < length missing → length payload ≤ PAYLOAD_LIMIT → length payload < 2 ^ 32
+    → bytes ++ missing ≡ to_be_bytes w32 (length payload) ++ payload → sized_at bytes ≡ Ok None
+unfolding sized_at
+sized_short bytes missing payload long some within short e =
+    let n = length payload in
+    let len : length (to_be_bytes w32 n) ≡ 4 = wide32.len n in
+    let front : take 4 bytes ≡ to_be_bytes w32 n = sym (take-append-le 4 bytes missing long) ∙ ap (take 4) e ∙ take_at (to_be_bytes w32 n) payload 4 len in
+    let tail : drop 4 bytes ++ missing ≡ payload = sym (drop-append-le 4 bytes missing long) ∙ ap (drop 4) e ∙ drop_at (to_be_bytes w32 n) payload 4 len in
+    let number : from_be_bytes w32 (take 4 bytes) ≡ n = ap (from_be_bytes w32) front ∙ wide32.again n short in
+    let sum : length (drop 4 bytes) + length missing ≡ n = sym (length-append (drop 4 bytes) missing) ∙ ap (λ (l : List ℕ). length l) tail in
+    let enough : ltb (length bytes) 4 ≡ false = le-ltb _ _ long in
+    let small : ltb PAYLOAD_LIMIT n ≡ false = le-ltb _ _ within in
+    let few : ltb (length (drop 4 bytes)) n ≡ true = lt-ltb _ _ (omega arith) in
+    let there : so_many_at n (drop 4 bytes) ≡ Ok None = rw (small, few) refl in
+    ap (λ (b : Bool). cond b the_none (so_many_at (from_be_bytes w32 (take 4 bytes)) (drop 4 bytes))) enough
+    ∙ ap (λ (k : ℕ). so_many_at k (drop 4 bytes)) number ∙ there
+
+-- the length isn't whole
+few_none : (bytes : List ℕ) → length bytes < 4 → sized_at bytes ≡ Ok None
+unfolding sized_at
+few_none bytes few = rw (lt-ltb _ _ few) refl
+
+pub front_is_none : (bytes : List ℕ) → IsFront bytes → frame_at bytes ≡ Ok None
+unfolding frame_at
+front_is_none [] is = refl
+front_is_none (first ∷ bytes) is =
+    let cells = cons_parts first is.first (bytes ++ is.missing) (to_be_bytes w32 (length is.payload) ++ is.payload) is.front in
+    let test : (eqb first PEER || eqb first CONTROL) ≡ true = elim is.known [
+      | inl peer ↦ subst (λ (n : ℕ). (eqb n PEER || eqb n CONTROL) ≡ true) (sym (cells.0 ∙ peer)) refl
+      | inr control ↦ subst (λ (n : ℕ). (eqb n PEER || eqb n CONTROL) ≡ true) (sym (cells.0 ∙ control)) refl
+    ] in
+    let bad : Found = Err Foreign in
+    let sized : sized_at bytes ≡ Ok None = elim (cases_lt (length bytes) 4) [
+      | inl few ↦ few_none bytes few
+      | inr long ↦ sized_short bytes is.missing is.payload long is.some (is.within (omega arith)) is.short cells.1
+    ] in
+    ap (λ (b : Bool). cond b (sized_at bytes >>= taken_at first) bad) test
+    ∙ ap (λ (r : Payload). r >>= taken_at first) sized
+  where
+    cons_parts : (a b : ℕ) (xs ys : List ℕ) → a ∷ xs ≡ b ∷ ys → (a ≡ b) × (xs ≡ ys)
+    cons_parts a b xs ys e = (cc, cc)
