@@ -4,3 +4,5 @@ pub mod KindLaws
 pub mod WholeLaws
 pub mod FrameLaws
 pub mod SizeLemmas
+pub mod Loop
+pub mod Names

@@ -2,10 +2,15 @@
 //! and commands travel in.
 #![tactic(auto)]
 
+mod attribute;
+mod attributes;
+mod change;
 mod fault;
 mod frame;
 mod key;
 mod number;
+mod session;
+mod state;
 mod version;
 
 pub use fault::RecordFault;

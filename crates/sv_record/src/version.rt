@@ -1,8 +1,61 @@
 //! The versions of records and packets.
 
-/// A version of records and packets: what their first byte says.
+ghost use Rattle.std.specs.Prelude.{◌≡◌, ◌<◌, ◌^◌};
+ghost use Rattle.sv_record.specs.Reading.{Gives, number_at};
+ghost use Rattle.sv_record.specs.Version as spec;
+
+use crate::fault::RecordFault;
+use crate::number::{read_byte, read_u16};
+use sv_model::session::{SESSION_LIMIT, VALUE_LIMIT};
+
+/// A version of records and packets, which their first byte names.
 #[derive(Clone, Copy, Debug, PartialEq, Eq)]
 pub enum Version {
-    /// Values of up to 4,096 bytes, whose length takes two.
+    /// Byte 1: a value has up to 4,096 bytes, and its length takes two.
     One,
+}
+
+impl Version {
+    /// The bytes of an attribute's value, at most.
+    pub(crate) fn value_limit(self) -> usize
+        ensures { result ≡ spec.value_limit self }
+    {
+        match self {
+            Version::One => VALUE_LIMIT,
+        }
+    }
+
+    /// The bytes of a session's names and values, at most.
+    pub(crate) fn session_limit(self) -> usize
+        ensures limit { result ≡ spec.session_limit self }
+        ensures small { spec.session_limit self < 2 ^ 32 }
+    {
+        match self {
+            Version::One => SESSION_LIMIT,
+        }
+    }
+
+    /// The length of an attribute's value, and what is behind it.
+    pub(crate) fn read_value_length(self, bytes: &[u8]) -> Result<(usize, &[u8]), RecordFault>
+        ensures { Gives (λ x. (x.0, x.1.now)) result (number_at (spec.value_width self) bytes.now) }
+    {
+        match self {
+            Version::One => {
+                let (length, rest) = read_u16(bytes)?;
+                Ok((usize::from(length), rest))
+            }
+        }
+    }
+}
+
+/// The version that the first byte names.
+#[tactic(auto, unfolding(crate::specs::Version::version_at))]
+pub(crate) fn read_version(bytes: &[u8]) -> Result<(Version, &[u8]), RecordFault>
+    ensures { Gives (λ x. (x.0, x.1.now)) result (spec.version_at bytes.now) }
+{
+    let (byte, rest) = read_byte(bytes)?;
+    match byte {
+        1 => Ok((Version::One, rest)),
+        _ => Err(RecordFault::BadVersion),
+    }
 }

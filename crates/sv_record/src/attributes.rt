@@ -1,0 +1,56 @@
+//! The attributes of a session, in order of their names' bytes.
+
+ghost use Rattle.std.specs.Prelude.{◌≡◌};
+ghost use Rattle.sv_record.specs.Reading.{Gives};
+ghost use Rattle.sv_record.specs.Format.{reads};
+ghost use Rattle.sv_record.specs.Session.{attribute, attributes, behind, at_first};
+
+use crate::attribute::read_attribute;
+use crate::fault::RecordFault;
+use crate::number::read_u16;
+use crate::version::Version;
+use std::alloc::{AllocError, Global};
+use sv_model::attributes::Attributes;
+use sv_model::sequence::Sequence;
+use sv_model::session::ATTRIBUTE_LIMIT;
+use sv_model::text::Text;
+
+/// A count, and so many attributes.
+#[tactic(auto, unfolding(crate::specs::Session::attributes))]
+pub(crate) fn read_attributes(
+    alloc: Global,
+    version: Version,
+    bytes: &[u8],
+) -> Result<(Attributes, &[u8]), RecordFault>
+    ensures { Gives (λ x. (x.0, x.1.now)) result ((attributes version).read bytes.now) }
+{
+    let (count, rest) = read_u16(bytes)?;
+    if usize::from(count) > ATTRIBUTE_LIMIT {
+        return Err(RecordFault::BadField);
+    }
+    read_each(alloc, version, count, rest)
+}
+
+fn read_each(
+    alloc: Global,
+    version: Version,
+    count: u16,
+    bytes: &[u8],
+) -> Result<(Attributes, &[u8]), RecordFault>
+    ensures { Gives (λ x. (x.0, x.1.now)) result (reads (attribute version) behind count at_first bytes.now) }
+{
+    let limit = version.session_limit();
+    let mut attributes = Attributes::new(alloc);
+    let mut last: &[u8] = &[];
+    let mut rest = bytes;
+    for _ in 0..count {
+        let ((name, value), next) = read_attribute(version, rest, last, attributes.size())?;
+        attributes.push(
+            Text::from_str(alloc, name)?,
+            Sequence::from_vec(Vec::from_slice(alloc, value)?),
+        )?;
+        last = name.as_bytes();
+        rest = next;
+    }
+    Ok((attributes, rest))
+}
