@@ -7,7 +7,8 @@ use Rattle.sv_record.specs.declared.fault.RecordFault.{RecordFault}
 use Rattle.sv_record.specs.declared.fault.RecordFault.TheVariants.{BadVersion, BadField}
 use Rattle.sv_record.specs.declared.version.Version.{Version}
 use Rattle.sv_record.specs.declared.version.Version.TheVariants.{One}
-use Rattle.sv_record.specs.Reading.{◌>>=◌, Reading, IsBytes, number_at, ended}
+use Rattle.std.specs.Prelude.{IfOk}
+use Rattle.sv_record.specs.Reading.{◌>>=◌, Reading, Gives, number_at, ended}
 use Rattle.sv_record.specs.Format.{Format}
 use Rattle.sv_record.specs.Version.{version_at, written, whole}
 use Rattle.sv_record.proofs.Laws.{AreBytes, are_bytes, bind_ok, held_ok, ok_is, Takes, Takes-then, Lawful, number_lawful, wide8}
@@ -51,3 +52,8 @@ module _ {A : Type 0} (format : Version → Format A) (lawful : (v : Version) �
       let read : (format One).read ((format One).text a) ≡ Ok (a, []) = ap (format One).read (sym (append-nil ((format One).text a))) ∙ (lawful One).again a [] fits in
       ap (λ (r : Reading Version). r >>= λ v. (format v.0).read v.1 >>= ended) (version_again ((format One).text a))
       ∙ ap (λ (r : Reading A). r >>= ended) read
+
+  -- what a function gave
+  pub whole_found : (bytes : List ℕ) (result : Result A RecordFault) → AreBytes bytes → Gives (λ a. a) result (whole format bytes) → IfOk result (λ a. (format One).Fits a × (bytes ≡ written format a))
+  whole_found bytes (Ok a) fits gives = whole_takes bytes a fits gives
+  whole_found bytes (Err fault) fits gives = tt

@@ -9,9 +9,14 @@ mod fault;
 mod frame;
 mod key;
 mod number;
+mod packet;
+mod record;
 mod session;
 mod state;
 mod version;
 
 pub use fault::RecordFault;
 pub use frame::Frame;
+pub use packet::read_packet;
+pub use record::read_record;
+pub use sv_model::record::Record;

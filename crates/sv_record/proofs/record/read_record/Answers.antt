@@ -1,0 +1,12 @@
+use Rattle.std.proofs.Common.{ap, subst, ◌∙◌, arith}
+use Rattle.sv_record.specs.Reading.{Gives}
+use Rattle.sv_record.specs.Record.{record_format, record_of}
+use Rattle.sv_record.proofs.KindLaws.{record_lawful}
+use Rattle.sv_record.proofs.WholeLaws.{whole_again, whole_found}
+use Rattle.sv_record.proofs.record.read_record.Goals as goal
+
+pub returns-clause-found : goal.returns-clause-found
+returns-clause-found c = whole_found record_format record_lawful c.args.bytes.now c.read_whole.result (λ i. omega (arith, c.type_inv.bytes i)) c.read_whole.ensures
+
+pub returns-clause-only : goal.returns-clause-only
+returns-clause-only c = λ r fits e. subst (λ f. Gives (λ x. x) c.read_whole.result f) (ap record_of e ∙ whole_again record_format record_lawful r fits) c.read_whole.ensures
