@@ -16,7 +16,7 @@ use Rattle.sv_record.specs.Format.{Format, number, raw, chain, pair, such_that, 
 use Rattle.sv_record.specs.Field.{long, counting, node, key, flag, signed}
 use Rattle.sv_record.specs.Version.{value_width}
 use Rattle.sv_record.specs.Session.{Before, at_first, behind, is_below, is_name_length, is_value_length, name, value, attribute, attributes, context, session}
-use Rattle.sv_record.proofs.Laws.{Lawful, Takes, IsWide, wide8, wide16, wide32, wide64, bind_ok, ok_is, number_lawful, raw_lawful, chain_lawful, pair_lawful, seen_as_lawful, such_that_lawful, sized_lawful, counted_lawful}
+use Rattle.sv_record.proofs.FormatLaws.{Lawful, Takes, IsWide, wide8, wide16, wide32, wide64, bind_ok, ok_is, number_lawful, raw_lawful, chain_lawful, pair_lawful, seen_as_lawful, such_that_lawful, sized_lawful, counted_lawful}
 
 byte_that : (test : ℕ → Bool) → Lawful (such_that (number w8) test)
 byte_that test = such_that_lawful (number w8) test (number_lawful w8 wide8)

@@ -1,6 +1,6 @@
 -- Frames: what is read is spelled so, what is spelled so is read, and what is too short is the front of a payload.
 use Rattle.std.proofs.Common.{◌≡◌, ◌⊎◌, inl, inr, ℕ, zero, suc, ◌+◌, ◌-◌, ◌*◌, ◌^◌, ◌<◌, ◌≤◌, Bool, true, false, cond, eqb, ltb, List, [], ◌∷◌, ◌++◌, length, take, drop, replicate, Option, Some, None, Result, Ok, Err, refl, sym, ap, subst, ◌∙◌, append_assoc, arith, lit<}
-use Rattle.std.specs.Prelude.{◌||◌}
+use Rattle.std.specs.Prelude.{◌||◌, IfOk, IfSome, IfNone}
 use Rattle.std.specs.Int.{w8, w32, byte_len, to_be_bytes, from_be_bytes}
 use Rattle.std.proofs.lemmas.Bool.{cases_lt, ltb-false, le-ltb, lt-ltb, ltb-true, eqb-true}
 use Rattle.std.proofs.lemmas.List.{append-nil, nil_from_length, take_at, drop_at, take-append-drop, take-append-le, drop-append-le, length-append, length-take, length-drop, length-replicate}
@@ -11,12 +11,12 @@ use Rattle.sv_record.specs.declared.version.Version.TheVariants.{One}
 use Rattle.sv_record.specs.declared.frame.Frame.{Frame}
 use Rattle.sv_record.specs.declared.frame.Frame.TheVariants.{Peer, Move, Tick, Halt}
 use Rattle.sv_record.specs.declared.frame.TheConstants.{PEER, CONTROL, PAYLOAD_LIMIT}
-use Rattle.sv_record.specs.Reading.{◌>>=◌, Reading, IsBytes, number_at, ended}
+use Rattle.sv_record.specs.Reading.{◌>>=◌, Reading, Gives, number_at, ended}
 use Rattle.sv_record.specs.Format.{nothing, pair, kind_at, no_kind}
 use Rattle.sv_record.specs.Field.{counting, node, key}
 use Rattle.sv_record.specs.Packet as packet
 use Rattle.sv_record.specs.Frame.{envelope, first_of, payload_of, spelling, HasSpelling, command_by_kind, command_at, payload_at, so_many_at, sized_at, taken_at, frame_at, IsFront}
-use Rattle.sv_record.proofs.Laws.{AreBytes, are_bytes, AreBytes-take, AreBytes-drop, bind_ok, guard_ok, held_ok, chosen, ok_is, Takes, Takes-then, Lawful, number_lawful, nothing_lawful, pair_lawful, wide8, wide32, TakesByKind, kind_takes, no_kind_takes}
+use Rattle.sv_record.proofs.FormatLaws.{AreBytes, are_bytes, AreBytes-take, AreBytes-drop, bind_ok, guard_ok, held_ok, chosen, ok_is, Takes, Takes-then, Lawful, number_lawful, nothing_lawful, pair_lawful, wide8, wide32, TakesByKind, kind_takes, no_kind_takes}
 use Rattle.sv_record.proofs.FieldLaws.{node_lawful, key_lawful}
 use Rattle.sv_record.proofs.KindLaws.{packet_lawful}
 use Rattle.sv_record.proofs.SizeLemmas.{packet_size}
@@ -410,3 +410,21 @@ front_is_none (first ∷ bytes) is =
   where
     cons_parts : (a b : ℕ) (xs ys : List ℕ) → a ∷ xs ≡ b ∷ ys → (a ≡ b) × (xs ≡ ys)
     cons_parts a b xs ys e = (cc, cc)
+
+-- ---- what a function gave
+
+module _ (bytes : List ℕ) where
+  pub frame_found : (result : Found) → AreBytes bytes → Gives (λ x. x) result (frame_at bytes) → IfOk result (λ o. IfSome o (λ x. HasSpelling x.0 × ((rest : List ℕ) × (bytes ≡ spelling x.0 ++ rest))))
+  frame_found (Ok None) fits gives = tt
+  frame_found (Ok (Some x)) fits gives = let t = frame_takes bytes x fits gives in (t.fits, (t.rest, t.parts))
+  frame_found (Err fault) fits gives = tt
+
+  pub frame_sized : (result : Found) → AreBytes bytes → Gives (λ x. x) result (frame_at bytes) → IfOk result (λ o. IfSome o (λ x. x.1 ≡ length (spelling x.0)))
+  frame_sized (Ok None) fits gives = tt
+  frame_sized (Ok (Some x)) fits gives = (frame_takes bytes x fits gives).size
+  frame_sized (Err fault) fits gives = tt
+
+  pub frame_none : (result : Found) → AreBytes bytes → Gives (λ x. x) result (frame_at bytes) → IfOk result (λ o. IfNone o (IsFront bytes))
+  frame_none (Ok None) fits gives = none_is_front bytes fits gives
+  frame_none (Ok (Some x)) fits gives = tt
+  frame_none (Err fault) fits gives = tt

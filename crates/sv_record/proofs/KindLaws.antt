@@ -17,7 +17,7 @@ use Rattle.sv_record.specs.Record.{kind_of_change, change_fields, ChangeFits, ch
 use Rattle.sv_record.specs.Record as spec
 use Rattle.sv_record.specs.Packet.{ends, asked, granted, acknowledged, packet_format}
 use Rattle.sv_record.specs.Packet as packet
-use Rattle.sv_record.proofs.Laws.{Lawful, nothing_lawful, pair_lawful, such_that_lawful, TakesByKind, no_kind_takes, kind_takes, tagged_lawful}
+use Rattle.sv_record.proofs.FormatLaws.{Lawful, nothing_lawful, pair_lawful, such_that_lawful, TakesByKind, no_kind_takes, kind_takes, tagged_lawful}
 use Rattle.sv_record.proofs.FieldLaws.{long_lawful, counting_lawful, node_lawful, key_lawful, session_lawful}
 
 -- ---- what a commit makes of a key

@@ -1,4 +1,4 @@
-pub mod Laws
+pub mod FormatLaws
 pub mod FieldLaws
 pub mod KindLaws
 pub mod WholeLaws

@@ -7,11 +7,11 @@ use Rattle.sv_record.specs.declared.fault.RecordFault.{RecordFault}
 use Rattle.sv_record.specs.declared.fault.RecordFault.TheVariants.{BadVersion, BadField}
 use Rattle.sv_record.specs.declared.version.Version.{Version}
 use Rattle.sv_record.specs.declared.version.Version.TheVariants.{One}
-use Rattle.std.specs.Prelude.{IfOk}
-use Rattle.sv_record.specs.Reading.{◌>>=◌, Reading, Gives, number_at, ended}
+use Rattle.std.specs.Prelude.{◌↔◌, IfOk}
+use Rattle.sv_record.specs.Reading.{◌>>=◌, Reading, IsBytes, Gives, number_at, ended}
 use Rattle.sv_record.specs.Format.{Format}
 use Rattle.sv_record.specs.Version.{version_at, written, whole}
-use Rattle.sv_record.proofs.Laws.{AreBytes, are_bytes, bind_ok, held_ok, ok_is, Takes, Takes-then, Lawful, number_lawful, wide8}
+use Rattle.sv_record.proofs.FormatLaws.{AreBytes, are_bytes, bind_ok, held_ok, ok_is, Takes, Takes-then, Lawful, number_lawful, wide8}
 
 pub ended_ok : {A : Type 0} (x : A × List ℕ) (a : A) → ended x ≡ Ok a → (x.0 ≡ a) × (x.1 ≡ [])
 ended_ok x a e =
@@ -57,3 +57,6 @@ module _ {A : Type 0} (format : Version → Format A) (lawful : (v : Version) �
   pub whole_found : (bytes : List ℕ) (result : Result A RecordFault) → AreBytes bytes → Gives (λ a. a) result (whole format bytes) → IfOk result (λ a. (format One).Fits a × (bytes ≡ written format a))
   whole_found bytes (Ok a) fits gives = whole_takes bytes a fits gives
   whole_found bytes (Err fault) fits gives = tt
+
+  pub one_spelling : (bytes : List ℕ) (a : A) → IsBytes bytes → (whole format bytes ≡ Ok a) ↔ ((format One).Fits a × (bytes ≡ written format a))
+  one_spelling bytes a fits = (λ e. whole_takes bytes a (are_bytes bytes fits) e, λ is. ap (whole format) is.1 ∙ whole_again a is.0)

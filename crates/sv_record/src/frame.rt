@@ -1,5 +1,16 @@
 //! Frames: what travels on a connection between nodes, and from whoever commands a node.
 
+ghost use Rattle.std.specs.Prelude.{◌≡◌, ◌++◌, List, ℕ, length, IfOk, IfErr, IfSome, IfNone, Ok, Some, None, option_copied};
+ghost use Rattle.sv_record.specs.Reading.{Gives};
+ghost use Rattle.sv_record.specs.Frame.{HasSpelling, IsFront, command_at, command_by_kind, frame_at, payload_at, sized_at, spelling};
+ghost use Rattle.sv_record.specs.declared.frame.Frame.{Frame};
+ghost use Rattle.sv_record.specs.declared.fault.RecordFault.TheVariants.{BadField};
+
+use crate::fault::RecordFault;
+use crate::key::read_key;
+use crate::number::{read_byte, read_node};
+use crate::packet::read_packet;
+use std::alloc::Global;
 use sv_model::key::Key;
 use sv_model::packet::Packet;
 
@@ -23,4 +34,105 @@ pub enum Frame {
     Tick,
     /// Command 3: the node is to stop.
     Halt,
+}
+
+/// Reads the first frame, and says how many bytes it takes; none where the bytes are too few.
+///
+/// A first byte that no frame has, and a length past [`PAYLOAD_LIMIT`], are faults at once; the payload is judged when
+/// all of it is there.
+pub fn read_frame(alloc: Global, bytes: &[u8]) -> Result<Option<(Frame, usize)>, RecordFault>
+    // What is read is spelled so.
+    ensures found { IfOk result (λ o. IfSome o (λ x. HasSpelling x.0 × ((rest : List ℕ) × (bytes.now ≡ spelling x.0 ++ rest)))) }
+    ensures size { IfOk result (λ o. IfSome o (λ x. x.1 ≡ length (spelling x.0))) }
+    // What is spelled so is read, whatever follows, unless memory is refused.
+    ensures only { (f : Frame) (rest : List ℕ) → HasSpelling f → bytes.now ≡ spelling f ++ rest → Gives (λ x. x) result (Ok (Some (f, length (spelling f)))) }
+    // There is no frame yet where something is missing.
+    ensures none { IfOk result (λ o. IfNone o (IsFront bytes.now)) }
+    ensures front { IsFront bytes.now → result ≡ Ok None }
+    // A fault is the first trouble.
+    ensures exact { Gives (λ x. x) result (frame_at bytes.now) }
+{
+    read_first(alloc, bytes)
+}
+
+#[tactic(auto, unfolding(crate::specs::Frame::frame_at))]
+fn read_first(alloc: Global, bytes: &[u8]) -> Result<Option<(Frame, usize)>, RecordFault>
+    ensures exact { Gives (λ x. x) result (frame_at bytes.now) }
+    ensures front { frame_at bytes.now ≡ Ok None → result ≡ Ok None }
+{
+    let [first, rest @ ..] = bytes else {
+        return Ok(None);
+    };
+    if *first != PEER && *first != CONTROL {
+        return Err(RecordFault::Foreign);
+    }
+    match sized_payload(rest)? {
+        None => Ok(None),
+        Some(payload) => {
+            let frame = read_payload(alloc, *first, payload)?;
+            Ok(Some((frame, 5 + payload.len())))
+        }
+    }
+}
+
+/// A length and the payload, where all of both is there.
+#[tactic(auto, unfolding(crate::specs::Frame::sized_at))]
+fn sized_payload(bytes: &[u8]) -> Result<Option<&[u8]>, RecordFault>
+    ensures read { Gives (λ o. option_copied o) result (sized_at bytes.now) }
+    ensures fault { IfErr result (λ fault. fault ≡ BadField) }
+{
+    if bytes.len() < 4 {
+        return Ok(None);
+    }
+    let (front, rest) = bytes.split_at(4);
+    let length = u32::from_be_bytes([front[0], front[1], front[2], front[3]]);
+    if length > PAYLOAD_LIMIT {
+        return Err(RecordFault::BadField);
+    }
+    let length = length as usize;
+    if rest.len() < length {
+        return Ok(None);
+    }
+    let (payload, _) = rest.split_at(length);
+    Ok(Some(payload))
+}
+
+#[tactic(auto, unfolding(crate::specs::Frame::payload_at))]
+fn read_payload(alloc: Global, first: u8, payload: &[u8]) -> Result<Frame, RecordFault>
+    ensures { Gives (λ f. f) result (payload_at first payload.now) }
+{
+    if first == PEER {
+        let packet = read_packet(alloc, payload)?;
+        Ok(Frame::Peer(packet))
+    } else {
+        read_command(payload)
+    }
+}
+
+#[tactic(auto, unfolding(crate::specs::Frame::command_at))]
+fn read_command(payload: &[u8]) -> Result<Frame, RecordFault>
+    ensures { Gives (λ f. f) result (command_at payload.now) }
+{
+    let (kind, rest) = read_byte(payload)?;
+    let (command, rest) = read_command_fields(kind, rest)?;
+    if !rest.is_empty() {
+        return Err(RecordFault::BadField);
+    }
+    Ok(command)
+}
+
+/// What a command of this kind has behind the kind.
+fn read_command_fields(kind: u8, bytes: &[u8]) -> Result<(Frame, &[u8]), RecordFault>
+    ensures { Gives (λ x. (x.0, x.1.now)) result (command_by_kind kind bytes.now) }
+{
+    match kind {
+        1 => {
+            let (key, rest) = read_key(bytes)?;
+            let (to, rest) = read_node(rest)?;
+            Ok((Frame::Move { key, to }, rest))
+        }
+        2 => Ok((Frame::Tick, bytes)),
+        3 => Ok((Frame::Halt, bytes)),
+        _ => Err(RecordFault::Foreign),
+    }
 }

@@ -8,6 +8,7 @@ mod change;
 mod fault;
 mod frame;
 mod key;
+pub mod laws;
 mod number;
 mod packet;
 mod record;
@@ -16,7 +17,7 @@ mod state;
 mod version;
 
 pub use fault::RecordFault;
-pub use frame::Frame;
+pub use frame::{CONTROL, Frame, PAYLOAD_LIMIT, PEER, read_frame};
 pub use packet::read_packet;
 pub use record::read_record;
 pub use sv_model::record::Record;
