@@ -1,7 +1,10 @@
 //! What nodes send each other. Each packet has the numbers of its sender and its addressee, below 8.
 
+ghost use Rattle.std.specs.Prelude.{◌≡◌, IfOk};
+
 use crate::key::Key;
 use crate::session::Session;
+use std::alloc::{AllocError, Global};
 
 /// A packet from one node to another; it may be lost, repeated and late.
 #[derive(Drop)]
@@ -39,4 +42,65 @@ pub enum Packet {
         boot: u64,
         want: u64,
     },
+}
+
+impl Packet {
+    /// An equal packet in memory of its own.
+    pub fn copy(&self, alloc: Global) -> Result<Packet, AllocError>
+        ensures { IfOk result (λ copy. copy ≡ self.now) }
+    {
+        let copy = match *self {
+            Packet::Want {
+                from,
+                to,
+                key,
+                boot,
+                want,
+            } => Packet::Want {
+                from,
+                to,
+                key,
+                boot,
+                want,
+            },
+            Packet::Grant {
+                from,
+                to,
+                key,
+                epoch,
+                ref session,
+            } => Packet::Grant {
+                from,
+                to,
+                key,
+                epoch,
+                session: session.copy(alloc)?,
+            },
+            Packet::Ack {
+                from,
+                to,
+                key,
+                epoch,
+            } => Packet::Ack {
+                from,
+                to,
+                key,
+                epoch,
+            },
+            Packet::No {
+                from,
+                to,
+                key,
+                boot,
+                want,
+            } => Packet::No {
+                from,
+                to,
+                key,
+                boot,
+                want,
+            },
+        };
+        Ok(copy)
+    }
 }

@@ -1,8 +1,11 @@
 //! What a step of a node makes durable.
 
+ghost use Rattle.std.specs.Prelude.{◌≡◌, IfOk};
+
 use crate::key::Key;
 use crate::session::Session;
 use crate::state::KeyState;
+use std::alloc::{AllocError, Global};
 
 /// What a commit makes of one key.
 #[derive(Drop)]
@@ -60,4 +63,69 @@ pub enum Record {
         /// The serial of the next session that is made here.
         next: u64,
     },
+}
+
+impl Change {
+    /// An equal change in memory of its own.
+    pub fn copy(&self, alloc: Global) -> Result<Change, AllocError>
+        ensures { IfOk result (λ copy. copy ≡ self.now) }
+    {
+        let copy = match *self {
+            Change::Absent => Change::Absent,
+            Change::Alive { key, ref session } => Change::Alive {
+                key,
+                session: session.copy(alloc)?,
+            },
+            Change::Ended(key) => Change::Ended(key),
+        };
+        Ok(copy)
+    }
+}
+
+impl Record {
+    /// An equal record in memory of its own.
+    pub fn copy(&self, alloc: Global) -> Result<Record, AllocError>
+        ensures { IfOk result (λ copy. copy ≡ self.now) }
+    {
+        let copy = match *self {
+            Record::Boot(boot) => Record::Boot(boot),
+            Record::Commit {
+                ref named,
+                ref born,
+            } => Record::Commit {
+                named: named.copy(alloc)?,
+                born: born.copy(alloc)?,
+            },
+            Record::Expired(key) => Record::Expired(key),
+            Record::Sent {
+                key,
+                epoch,
+                to,
+                ref session,
+            } => Record::Sent {
+                key,
+                epoch,
+                to,
+                session: session.copy(alloc)?,
+            },
+            Record::Taken {
+                key,
+                epoch,
+                from,
+                ref session,
+            } => Record::Taken {
+                key,
+                epoch,
+                from,
+                session: session.copy(alloc)?,
+            },
+            Record::Gone { key, epoch } => Record::Gone { key, epoch },
+            Record::State { key, ref state } => Record::State {
+                key,
+                state: state.copy(alloc)?,
+            },
+            Record::Counters { boot, next } => Record::Counters { boot, next },
+        };
+        Ok(copy)
+    }
 }

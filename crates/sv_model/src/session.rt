@@ -1,10 +1,11 @@
 //! A session with its attributes (Jakarta Servlet 6.0, chapter "Sessions").
 
-ghost use Rattle.std.specs.Prelude.{◌≡◌};
+ghost use Rattle.std.specs.Prelude.{◌≡◌, IfOk};
 ghost use Rattle.sv_model.specs.Session.{is_expired};
 
 use crate::attributes::Attributes;
 use crate::key::Secret;
+use std::alloc::{AllocError, Global};
 
 /// The contexts of a deployment, at most.
 pub const CONTEXT_LIMIT: u8 = 16;
@@ -51,5 +52,20 @@ impl Session {
                 Some(end) => end <= now,
                 None => false,
             }
+    }
+
+    /// An equal session in memory of its own.
+    pub fn copy(&self, alloc: Global) -> Result<Session, AllocError>
+        ensures { IfOk result (λ copy. copy ≡ self.now) }
+    {
+        Ok(Session {
+            context: self.context,
+            secret: self.secret,
+            created: self.created,
+            last: self.last,
+            interval: self.interval,
+            fresh: self.fresh,
+            attributes: self.attributes.copy(alloc)?,
+        })
     }
 }

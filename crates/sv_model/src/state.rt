@@ -1,6 +1,9 @@
 //! What a node keeps of a session's key.
 
+ghost use Rattle.std.specs.Prelude.{◌≡◌, IfOk};
+
 use crate::session::Session;
+use std::alloc::{AllocError, Global};
 
 /// The keys that a node knows, at most.
 pub const KEY_LIMIT: usize = 65_536;
@@ -33,4 +36,30 @@ pub enum KeyState {
     Ended {
         epoch: u64,
     },
+}
+
+impl KeyState {
+    /// An equal state in memory of its own.
+    pub fn copy(&self, alloc: Global) -> Result<KeyState, AllocError>
+        ensures { IfOk result (λ copy. copy ≡ self.now) }
+    {
+        let copy = match *self {
+            KeyState::Active { epoch, ref session } => KeyState::Active {
+                epoch,
+                session: session.copy(alloc)?,
+            },
+            KeyState::Sent {
+                epoch,
+                ref session,
+                to,
+            } => KeyState::Sent {
+                epoch,
+                session: session.copy(alloc)?,
+                to,
+            },
+            KeyState::Gone { epoch } => KeyState::Gone { epoch },
+            KeyState::Ended { epoch } => KeyState::Ended { epoch },
+        };
+        Ok(copy)
+    }
 }

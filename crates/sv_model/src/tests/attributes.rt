@@ -102,7 +102,7 @@ fn copies_are_equal(rt: HostRuntime) -> Result<(), Fail> {
 }
 
 /// Attributes of which this is the only one.
-fn single(alloc: Global, name: &str, value: &[u8]) -> Result<Attributes, Fail> {
+pub(super) fn single(alloc: Global, name: &str, value: &[u8]) -> Result<Attributes, Fail> {
     if name.len() > 1_000 || value.len() > 1_000 {
         return Err("the test's attributes are small".into());
     }
