@@ -6,3 +6,5 @@ pub mod FrameLaws
 pub mod SizeLemmas
 pub mod Loop
 pub mod Names
+pub mod WrittenLemmas
+pub mod RangeLemmas

@@ -6,3 +6,4 @@ pub mod Session
 pub mod Record
 pub mod Packet
 pub mod Frame
+pub mod Ranges

@@ -1,14 +1,18 @@
 //! One attribute of a session.
 
-ghost use Rattle.std.specs.Prelude.{◌≡◌, ◌≤◌, ◌+◌, true, false, length, IfOk, MatchOption};
+ghost use Rattle.std.specs.Prelude.{◌≡◌, ◌<◌, ◌≤◌, ◌+◌, ◌^◌, ◌++◌, true, false, length, take, IfOk, OnOk, OnErr, MatchOption};
+ghost use Rattle.std.specs.Int.{w16, to_be_bytes};
 ghost use Rattle.std.specs.Str.{is_utf8};
 ghost use Rattle.sv_record.specs.Reading.{Gives};
-ghost use Rattle.sv_record.specs.Session.{name, value, attribute, is_below};
+ghost use Rattle.sv_record.specs.Session.{name, value, attribute, at_first, is_below};
 ghost use Rattle.sv_record.specs.Version.{session_limit};
+ghost use Rattle.sv_record.specs.declared.version.Version.TheVariants.{One};
+ghost use Rattle.sv_model.specs.declared.session.TheConstants.{NAME_LIMIT, VALUE_LIMIT};
 
 use crate::fault::RecordFault;
 use crate::number::{read_bytes, read_u16};
 use crate::version::Version;
+use std::alloc::AllocError;
 use sv_model::session::NAME_LIMIT;
 
 /// The text that the bytes are.
@@ -87,4 +91,26 @@ pub(crate) fn read_attribute<'a>(
     let (name, rest) = read_name(version, bytes, last, total)?;
     let (value, rest) = read_value(version, rest, total + name.len())?;
     Ok(((name, value), rest))
+}
+
+#[tactic(auto, unfolding(crate::specs::Session::attribute, crate::specs::Session::name, crate::specs::Session::value))]
+pub(crate) fn write_attribute(name: &str, value: &[u8], out: &mut Vec<u8>) -> Result<(), AllocError>
+    requires name { length name.now ≤ NAME_LIMIT }
+    requires value { length value.now ≤ VALUE_LIMIT }
+    ensures ok { OnOk result (out.new.items ≡ out.old.items ++ (attribute One at_first).text (name.now, value.now)) }
+    ensures err { OnErr result (take (length out.old.items) out.new.items ≡ out.old.items) }
+    ensures text { is_utf8 name.now ≡ true }
+{
+    write_sized(name.as_bytes(), out)?;
+    write_sized(value, out)
+}
+
+/// A length of two bytes, and so many bytes.
+fn write_sized(bytes: &[u8], out: &mut Vec<u8>) -> Result<(), AllocError>
+    requires { length bytes.now < 2 ^ 16 }
+    ensures ok { OnOk result (out.new.items ≡ out.old.items ++ (to_be_bytes w16 (length bytes.now) ++ bytes.now)) }
+    ensures err { OnErr result (take (length out.old.items) out.new.items ≡ out.old.items) }
+{
+    out.extend_from_slice(&(bytes.len() as u16).to_be_bytes())?;
+    out.extend_from_slice(bytes)
 }

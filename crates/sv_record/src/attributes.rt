@@ -1,11 +1,16 @@
 //! The attributes of a session, in order of their names' bytes.
 
-ghost use Rattle.std.specs.Prelude.{◌≡◌};
+ghost use Rattle.std.specs.Prelude.{◌≡◌, ◌≤◌, ◌++◌, true, length, take, All, OnOk, OnErr};
+ghost use Rattle.std.specs.List.{AllByRecursion};
+ghost use Rattle.std.specs.Str.{is_utf8};
+ghost use Rattle.sv_model.specs.Attributes.{NamesRise};
+ghost use Rattle.sv_model.specs.declared.session.TheConstants.{NAME_LIMIT, VALUE_LIMIT};
 ghost use Rattle.sv_record.specs.Reading.{Gives};
 ghost use Rattle.sv_record.specs.Format.{reads};
 ghost use Rattle.sv_record.specs.Session.{attribute, attributes, behind, at_first};
+ghost use Rattle.sv_record.specs.declared.version.Version.TheVariants.{One};
 
-use crate::attribute::read_attribute;
+use crate::attribute::{read_attribute, write_attribute};
 use crate::fault::RecordFault;
 use crate::number::read_u16;
 use crate::version::Version;
@@ -53,4 +58,21 @@ fn read_each(
         rest = next;
     }
     Ok((attributes, rest))
+}
+
+/// A count, and each attribute.
+pub(crate) fn write_attributes(all: &Attributes, out: &mut Vec<u8>) -> Result<(), AllocError>
+    requires count { length all.now ≤ ATTRIBUTE_LIMIT }
+    requires names { All (λ a. length a.0 ≤ NAME_LIMIT) all.now }
+    requires values { All (λ a. length a.1 ≤ VALUE_LIMIT) all.now }
+    ensures ok { OnOk result (out.new.items ≡ out.old.items ++ (attributes One).text all.now) }
+    ensures err { OnErr result (take (length out.old.items) out.new.items ≡ out.old.items) }
+    ensures texts { OnOk result (AllByRecursion (λ a. is_utf8 a.0 ≡ true) all.now) }
+    ensures rising { NamesRise all.now }
+{
+    out.extend_from_slice(&(all.len() as u16).to_be_bytes())?;
+    for (name, value) in all.iter() {
+        write_attribute(name, value, out)?;
+    }
+    Ok(())
 }

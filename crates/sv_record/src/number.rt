@@ -4,6 +4,7 @@ ghost use Rattle.std.specs.Prelude.{◌≡◌, ◌++◌, length, take, OnOk, OnE
 ghost use Rattle.std.specs.Int.{w8, w16, w32, w64, to_be_bytes};
 ghost use Rattle.sv_record.specs.Reading.{Gives, number_at, bytes_at};
 ghost use Rattle.sv_record.specs.Field.{long, counting, node, flag, signed};
+ghost use Rattle.sv_record.specs.Ranges.{IsCounting, IsNode};
 
 use crate::fault::RecordFault;
 use std::alloc::AllocError;
@@ -95,38 +96,44 @@ pub(crate) fn read_flag(bytes: &[u8]) -> Result<(bool, &[u8]), RecordFault>
 
 pub(crate) fn write_byte(byte: u8, out: &mut Vec<u8>) -> Result<(), AllocError>
     ensures ok { OnOk result (out.new.items ≡ out.old.items ++ to_be_bytes w8 byte) }
-    ensures err { OnErr result (out.new.items ≡ out.old.items) }
+    ensures err { OnErr result (take (length out.old.items) out.new.items ≡ out.old.items) }
 {
     out.extend_from_slice(&byte.to_be_bytes())
 }
 
 pub(crate) fn write_u64(number: u64, out: &mut Vec<u8>) -> Result<(), AllocError>
     ensures ok { OnOk result (out.new.items ≡ out.old.items ++ long.text number) }
-    ensures err { OnErr result (out.new.items ≡ out.old.items) }
+    ensures err { OnErr result (take (length out.old.items) out.new.items ≡ out.old.items) }
+    ensures fits { long.Fits number }
 {
     out.extend_from_slice(&number.to_be_bytes())
 }
 
 #[tactic(auto, unfolding(crate::specs::Field::counting))]
 pub(crate) fn write_counting(number: u64, out: &mut Vec<u8>) -> Result<(), AllocError>
+    requires { IsCounting number }
     ensures ok { OnOk result (out.new.items ≡ out.old.items ++ counting.text number) }
-    ensures err { OnErr result (out.new.items ≡ out.old.items) }
+    ensures err { OnErr result (take (length out.old.items) out.new.items ≡ out.old.items) }
+    ensures fits { counting.Fits number }
 {
     out.extend_from_slice(&number.to_be_bytes())
 }
 
 #[tactic(auto, unfolding(crate::specs::Field::node))]
 pub(crate) fn write_node(number: u8, out: &mut Vec<u8>) -> Result<(), AllocError>
+    requires { IsNode number }
     ensures ok { OnOk result (out.new.items ≡ out.old.items ++ node.text number) }
-    ensures err { OnErr result (out.new.items ≡ out.old.items) }
+    ensures err { OnErr result (take (length out.old.items) out.new.items ≡ out.old.items) }
+    ensures fits { node.Fits number }
 {
     out.extend_from_slice(&number.to_be_bytes())
 }
 
 #[tactic(auto, unfolding(crate::specs::Field::signed))]
-pub(crate) fn write_i32(number: i32, out: &mut Vec<u8>) -> Result<(), AllocError>
-    ensures ok { OnOk result (out.new.items ≡ out.old.items ++ signed.text number) }
-    ensures err { OnErr result (out.new.items ≡ out.old.items) }
+pub(crate) fn write_i32(number: &i32, out: &mut Vec<u8>) -> Result<(), AllocError>
+    ensures ok { OnOk result (out.new.items ≡ out.old.items ++ signed.text number.now) }
+    ensures err { OnErr result (take (length out.old.items) out.new.items ≡ out.old.items) }
+    ensures fits { signed.Fits number.now }
 {
     out.extend_from_slice(&number.to_be_bytes())
 }
@@ -134,7 +141,8 @@ pub(crate) fn write_i32(number: i32, out: &mut Vec<u8>) -> Result<(), AllocError
 #[tactic(auto, unfolding(crate::specs::Field::flag))]
 pub(crate) fn write_flag(is_set: bool, out: &mut Vec<u8>) -> Result<(), AllocError>
     ensures ok { OnOk result (out.new.items ≡ out.old.items ++ flag.text is_set) }
-    ensures err { OnErr result (out.new.items ≡ out.old.items) }
+    ensures err { OnErr result (take (length out.old.items) out.new.items ≡ out.old.items) }
+    ensures fits { flag.Fits is_set }
 {
     write_byte(u8::from(is_set), out)
 }

@@ -1,14 +1,19 @@
 //! A session: its fields, and then its attributes.
 
-ghost use Rattle.std.specs.Prelude.{◌≡◌, ◌++◌, length, take, OnOk, OnErr};
+ghost use Rattle.std.specs.Prelude.{◌≡◌, ◌<◌, ◌++◌, length, take, OnOk, OnErr};
+ghost use Rattle.sv_model.specs.Session.{IsWithinLimits};
+ghost use Rattle.sv_model.specs.declared.session.TheConstants.{CONTEXT_LIMIT};
 ghost use Rattle.sv_record.specs.Reading.{Gives, bytes_at};
 ghost use Rattle.sv_record.specs.Session.{context, session};
+ghost use Rattle.sv_record.specs.declared.version.Version.TheVariants.{One};
 
-use crate::attributes::read_attributes;
+use crate::attributes::{read_attributes, write_attributes};
 use crate::fault::RecordFault;
-use crate::number::{read_byte, read_bytes, read_flag, read_i32, read_u64};
+use crate::number::{
+    read_byte, read_bytes, read_flag, read_i32, read_u64, write_byte, write_flag, write_i32, write_u64,
+};
 use crate::version::Version;
-use std::alloc::Global;
+use std::alloc::{AllocError, Global};
 use sv_model::key::Secret;
 use sv_model::session::{CONTEXT_LIMIT, Session};
 
@@ -57,4 +62,38 @@ pub(crate) fn read_session(
         attributes,
     };
     Ok((session, rest))
+}
+
+#[tactic(auto, unfolding(crate::specs::Session::context))]
+fn write_context(number: u8, out: &mut Vec<u8>) -> Result<(), AllocError>
+    requires { number < CONTEXT_LIMIT }
+    ensures ok { OnOk result (out.new.items ≡ out.old.items ++ context.text number) }
+    ensures err { OnErr result (take (length out.old.items) out.new.items ≡ out.old.items) }
+    ensures fits { context.Fits number }
+{
+    write_byte(number, out)
+}
+
+fn write_secret(secret: &Secret, out: &mut Vec<u8>) -> Result<(), AllocError>
+    ensures ok { OnOk result (out.new.items ≡ out.old.items ++ secret.now.0) }
+    ensures err { OnErr result (take (length out.old.items) out.new.items ≡ out.old.items) }
+    ensures fits { length secret.now.0 ≡ 16 }
+{
+    out.extend_from_slice(&secret.0)
+}
+
+#[tactic(auto, unfolding(crate::specs::Session::session))]
+pub(crate) fn write_session(held: &Session, out: &mut Vec<u8>) -> Result<(), AllocError>
+    requires { IsWithinLimits held.now }
+    ensures ok { OnOk result (out.new.items ≡ out.old.items ++ (session One).text held.now) }
+    ensures err { OnErr result (take (length out.old.items) out.new.items ≡ out.old.items) }
+    ensures fits { OnOk result ((session One).Fits held.now) }
+{
+    write_secret(&held.secret, out)?;
+    write_context(held.context, out)?;
+    write_u64(held.created, out)?;
+    write_u64(held.last, out)?;
+    write_i32(&held.interval, out)?;
+    write_flag(held.fresh, out)?;
+    write_attributes(&held.attributes, out)
 }

@@ -1,0 +1,39 @@
+-- What a writer has put behind the bytes that were there.
+use Rattle.std.proofs.Common.{◌≡◌, ℕ, List, [], ◌∷◌, ◌++◌, length, refl, ap, ◌∙◌, append_assoc}
+use Rattle.std.specs.Int.{w16, to_be_bytes}
+use Rattle.std.specs.List.{flat_map}
+use Rattle.sv_record.specs.declared.version.Version.TheVariants.{One}
+use Rattle.sv_record.specs.Format.{texts}
+use Rattle.sv_model.specs.declared.session.Session.{Session}
+use Rattle.sv_record.specs.Field.{long, signed, flag}
+use Rattle.sv_record.specs.Session.{Attribute, Before, at_first, behind, name, value, attribute, attributes, context, session}
+
+-- one text behind the other
+pub then_text : (old mid new a rest : List ℕ) → mid ≡ old ++ a → new ≡ mid ++ rest → new ≡ old ++ (a ++ rest)
+then_text old mid new a rest first second = second ∙ ap (λ (l : List ℕ). l ++ rest) first ∙ append_assoc old a rest
+
+-- an attribute's text, which is the same behind whatever stands before it
+abbrev pub attribute_text : Attribute → List ℕ
+attribute_text a = (attribute One at_first).text a
+
+texts_are : (before : Before) (xs : List Attribute) → texts (attribute One) behind before xs ≡ flat_map attribute_text xs
+unfolding attribute name value
+texts_are before [] = refl
+texts_are before (x ∷ xs) = ap (λ (l : List ℕ). attribute_text x ++ l) (texts_are (behind before x) xs)
+
+pub attributes_text : (xs : List Attribute) → (attributes One).text xs ≡ to_be_bytes w16 (length xs) ++ flat_map attribute_text xs
+unfolding attributes
+attributes_text xs = ap (λ (l : List ℕ). to_be_bytes w16 (length xs) ++ l) (texts_are at_first xs)
+
+-- a session's fields one by one
+pub session_text : (s : Session) (old o1 o2 o3 o4 o5 o6 new : List ℕ)
+    → o1 ≡ old ++ s.secret.0 → o2 ≡ o1 ++ context.text s.context → o3 ≡ o2 ++ long.text s.created → o4 ≡ o3 ++ long.text s.last → o5 ≡ o4 ++ signed.text s.interval → o6 ≡ o5 ++ flag.text s.fresh
+    → new ≡ o6 ++ (attributes One).text s.attributes → new ≡ old ++ (session One).text s
+unfolding session
+session_text s old o1 o2 o3 o4 o5 o6 new e1 e2 e3 e4 e5 e6 e7 =
+    then_text old o1 new s.secret.0 _ e1 (
+    then_text o1 o2 new (context.text s.context) _ e2 (
+    then_text o2 o3 new (long.text s.created) _ e3 (
+    then_text o3 o4 new (long.text s.last) _ e4 (
+    then_text o4 o5 new (signed.text s.interval) _ e5 (
+    then_text o5 o6 new (flag.text s.fresh) _ e6 e7)))))
