@@ -1,14 +1,17 @@
 //! What a commit makes of one key.
 
+ghost use Rattle.std.specs.Prelude.{◌≡◌, ◌++◌, length, take, OnOk, OnErr};
+ghost use Rattle.sv_record.specs.Ranges.{IsChange};
 ghost use Rattle.sv_record.specs.Reading.{Gives};
 ghost use Rattle.sv_record.specs.Record.{change};
+ghost use Rattle.sv_record.specs.declared.version.Version.TheVariants.{One};
 
 use crate::fault::RecordFault;
-use crate::key::read_key;
-use crate::number::read_byte;
-use crate::session::read_session;
+use crate::key::{read_key, write_key};
+use crate::number::{read_byte, write_byte};
+use crate::session::{read_session, write_session};
 use crate::version::Version;
-use std::alloc::Global;
+use std::alloc::{AllocError, Global};
 use sv_model::record::Change;
 
 #[tactic(auto, unfolding(crate::specs::Record::change))]
@@ -32,5 +35,26 @@ pub(crate) fn read_change(
             Ok((Change::Ended(key), rest))
         }
         _ => Err(RecordFault::BadField),
+    }
+}
+
+#[tactic(auto, unfolding(crate::specs::Record::change))]
+pub(crate) fn write_change(made: &Change, out: &mut Vec<u8>) -> Result<(), AllocError>
+    requires { IsChange made.now }
+    ensures ok { OnOk result (out.new.items ≡ out.old.items ++ (change One).text made.now) }
+    ensures err { OnErr result (take (length out.old.items) out.new.items ≡ out.old.items) }
+    ensures fits { OnOk result ((change One).Fits made.now) }
+{
+    match made {
+        Change::Absent => write_byte(0, out),
+        Change::Alive { key, session } => {
+            write_byte(1, out)?;
+            write_key(*key, out)?;
+            write_session(session, out)
+        }
+        Change::Ended(key) => {
+            write_byte(2, out)?;
+            write_key(*key, out)
+        }
     }
 }

@@ -129,6 +129,7 @@ pub(crate) fn write_node(number: u8, out: &mut Vec<u8>) -> Result<(), AllocError
     out.extend_from_slice(&number.to_be_bytes())
 }
 
+// By reference, since a contract sees a signed number that is passed by value only through its bits.
 #[tactic(auto, unfolding(crate::specs::Field::signed))]
 pub(crate) fn write_i32(number: &i32, out: &mut Vec<u8>) -> Result<(), AllocError>
     ensures ok { OnOk result (out.new.items ≡ out.old.items ++ signed.text number.now) }

@@ -1,13 +1,18 @@
 //! What a node keeps of a key.
 
+ghost use Rattle.std.specs.Prelude.{◌≡◌, ◌++◌, length, take, OnOk, OnErr};
+ghost use Rattle.sv_record.specs.Ranges.{IsState};
 ghost use Rattle.sv_record.specs.Reading.{Gives};
 ghost use Rattle.sv_record.specs.Record.{key_state};
+ghost use Rattle.sv_record.specs.declared.version.Version.TheVariants.{One};
 
 use crate::fault::RecordFault;
-use crate::number::{read_byte, read_counting, read_node};
-use crate::session::read_session;
+use crate::number::{
+    read_byte, read_counting, read_node, write_byte, write_counting, write_node,
+};
+use crate::session::{read_session, write_session};
 use crate::version::Version;
-use std::alloc::Global;
+use std::alloc::{AllocError, Global};
 use sv_model::state::KeyState;
 
 #[tactic(auto, unfolding(crate::specs::Record::key_state))]
@@ -40,5 +45,35 @@ pub(crate) fn read_state(
             Ok((KeyState::Ended { epoch }, rest))
         }
         _ => Err(RecordFault::BadField),
+    }
+}
+
+#[tactic(auto, unfolding(crate::specs::Record::key_state))]
+pub(crate) fn write_state(state: &KeyState, out: &mut Vec<u8>) -> Result<(), AllocError>
+    requires { IsState state.now }
+    ensures ok { OnOk result (out.new.items ≡ out.old.items ++ (key_state One).text state.now) }
+    ensures err { OnErr result (take (length out.old.items) out.new.items ≡ out.old.items) }
+    ensures fits { OnOk result ((key_state One).Fits state.now) }
+{
+    match state {
+        KeyState::Active { epoch, session } => {
+            write_byte(1, out)?;
+            write_counting(*epoch, out)?;
+            write_session(session, out)
+        }
+        KeyState::Sent { epoch, session, to } => {
+            write_byte(2, out)?;
+            write_counting(*epoch, out)?;
+            write_node(*to, out)?;
+            write_session(session, out)
+        }
+        KeyState::Gone { epoch } => {
+            write_byte(3, out)?;
+            write_counting(*epoch, out)
+        }
+        KeyState::Ended { epoch } => {
+            write_byte(4, out)?;
+            write_counting(*epoch, out)
+        }
     }
 }
