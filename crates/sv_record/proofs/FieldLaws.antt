@@ -22,11 +22,12 @@ byte_that : (test : ℕ → Bool) → Lawful (such_that (number w8) test)
 byte_that test = such_that_lawful (number w8) test (number_lawful w8 wide8)
 
 pub long_lawful : Lawful long
+unfolding long
 long_lawful = number_lawful w64 wide64
 
 pub counting_lawful : Lawful counting
 unfolding counting
-counting_lawful = such_that_lawful (number w64) (λ n. nat_lt 0 n) long_lawful
+counting_lawful = such_that_lawful long (λ n. nat_lt 0 n) long_lawful
 
 pub node_lawful : Lawful node
 unfolding node

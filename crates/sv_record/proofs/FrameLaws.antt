@@ -13,7 +13,7 @@ use Rattle.sv_record.specs.declared.frame.Frame.TheVariants.{Peer, Move, Tick, H
 use Rattle.sv_record.specs.declared.frame.TheConstants.{PEER, CONTROL, PAYLOAD_LIMIT}
 use Rattle.sv_record.specs.Reading.{◌>>=◌, Reading, Gives, number_at, ended}
 use Rattle.sv_record.specs.Format.{nothing, pair, kind_at, no_kind}
-use Rattle.sv_record.specs.Field.{counting, node, key}
+use Rattle.sv_record.specs.Field.{long, counting, node, key}
 use Rattle.sv_record.specs.Packet as packet
 use Rattle.sv_record.specs.Frame.{envelope, first_of, payload_of, spelling, HasSpelling, command_by_kind, command_at, payload_at, so_many_at, sized_at, taken_at, frame_at, IsFront}
 use Rattle.sv_record.proofs.FormatLaws.{AreBytes, are_bytes, AreBytes-take, AreBytes-drop, bind_ok, guard_ok, held_ok, chosen, ok_is, Takes, Takes-then, Lawful, number_lawful, nothing_lawful, pair_lawful, wide8, wide32, TakesByKind, kind_takes, no_kind_takes}
@@ -180,8 +180,8 @@ sized_again payload rest small =
 
 -- ---- frames
 
-payload_small : (frame : Frame) → HasSpelling frame → length (payload_of frame) ≤ PAYLOAD_LIMIT
-unfolding key node counting
+pub payload_small : (frame : Frame) → HasSpelling frame → length (payload_of frame) ≤ PAYLOAD_LIMIT
+unfolding key node long counting
 payload_small (Peer p) fits = packet_size p fits
 payload_small (Move k to) fits = omega arith
 payload_small Tick fits = omega arith

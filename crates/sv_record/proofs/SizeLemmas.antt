@@ -40,7 +40,7 @@ append_size : (a b : List ℕ) (m n : ℕ) → length a ≡ m → length b ≤ n
 append_size a b m n e le = omega (arith, length-append a b)
 
 session_size : (s : Session) → (session One).Fits s → length ((session One).text s) ≤ 40 + SESSION_LIMIT + 4 * ATTRIBUTE_LIMIT
-unfolding session context signed flag attributes
+unfolding session context long signed flag attributes
 session_size s fits =
     let named = fits.1.1.1.1.1.1 in
     let few : length s.attributes ≤ ATTRIBUTE_LIMIT = ltb-false _ _ named.1 in
@@ -49,7 +49,7 @@ session_size s fits =
 
 -- a packet is well within the limit of a frame
 pub packet_size : (p : Packet) → packet.HasSpelling p → length (packet.spelling p) ≤ 65536
-unfolding packet.packet_format key counting node
+unfolding packet.packet_format key long counting node
 packet_size (Want from to k boot want) fits = omega arith
 packet_size (Grant from to k e s) fits = omega (arith, session_size s fits.1.1.1)
 packet_size (Ack from to k e) fits = omega arith

@@ -8,12 +8,12 @@ use Rattle.sv_record.specs.Format.{Format, number, pair, such_that, seen_as}
 use Rattle.std.specs.Prelude.{Ok}
 
 -- a number of 8 bytes: a boot, a want, a moment in seconds
-abbrev pub long : Format ℕ
+unfoldable pub long : Format ℕ
 long = number w64
 
 -- a number of 8 bytes that isn't 0: an epoch, a serial
 unfoldable pub counting : Format ℕ
-counting = such_that (number w64) (λ n. nat_lt 0 n)
+counting = such_that long (λ n. nat_lt 0 n)
 
 -- the number of a node
 unfoldable pub node : Format ℕ

@@ -17,9 +17,13 @@ use Rattle.sv_record.specs.Version.{written, whole}
 abbrev pub ends : Format (ℕ × ℕ)
 ends = pair node node
 
--- a want and its answer: the key, the boot and the number of the want
+-- the key that is wanted, the boot, and the number of the want since then
+abbrev pub errand : Format (Key × (ℕ × ℕ))
+errand = pair key (pair long long)
+
+-- a want and its answer
 abbrev pub asked : Format ((ℕ × ℕ) × (Key × (ℕ × ℕ)))
-asked = pair ends (pair key (pair long long))
+asked = pair ends errand
 
 abbrev pub granted : Version → Format ((ℕ × ℕ) × (Key × (ℕ × Session)))
 granted v = pair ends (pair key (pair counting (session v)))

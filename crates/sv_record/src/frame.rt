@@ -1,16 +1,19 @@
 //! Frames: what travels on a connection between nodes, and from whoever commands a node.
 
-ghost use Rattle.std.specs.Prelude.{◌≡◌, ◌++◌, List, ℕ, length, IfOk, IfErr, IfSome, IfNone, Ok, Some, None, option_copied};
+ghost use Rattle.std.specs.Prelude.{◌≡◌, ◌≤◌, ◌+◌, ◌++◌, List, ℕ, length, take, drop, IfOk, IfErr, IfSome, IfNone, OnOk, OnErr, Ok, Some, None, option_copied};
+ghost use Rattle.std.specs.Int.{w32, to_be_bytes};
+ghost use Rattle.sv_record.specs.Ranges.{IsFrame};
 ghost use Rattle.sv_record.specs.Reading.{Gives};
-ghost use Rattle.sv_record.specs.Frame.{HasSpelling, IsFront, command_at, command_by_kind, frame_at, payload_at, sized_at, spelling};
+ghost use Rattle.sv_record.specs.Frame.{HasSpelling, IsFront, command_at, command_by_kind, frame_at, payload_at, payload_of, sized_at, spelling};
+ghost use Rattle.sv_record.specs.Frame as spec;
 ghost use Rattle.sv_record.specs.declared.frame.Frame.{Frame};
 ghost use Rattle.sv_record.specs.declared.fault.RecordFault.TheVariants.{BadField};
 
 use crate::fault::RecordFault;
-use crate::key::read_key;
-use crate::number::{read_byte, read_node};
-use crate::packet::read_packet;
-use std::alloc::Global;
+use crate::key::{read_key, write_key};
+use crate::number::{read_byte, read_node, write_byte, write_node};
+use crate::packet::{read_packet, write_whole};
+use std::alloc::{AllocError, Global};
 use sv_model::key::Key;
 use sv_model::packet::Packet;
 
@@ -85,15 +88,15 @@ fn sized_payload(bytes: &[u8]) -> Result<Option<&[u8]>, RecordFault>
         return Ok(None);
     }
     let (front, rest) = bytes.split_at(4);
-    let length = u32::from_be_bytes([front[0], front[1], front[2], front[3]]);
-    if length > PAYLOAD_LIMIT {
+    let count = u32::from_be_bytes([front[0], front[1], front[2], front[3]]);
+    if count > PAYLOAD_LIMIT {
         return Err(RecordFault::BadField);
     }
-    let length = length as usize;
-    if rest.len() < length {
+    let count = count as usize;
+    if rest.len() < count {
         return Ok(None);
     }
-    let (payload, _) = rest.split_at(length);
+    let (payload, _) = rest.split_at(count);
     Ok(Some(payload))
 }
 
@@ -135,4 +138,73 @@ fn read_command_fields(kind: u8, bytes: &[u8]) -> Result<(Frame, &[u8]), RecordF
         3 => Ok((Frame::Halt, bytes)),
         _ => Err(RecordFault::Foreign),
     }
+}
+
+/// Adds a frame to the bytes. Where memory is refused the bytes are as before.
+///
+/// Its numbers of nodes are below 8, its epoch and serial not 0, and its session is within the limits.
+pub fn write_frame(frame: &Frame, out: &mut Vec<u8>) -> Result<(), AllocError>
+    requires { IsFrame frame.now }
+    ensures ok { OnOk result (out.new.items ≡ out.old.items ++ spelling frame.now) }
+    ensures fits { OnOk result (HasSpelling frame.now) }
+    ensures err { OnErr result (out.new.items ≡ out.old.items) }
+{
+    let len = out.len();
+    let written = write_sized(frame, out);
+    if written.is_err() {
+        out.truncate(len);
+    }
+    written
+}
+
+/// The payload is written behind the place of its length, which is filled in afterwards.
+fn write_sized(frame: &Frame, out: &mut Vec<u8>) -> Result<(), AllocError>
+    requires { IsFrame frame.now }
+    ensures ok { OnOk result (out.new.items ≡ out.old.items ++ spelling frame.now) }
+    ensures fits { OnOk result (HasSpelling frame.now) }
+    ensures err { OnErr result (take (length out.old.items) out.new.items ≡ out.old.items) }
+{
+    write_byte(first_of(frame), out)?;
+    let at = out.len();
+    out.extend_from_slice(&[0; 4])?;
+    let start = out.len();
+    write_payload(frame, out)?;
+    let count = (out.len() - start) as u32;
+    set_length(out, at, count);
+    Ok(())
+}
+
+fn first_of(frame: &Frame) -> u8
+    ensures { result ≡ spec.first_of frame.now }
+{
+    match frame {
+        Frame::Peer(_) => PEER,
+        Frame::Move { .. } | Frame::Tick | Frame::Halt => CONTROL,
+    }
+}
+
+fn write_payload(frame: &Frame, out: &mut Vec<u8>) -> Result<(), AllocError>
+    requires { IsFrame frame.now }
+    ensures ok { OnOk result (out.new.items ≡ out.old.items ++ payload_of frame.now) }
+    ensures fits { OnOk result (HasSpelling frame.now) }
+    ensures err { OnErr result (take (length out.old.items) out.new.items ≡ out.old.items) }
+{
+    match frame {
+        Frame::Peer(packet) => write_whole(packet, out),
+        Frame::Move { key, to } => {
+            write_byte(1, out)?;
+            write_key(*key, out)?;
+            write_node(*to, out)
+        }
+        Frame::Tick => write_byte(2, out),
+        Frame::Halt => write_byte(3, out),
+    }
+}
+
+/// Puts a length in the place of four bytes.
+fn set_length(out: &mut Vec<u8>, at: usize, count: u32)
+    requires { at + 4 ≤ length out.old.items }
+    ensures { out.new.items ≡ take at out.old.items ++ (to_be_bytes w32 count ++ drop (at + 4) out.old.items) }
+{
+    out[at..at + 4].copy_from_slice(&count.to_be_bytes());
 }

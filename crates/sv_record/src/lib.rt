@@ -17,7 +17,7 @@ mod state;
 mod version;
 
 pub use fault::RecordFault;
-pub use frame::{CONTROL, Frame, PAYLOAD_LIMIT, PEER, read_frame};
-pub use packet::read_packet;
-pub use record::read_record;
+pub use frame::{CONTROL, Frame, PAYLOAD_LIMIT, PEER, read_frame, write_frame};
+pub use packet::{read_packet, write_packet};
+pub use record::{read_record, write_record};
 pub use sv_model::record::Record;

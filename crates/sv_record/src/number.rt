@@ -1,7 +1,7 @@
 //! Numbers, and runs of bytes. All numbers are big-endian.
 
 ghost use Rattle.std.specs.Prelude.{◌≡◌, ◌++◌, length, take, OnOk, OnErr, IfOk};
-ghost use Rattle.std.specs.Int.{w8, w16, w32, w64, to_be_bytes};
+ghost use Rattle.std.specs.Int.{w8, w16, to_be_bytes};
 ghost use Rattle.sv_record.specs.Reading.{Gives, number_at, bytes_at};
 ghost use Rattle.sv_record.specs.Field.{long, counting, node, flag, signed};
 ghost use Rattle.sv_record.specs.Ranges.{IsCounting, IsNode};
@@ -25,8 +25,9 @@ pub(crate) fn read_u16(bytes: &[u8]) -> Result<(u16, &[u8]), RecordFault>
     Ok((u16::from_be_bytes([front[0], front[1]]), rest))
 }
 
+#[tactic(auto, unfolding(crate::specs::Field::long))]
 pub(crate) fn read_u64(bytes: &[u8]) -> Result<(u64, &[u8]), RecordFault>
-    ensures { Gives (λ x. (x.0, x.1.now)) result (number_at w64 bytes.now) }
+    ensures { Gives (λ x. (x.0, x.1.now)) result (long.read bytes.now) }
 {
     if bytes.len() < 8 {
         return Err(RecordFault::Truncated);
@@ -101,6 +102,7 @@ pub(crate) fn write_byte(byte: u8, out: &mut Vec<u8>) -> Result<(), AllocError>
     out.extend_from_slice(&byte.to_be_bytes())
 }
 
+#[tactic(auto, unfolding(crate::specs::Field::long))]
 pub(crate) fn write_u64(number: u64, out: &mut Vec<u8>) -> Result<(), AllocError>
     ensures ok { OnOk result (out.new.items ≡ out.old.items ++ long.text number) }
     ensures err { OnErr result (take (length out.old.items) out.new.items ≡ out.old.items) }
@@ -116,7 +118,7 @@ pub(crate) fn write_counting(number: u64, out: &mut Vec<u8>) -> Result<(), Alloc
     ensures err { OnErr result (take (length out.old.items) out.new.items ≡ out.old.items) }
     ensures fits { counting.Fits number }
 {
-    out.extend_from_slice(&number.to_be_bytes())
+    write_u64(number, out)
 }
 
 #[tactic(auto, unfolding(crate::specs::Field::node))]

@@ -1,16 +1,20 @@
 //! The packets between nodes.
 
-ghost use Rattle.std.specs.Prelude.{◌≡◌, IfOk, Ok};
+ghost use Rattle.std.specs.Prelude.{◌≡◌, ◌++◌, length, take, IfOk, OnOk, OnErr, Ok};
 ghost use Rattle.sv_model.specs.declared.packet.Packet.{Packet};
+ghost use Rattle.sv_record.specs.Ranges.{IsKey, IsNode, IsPacket};
 ghost use Rattle.sv_record.specs.Reading.{Gives};
-ghost use Rattle.sv_record.specs.Packet.{HasSpelling, by_kind, ends, asked, packet_format, packet_of, spelling};
+ghost use Rattle.sv_record.specs.Packet.{HasSpelling, asked, by_kind, ends, errand, packet_format, packet_of, spelling};
+ghost use Rattle.sv_record.specs.declared.version.Version.TheVariants.{One};
 
 use crate::fault::RecordFault;
-use crate::key::read_key;
-use crate::number::{read_byte, read_counting, read_node, read_u64};
-use crate::session::read_session;
+use crate::key::{read_key, write_key};
+use crate::number::{
+    read_byte, read_counting, read_node, read_u64, write_byte, write_counting, write_node, write_u64,
+};
+use crate::session::{read_session, write_session};
 use crate::version::{Version, read_version};
-use std::alloc::Global;
+use std::alloc::{AllocError, Global};
 use sv_model::key::Key;
 use sv_model::packet::Packet;
 
@@ -132,4 +136,110 @@ fn read_asked(bytes: &[u8]) -> Result<((u8, u8, Key, u64, u64), &[u8]), RecordFa
     let (boot, rest) = read_u64(rest)?;
     let (want, rest) = read_u64(rest)?;
     Ok(((from, to, key, boot, want), rest))
+}
+
+/// Adds a packet to the bytes, by the newest version. Where memory is refused the bytes are as before.
+///
+/// Its numbers of nodes are below 8, its epoch and serial not 0, and its session is within the limits.
+pub fn write_packet(packet: &Packet, out: &mut Vec<u8>) -> Result<(), AllocError>
+    requires { IsPacket packet.now }
+    ensures ok { OnOk result (out.new.items ≡ out.old.items ++ spelling packet.now) }
+    ensures fits { OnOk result (HasSpelling packet.now) }
+    ensures err { OnErr result (out.new.items ≡ out.old.items) }
+{
+    let len = out.len();
+    let written = write_whole(packet, out);
+    if written.is_err() {
+        out.truncate(len);
+    }
+    written
+}
+
+pub(crate) fn write_whole(packet: &Packet, out: &mut Vec<u8>) -> Result<(), AllocError>
+    requires { IsPacket packet.now }
+    ensures ok { OnOk result (out.new.items ≡ out.old.items ++ spelling packet.now) }
+    ensures fits { OnOk result (HasSpelling packet.now) }
+    ensures err { OnErr result (take (length out.old.items) out.new.items ≡ out.old.items) }
+{
+    write_byte(1, out)?;
+    write_fields(packet, out)
+}
+
+/// The kind of a packet, and what stands behind it.
+#[tactic(auto, unfolding(crate::specs::Packet::packet_format))]
+fn write_fields(packet: &Packet, out: &mut Vec<u8>) -> Result<(), AllocError>
+    requires { IsPacket packet.now }
+    ensures ok { OnOk result (out.new.items ≡ out.old.items ++ (packet_format One).text packet.now) }
+    ensures fits { OnOk result ((packet_format One).Fits packet.now) }
+    ensures err { OnErr result (take (length out.old.items) out.new.items ≡ out.old.items) }
+{
+    match packet {
+        Packet::Want {
+            from,
+            to,
+            key,
+            boot,
+            want,
+        } => {
+            write_byte(1, out)?;
+            write_ends(*from, *to, out)?;
+            write_errand(*key, *boot, *want, out)
+        }
+        Packet::Grant {
+            from,
+            to,
+            key,
+            epoch,
+            session,
+        } => {
+            write_byte(2, out)?;
+            write_ends(*from, *to, out)?;
+            write_key(*key, out)?;
+            write_counting(*epoch, out)?;
+            write_session(session, out)
+        }
+        Packet::Ack {
+            from,
+            to,
+            key,
+            epoch,
+        } => {
+            write_byte(3, out)?;
+            write_ends(*from, *to, out)?;
+            write_key(*key, out)?;
+            write_counting(*epoch, out)
+        }
+        Packet::No {
+            from,
+            to,
+            key,
+            boot,
+            want,
+        } => {
+            write_byte(4, out)?;
+            write_ends(*from, *to, out)?;
+            write_errand(*key, *boot, *want, out)
+        }
+    }
+}
+
+fn write_ends(from: u8, to: u8, out: &mut Vec<u8>) -> Result<(), AllocError>
+    requires { IsNode from × IsNode to }
+    ensures ok { OnOk result (out.new.items ≡ out.old.items ++ ends.text (from, to)) }
+    ensures fits { OnOk result (ends.Fits (from, to)) }
+    ensures err { OnErr result (take (length out.old.items) out.new.items ≡ out.old.items) }
+{
+    write_node(from, out)?;
+    write_node(to, out)
+}
+
+fn write_errand(key: Key, boot: u64, want: u64, out: &mut Vec<u8>) -> Result<(), AllocError>
+    requires { IsKey key }
+    ensures ok { OnOk result (out.new.items ≡ out.old.items ++ errand.text (key, (boot, want))) }
+    ensures fits { OnOk result (errand.Fits (key, (boot, want))) }
+    ensures err { OnErr result (take (length out.old.items) out.new.items ≡ out.old.items) }
+{
+    write_key(key, out)?;
+    write_u64(boot, out)?;
+    write_u64(want, out)
 }

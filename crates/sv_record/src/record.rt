@@ -1,19 +1,23 @@
 //! The records of a journal.
 
-ghost use Rattle.std.specs.Prelude.{◌≡◌, List, ℕ, IfOk, Ok};
+ghost use Rattle.std.specs.Prelude.{◌≡◌, ◌++◌, length, take, IfOk, OnOk, OnErr, Ok};
 ghost use Rattle.sv_model.specs.declared.record.Record.{Record};
+ghost use Rattle.sv_record.specs.Ranges.{IsCommit, IsHandover, IsRecord};
 ghost use Rattle.sv_record.specs.Reading.{Gives};
 ghost use Rattle.sv_record.specs.Record as spec;
 ghost use Rattle.sv_record.specs.Record.{HasSpelling, by_kind, commit, handover, record_format, record_of, spelling};
+ghost use Rattle.sv_record.specs.declared.version.Version.TheVariants.{One};
 
-use crate::change::read_change;
+use crate::change::{read_change, write_change};
 use crate::fault::RecordFault;
-use crate::key::read_key;
-use crate::number::{read_byte, read_counting, read_node, read_u64};
-use crate::session::read_session;
-use crate::state::read_state;
+use crate::key::{read_key, write_key};
+use crate::number::{
+    read_byte, read_counting, read_node, read_u64, write_byte, write_counting, write_node, write_u64,
+};
+use crate::session::{read_session, write_session};
+use crate::state::{read_state, write_state};
 use crate::version::{Version, read_version};
-use std::alloc::Global;
+use std::alloc::{AllocError, Global};
 use sv_model::key::Key;
 use sv_model::record::{Change, Record};
 use sv_model::session::Session;
@@ -153,4 +157,118 @@ fn is_absent(change: &Change) -> bool
     ensures { result ≡ spec.is_absent change.now }
 {
     matches!(change, Change::Absent)
+}
+
+/// Adds a record to the bytes, by the newest version. Where memory is refused the bytes are as before.
+///
+/// Its numbers of nodes are below 8, its epochs and serials not 0, its sessions within the limits, and of a commit at
+/// least one change isn't absent.
+pub fn write_record(entry: &Record, out: &mut Vec<u8>) -> Result<(), AllocError>
+    requires { IsRecord entry.now }
+    ensures ok { OnOk result (out.new.items ≡ out.old.items ++ spelling entry.now) }
+    ensures fits { OnOk result (HasSpelling entry.now) }
+    ensures err { OnErr result (out.new.items ≡ out.old.items) }
+{
+    let len = out.len();
+    let written = write_whole(entry, out);
+    if written.is_err() {
+        out.truncate(len);
+    }
+    written
+}
+
+fn write_whole(entry: &Record, out: &mut Vec<u8>) -> Result<(), AllocError>
+    requires { IsRecord entry.now }
+    ensures ok { OnOk result (out.new.items ≡ out.old.items ++ spelling entry.now) }
+    ensures fits { OnOk result (HasSpelling entry.now) }
+    ensures err { OnErr result (take (length out.old.items) out.new.items ≡ out.old.items) }
+{
+    write_byte(1, out)?;
+    write_fields(entry, out)
+}
+
+/// The kind of a record, and what stands behind it.
+#[tactic(auto, unfolding(crate::specs::Record::record_format))]
+fn write_fields(entry: &Record, out: &mut Vec<u8>) -> Result<(), AllocError>
+    requires { IsRecord entry.now }
+    ensures ok { OnOk result (out.new.items ≡ out.old.items ++ (record_format One).text entry.now) }
+    ensures fits { OnOk result ((record_format One).Fits entry.now) }
+    ensures err { OnErr result (take (length out.old.items) out.new.items ≡ out.old.items) }
+{
+    match entry {
+        Record::Boot(boot) => {
+            write_byte(1, out)?;
+            write_counting(*boot, out)
+        }
+        Record::Commit { named, born } => {
+            write_byte(2, out)?;
+            write_commit(named, born, out)
+        }
+        Record::Expired(key) => {
+            write_byte(3, out)?;
+            write_key(*key, out)
+        }
+        Record::Sent {
+            key,
+            epoch,
+            to,
+            session,
+        } => {
+            write_byte(4, out)?;
+            write_handover(*key, *epoch, *to, session, out)
+        }
+        Record::Taken {
+            key,
+            epoch,
+            from,
+            session,
+        } => {
+            write_byte(5, out)?;
+            write_handover(*key, *epoch, *from, session, out)
+        }
+        Record::Gone { key, epoch } => {
+            write_byte(6, out)?;
+            write_key(*key, out)?;
+            write_counting(*epoch, out)
+        }
+        Record::State { key, state } => {
+            write_byte(7, out)?;
+            write_key(*key, out)?;
+            write_state(state, out)
+        }
+        Record::Counters { boot, next } => {
+            write_byte(8, out)?;
+            write_u64(*boot, out)?;
+            write_counting(*next, out)
+        }
+    }
+}
+
+#[tactic(auto, unfolding(crate::specs::Record::commit))]
+fn write_commit(named: &Change, born: &Change, out: &mut Vec<u8>) -> Result<(), AllocError>
+    requires { IsCommit named.now born.now }
+    ensures ok { OnOk result (out.new.items ≡ out.old.items ++ (commit One).text (named.now, born.now)) }
+    ensures fits { OnOk result ((commit One).Fits (named.now, born.now)) }
+    ensures err { OnErr result (take (length out.old.items) out.new.items ≡ out.old.items) }
+{
+    write_change(named, out)?;
+    write_change(born, out)
+}
+
+fn write_handover(
+    key: Key,
+    epoch: u64,
+    node: u8,
+    session: &Session,
+    out: &mut Vec<u8>,
+) -> Result<(), AllocError>
+    requires { IsHandover key epoch node session.now }
+    ensures ok { OnOk result (out.new.items ≡ out.old.items ++ (handover One).text (key, (epoch, (node, session.now)))) }
+    ensures fits { OnOk result ((handover One).Fits (key, (epoch, (node, session.now)))) }
+    ensures err { OnErr result (take (length out.old.items) out.new.items ≡ out.old.items) }
+{
+    write_key(key, out)?;
+    write_counting(epoch, out)?;
+    write_node(node, out)?;
+    write_session(session, out)
 }
