@@ -19,6 +19,8 @@ use Rattle.sv_record.specs.Frame.{envelope, first_of, payload_of, spelling, HasS
 use Rattle.sv_record.proofs.FormatLaws.{AreBytes, are_bytes, AreBytes-take, AreBytes-drop, bind_ok, guard_ok, held_ok, chosen, ok_is, Takes, Takes-then, Lawful, number_lawful, nothing_lawful, pair_lawful, wide8, wide32, TakesByKind, kind_takes, no_kind_takes}
 use Rattle.sv_record.proofs.FieldLaws.{node_lawful, key_lawful}
 use Rattle.sv_record.proofs.KindLaws.{packet_lawful}
+use Rattle.sv_record.specs.Ranges.{IsFrame}
+use Rattle.sv_record.proofs.RangeLemmas.{frame_range}
 use Rattle.sv_record.proofs.SizeLemmas.{packet_size}
 use Rattle.sv_record.proofs.WholeLaws.{ended_ok, whole_takes, whole_again}
 
@@ -428,3 +430,8 @@ module _ (bytes : List ℕ) where
   frame_none (Ok None) fits gives = none_is_front bytes fits gives
   frame_none (Ok (Some x)) fits gives = tt
   frame_none (Err fault) fits gives = tt
+
+  pub frame_within : (result : Found) → AreBytes bytes → Gives (λ x. x) result (frame_at bytes) → IfOk result (λ o. IfSome o (λ x. IsFrame x.0))
+  frame_within (Ok None) fits gives = tt
+  frame_within (Ok (Some x)) fits gives = frame_range x.0 (frame_takes bytes x fits gives).fits
+  frame_within (Err fault) fits gives = tt

@@ -47,6 +47,8 @@ pub fn read_frame(alloc: Global, bytes: &[u8]) -> Result<Option<(Frame, usize)>,
     // What is read is spelled so.
     ensures found { IfOk result (λ o. IfSome o (λ x. HasSpelling x.0 × ((rest : List ℕ) × (bytes.now ≡ spelling x.0 ++ rest)))) }
     ensures size { IfOk result (λ o. IfSome o (λ x. x.1 ≡ length (spelling x.0))) }
+    // And may be written again.
+    ensures within { IfOk result (λ o. IfSome o (λ x. IsFrame x.0)) }
     // What is spelled so is read, whatever follows, unless memory is refused.
     ensures only { (f : Frame) (rest : List ℕ) → HasSpelling f → bytes.now ≡ spelling f ++ rest → Gives (λ x. x) result (Ok (Some (f, length (spelling f)))) }
     // There is no frame yet where something is missing.

@@ -25,6 +25,8 @@ use sv_model::packet::Packet;
 pub fn read_packet(alloc: Global, bytes: &[u8]) -> Result<Packet, RecordFault>
     // What is read is spelled so.
     ensures found { IfOk result (λ p. HasSpelling p × (bytes.now ≡ spelling p)) }
+    // And may be written again.
+    ensures within { IfOk result (λ p. IsPacket p) }
     // What is spelled so is read, unless memory is refused.
     ensures only { (p : Packet) → HasSpelling p → bytes.now ≡ spelling p → Gives (λ x. x) result (Ok p) }
     // A fault is the first trouble.

@@ -29,6 +29,8 @@ use sv_model::session::Session;
 pub fn read_record(alloc: Global, bytes: &[u8]) -> Result<Record, RecordFault>
     // What is read is spelled so.
     ensures found { IfOk result (λ r. HasSpelling r × (bytes.now ≡ spelling r)) }
+    // And may be written again.
+    ensures within { IfOk result (λ r. IsRecord r) }
     // What is spelled so is read, unless memory is refused.
     ensures only { (r : Record) → HasSpelling r → bytes.now ≡ spelling r → Gives (λ x. x) result (Ok r) }
     // A fault is the first trouble.

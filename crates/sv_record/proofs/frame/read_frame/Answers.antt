@@ -1,7 +1,7 @@
 use Rattle.std.proofs.Common.{◌≡◌, ap, subst, ◌∙◌, arith}
 use Rattle.sv_record.specs.Reading.{Gives}
 use Rattle.sv_record.specs.Frame.{frame_at}
-use Rattle.sv_record.proofs.FrameLaws.{frame_again, frame_found, frame_sized, frame_none, front_is_none}
+use Rattle.sv_record.proofs.FrameLaws.{frame_again, frame_found, frame_sized, frame_none, frame_within, front_is_none}
 use Rattle.sv_record.proofs.frame.read_frame.Goals as goal
 
 pub returns-clause-found : goal.returns-clause-found
@@ -18,3 +18,6 @@ returns-clause-none c = frame_none c.args.bytes.now c.read_first.result (λ i. o
 
 pub returns-clause-front : goal.returns-clause-front
 returns-clause-front c = λ is. c.read_first.ensures.front (front_is_none c.args.bytes.now is)
+
+pub returns-clause-within : goal.returns-clause-within
+returns-clause-within c = frame_within c.args.bytes.now c.read_first.result (λ i. omega (arith, c.type_inv.bytes i)) c.read_first.ensures.exact
