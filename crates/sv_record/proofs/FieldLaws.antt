@@ -109,9 +109,9 @@ session_lawful v =
     })
     (λ s. (s.secret.0, (s.context, (s.created, (s.last, (s.interval, (s.fresh, s.attributes)))))))
     (pair_lawful (raw 16) placed (raw_lawful 16)
-      (pair_lawful context created context_lawful
-        (pair_lawful long last long_lawful
-          (pair_lawful long interval long_lawful
-            (pair_lawful signed fresh signed_lawful
-              (pair_lawful flag (attributes v) flag_lawful (attributes_lawful v)))))))
+    (pair_lawful context created context_lawful
+    (pair_lawful long last long_lawful
+    (pair_lawful long interval long_lawful
+    (pair_lawful signed fresh signed_lawful
+    (pair_lawful flag (attributes v) flag_lawful (attributes_lawful v)))))))
     (λ a fits. refl) (λ s. refl)

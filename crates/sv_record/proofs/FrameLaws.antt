@@ -77,7 +77,7 @@ command_at_takes payload frame fits e =
     let u = command_takes k.0.0 k.0.1 x.0 t.0.rest_fits x.1 in
     let kind : to_be_bytes w8 k.0.0 ≡ command_of x.0.0 ∷ [] = subst (λ (n : ℕ). to_be_bytes w8 n ≡ command_of x.0.0 ∷ []) u.1 (command_byte x.0.0) in
     let text : payload ≡ command_of x.0.0 ∷ command_fields x.0.0 =
-        t.0.parts ∙ ap (λ (l : List ℕ). l ++ k.0.1) kind ∙ ap (λ (l : List ℕ). command_of x.0.0 ∷ l) (u.0.parts ∙ ap (λ (l : List ℕ). command_fields x.0.0 ++ l) z.1 ∙ append-nil (command_fields x.0.0)) in
+    t.0.parts ∙ ap (λ (l : List ℕ). l ++ k.0.1) kind ∙ ap (λ (l : List ℕ). command_of x.0.0 ∷ l) (u.0.parts ∙ ap (λ (l : List ℕ). command_fields x.0.0 ++ l) z.1 ∙ append-nil (command_fields x.0.0)) in
     subst (IsPayload CONTROL payload) z.0 (a_command payload x.0.0 u.2 text)
   where
     command_byte : (frame : Frame) → to_be_bytes w8 (command_of frame) ≡ command_of frame ∷ []
@@ -156,9 +156,9 @@ sized_takes bytes payload fits e =
                 let front : to_be_bytes w32 n ≡ take 4 bytes = wide32.back (take 4 bytes) (omega (arith, length-take 4 bytes)) (AreBytes-take 4 bytes fits) in
                 let len : length (take n (drop 4 bytes)) ≡ n = omega (arith, length-take n (drop 4 bytes)) in
                 let parts : bytes ≡ to_be_bytes w32 n ++ (take n (drop 4 bytes) ++ drop n (drop 4 bytes)) =
-                    sym (take-append-drop 4 bytes) ∙ ap (λ (l : List ℕ). l ++ drop 4 bytes) (sym front) ∙ ap (λ (l : List ℕ). to_be_bytes w32 n ++ l) (sym (take-append-drop n (drop 4 bytes))) in
+                sym (take-append-drop 4 bytes) ∙ ap (λ (l : List ℕ). l ++ drop 4 bytes) (sym front) ∙ ap (λ (l : List ℕ). to_be_bytes w32 n ++ l) (sym (take-append-drop n (drop 4 bytes))) in
                 let sized : bytes ≡ to_be_bytes w32 (length (take n (drop 4 bytes))) ++ (take n (drop 4 bytes) ++ drop n (drop 4 bytes)) =
-                    subst (λ (k : ℕ). bytes ≡ to_be_bytes w32 k ++ (take n (drop 4 bytes) ++ drop n (drop 4 bytes))) (sym len) parts in
+                subst (λ (k : ℕ). bytes ≡ to_be_bytes w32 k ++ (take n (drop 4 bytes) ++ drop n (drop 4 bytes))) (sym len) parts in
                 let least : length (take n (drop 4 bytes)) ≤ PAYLOAD_LIMIT = omega arith in
                 subst (λ (p : List ℕ). ((rest : List ℕ) × (bytes ≡ to_be_bytes w32 (length p) ++ (p ++ rest))) × AreBytes p × (length p ≤ PAYLOAD_LIMIT)) (some_is (take n (drop 4 bytes)) payload there.1)
                 (((drop n (drop 4 bytes), sized), AreBytes-take n (drop 4 bytes) (AreBytes-drop 4 bytes fits), least))
@@ -234,9 +234,9 @@ frame_takes (first ∷ bytes) found fits e =
         ] in
         let p = payload_takes first payload f.0 t.1 is f.1 in
         let whole : first ∷ bytes ≡ spelling f.0 ++ t.0.0 =
-            ap (λ (l : List ℕ). first ∷ l) t.0.1
-            ∙ ap (λ (n : ℕ). n ∷ to_be_bytes w32 (length payload) ++ (payload ++ t.0.0)) (sym p.1)
-            ∙ ap (λ (l : List ℕ). first_of f.0 ∷ to_be_bytes w32 (length l) ++ (l ++ t.0.0)) p.2 in
+        ap (λ (l : List ℕ). first ∷ l) t.0.1
+        ∙ ap (λ (n : ℕ). n ∷ to_be_bytes w32 (length payload) ++ (payload ++ t.0.0)) (sym p.1)
+        ∙ ap (λ (l : List ℕ). first_of f.0 ∷ to_be_bytes w32 (length l) ++ (l ++ t.0.0)) p.2 in
         let size : 5 + length payload ≡ length (spelling f.0) = omega (arith, ap (λ (l : List ℕ). length l) p.2) in
         let made : IsFrameOf (first ∷ bytes) (f.0, 5 + length payload) = record { fits = p.0; rest = t.0.0; parts = whole; size = size } in
         subst (IsFrameOf (first ∷ bytes)) (found_is (f.0, 5 + length payload) found f.2) made
@@ -258,7 +258,7 @@ frame_again frame rest fits =
 pub not_a_prefix : (a b : Frame) (rest : List ℕ) → HasSpelling a → HasSpelling b → spelling a ++ rest ≡ spelling b → (a ≡ b) × (rest ≡ [])
 not_a_prefix a b rest fits_a fits_b e =
     let same : found_frame (a, length (spelling a)) ≡ found_frame (b, length (spelling b)) =
-        sym (frame_again a rest fits_a) ∙ ap frame_at (e ∙ sym (append-nil (spelling b))) ∙ frame_again b [] fits_b in
+    sym (frame_again a rest fits_a) ∙ ap frame_at (e ∙ sym (append-nil (spelling b))) ∙ frame_again b [] fits_b in
     let is = found_is (a, length (spelling a)) (b, length (spelling b)) same in
     let size : length (spelling a) ≡ length (spelling b) = ap (λ (x : Frame × ℕ). x.1) is in
     let sum : length (spelling a) + length rest ≡ length (spelling b) = sym (length-append (spelling a) rest) ∙ ap (λ (l : List ℕ). length l) e in
@@ -320,7 +320,7 @@ no_payload first bytes fits known long small few =
       short = omega arith;
       some = omega arith;
       front = ap (λ (l : List ℕ). first ∷ l) (ap (λ (l : List ℕ). l ++ more) (sym (take-append-drop 4 bytes)) ∙ append_assoc (take 4 bytes) rest more
-        ∙ ap (λ (l : List ℕ). l ++ payload) (sym back) ∙ ap (λ (k : ℕ). to_be_bytes w32 k ++ payload) (sym len));
+          ∙ ap (λ (l : List ℕ). l ++ payload) (sym back) ∙ ap (λ (k : ℕ). to_be_bytes w32 k ++ payload) (sym len));
     }
 
 abbrev none_found : Found

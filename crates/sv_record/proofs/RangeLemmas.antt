@@ -51,9 +51,10 @@ value_length total n small within =
 attribute_fits : (before : Before) (a : Attribute) → 0 < length a.0 → length a.0 ≤ NAME_LIMIT → length a.1 ≤ VALUE_LIMIT → before.total + (length a.0 + length a.1) ≤ SESSION_LIMIT
     → is_utf8 a.0 ≡ true → name_cmp before.last a.0 ≡ Less → (attribute One before).Fits a
 unfolding attribute name value
-attribute_fits before a some short small within text above =
-    (((omega arith, name_length before.total (length a.0) some short (omega arith)), and_from (is_utf8 a.0) (is_below before.last a.0) text (ap is_lt above)),
-      (omega arith, value_length (before.total + length a.0) (length a.1) small (omega arith)))
+attribute_fits before a some short small within text above = (
+  ((omega arith, name_length before.total (length a.0) some short (omega arith)), and_from (is_utf8 a.0) (is_below before.last a.0) text (ap is_lt above)),
+  (omega arith, value_length (before.total + length a.0) (length a.1) small (omega arith)),
+)
 
 -- attributes whose names rise from a name
 fit_all : (before : Before) (xs : List Attribute) → AllByRecursion (λ a. 0 < length a.0) xs → AllByRecursion (λ a. length a.0 ≤ NAME_LIMIT) xs → AllByRecursion (λ a. length a.1 ≤ VALUE_LIMIT) xs
@@ -61,9 +62,10 @@ fit_all : (before : Before) (xs : List Attribute) → AllByRecursion (λ a. 0 < 
     → FitAll (attribute One) behind before xs
 fit_all before [] some short small texts within above rise = tt
 fit_all before (x ∷ xs) some short small texts within above rise =
-    let size = attributes_size-cons x xs in
-    (attribute_fits before x some.0 short.0 small.0 (omega (arith, size)) texts.0 above.0,
-      fit_all (behind before x) xs some.1 short.1 small.1 texts.1 (omega (arith, size)) (NamesRise-head x xs rise) (NamesRise-tail x xs rise))
+    let size = attributes_size-cons x xs in (
+      attribute_fits before x some.0 short.0 small.0 (omega (arith, size)) texts.0 above.0,
+      fit_all (behind before x) xs some.1 short.1 small.1 texts.1 (omega (arith, size)) (NamesRise-head x xs rise) (NamesRise-tail x xs rise),
+    )
 
 -- the empty text is below each name
 empty_below : (xs : List Attribute) → AllByRecursion (λ a. 0 < length a.0) xs → AllByRecursion (λ n. name_cmp [] n ≡ Less) (names_of xs)
@@ -75,9 +77,11 @@ pub attributes_fit : (xs : List Attribute) → length xs ≤ ATTRIBUTE_LIMIT →
     → attributes_size xs ≤ SESSION_LIMIT → AllByRecursion (λ a. is_utf8 a.0 ≡ true) xs → NamesRise xs → (attributes One).Fits xs
 unfolding attributes
 attributes_fit xs few some short small within texts rise =
-    let named = recursion_from_All (λ (a : Attribute). 0 < length a.0) xs some in
-    (omega arith, le-ltb _ _ few,
-      fit_all at_first xs named (recursion_from_All (λ (a : Attribute). length a.0 ≤ NAME_LIMIT) xs short) (recursion_from_All (λ (a : Attribute). length a.1 ≤ VALUE_LIMIT) xs small) texts (omega arith) (empty_below xs named) rise)
+    let named = recursion_from_All (λ (a : Attribute). 0 < length a.0) xs some in (
+      omega arith,
+      le-ltb _ _ few,
+      fit_all at_first xs named (recursion_from_All (λ (a : Attribute). length a.0 ≤ NAME_LIMIT) xs short) (recursion_from_All (λ (a : Attribute). length a.1 ≤ VALUE_LIMIT) xs small) texts (omega arith) (empty_below xs named) rise,
+    )
 
 -- ---- and back: what has a spelling is within the ranges
 

@@ -58,11 +58,7 @@ fn read_name<'a>(
 }
 
 #[tactic(auto, unfolding(crate::specs::Session::value))]
-fn read_value(
-    version: Version,
-    bytes: &[u8],
-    total: usize,
-) -> Result<(&[u8], &[u8]), RecordFault>
+fn read_value(version: Version, bytes: &[u8], total: usize) -> Result<(&[u8], &[u8]), RecordFault>
     requires { total ≤ session_limit version }
     ensures read { Gives (λ x. (x.0.now, x.1.now)) result ((value version total).read bytes.now) }
     ensures small { IfOk result (λ x. total + length x.0.now ≤ session_limit version) }

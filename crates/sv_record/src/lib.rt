@@ -21,3 +21,6 @@ pub use frame::{CONTROL, Frame, PAYLOAD_LIMIT, PEER, read_frame, write_frame};
 pub use packet::{read_packet, write_packet};
 pub use record::{read_record, write_record};
 pub use sv_model::record::Record;
+
+#[cfg(test)]
+mod tests;

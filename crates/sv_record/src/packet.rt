@@ -10,7 +10,8 @@ ghost use Rattle.sv_record.specs.declared.version.Version.TheVariants.{One};
 use crate::fault::RecordFault;
 use crate::key::{read_key, write_key};
 use crate::number::{
-    read_byte, read_counting, read_node, read_u64, write_byte, write_counting, write_node, write_u64,
+    read_byte, read_counting, read_node, read_u64, write_byte, write_counting, write_node,
+    write_u64,
 };
 use crate::session::{read_session, write_session};
 use crate::version::{Version, read_version};
@@ -47,11 +48,7 @@ fn read_whole(alloc: Global, bytes: &[u8]) -> Result<Packet, RecordFault>
 }
 
 #[tactic(auto, unfolding(crate::specs::Packet::packet_format))]
-fn read_front(
-    alloc: Global,
-    version: Version,
-    bytes: &[u8],
-) -> Result<(Packet, &[u8]), RecordFault>
+fn read_front(alloc: Global, version: Version, bytes: &[u8]) -> Result<(Packet, &[u8]), RecordFault>
     ensures { Gives (λ x. (x.0, x.1.now)) result ((packet_format version).read bytes.now) }
 {
     let (kind, rest) = read_byte(bytes)?;

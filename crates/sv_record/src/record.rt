@@ -12,7 +12,8 @@ use crate::change::{read_change, write_change};
 use crate::fault::RecordFault;
 use crate::key::{read_key, write_key};
 use crate::number::{
-    read_byte, read_counting, read_node, read_u64, write_byte, write_counting, write_node, write_u64,
+    read_byte, read_counting, read_node, read_u64, write_byte, write_counting, write_node,
+    write_u64,
 };
 use crate::session::{read_session, write_session};
 use crate::state::{read_state, write_state};
@@ -51,11 +52,7 @@ fn read_whole(alloc: Global, bytes: &[u8]) -> Result<Record, RecordFault>
 }
 
 #[tactic(auto, unfolding(crate::specs::Record::record_format))]
-fn read_front(
-    alloc: Global,
-    version: Version,
-    bytes: &[u8],
-) -> Result<(Record, &[u8]), RecordFault>
+fn read_front(alloc: Global, version: Version, bytes: &[u8]) -> Result<(Record, &[u8]), RecordFault>
     ensures { Gives (λ x. (x.0, x.1.now)) result ((record_format version).read bytes.now) }
 {
     let (kind, rest) = read_byte(bytes)?;

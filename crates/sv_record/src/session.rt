@@ -10,7 +10,8 @@ ghost use Rattle.sv_record.specs.declared.version.Version.TheVariants.{One};
 use crate::attributes::{read_attributes, write_attributes};
 use crate::fault::RecordFault;
 use crate::number::{
-    read_byte, read_bytes, read_flag, read_i32, read_u64, write_byte, write_flag, write_i32, write_u64,
+    read_byte, read_bytes, read_flag, read_i32, read_u64, write_byte, write_flag, write_i32,
+    write_u64,
 };
 use crate::version::Version;
 use std::alloc::{AllocError, Global};

@@ -7,9 +7,7 @@ ghost use Rattle.sv_record.specs.Record.{key_state};
 ghost use Rattle.sv_record.specs.declared.version.Version.TheVariants.{One};
 
 use crate::fault::RecordFault;
-use crate::number::{
-    read_byte, read_counting, read_node, write_byte, write_counting, write_node,
-};
+use crate::number::{read_byte, read_counting, read_node, write_byte, write_counting, write_node};
 use crate::session::{read_session, write_session};
 use crate::version::Version;
 use std::alloc::{AllocError, Global};

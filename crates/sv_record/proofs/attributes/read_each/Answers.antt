@@ -30,7 +30,7 @@ returns-in_err-name c =
     let item = attribute c.args.version in
     let p = err_from_is_err_and c.from_residual.result c.from_residual.ensures.1 in
     let read : Fails c.in_err-name.field-0.0 ((item before).read c.loop.rest.now) =
-        subst (λ (n : ℕ). Fails c.in_err-name.field-0.0 ((item (record { last = c.loop.last.now; total = n })).read c.loop.rest.now)) c.size.ensures c.in_err-name.ensures.read in
+    subst (λ (n : ℕ). Fails c.in_err-name.field-0.0 ((item (record { last = c.loop.last.now; total = n })).read c.loop.rest.now)) c.size.ensures c.in_err-name.ensures.read in
     rw (p.1, p.2) (ends item behind c.in_err-name.field-0.0 c.loop.attributes c.args.count c.loop.counter before c.loop.rest.now (reads item behind c.args.count at_first c.args.bytes.now) c.loop-test.true read c.loop.invariant.read)
 
 pub push-requires-clause-above : goal.push-requires-clause-above
@@ -49,7 +49,7 @@ loop-preserved c =
     let above = above_all c.loop.last.now name c.loop.attributes c.in_ok-name.ensures.rises c.loop.invariant.rises in
     let size : attributes_size (c.loop.attributes ++ (name, value) ∷ []) ≡ attributes_size c.loop.attributes + length name + length value = grown_size c.loop.attributes name value in
     let read : (item before).read c.loop.rest.now ≡ read_as (name, value) c.in_ok-name.next.now =
-        subst (λ (n : ℕ). (item (record { last = c.loop.last.now; total = n })).read c.loop.rest.now ≡ read_as (name, value) c.in_ok-name.next.now) c.size.ensures c.in_ok-name.ensures.read in
+    subst (λ (n : ℕ). (item (record { last = c.loop.last.now; total = n })).read c.loop.rest.now ≡ read_as (name, value) c.in_ok-name.next.now) c.size.ensures c.in_ok-name.ensures.read in
     rw (at_last, grown, size) (record {
       small = subst (λ (n : ℕ). n + length name + length value ≤ session_limit c.args.version) c.size.ensures c.in_ok-name.ensures.small;
       rises = up_to_next name value c.loop.attributes above;

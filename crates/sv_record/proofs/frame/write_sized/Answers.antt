@@ -17,6 +17,6 @@ overflow_cast-count c =
     let start : c.len-start.result ≡ length c.extend_from_slice.new.self.items = search rules in
     let end : c.len.result ≡ length c.write_payload.new.out.items = search rules in
     let sum : length c.write_payload.new.out.items ≡ length c.extend_from_slice.new.self.items + length (payload_of c.args.frame.now) =
-        ap (λ (l : List ℕ). length l) c.in_ok-write_payload.ensures.ok ∙ length-append c.extend_from_slice.new.self.items (payload_of c.args.frame.now) in
+    ap (λ (l : List ℕ). length l) c.in_ok-write_payload.ensures.ok ∙ length-append c.extend_from_slice.new.self.items (payload_of c.args.frame.now) in
     let small = payload_small c.args.frame.now c.in_ok-write_payload.ensures.fits in
     record { fits = omega (arith, start, end, sum, small) }

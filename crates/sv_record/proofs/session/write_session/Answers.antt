@@ -15,9 +15,25 @@ unfolding session
 returns-clause-fits c =
     let limits = c.requires in
     on_ok_weaker c.write_attributes.result
-    (λ texts.
-      (c.write_secret.ensures.fits, (c.write_context.ensures.fits, (c.write_u64.ensures.fits, (c.write_u64-2.ensures.fits, (c.write_i32.ensures.fits, (c.write_flag.ensures.fits,
-        attributes_fit c.args.held.now.attributes limits.count limits.named limits.names limits.values limits.size texts c.write_attributes.ensures.rising)))))))
+    (λ texts. (
+      c.write_secret.ensures.fits,
+      (
+        c.write_context.ensures.fits,
+        (
+          c.write_u64.ensures.fits,
+          (
+            c.write_u64-2.ensures.fits,
+            (
+              c.write_i32.ensures.fits,
+              (
+                c.write_flag.ensures.fits,
+                attributes_fit c.args.held.now.attributes limits.count limits.named limits.names limits.values limits.size texts c.write_attributes.ensures.rising,
+              ),
+            ),
+          ),
+        ),
+      ),
+    ))
     c.write_attributes.ensures.texts
 
 pub returns-clause-err : goal.returns-clause-err

@@ -1,0 +1,112 @@
+//! Records of each kind, and the commit of a first count byte by byte.
+
+use crate::RecordFault;
+use crate::tests::shown::record_text;
+use crate::tests::{KEY, SESSION, bytes_of, longer, record_again, record_fault};
+use std::test::Fail;
+
+/// The same session later, at context 15: no longer fresh, with a negative interval and no attributes.
+const BARE: &str =
+    "ff0000000000000000000000000000fe 0f 00000000000003e8 ffffffffffffffff ffffffff 00 0000";
+
+/// Each kind, spelled by hand by the table of the format.
+#[test]
+fn each_kind(rt: HostRuntime) -> Result<(), Fail> {
+    let alloc = rt.alloc();
+    let rows: [(&[&str], &str); 15] = [
+        (&["01 01 0000000000000005"], "boot 5"),
+        (
+            &["01 02 00 01", KEY, SESSION],
+            "commit none, 0.1 0-1/0/1000/1000/1800/true count=1",
+        ),
+        (
+            &["01 02 01", KEY, BARE, "00"],
+            "commit 0.1 255-254/15/1000/18446744073709551615/-1/false, none",
+        ),
+        (
+            &["01 02 02", KEY, "02 07 0000000000000100"],
+            "commit 0.1 ended, 7.256 ended",
+        ),
+        (&["01 02 00 02", KEY], "commit none, 0.1 ended"),
+        (
+            &["01 03 07 ffffffffffffffff"],
+            "expired 7.18446744073709551615",
+        ),
+        (
+            &["01 04", KEY, "0000000000000002 03", SESSION],
+            "sent 0.1 2 to 3 0-1/0/1000/1000/1800/true count=1",
+        ),
+        (
+            &["01 05", KEY, "0000000000000102 04", BARE],
+            "taken 0.1 258 from 4 255-254/15/1000/18446744073709551615/-1/false",
+        ),
+        (&["01 06", KEY, "0000000000000003"], "gone 0.1 3"),
+        (
+            &["01 07", KEY, "01 0000000000000001", SESSION],
+            "state 0.1 active 1 0-1/0/1000/1000/1800/true count=1",
+        ),
+        (
+            &["01 07", KEY, "02 0000000000000002 05", BARE],
+            "state 0.1 sent 2 to 5 255-254/15/1000/18446744073709551615/-1/false",
+        ),
+        (&["01 07", KEY, "03 0000000000000004"], "state 0.1 gone 4"),
+        (&["01 07", KEY, "04 0000000000000005"], "state 0.1 ended 5"),
+        (&["01 08 0000000000000000 0000000000000001"], "counters 0 1"),
+        (
+            &["01 08 0000000000000009 0000000000000a00"],
+            "counters 9 2560",
+        ),
+    ];
+    for (texts, want) in rows {
+        let bytes = bytes_of(alloc, texts)?;
+        let (record, again) = record_again(alloc, &bytes)?;
+        assert_eq!(rt; record_text(alloc, &record)?.as_str(), want);
+        assert_eq!(rt; again.as_slice(), bytes.as_slice(), "{want} again");
+        for end in 0..bytes.len() {
+            assert_eq!(rt;
+                record_fault(alloc, &bytes[..end]),
+                Some(RecordFault::Truncated),
+                "{want} cut at {end}"
+            );
+        }
+        assert_eq!(rt;
+            record_fault(alloc, &longer(alloc, &bytes)?),
+            Some(RecordFault::BadField),
+            "{want} and a byte more"
+        );
+    }
+    Ok(())
+}
+
+/// 4 bytes, a key of 9 and a session of 50.
+#[test]
+fn a_first_count_has_63_bytes(rt: HostRuntime) -> Result<(), Fail> {
+    let bytes = bytes_of(rt.alloc(), &["01 02 00 01", KEY, SESSION])?;
+    assert_eq!(rt; bytes.len(), 63);
+    Ok(())
+}
+
+/// Whatever one byte becomes, the bytes are a fault or the spelling of what is read.
+#[test]
+fn each_byte_of_a_first_count_changed(rt: HostRuntime) -> Result<(), Fail> {
+    let alloc = rt.alloc();
+    let mut bytes = bytes_of(alloc, &["01 02 00 01", KEY, SESSION])?;
+    let mut read = 0u64;
+    for at in 0..bytes.len() {
+        let was = bytes[at];
+        for value in 0..=255u8 {
+            bytes[at] = value;
+            match record_again(alloc, &bytes) {
+                Ok((_, again)) => {
+                    read = read.saturating_add(1);
+                    assert_eq!(rt; again.as_slice(), bytes.as_slice(), "{value} at {at}");
+                }
+                Err(fault) => assert!(rt; fault != RecordFault::Memory, "{value} at {at}"),
+            }
+        }
+        bytes[at] = was;
+    }
+    // Among them are the unchanged bytes, once for each place.
+    assert!(rt; read > 63);
+    Ok(())
+}
