@@ -12,7 +12,7 @@ ghost use Rattle.sv_record.specs.declared.fault.RecordFault.TheVariants.{BadFiel
 use crate::fault::RecordFault;
 use crate::key::{read_key, write_key};
 use crate::number::{read_byte, read_node, write_byte, write_node};
-use crate::packet::{read_packet, write_whole};
+use crate::packet::{read_packet, write_packet};
 use std::alloc::{AllocError, Global};
 use sv_model::key::Key;
 use sv_model::packet::Packet;
@@ -152,7 +152,7 @@ pub fn write_frame(frame: &Frame, out: &mut Vec<u8>) -> Result<(), AllocError>
     ensures err { OnErr result (out.new.items ≡ out.old.items) }
 {
     let len = out.len();
-    let written = write_sized(frame, out);
+    let written = write_whole(frame, out);
     if written.is_err() {
         out.truncate(len);
     }
@@ -160,7 +160,7 @@ pub fn write_frame(frame: &Frame, out: &mut Vec<u8>) -> Result<(), AllocError>
 }
 
 /// The payload is written behind the place of its length, which is filled in afterwards.
-fn write_sized(frame: &Frame, out: &mut Vec<u8>) -> Result<(), AllocError>
+fn write_whole(frame: &Frame, out: &mut Vec<u8>) -> Result<(), AllocError>
     requires { IsFrame frame.now }
     ensures ok { OnOk result (out.new.items ≡ out.old.items ++ spelling frame.now) }
     ensures fits { OnOk result (HasSpelling frame.now) }
@@ -192,7 +192,7 @@ fn write_payload(frame: &Frame, out: &mut Vec<u8>) -> Result<(), AllocError>
     ensures err { OnErr result (take (length out.old.items) out.new.items ≡ out.old.items) }
 {
     match frame {
-        Frame::Peer(packet) => write_whole(packet, out),
+        Frame::Peer(packet) => write_packet(packet, out),
         Frame::Move { key, to } => {
             write_byte(1, out)?;
             write_key(*key, out)?;

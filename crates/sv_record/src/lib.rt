@@ -1,5 +1,10 @@
-//! What a node keeps and sends, as bytes: the records of a journal, the packets between nodes, and the frames that packets
-//! and commands travel in.
+//! What a node keeps and sends, as bytes: the records of a journal, the packets between nodes, and the frames that
+//! packets and commands travel in.
+//!
+//! The floor of formats, above the plain data of `sv_model`. All numbers are big-endian, and a record or packet begins
+//! with its version. Contracts cite `specs/`: a `Format` is the spelling of a value, which values have one, and how
+//! bytes are read, with the first trouble in their order. `Record`, `Packet` and `Frame` are made of such formats, and
+//! `Ranges` says what may be written. Nothing here knows what a record does to a node, or reads a file or a connection.
 #![tactic(auto)]
 
 mod attribute;

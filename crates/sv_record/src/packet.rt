@@ -154,7 +154,7 @@ pub fn write_packet(packet: &Packet, out: &mut Vec<u8>) -> Result<(), AllocError
     written
 }
 
-pub(crate) fn write_whole(packet: &Packet, out: &mut Vec<u8>) -> Result<(), AllocError>
+fn write_whole(packet: &Packet, out: &mut Vec<u8>) -> Result<(), AllocError>
     requires { IsPacket packet.now }
     ensures ok { OnOk result (out.new.items ≡ out.old.items ++ spelling packet.now) }
     ensures fits { OnOk result (HasSpelling packet.now) }

@@ -79,6 +79,12 @@ fn record_again(alloc: Global, bytes: &[u8]) -> Result<(Record, Vec<u8>), Record
     Ok((record, again))
 }
 
+/// Whether the bytes are the spelling of the record that they are read as.
+fn is_spelled_again(alloc: Global, bytes: &[u8]) -> Result<bool, RecordFault> {
+    let (_, again) = record_again(alloc, bytes)?;
+    Ok(again.as_slice() == bytes)
+}
+
 /// A packet that is read, and its spelling.
 fn packet_again(alloc: Global, bytes: &[u8]) -> Result<(Packet, Vec<u8>), RecordFault> {
     let mut again = Vec::new(alloc);

@@ -1,7 +1,7 @@
 //! The limits of a session, from both sides: 64 attributes, names of 128 bytes, values of 4,096, and 32,768 in all.
 
 use crate::RecordFault;
-use crate::tests::{bytes_of, record_again, record_fault};
+use crate::tests::{bytes_of, is_spelled_again, record_fault};
 use std::alloc::Global;
 use std::test::Fail;
 
@@ -18,10 +18,10 @@ fn push_run(bytes: &mut Vec<u8>, byte: u8, count: u16) -> Result<(), Fail> {
     Ok(())
 }
 
-/// A record with attributes of these lengths of name and value; the first name is all `!`, the next all `"`.
-fn taken(alloc: Global, lengths: &[(u16, u16)]) -> Result<Vec<u8>, Fail> {
+/// A record that says `count` attributes, with these lengths of names and values; the first name is all `!`, the next
+/// one all `"`.
+fn taken(alloc: Global, count: u16, lengths: &[(u16, u16)]) -> Result<Vec<u8>, Fail> {
     let mut bytes = bytes_of(alloc, &[TAKEN])?;
-    let count = u16::try_from(lengths.len())?;
     bytes.extend_from_slice(&count.to_be_bytes())?;
     let mut letter = 0x20u8;
     for (name, value) in lengths {
@@ -35,76 +35,43 @@ fn taken(alloc: Global, lengths: &[(u16, u16)]) -> Result<Vec<u8>, Fail> {
 #[test]
 fn within_the_limits(rt: HostRuntime) -> Result<(), Fail> {
     let alloc = rt.alloc();
-    let eight = [(1, 4095); 8];
-    let many = [(1, 511); 64];
-    let rows: [(&[(u16, u16)], &str); 4] = [
-        (&[(128, 4096)], "the longest name and value"),
-        (&eight, "eight attributes of 4,096 bytes"),
-        (&many, "64 attributes of 512 bytes"),
-        (&[(1, 0)], "an empty value"),
+    let rows: [(u16, &[(u16, u16)], &str); 4] = [
+        (1, &[(128, 4096)], "the longest name and value"),
+        (8, &[(1, 4095); 8], "eight attributes of 4,096 bytes"),
+        (64, &[(1, 511); 64], "64 attributes of 512 bytes"),
+        (1, &[(1, 0)], "an empty value"),
     ];
-    for (lengths, what) in rows {
-        let bytes = taken(alloc, lengths)?;
-        let (_, again) = record_again(alloc, &bytes)?;
-        assert_eq!(rt; again.as_slice(), bytes.as_slice(), "{what}");
+    for (count, lengths, what) in rows {
+        let bytes = taken(alloc, count, lengths)?;
+        assert_eq!(rt; is_spelled_again(alloc, &bytes), Ok(true), "{what}");
     }
     Ok(())
 }
 
-/// A total is judged at the last byte of the length that takes it past its limit: the bytes end there.
+/// A total is judged at the last byte of the length that takes it past its limit: there the bytes end.
 #[test]
 fn past_the_limits(rt: HostRuntime) -> Result<(), Fail> {
     let alloc = rt.alloc();
-    let many = [(1, 0); 65];
-    let rows: [(&[(u16, u16)], &str); 4] = [
-        (&[(129, 0)], "a name of 129 bytes"),
-        (&[(1, 4097)], "a value of 4,097 bytes"),
-        (&[(0, 0)], "a name of no bytes"),
-        (&many, "65 attributes"),
+    let full = [(1, 4095); 8];
+    let rows: [(u16, &[(u16, u16)], &str, RecordFault); 8] = [
+        (1, &[], "0081", RecordFault::BadField),
+        (1, &[], "0000", RecordFault::BadField),
+        (1, &[], "0001 61 1001", RecordFault::BadField),
+        (1, &[], "0001 61 1000", RecordFault::Truncated),
+        (65, &[], "", RecordFault::BadField),
+        (9, &full, "00", RecordFault::Truncated),
+        (9, &full, "0001", RecordFault::BadField),
+        // Names and values of 28,672 bytes, a name of one and a value of 4,096.
+        (8, &[(1, 4095); 7], "0001 61 1000", RecordFault::BadField),
     ];
-    for (lengths, what) in rows {
-        let bytes = taken(alloc, lengths)?;
-        assert_eq!(rt;
-            record_fault(alloc, &bytes),
-            Some(RecordFault::BadField),
-            "{what}"
-        );
-    }
-    let full = taken(alloc, &[(1, 4095); 8])?;
-    let rows: [(&str, RecordFault); 2] = [
-        ("0001", RecordFault::BadField),
-        ("00", RecordFault::Truncated),
-    ];
-    for (behind, want) in rows {
-        let mut bytes = Vec::from_slice(alloc, &full)?;
+    for (count, lengths, behind, want) in rows {
+        let mut bytes = taken(alloc, count, lengths)?;
         bytes.extend_from_slice(&bytes_of(alloc, &[behind])?)?;
-        // The count stands behind 20 bytes of the record and 38 of the session.
-        bytes[59] = 9;
         assert_eq!(rt;
             record_fault(alloc, &bytes),
             Some(want),
-            "a ninth attribute with {behind}"
+            "{behind} as one of {count}"
         );
     }
-    let mut bytes = taken(
-        alloc,
-        &[
-            (1, 4095),
-            (1, 4095),
-            (1, 4095),
-            (1, 4095),
-            (1, 4095),
-            (1, 4095),
-            (1, 4095),
-            (1, 0),
-        ],
-    )?;
-    bytes.truncate(bytes.len() - 2);
-    bytes.extend_from_slice(&[0x10, 0x00])?;
-    assert_eq!(rt;
-        record_fault(alloc, &bytes),
-        Some(RecordFault::BadField),
-        "a byte past the total"
-    );
     Ok(())
 }

@@ -2,7 +2,7 @@ use Rattle.std.proofs.Common.{◌≡◌, ◌+◌, ◌++◌, List, ℕ, length, a
 use Rattle.sv_record.specs.Frame.{payload_of}
 use Rattle.sv_record.proofs.FrameLaws.{payload_small}
 use Rattle.sv_record.proofs.WrittenLemmas.{front_kept, on_err}
-use Rattle.sv_record.proofs.frame.write_sized.Goals as goal
+use Rattle.sv_record.proofs.frame.write_whole.Goals as goal
 
 pub returns-in_err-write_payload-clause-err : goal.returns-in_err-write_payload-clause-err
 returns-in_err-write_payload-clause-err c =
