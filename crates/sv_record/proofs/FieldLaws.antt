@@ -1,18 +1,17 @@
 -- The laws of each field, by its construction.
-use Rattle.std.proofs.Common.{◌≡◌, ℕ, ◌<◌, ◌^◌, ◌+◌, ◌&&◌, Bool, true, false, ltb, eqb, cond, List, length, Ok, refl, arith, ap, subst, sym, ◌∙◌}
-use Rattle.std.specs.Prelude.{ℤ, nat_lt, nat_le, nat_eq}
+use Rattle.std.proofs.Common.{◌≡◌, ℕ, ◌<◌, ◌^◌, ◌+◌, ◌&&◌, Bool, true, false, cond, List, length, Ok, refl, arith, ap, subst, sym, ◌∙◌}
+use Rattle.std.specs.Prelude.{ℤ, nat_lt, nat_eq}
 use Rattle.std.specs.Int.{w8, w16, w32, w64, to_be_bytes, cast_signed, cast_unsigned}
 use Rattle.std.specs.Int.RustNames.{FitsSigned}
 use Rattle.std.specs.Str.{is_utf8}
 use Rattle.std.proofs.lemmas.Bool.Decides.{nat_tests}
 use Rattle.std.proofs.lemmas.Int.{of_z-to_z, to_z-of_z}
 use Rattle.std.proofs.Math.Facts.{sfits_to_z, Fits-of_z}
-use Rattle.sv_model.specs.declared.key.Key.{Key}
 use Rattle.sv_model.specs.declared.session.TheConstants.{CONTEXT_LIMIT, ATTRIBUTE_LIMIT}
 use Rattle.sv_record.specs.declared.version.Version.{Version}
 use Rattle.sv_record.specs.declared.version.Version.TheVariants.{One}
 use Rattle.sv_record.specs.Reading.{◌>>=◌, Reading, number_at}
-use Rattle.sv_record.specs.Format.{Format, number, raw, chain, pair, such_that, seen_as, sized, counted}
+use Rattle.sv_record.specs.Format.{number, raw, pair, such_that, sized}
 use Rattle.sv_record.specs.Field.{long, counting, node, key, flag, signed}
 use Rattle.sv_record.specs.Version.{value_width}
 use Rattle.sv_record.specs.Session.{Before, at_first, behind, is_below, is_name_length, is_value_length, name, value, attribute, attributes, context, session}
@@ -114,4 +113,4 @@ session_lawful v =
     (pair_lawful long interval long_lawful
     (pair_lawful signed fresh signed_lawful
     (pair_lawful flag (attributes v) flag_lawful (attributes_lawful v)))))))
-    (λ a fits. refl) (λ s. refl)
+    (λ a fits. refl {a = a}) (λ s. refl {a = s})

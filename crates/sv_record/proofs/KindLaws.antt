@@ -1,5 +1,5 @@
 -- The laws of records and packets, kind by kind.
-use Rattle.std.proofs.Common.{◌≡◌, ℕ, ◌<◌, ◌++◌, List, length, Ok, refl, sym, ap, subst, ◌∙◌, lit<, not, ◌&&◌}
+use Rattle.std.proofs.Common.{◌≡◌, ℕ, ◌<◌, ◌++◌, List, Ok, refl, lit<, not, ◌&&◌}
 use Rattle.sv_model.specs.declared.record.Change.{Change}
 use Rattle.sv_model.specs.declared.record.Change.TheVariants.{Absent, Alive, Ended}
 use Rattle.sv_model.specs.declared.state.KeyState.{KeyState}
@@ -10,7 +10,7 @@ use Rattle.sv_model.specs.declared.packet.Packet.{Packet}
 use Rattle.sv_model.specs.declared.packet.Packet.TheVariants.{Want, Grant, Ack, No}
 use Rattle.sv_record.specs.declared.fault.RecordFault.TheVariants.{Foreign, BadField}
 use Rattle.sv_record.specs.declared.version.Version.{Version}
-use Rattle.sv_record.specs.Format.{nothing, pair, such_that, kind_at, no_kind, tagged}
+use Rattle.sv_record.specs.Format.{nothing, pair}
 use Rattle.sv_record.specs.Field.{long, counting, node, key}
 use Rattle.sv_record.specs.Session.{session}
 use Rattle.sv_record.specs.Record.{kind_of_change, change_fields, ChangeFits, change_by_kind, change, is_absent, commit, kind_of_state, state_fields, StateFits, state_by_kind, key_state, handover, record_format}

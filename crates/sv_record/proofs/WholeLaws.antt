@@ -11,7 +11,7 @@ use Rattle.std.specs.Prelude.{◌↔◌, IfOk}
 use Rattle.sv_record.specs.Reading.{◌>>=◌, Reading, IsBytes, Gives, number_at, ended}
 use Rattle.sv_record.specs.Format.{Format}
 use Rattle.sv_record.specs.Version.{version_at, written, whole}
-use Rattle.sv_record.proofs.FormatLaws.{AreBytes, are_bytes, bind_ok, held_ok, ok_is, Takes, Takes-then, Lawful, number_lawful, wide8}
+use Rattle.sv_record.proofs.FormatLaws.{AreBytes, are_bytes, bind_ok, held_ok, ok_is, Takes, Lawful, number_lawful, wide8}
 
 pub ended_ok : {A : Type 0} (x : A × List ℕ) (a : A) → ended x ≡ Ok a → (x.0 ≡ a) × (x.1 ≡ [])
 ended_ok x a e =

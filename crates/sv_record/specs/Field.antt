@@ -1,6 +1,6 @@
 -- The fields that stand in many places.
 use Rattle.std.specs.Prelude.{ℕ, ℤ, Bool, ◌==◌, nat_lt, if◌then◌else◌}
-use Rattle.std.specs.Int.{w8, w32, w64, byte_len, to_be_bytes, from_be_bytes, cast_signed, cast_unsigned}
+use Rattle.std.specs.Int.{w8, w32, w64, to_be_bytes, cast_signed, cast_unsigned}
 use Rattle.std.specs.Int.RustNames.{FitsSigned}
 use Rattle.sv_model.specs.declared.key.Key.{Key}
 use Rattle.sv_record.specs.Reading.{◌>>=◌, number_at}

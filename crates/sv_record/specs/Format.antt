@@ -1,5 +1,5 @@
 -- Formats: how a value is spelled, which values have a spelling, and how it is read.
-use Rattle.std.specs.Prelude.{◌≡◌, ◌<◌, ◌^◌, ◌*◌, ℕ, zero, suc, Bool, true, false, List, ◌++◌, [], ◌∷◌, length, Result, Ok, Err, nat_lt, ◌==◌, if◌then◌else◌}
+use Rattle.std.specs.Prelude.{◌≡◌, ◌<◌, ◌^◌, ◌*◌, ℕ, zero, suc, Bool, true, false, List, ◌++◌, [], ◌∷◌, length, Ok, Err, nat_lt, ◌==◌, if◌then◌else◌}
 use Rattle.std.specs.Int.{Width, w8, byte_len, to_be_bytes}
 use Rattle.sv_record.specs.declared.fault.RecordFault.{RecordFault}
 use Rattle.sv_record.specs.declared.fault.RecordFault.TheVariants.{BadField}

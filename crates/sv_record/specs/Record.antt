@@ -1,5 +1,5 @@
 -- The records of a journal: the version, the kind and the fields.
-use Rattle.std.specs.Prelude.{◌≡◌, ℕ, Bool, true, false, not, List, [], ◌∷◌, Result, ◌&&◌}
+use Rattle.std.specs.Prelude.{ℕ, Bool, true, false, not, List, [], Result, ◌&&◌}
 use Rattle.sv_model.specs.declared.key.Key.{Key}
 use Rattle.sv_model.specs.declared.session.Session.{Session}
 use Rattle.sv_model.specs.declared.state.KeyState.{KeyState}

@@ -1,13 +1,13 @@
-use Rattle.std.proofs.Common.{◌≡◌, ◌≤◌, ◌-◌, ◌+◌, ◌++◌, [], ◌∷◌, List, ℕ, Ok, length, sym, subst, ap, ◌∙◌, arith, rules}
+use Rattle.std.proofs.Common.{◌≡◌, ◌≤◌, ◌+◌, ◌++◌, [], ◌∷◌, List, ℕ, Ok, length, subst, arith, rules}
 use Rattle.std.proofs.lemmas.Result.{err_from_is_err_and}
-use Rattle.sv_model.specs.Attributes.{Attribute, attributes_size, IsAboveAll}
+use Rattle.sv_model.specs.Attributes.{Attribute, attributes_size}
 use Rattle.sv_model.proofs.AttributesLemmas.{attributes_size-nil, attributes_size-push}
 use Rattle.sv_record.specs.Reading.{Reading, Fails}
 use Rattle.sv_record.specs.Format.{reads}
 use Rattle.sv_record.specs.Version.{session_limit}
 use Rattle.sv_record.specs.Session.{Before, attribute, behind, at_first}
-use Rattle.sv_record.proofs.Loop.{with_front, starts, goes_on, ends}
-use Rattle.sv_record.proofs.Names.{UpTo, above_all, up_to_next}
+use Rattle.sv_record.proofs.Loop.{starts, goes_on, ends}
+use Rattle.sv_record.proofs.Names.{above_all, up_to_next}
 use Rattle.sv_record.proofs.attributes.read_each.Goals as goal
 
 abbrev read_as : Attribute → List ℕ → Reading Attribute

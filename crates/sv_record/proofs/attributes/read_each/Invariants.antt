@@ -1,4 +1,4 @@
-use Rattle.std.proofs.Common.{◌≡◌, ◌≤◌, ◌-◌, []}
+use Rattle.std.proofs.Common.{◌≡◌, ◌≤◌, ◌-◌}
 use Rattle.sv_model.specs.Attributes.{attributes_size}
 use Rattle.sv_record.specs.Format.{reads}
 use Rattle.sv_record.specs.Version.{session_limit}

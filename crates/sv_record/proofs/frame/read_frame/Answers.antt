@@ -1,4 +1,4 @@
-use Rattle.std.proofs.Common.{◌≡◌, ap, subst, ◌∙◌, arith}
+use Rattle.std.proofs.Common.{ap, subst, ◌∙◌, arith}
 use Rattle.sv_record.specs.Reading.{Gives}
 use Rattle.sv_record.specs.Frame.{frame_at}
 use Rattle.sv_record.proofs.FrameLaws.{frame_again, frame_found, frame_sized, frame_none, frame_within, front_is_none}

@@ -1,4 +1,4 @@
-use Rattle.std.proofs.Common.{◌≡◌, ◌+◌, ◌++◌, List, ℕ, length, ap, ◌∙◌, arith, rules, append_assoc, length-append}
+use Rattle.std.proofs.Common.{◌≡◌, ◌+◌, List, ℕ, length, ap, ◌∙◌, arith, rules, length-append}
 use Rattle.sv_record.specs.Frame.{payload_of}
 use Rattle.sv_record.proofs.FrameLaws.{payload_small}
 use Rattle.sv_record.proofs.WrittenLemmas.{front_kept, on_err}
