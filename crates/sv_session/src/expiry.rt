@@ -6,15 +6,16 @@ ghost use Rattle.sv_session.specs.Expiry.{joined};
 
 use sv_model::session::Session;
 
-/// Nothing has named the session for its interval, at `now` in whole seconds; one whose interval is 0 or less never
-/// expires.
+/// Whether no request has named the session for its interval, at `now` in whole seconds; where the interval is 0 or
+/// less it never expires.
 pub fn expired(session: &Session, now: u64) -> bool
     ensures { result ≡ is_expired session.now now }
 {
     session.is_expired(now)
 }
 
-/// Joins a session to a request that names it, at `now` in whole seconds.
+/// Joins a session to a request that names it, at `now` in whole seconds: it is no longer fresh, and its last request
+/// doesn't go back where the clock did.
 pub fn join(session: &mut Session, now: u64)
     ensures { session.new ≡ joined session.old now }
 {

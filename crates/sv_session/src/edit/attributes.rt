@@ -79,7 +79,7 @@ fn put(
 impl SessionEdit {
     /// The value of an attribute.
     ///
-    /// Without a session NoSession, and BadName where the name has not 1 to 128 bytes.
+    /// Refused as NoSession without a session, and then as BadName where the name is not of 1 to 128 bytes.
     #[tactic(auto, unfolding(crate::specs::Calls::get_result))]
     pub fn get(&self, name: &str) -> Result<Option<&[u8]>, SessionFault>
         ensures { seen_value result ≡ get_result self.entry.now name.now }
@@ -91,7 +91,7 @@ impl SessionEdit {
         Ok(session.attributes.get(name))
     }
 
-    /// The names of the attributes in order of their bytes; without a session NoSession.
+    /// The names of the attributes in order of their bytes; NoSession without a session.
     #[tactic(auto, unfolding(crate::specs::Calls::names_result))]
     pub fn names(&self) -> Result<Sequence<Text>, SessionFault>
         ensures { Gives (names_result self.entry.now) result }
@@ -100,7 +100,7 @@ impl SessionEdit {
         Ok(session.attributes.names(self.alloc)?)
     }
 
-    /// A value can be set at a name.
+    /// The tests that a value and its name have to pass before memory is taken for them.
     #[tactic(auto, unfolding(crate::specs::Calls::value_result))]
     fn admits(&self, name: &str, value: &[u8]) -> Result<(), SessionFault>
         ensures { Admits (value_result self.entry.now name.now value.now) result }
@@ -137,12 +137,12 @@ impl SessionEdit {
         Ok(())
     }
 
-    /// Sets an attribute to a value, which is told as Added or as Replaced with the old value; no value removes the
-    /// attribute.
+    /// Sets an attribute to a value, which is told as Added with the value, or as Replaced with the old one; no value
+    /// removes the attribute.
     ///
-    /// The first of these is told: NoSession; BadName where the name has not 1 to 128 bytes; ValueTooLong past 4,096
-    /// bytes; SessionTooLarge where the session would have more than 64 attributes, or names and values of more
-    /// than 32,768 bytes in all.
+    /// Refused as the first of these: NoSession; BadName where the name is not of 1 to 128 bytes; ValueTooLong past
+    /// 4,096 bytes; SessionTooLarge where the session would have more than 64 attributes, or names and values of
+    /// more than 32,768 bytes in all; Memory.
     pub fn set(&mut self, name: &str, value: Option<&[u8]>) -> Result<(), SessionFault>
         ensures { Answers self.old (set_result self.old name.now (option_copied value.entry)) result self.new }
     {
@@ -152,10 +152,10 @@ impl SessionEdit {
         }
     }
 
-    /// Removes an attribute, which is told as Removed with the value that it had; nothing is told where there is
-    /// none.
+    /// Removes an attribute, which is told as Removed with the value that it had; where there is none nothing is
+    /// told, and no memory is taken.
     ///
-    /// Without a session NoSession, and BadName where the name has not 1 to 128 bytes.
+    /// Refused as the first of these: NoSession; BadName where the name is not of 1 to 128 bytes; Memory.
     #[tactic(auto, unfolding(crate::specs::Calls::remove_result, crate::specs::Edit::held_of))]
     pub fn remove(&mut self, name: &str) -> Result<(), SessionFault>
         ensures { Answers self.old (remove_result self.old name.now) result self.new }

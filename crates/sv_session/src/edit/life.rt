@@ -25,7 +25,7 @@ impl SessionEdit {
         }
     }
 
-    /// No request has named the session yet; without a session NoSession.
+    /// Whether no request has named the session yet; NoSession without a session.
     #[tactic(auto, unfolding(crate::specs::Calls::new_result))]
     pub fn is_new(&self) -> Result<bool, SessionFault>
         ensures { result ≡ new_result self.entry.now }
@@ -36,8 +36,8 @@ impl SessionEdit {
         }
     }
 
-    /// Sets the seconds without a request after which the session expires, never where they are 0 or less; without
-    /// a session NoSession.
+    /// Sets the seconds without a request after which the session expires, never where they are 0 or less;
+    /// NoSession without a session. It is not told.
     #[tactic(auto, unfolding(crate::specs::Calls::interval_result, crate::specs::Edit::held_of))]
     pub fn set_interval(&mut self, seconds: i32) -> Result<(), SessionFault>
         ensures answer { Answers self.old (interval_result self.old seconds) result self.new }
@@ -56,7 +56,7 @@ impl SessionEdit {
         }
     }
 
-    /// Ends the session, which is told as Destroyed alone; without a session NoSession.
+    /// Ends the session, which is told as Destroyed alone, whatever attributes it has; NoSession without a session.
     #[tactic(auto, unfolding(crate::specs::Calls::invalidate_result, crate::specs::Edit::held_of))]
     pub fn invalidate(&mut self) -> Result<(), SessionFault>
         ensures { Answers self.old (invalidate_result self.old) result self.new }
@@ -80,9 +80,9 @@ impl SessionEdit {
         }
     }
 
-    /// Makes a session where none is held, which is told as Created.
+    /// Makes a session where none is held, which is told as Created, and answers whether it made one.
     ///
-    /// The answer is that one was made. Where the request has made one before and none is held, SecondCreation.
+    /// Refused as SecondCreation where none is held and the request has made one before, also one that has ended.
     #[tactic(auto, unfolding(crate::specs::Calls::create_result))]
     pub fn create(&mut self) -> Result<bool, SessionFault>
         ensures { Answers self.old (create_result self.old) result self.new }
