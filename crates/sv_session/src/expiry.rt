@@ -16,7 +16,7 @@ pub fn expired(session: &Session, now: u64) -> bool
 
 /// Joins a session to a request that names it, at `now` in whole seconds: it is no longer fresh, and its last request
 /// doesn't go back where the clock did.
-pub fn join(session: &mut Session, now: u64)
+pub fn join_request(session: &mut Session, now: u64)
     ensures { session.new ≡ joined session.old now }
 {
     session.last = session.last.max(now);

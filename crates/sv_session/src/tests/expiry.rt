@@ -1,7 +1,7 @@
 //! When sessions expire, and how they are joined to a request.
 
 use super::session;
-use crate::expiry::{expired, join};
+use crate::expiry::{expired, join_request};
 
 const LATEST: u64 = u64::MAX;
 
@@ -53,7 +53,7 @@ fn sessions_are_joined(rt: HostRuntime) {
         let mut session = session(rt.alloc());
         session.last = last;
         session.fresh = true;
-        join(&mut session, now);
+        join_request(&mut session, now);
         assert_eq!(rt; session.last, want, "last {last}, joined at {now}");
         assert!(rt; !session.fresh, "last {last}, joined at {now}");
         assert_eq!(rt; session.created, 1_000);
