@@ -1,5 +1,5 @@
 -- A value within the ranges has a spelling.
-use Rattle.std.proofs.Common.{◌≡◌, ℕ, ◌+◌, ◌<◌, ◌≤◌, Bool, true, false, ◌&&◌, not, List, [], ◌∷◌, length, refl, ap, arith}
+use Rattle.std.proofs.Common.{◌≡◌, ℕ, ◌+◌, ◌<◌, ◌≤◌, ◌^◌, lit<, Bool, true, false, ◌&&◌, not, List, [], ◌∷◌, length, refl, ap, arith}
 use Rattle.std.specs.Prelude.{All, nat_lt, nat_le}
 use Rattle.std.specs.List.{AllByRecursion}
 use Rattle.std.specs.Ordering.{is_lt}
@@ -22,7 +22,9 @@ use Rattle.sv_model.specs.declared.packet.Packet.{Packet}
 use Rattle.sv_model.specs.declared.packet.Packet.TheVariants.{Want, Grant, Ack, No}
 use Rattle.sv_model.specs.declared.session.TheConstants.{CONTEXT_LIMIT, ATTRIBUTE_LIMIT, NAME_LIMIT, VALUE_LIMIT, SESSION_LIMIT}
 use Rattle.sv_model.proofs.AttributesLemmas.{NamesRise-head, NamesRise-tail, attributes_size-cons, attributes_size-nil}
+use Rattle.sv_record.specs.declared.version.Version.{Version}
 use Rattle.sv_record.specs.declared.version.Version.TheVariants.{One}
+use Rattle.sv_record.specs.Version.{session_limit}
 use Rattle.sv_record.specs.Format.{FitAll}
 use Rattle.sv_record.specs.Session.{Attribute, Before, at_first, behind, is_below, is_name_length, is_value_length, name, value, attribute, attributes, context, session}
 use Rattle.sv_record.specs.declared.frame.Frame.{Frame}
@@ -205,3 +207,6 @@ frame_range (Peer p) fits = packet_range p fits
 frame_range (Move k to) fits = (key_range k fits.0, node_range to fits.1)
 frame_range Tick fits = tt
 frame_range Halt fits = tt
+
+pub session_limit_small : (v : Version) → session_limit v < 2 ^ 32
+session_limit_small One = lit< tt

@@ -1,11 +1,10 @@
 -- The fields that stand in many places.
-use Rattle.std.specs.Prelude.{ℕ, ℤ, Bool, ◌==◌, nat_lt, if◌then◌else◌}
+use Rattle.std.specs.Prelude.{ℕ, ℤ, Bool, Ok, ◌==◌, nat_lt, if◌then◌else◌}
 use Rattle.std.specs.Int.{w8, w32, w64, to_be_bytes, cast_signed, cast_unsigned}
 use Rattle.std.specs.Int.RustNames.{FitsSigned}
 use Rattle.sv_model.specs.declared.key.Key.{Key}
 use Rattle.sv_record.specs.Reading.{◌>>=◌, number_at}
 use Rattle.sv_record.specs.Format.{Format, number, pair, such_that, seen_as}
-use Rattle.std.specs.Prelude.{Ok}
 
 -- a number of 8 bytes: a boot, a want, a moment in seconds
 unfoldable pub long : Format ℕ
@@ -15,11 +14,11 @@ long = number w64
 unfoldable pub counting : Format ℕ
 counting = such_that long (λ n. nat_lt 0 n)
 
--- the number of a node
+-- the number of a node, below 8
 unfoldable pub node : Format ℕ
 node = such_that (number w8) (λ n. nat_lt n 8)
 
--- a session's name in the cluster
+-- a session's name in the cluster: its home and its serial
 unfoldable pub key : Format Key
 key = seen_as (pair node counting) (λ p. record { home = p.0; serial = p.1 }) (λ k. (k.home, k.serial))
 

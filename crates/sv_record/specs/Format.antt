@@ -1,10 +1,11 @@
--- Formats: how a value is spelled, which values have a spelling, and how it is read.
+-- Formats, and the ways to make one of others.
 use Rattle.std.specs.Prelude.{◌≡◌, ◌<◌, ◌^◌, ◌*◌, ℕ, zero, suc, Bool, true, false, List, ◌++◌, [], ◌∷◌, length, Ok, Err, nat_lt, ◌==◌, if◌then◌else◌}
 use Rattle.std.specs.Int.{Width, w8, byte_len, to_be_bytes}
 use Rattle.sv_record.specs.declared.fault.RecordFault.{RecordFault}
 use Rattle.sv_record.specs.declared.fault.RecordFault.TheVariants.{BadField}
 use Rattle.sv_record.specs.Reading.{◌>>=◌, Reading, number_at, bytes_at}
 
+-- how a value is spelled, which values have a spelling, and what reading gives
 pub record Format (A : Type 0) : Type 1 where
   pub text : A → List ℕ
   pub Fits : A → Type 0
@@ -64,10 +65,12 @@ module _ {S A : Type 0} (item : S → Format A) (next : S → A → S) where
   texts s [] = []
   texts s (x ∷ xs) = (item s).text x ++ texts (next s x) xs
 
+  -- each fits in its state
   abbrev pub FitAll : S → List A → Type 0
   FitAll s [] = Unit {0}
   FitAll s (x ∷ xs) = (item s).Fits x × FitAll (next s x) xs
 
+  -- so many of them
   abbrev pub reads : ℕ → S → List ℕ → Reading (List A)
   reads zero s bytes = Ok ([], bytes)
   reads (suc n) s bytes = (item s).read bytes >>= λ a. reads n (next s a.0) a.1 >>= λ b. Ok (a.0 ∷ b.0, b.1)

@@ -15,7 +15,7 @@ use Rattle.sv_record.specs.Packet as packet
 abbrev pub envelope : ℕ → List ℕ → List ℕ
 envelope first payload = first ∷ to_be_bytes w32 (length payload) ++ payload
 
--- the first byte says from whom the payload is
+-- the first byte says what the payload is
 abbrev pub first_of : Frame → ℕ
 first_of (Peer p) = PEER
 first_of (Move k to) = CONTROL
@@ -40,6 +40,7 @@ HasSpelling (Move k to) = (pair key node).Fits (k, to)
 HasSpelling Tick = Unit {0}
 HasSpelling Halt = Unit {0}
 
+-- reading a command's fields; another kind is foreign
 abbrev pub command_by_kind : ByKind Frame
 command_by_kind =
     kind_at 1 (pair key node) (λ x. Move x.0 x.1) (
@@ -47,11 +48,11 @@ command_by_kind =
     kind_at 3 nothing (λ _. Halt) (
     no_kind Foreign)))
 
--- what all of a command's payload is
+-- the command that all of a payload is
 unfoldable pub command_at : List ℕ → Result Frame RecordFault
 command_at payload = number_at w8 payload >>= λ kind. command_by_kind kind.0 kind.1 >>= ended
 
--- what all of a payload is
+-- what all of a payload is behind this first byte
 unfoldable pub payload_at : ℕ → List ℕ → Result Frame RecordFault
 payload_at first payload = if first == PEER then (packet.packet_of payload >>= λ p. Ok (Peer p)) else command_at payload
 

@@ -25,30 +25,36 @@ errand = pair key (pair long long)
 abbrev pub asked : Format ((ℕ × ℕ) × (Key × (ℕ × ℕ)))
 asked = pair ends errand
 
+-- a session that is handed over, and its epoch
 abbrev pub granted : Version → Format ((ℕ × ℕ) × (Key × (ℕ × Session)))
 granted v = pair ends (pair key (pair counting (session v)))
 
+-- a session that was taken, and its epoch
 abbrev pub acknowledged : Format ((ℕ × ℕ) × (Key × ℕ))
 acknowledged = pair ends (pair key counting)
 
+-- the kinds of packets
 abbrev pub kind_of : Packet → ℕ
 kind_of (Want from to k boot want) = 1
 kind_of (Grant from to k e s) = 2
 kind_of (Ack from to k e) = 3
 kind_of (No from to k boot want) = 4
 
+-- what stands behind the kind
 abbrev pub fields : Version → Packet → List ℕ
 fields v (Want from to k boot want) = asked.text ((from, to), (k, (boot, want)))
 fields v (Grant from to k e s) = (granted v).text ((from, to), (k, (e, s)))
 fields v (Ack from to k e) = acknowledged.text ((from, to), (k, e))
 fields v (No from to k boot want) = asked.text ((from, to), (k, (boot, want)))
 
+-- the packets whose fields have a spelling
 abbrev pub FieldsFit : Version → Packet → Type 0
 FieldsFit v (Want from to k boot want) = asked.Fits ((from, to), (k, (boot, want)))
 FieldsFit v (Grant from to k e s) = (granted v).Fits ((from, to), (k, (e, s)))
 FieldsFit v (Ack from to k e) = acknowledged.Fits ((from, to), (k, e))
 FieldsFit v (No from to k boot want) = asked.Fits ((from, to), (k, (boot, want)))
 
+-- reading the fields; another kind is foreign
 abbrev pub by_kind : Version → ByKind Packet
 by_kind v =
     kind_at 1 asked (λ x. Want x.0.0 x.0.1 x.1.0 x.1.1.0 x.1.1.1) (
@@ -57,6 +63,7 @@ by_kind v =
     kind_at 4 asked (λ x. No x.0.0 x.0.1 x.1.0 x.1.1.0 x.1.1.1) (
     no_kind Foreign))))
 
+-- a packet behind its version
 unfoldable pub packet_format : Version → Format Packet
 packet_format v = tagged kind_of (fields v) (FieldsFit v) (by_kind v)
 
@@ -68,6 +75,6 @@ spelling = written packet_format
 abbrev pub HasSpelling : Packet → Type 0
 HasSpelling = (packet_format One).Fits
 
--- what all of the bytes are
+-- the packet that all of the bytes are, or the first trouble
 abbrev pub packet_of : List ℕ → Result Packet RecordFault
 packet_of = whole packet_format

@@ -23,16 +23,19 @@ kind_of_change Absent = 0
 kind_of_change (Alive k s) = 1
 kind_of_change (Ended k) = 2
 
+-- what stands behind that kind
 abbrev pub change_fields : Version → Change → List ℕ
 change_fields v Absent = []
 change_fields v (Alive k s) = (pair key (session v)).text (k, s)
 change_fields v (Ended k) = key.text k
 
+-- the changes whose fields have a spelling
 abbrev pub ChangeFits : Version → Change → Type 0
 ChangeFits v Absent = Unit {0}
 ChangeFits v (Alive k s) = (pair key (session v)).Fits (k, s)
 ChangeFits v (Ended k) = key.Fits k
 
+-- reading them; another kind is a field out of its range
 abbrev pub change_by_kind : Version → ByKind Change
 change_by_kind v =
     kind_at 0 nothing (λ _. Absent) (
@@ -40,9 +43,11 @@ change_by_kind v =
     kind_at 2 key Ended (
     no_kind BadField)))
 
+-- a change
 unfoldable pub change : Version → Format Change
 change v = tagged kind_of_change (change_fields v) (ChangeFits v) (change_by_kind v)
 
+-- there is no key, or nothing has changed
 abbrev pub is_absent : Change → Bool
 is_absent Absent = true
 is_absent (Alive k s) = false
@@ -59,18 +64,21 @@ kind_of_state (kept.Sent e s to) = 2
 kind_of_state (kept.Gone e) = 3
 kind_of_state (kept.Ended e) = 4
 
+-- what stands behind that kind
 abbrev pub state_fields : Version → KeyState → List ℕ
 state_fields v (kept.Active e s) = (pair counting (session v)).text (e, s)
 state_fields v (kept.Sent e s to) = (pair counting (pair node (session v))).text (e, (to, s))
 state_fields v (kept.Gone e) = counting.text e
 state_fields v (kept.Ended e) = counting.text e
 
+-- the states whose fields have a spelling
 abbrev pub StateFits : Version → KeyState → Type 0
 StateFits v (kept.Active e s) = (pair counting (session v)).Fits (e, s)
 StateFits v (kept.Sent e s to) = (pair counting (pair node (session v))).Fits (e, (to, s))
 StateFits v (kept.Gone e) = counting.Fits e
 StateFits v (kept.Ended e) = counting.Fits e
 
+-- reading them; another kind is a field out of its range
 abbrev pub state_by_kind : Version → ByKind KeyState
 state_by_kind v =
     kind_at 1 (pair counting (session v)) (λ x. kept.Active x.0 x.1) (
@@ -79,6 +87,7 @@ state_by_kind v =
     kind_at 4 counting kept.Ended (
     no_kind BadField))))
 
+-- a state
 unfoldable pub key_state : Version → Format KeyState
 key_state v = tagged kind_of_state (state_fields v) (StateFits v) (state_by_kind v)
 
@@ -86,6 +95,7 @@ key_state v = tagged kind_of_state (state_fields v) (StateFits v) (state_by_kind
 abbrev pub handover : Version → Format (Key × (ℕ × (ℕ × Session)))
 handover v = pair key (pair counting (pair node (session v)))
 
+-- the kinds of records
 abbrev pub kind_of : Record → ℕ
 kind_of (Boot b) = 1
 kind_of (Commit named born) = 2
@@ -96,6 +106,7 @@ kind_of (Gone k e) = 6
 kind_of (State k s) = 7
 kind_of (Counters b next) = 8
 
+-- what stands behind the kind
 abbrev pub fields : Version → Record → List ℕ
 fields v (Boot b) = counting.text b
 fields v (Commit named born) = (commit v).text (named, born)
@@ -106,6 +117,7 @@ fields v (Gone k e) = (pair key counting).text (k, e)
 fields v (State k s) = (pair key (key_state v)).text (k, s)
 fields v (Counters b next) = (pair long counting).text (b, next)
 
+-- the records whose fields have a spelling
 abbrev pub FieldsFit : Version → Record → Type 0
 FieldsFit v (Boot b) = counting.Fits b
 FieldsFit v (Commit named born) = (commit v).Fits (named, born)
@@ -116,6 +128,7 @@ FieldsFit v (Gone k e) = (pair key counting).Fits (k, e)
 FieldsFit v (State k s) = (pair key (key_state v)).Fits (k, s)
 FieldsFit v (Counters b next) = (pair long counting).Fits (b, next)
 
+-- reading the fields; another kind is foreign
 abbrev pub by_kind : Version → ByKind Record
 by_kind v =
     kind_at 1 counting Boot (
@@ -128,6 +141,7 @@ by_kind v =
     kind_at 8 (pair long counting) (λ x. Counters x.0 x.1) (
     no_kind Foreign))))))))
 
+-- a record behind its version
 unfoldable pub record_format : Version → Format Record
 record_format v = tagged kind_of (fields v) (FieldsFit v) (by_kind v)
 
@@ -139,6 +153,6 @@ spelling = written record_format
 abbrev pub HasSpelling : Record → Type 0
 HasSpelling = (record_format One).Fits
 
--- what all of the bytes are
+-- the record that all of the bytes are, or the first trouble
 abbrev pub record_of : List ℕ → Result Record RecordFault
 record_of = whole record_format

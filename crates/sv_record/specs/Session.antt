@@ -20,9 +20,11 @@ pub record Before : Type 0 where
   pub last : List ℕ
   pub total : ℕ
 
+-- before the first attribute
 abbrev pub at_first : Before
 at_first = record { last = []; total = 0 }
 
+-- behind one more attribute
 abbrev pub behind : Before → Attribute → Before
 behind before a = record { last = a.0; total = before.total + length a.0 + length a.1 }
 
@@ -42,15 +44,19 @@ is_value_length v total n = nat_le n (value_limit v) && nat_le (total + n) (sess
 unfoldable pub name : Version → Before → Format (List ℕ)
 name v before = such_that (sized w16 (is_name_length v before.total)) (λ text. is_utf8 text && is_below before.last text)
 
+-- a value behind so many bytes of names and values
 unfoldable pub value : Version → ℕ → Format (List ℕ)
 value v total = sized (value_width v) (is_value_length v total)
 
+-- a name and its value
 unfoldable pub attribute : Version → Before → Format Attribute
 attribute v before = chain (name v before) (λ text. value v (before.total + length text))
 
+-- a count, and the attributes in order of their names
 unfoldable pub attributes : Version → Format (List Attribute)
 attributes v = counted w16 ATTRIBUTE_LIMIT at_first (attribute v) behind
 
+-- the number of a context
 unfoldable pub context : Format ℕ
 context = such_that (number w8) (λ n. nat_lt n CONTEXT_LIMIT)
 

@@ -36,6 +36,7 @@ pub(crate) fn read_attributes(
     read_each(alloc, version, count, rest)
 }
 
+/// So many attributes, each with its name above the one before.
 fn read_each(
     alloc: Global,
     version: Version,
@@ -44,7 +45,6 @@ fn read_each(
 ) -> Result<(Attributes, &[u8]), RecordFault>
     ensures { Gives (λ x. (x.0, x.1.now)) result (reads (attribute version) behind count at_first bytes.now) }
 {
-    let limit = version.session_limit();
     let mut attributes = Attributes::new(alloc);
     let mut last: &[u8] = &[];
     let mut rest = bytes;

@@ -71,7 +71,7 @@ pub(crate) fn read_counting(bytes: &[u8]) -> Result<(u64, &[u8]), RecordFault>
     Ok((number, rest))
 }
 
-/// The number of a node.
+/// The number of a node, below 8.
 #[tactic(auto, unfolding(crate::specs::Field::node))]
 pub(crate) fn read_node(bytes: &[u8]) -> Result<(u8, &[u8]), RecordFault>
     ensures { Gives (λ x. (x.0, x.1.now)) result (node.read bytes.now) }

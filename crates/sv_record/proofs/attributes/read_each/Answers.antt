@@ -1,4 +1,4 @@
-use Rattle.std.proofs.Common.{◌≡◌, ◌≤◌, ◌+◌, ◌++◌, [], ◌∷◌, List, ℕ, Ok, length, subst, arith, rules}
+use Rattle.std.proofs.Common.{◌≡◌, ◌≤◌, ◌+◌, ◌++◌, [], ◌∷◌, List, ℕ, Ok, length, ap, subst, arith, rules}
 use Rattle.std.proofs.lemmas.Result.{err_from_is_err_and}
 use Rattle.sv_model.specs.Attributes.{Attribute, attributes_size}
 use Rattle.sv_model.proofs.AttributesLemmas.{attributes_size-nil, attributes_size-push}
@@ -7,6 +7,7 @@ use Rattle.sv_record.specs.Format.{reads}
 use Rattle.sv_record.specs.Version.{session_limit}
 use Rattle.sv_record.specs.Session.{Before, attribute, behind, at_first}
 use Rattle.sv_record.proofs.Loop.{starts, goes_on, ends}
+use Rattle.sv_record.proofs.RangeLemmas.{session_limit_small}
 use Rattle.sv_record.proofs.Names.{above_all, up_to_next}
 use Rattle.sv_record.proofs.attributes.read_each.Goals as goal
 
@@ -55,3 +56,10 @@ loop-preserved c =
       rises = up_to_next name value c.loop.attributes above;
       read = goes_on item behind c.loop.attributes c.args.count c.loop.counter before c.loop.rest.now (name, value) c.in_ok-name.next.now (reads item behind c.args.count at_first c.args.bytes.now) c.loop-test.true read c.loop.invariant.read;
     })
+
+pub push-requires-clause-fits : goal.push-requires-clause-fits
+push-requires-clause-fits c =
+    let limit = session_limit_small c.args.version in
+    let name : length c.in_ok-from_str.field-0 ≡ length c.in_ok-name.name.now = ap (λ (l : List ℕ). length l) c.in_ok-from_str.ensures in
+    let value : length c.from_vec.result ≡ length c.in_ok-name.value.now = search rules in
+    omega (arith, limit, c.in_ok-name.ensures.small, c.size.ensures, name, value)
