@@ -1,8 +1,8 @@
 //! A connection: bytes in, one step of a site, bytes out (RFC 9112).
 //!
 //! Stands on the reader of requests and the text of responses. [`connection::Connection`] cites one definition
-//! over the bytes that are unread and written and the site's own step, [`solo::Solo`] the step of one node that
-//! keeps no session. Nothing here knows servlets, sockets or other nodes.
+//! over the bytes that are unread and written and the site's own step, [`solo::Solo`] the step of a node for one
+//! node and no others. Nothing here knows servlets, sockets or other nodes.
 #![tactic(auto)]
 
 mod answer;
