@@ -4,3 +4,5 @@ mod ServeLemmas
 mod QuietLemmas
 mod TableLemmas
 mod SoloLemmas
+mod FollowLemmas
+mod TraceLemmas

@@ -1,4 +1,5 @@
 -- A step of a node alone, put together.
+use Rattle.std.specs.Option.{option_to_list}
 use Rattle.std.proofs.Common.{◌≡◌, ℕ, zero, suc, ◌+◌, ◌<◌, ◌≤◌, Bool, true, false, cond, Option, Some, None, List, [], ◌∷◌, ◌++◌, length, refl, sym, ap, ◌∙◌, subst, ⊎_elim, ◌⊎◌}
 use Rattle.std.specs.Prelude.{slice_get, slice_set, not, nat_lt, nat_le, ◌==◌, ◌&&◌, ◌||◌, IfSome, position}
 use Rattle.std.proofs.lemmas.List.{length-set}
@@ -25,7 +26,7 @@ use Rattle.sv_model.specs.declared.output.Cause.{Cause}
 use Rattle.sv_model.specs.Engine.{EngineMeaning, heard_all}
 use Rattle.sv_model.specs.Node.{held_in, no_birth, answer_of, answered, answered_unless, refused, served, on_ask, on_tick, on_move, on_packet, is_ours, on_ours, idle, sender, addressee, expire, first_over, grant_again, fresh_of, kept_with, last, move_refused, hands_over, Node, Decision}
 use Rattle.sv_model.specs.Step.{IsStep, left, told}
-use Rattle.sv_connection.specs.Table.{own_key, numbered, told_end, keys_of, IsPlace, fated_at, born_behind, is_past, without_at, end_at, option_list, alone, node_of, refusal_for}
+use Rattle.sv_connection.specs.Table.{own_key, numbered, told_end, keys_of, IsPlace, fated_at, born_behind, is_past, without_at, end_at, alone, node_of, refusal_for}
 use Rattle.sv_connection.specs.Solo.{view_at}
 use Rattle.std.proofs.Common.{arith}
 use Rattle.sv_connection.proofs.TableLemmas.{kept, asks, fresh_is, or_right, over, no_grants, put_own, entries_are}
@@ -75,7 +76,7 @@ abbrev pub IsTick : EngineMeaning → List (Option Session) → List (List ℕ) 
 IsTick m xs heard now place =
     IsStep (view_at m xs heard) (on_tick alone (node_of xs) now) [] (view_at m (without_at place xs) (heard_all m heard (end_at place xs)))
 
-ended_node : (xs : List (Option Session)) (place : ℕ) → place < length xs
+pub ended_node : (xs : List (Option Session)) (place : ℕ) → place < length xs
     → ◌≡◌ {A = Node} (record { durable = record { keys = insert (keys_of xs) (own_key (place + 1)) (Ended 1); boot = 1; next = length xs + 1 }; parked = []; want = 1 }) (node_of (slice_set xs place None))
 ended_node xs place less = λ i. record { durable = record { keys = sym (put_own xs place None less) i; boot = 1; next = sym (length-set xs place None) i + 1 }; parked = []; want = 1 }
 
@@ -115,7 +116,7 @@ ticks m xs heard now = ⊎_elim
 
 -- what the code has done at a tick
 pub ticked : (m : EngineMeaning) (xs zs ys : List (Option Session)) (heard noted : List (List ℕ)) (now : ℕ) (new : EngineMeaning) (ended : Option Told) (tells : List Told) (outputs : List Output)
-    → zs ≡ xs → ys ≡ without_at (position (is_past now) zs) zs → option_list ended ≡ end_at (position (is_past now) zs) zs → tells ≡ option_list ended → new ≡ m
+    → zs ≡ xs → ys ≡ without_at (position (is_past now) zs) zs → option_to_list ended ≡ end_at (position (is_past now) zs) zs → tells ≡ option_to_list ended → new ≡ m
     → noted ≡ heard_all m heard tells → outputs ≡ [] → IsStep (view_at m xs heard) (on_tick alone (node_of xs) now) outputs (view_at new ys noted)
 ticked m xs zs ys heard noted now new ended tells outputs same behind ends listed meaning notes none =
     let done : IsTick m xs heard now (position (is_past now) xs) = ticks m xs heard now in

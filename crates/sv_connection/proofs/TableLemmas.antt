@@ -103,6 +103,10 @@ get_foreign q xs foreign =
     get-from_sorted key_cmp (numbered 1 xs) q (sorted 1 xs)
     ∙ find_other 1 q xs (λ i is. foreign i (is ∙ ap own_key (let same : 1 + i ≡ i + 1 = omega arith in same)))
 
+-- nothing is known at the beginning
+pub get_nothing : (q : Key) → get (keys_of []) q ≡ None
+get_nothing q = get-from_sorted key_cmp [] q tt
+
 serial_cases : (s : ℕ) → (s ≡ 0) ⊎ ((i : ℕ) × (s ≡ i + 1))
 serial_cases zero = inl refl
 serial_cases (suc i) = inr (i, omega arith)

@@ -84,10 +84,6 @@ abbrev pub without_at : Option ℕ → List (Option Session) → List (Option Se
 without_at None sessions = sessions
 without_at (Some place) sessions = slice_set sessions place None
 
-abbrev pub option_list : {A : Type 0} → Option A → List A
-option_list None = []
-option_list (Some x) = x ∷ []
-
 -- what listeners are told of a session's end
 abbrev pub told_end : ℕ → Option (Option Session) → List Told
 told_end place None = []

@@ -8,6 +8,7 @@
 mod answer;
 pub mod arrive;
 pub mod connection;
+pub mod laws;
 pub mod outcome;
 pub mod reply;
 pub mod solo;

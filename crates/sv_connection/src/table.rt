@@ -1,10 +1,10 @@
 //! The sessions that a node alone has made.
 
 ghost use Rattle.std.specs.Prelude.{◌≡◌, ◌+◌, ◌<◌, length, Some, IfSome, position, slice_get, option_copied, vec_len, vec_capacity};
-ghost use Rattle.std.specs.Option.{option_map};
+ghost use Rattle.std.specs.Option.{option_to_list, option_map};
 ghost use Rattle.std.specs.FinMap.{get};
 ghost use Rattle.sv_model.specs.Node.{held_in};
-ghost use Rattle.sv_connection.specs.Table.{IsPlace, IsMade, keys_of, state_of, active_in, if_active, fated_at, born_behind, is_past, without_at, end_at, option_list};
+ghost use Rattle.sv_connection.specs.Table.{IsPlace, IsMade, keys_of, state_of, active_in, if_active, fated_at, born_behind, is_past, without_at, end_at};
 
 use sv_model::event::{Event, Told};
 use sv_model::key::{Key, Secret};
@@ -149,7 +149,7 @@ fn is_past(session: &Option<Session>, now: u64) -> bool
 fn end_session(sessions: &mut Vec<Option<Session>>, place: usize) -> Option<Told>
     requires { place < length sessions.old.items }
     ensures sessions { sessions.new.items ≡ without_at (Some place) sessions.old.items }
-    ensures told { option_list result ≡ end_at (Some place) sessions.old.items }
+    ensures told { option_to_list result ≡ end_at (Some place) sessions.old.items }
 {
     let context = sessions[place].as_ref()?.context;
     sessions[place] = None;
@@ -166,7 +166,7 @@ fn end_session(sessions: &mut Vec<Option<Session>>, place: usize) -> Option<Told
 /// Ends the session of the least key that has expired, and says what listeners are told of that.
 pub fn expire(sessions: &mut Vec<Option<Session>>, now: u64) -> Option<Told>
     ensures sessions { sessions.new.items ≡ without_at (position (is_past now) sessions.old.items) sessions.old.items }
-    ensures told { option_list result ≡ end_at (position (is_past now) sessions.old.items) sessions.old.items }
+    ensures told { option_to_list result ≡ end_at (position (is_past now) sessions.old.items) sessions.old.items }
 {
     let place = expired_place(sessions.as_slice(), now)?;
     end_session(sessions, place)

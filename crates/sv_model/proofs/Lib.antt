@@ -1,3 +1,4 @@
 pub mod FieldLemmas
 pub mod AttributesLemmas
 pub mod KeyLemmas
+pub mod KeptLemmas

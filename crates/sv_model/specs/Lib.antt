@@ -9,3 +9,5 @@ pub mod Method
 pub mod Keys
 pub mod Container
 pub mod Node
+pub mod Trace
+pub mod OneContainer

@@ -1,5 +1,6 @@
+use Rattle.std.specs.Option.{option_to_list}
 use Rattle.std.proofs.Common.{refl, sym, ap, ◌∙◌, [], ◌∷◌}
-use Rattle.sv_connection.specs.Table.{option_list}
+
 use Rattle.sv_connection.proofs.SoloLemmas.{ticked}
 use Rattle.sv_connection.proofs.solo.Solo.tick.Goals as goal
 
@@ -7,7 +8,7 @@ pub returns-in_default-clause-step : goal.returns-in_default-clause-step
 returns-in_default-clause-step g c =
     let engine = c.args.self.now.engine in
     ticked (g.E.Engine.meaning engine) c.args.self.now.sessions.items c.args.self.now.sessions.items c.expire.new.sessions.items (g.E.Engine.heard engine) (g.E.Engine.heard engine) c.args.moment.now
-    (g.E.Engine.meaning engine) c.expire.result [] c.new.result.items refl c.expire.ensures.sessions c.expire.ensures.told (sym (ap option_list c.in_default.is)) refl refl
+    (g.E.Engine.meaning engine) c.expire.result [] c.new.result.items refl c.expire.ensures.sessions c.expire.ensures.told (sym (ap option_to_list c.in_default.is)) refl refl
     c.new.ensures.items
 
 pub returns-clause-step : goal.returns-clause-step
@@ -15,4 +16,4 @@ returns-clause-step g c =
     let engine = c.args.self.now.engine in
     ticked (g.E.Engine.meaning engine) c.args.self.now.sessions.items c.args.self.now.sessions.items c.expire.new.sessions.items (g.E.Engine.heard engine) (g.E.Engine.heard c.tell.new.self) c.args.moment.now
     (g.E.Engine.meaning c.tell.new.self) c.expire.result (c.in-Some.told ∷ []) c.new-2.result.items refl c.expire.ensures.sessions c.expire.ensures.told
-    (sym (ap option_list c.in-Some.is)) c.tell.ensures.meaning c.tell.ensures.heard c.new-2.ensures.items
+    (sym (ap option_to_list c.in-Some.is)) c.tell.ensures.meaning c.tell.ensures.heard c.new-2.ensures.items

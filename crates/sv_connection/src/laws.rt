@@ -1,0 +1,29 @@
+//! Laws of a node alone, over every list of calls of its step.
+//!
+//! They speak of the definitions that [`crate::solo::Solo`]'s step cites, at the node that it is seen as, and over every
+//! engine that keeps an engine's laws.
+
+ghost use Rattle.std.specs.Prelude.{◌≡◌, List, []};
+ghost use Rattle.sv_model.specs.Engine.{EngineMeaning, TouchesOnlyHanded, NamesKeys};
+ghost use Rattle.sv_model.specs.Step.{View};
+ghost use Rattle.sv_connection.specs.Table.{alone, node_of};
+ghost use Rattle.sv_model.specs.Trace.{Call, Leads, trace_of};
+ghost use Rattle.sv_model.specs.OneContainer.{IsOneContainer, IsAcknowledged, active_at};
+
+/// The commits of all steps are a run of one container, in which a request is served without the session that it names
+/// only where the container had none since the request came; and the node holds the container's sessions.
+pub fn one_container()
+    ensures { (m : EngineMeaning) → TouchesOnlyHanded m → NamesKeys m
+        → (first end : View) (calls : List Call) → first.meaning ≡ m → first.node ≡ node_of []
+        → Leads alone first calls end
+        → IsOneContainer m (trace_of m alone (node_of []) calls) (active_at end.node) }
+{}
+
+/// Each answer is the container's reply to its request, which was served once; where each request has a token of its own
+/// no token is served twice, and none that is refused is served.
+pub fn acknowledged()
+    ensures { (m : EngineMeaning) → TouchesOnlyHanded m → NamesKeys m
+        → (first end : View) (calls : List Call) → first.meaning ≡ m → first.node ≡ node_of []
+        → Leads alone first calls end
+        → IsAcknowledged m (trace_of m alone (node_of []) calls) }
+{}

@@ -1,0 +1,86 @@
+-- The container's map and a node's keys go side by side.
+use Rattle.std.proofs.Common.{◌≡◌, ◌≢◌, ◌⊎◌, ℕ, Bool, true, false, cond, Option, Some, None, List, refl, sym, ap, ◌∙◌, subst, ⊎_elim}
+use Rattle.std.specs.Prelude.{is_some}
+use Rattle.std.specs.Option.{option_map}
+use Rattle.std.specs.FinMap.{get, insert, get-insert}
+use Rattle.sv_model.specs.declared.key.Key.{Key}
+use Rattle.sv_model.specs.declared.key.Secret.{Secret}
+use Rattle.sv_model.specs.declared.session.Session.{Session}
+use Rattle.sv_model.specs.declared.state.KeyState.{KeyState}
+use Rattle.sv_model.specs.declared.state.KeyState.TheVariants.{Active, Sent, Gone, Ended}
+use Rattle.sv_model.specs.declared.outcome.Fate.{Fate}
+use Rattle.sv_model.specs.declared.outcome.Fate.TheVariants.{Untouched, Kept, Ended as FateEnded}
+use Rattle.sv_model.specs.declared.outcome.Birth.{Birth}
+use Rattle.sv_model.specs.declared.outcome.Birth.TheVariants.{Absent, Alive, Ended as BirthEnded}
+use Rattle.sv_model.specs.Keys.{same_key, set_key}
+use Rattle.sv_model.specs.Container.{held_by, handed_if, fated, born}
+use Rattle.sv_model.specs.Node.{Keys, session_in, held_in, kept_at, ended_at, fated_keys, born_keys}
+use Rattle.sv_model.proofs.KeyLemmas.{keys_total, keys_tell}
+
+-- the container has the sessions that are active here
+abbrev pub Agree : (Key → Option Session) → Keys → Type 0
+Agree map keys = (k : Key) → map k ≡ session_in (get keys k)
+
+session_cond : (b : Bool) (st : KeyState) (old : Option KeyState) → session_in (cond b (Some st) old) ≡ cond b (session_in (Some st)) (session_in old)
+session_cond true st old = refl
+session_cond false st old = refl
+
+-- one key changes on both sides
+pub set_agrees : (map : Key → Option Session) (keys : Keys) (k : Key) (st : KeyState) → Agree map keys → Agree (set_key map k (session_in (Some st))) (insert keys k st)
+set_agrees map keys k st agree q =
+    ap (cond (same_key q k) (session_in (Some st))) (agree q)
+    ∙ sym (session_cond (same_key q k) st (get keys q))
+    ∙ ap session_in (sym (get-insert keys_total keys k st q))
+
+-- what is held is what the container has
+pub held_agrees : (map : Key → Option Session) (keys : Keys) (named : Option (Key × Secret)) → Agree map keys → held_by map named ≡ held_in keys named
+held_agrees map keys None agree = refl
+held_agrees map keys (Some named) agree = ap (option_map {U = Key × Session} (λ s. (named.0, s))) (agree named.0)
+
+pub handed_held : (held : Option (Key × Session)) → handed_if (is_some held) held ≡ held
+handed_held None = refl
+handed_held (Some h) = refl
+
+-- where nobody holds the session that is named, its fate is Untouched
+abbrev pub IsTouchedHeld : Keys → Option (Key × Secret) → Fate → Type 0
+IsTouchedHeld keys named fate = held_in keys named ≡ None → fate ≡ Untouched
+
+kept_agrees : (map : Key → Option Session) (keys : Keys) (k : Key) (s : Session) (st : Option KeyState) → Agree map keys
+    → (option_map {U = Key × Session} (λ u. (k, u)) (session_in st) ≡ None → Kept s ≡ Untouched) → Agree (set_key map k (Some s)) (kept_at k s st keys)
+kept_agrees map keys k s None agree touched = absurd (let never : Kept s ≡ Untouched = touched refl in cc)
+kept_agrees map keys k s (Some (Active e old)) agree touched = set_agrees map keys k (Active e s) agree
+kept_agrees map keys k s (Some (Sent e old to)) agree touched = absurd (let never : Kept s ≡ Untouched = touched refl in cc)
+kept_agrees map keys k s (Some (Gone e)) agree touched = absurd (let never : Kept s ≡ Untouched = touched refl in cc)
+kept_agrees map keys k s (Some (Ended e)) agree touched = absurd (let never : Kept s ≡ Untouched = touched refl in cc)
+
+ended_agrees : (map : Key → Option Session) (keys : Keys) (k : Key) (st : Option KeyState) → Agree map keys
+    → (option_map {U = Key × Session} (λ u. (k, u)) (session_in st) ≡ None → FateEnded ≡ Untouched) → Agree (set_key map k None) (ended_at k st keys)
+ended_agrees map keys k None agree touched = absurd (let never : FateEnded ≡ Untouched = touched refl in cc)
+ended_agrees map keys k (Some (Active e old)) agree touched = set_agrees map keys k (Ended e) agree
+ended_agrees map keys k (Some (Sent e old to)) agree touched = absurd (let never : FateEnded ≡ Untouched = touched refl in cc)
+ended_agrees map keys k (Some (Gone e)) agree touched = absurd (let never : FateEnded ≡ Untouched = touched refl in cc)
+ended_agrees map keys k (Some (Ended e)) agree touched = absurd (let never : FateEnded ≡ Untouched = touched refl in cc)
+
+-- behind what became of the session that is named
+pub fated_agrees : (map : Key → Option Session) (keys : Keys) (named : Option (Key × Secret)) (fate : Fate) → Agree map keys → IsTouchedHeld keys named fate
+    → Agree (fated named fate map) (fated_keys named fate keys)
+fated_agrees map keys None fate agree touched = agree
+fated_agrees map keys (Some named) Untouched agree touched = agree
+fated_agrees map keys (Some named) (Kept s) agree touched = kept_agrees map keys named.0 s (get keys named.0) agree touched
+fated_agrees map keys (Some named) FateEnded agree touched = ended_agrees map keys named.0 (get keys named.0) agree touched
+
+-- a key without a session gets none
+none_agrees : (map : Key → Option Session) (keys : Keys) (k : Key) (e : ℕ) → Agree map keys → get keys k ≡ None → Agree map (insert keys k (Ended e))
+none_agrees map keys k e agree unknown q =
+    ⊎_elim
+    (λ (t : (q ≡ k) × (same_key q k ≡ true)). agree q ∙ ap (λ (p : Key). session_in (get keys p)) t.0 ∙ ap session_in unknown ∙ ap (λ b. cond b None (session_in (get keys q))) (sym t.1))
+    (λ (t : (q ≢ k) × (same_key q k ≡ false)). agree q ∙ ap (λ b. cond b None (session_in (get keys q))) (sym t.1))
+    (keys_tell q k)
+    ∙ sym (session_cond (same_key q k) (Ended e) (get keys q))
+    ∙ ap session_in (sym (get-insert keys_total keys k (Ended e) q))
+
+-- behind what became of the session that was made
+pub born_agrees : (map : Key → Option Session) (keys : Keys) (k : Key) (b : Birth) → Agree map keys → get keys k ≡ None → Agree (born k b map) (born_keys k b keys)
+born_agrees map keys k Absent agree unknown = agree
+born_agrees map keys k (Alive s) agree unknown = set_agrees map keys k (Active 1 s) agree
+born_agrees map keys k BirthEnded agree unknown = none_agrees map keys k 1 agree unknown

@@ -1,0 +1,132 @@
+-- What a node has done, call by call: the requests that came, the commits, and what was put out.
+--
+-- It is read off the calls of a node's step and their answers, for a node of many as for one alone.
+use Rattle.std.specs.Option.{option_to_list}
+use Rattle.std.specs.Prelude.{◌≡◌, ℕ, ◌+◌, ◌==◌, ◌&&◌, Bool, false, cond, Result, Ok, Err, Option, Some, None, List, [], ◌∷◌, ◌++◌, length}
+use Rattle.std.specs.List.{filter_map, flat_map}
+use Rattle.sv_model.specs.declared.key.Key.{Key}
+use Rattle.sv_model.specs.declared.key.Token.{Token}
+use Rattle.sv_model.specs.declared.key.Moment.{Moment}
+use Rattle.sv_model.specs.declared.request.Request.{Request}
+use Rattle.sv_model.specs.declared.response.Response.{Response}
+use Rattle.sv_model.specs.declared.session.Session.{Session}
+use Rattle.sv_model.specs.declared.event.Told.{Told}
+use Rattle.sv_model.specs.declared.commit.Commit.{Commit}
+use Rattle.sv_model.specs.declared.commit.Commit.TheVariants.{Served, Expired}
+use Rattle.sv_model.specs.declared.input.Input.{Input}
+use Rattle.sv_model.specs.declared.input.Input.TheVariants.{Ask, Packet as Incoming, Poke, Tick, Move}
+use Rattle.sv_model.specs.declared.output.Output.{Output}
+use Rattle.sv_model.specs.declared.output.Output.TheVariants.{Answer, Refuse, Send, Moved, MoveRefused}
+use Rattle.sv_model.specs.declared.site.StepFault.{StepFault}
+use Rattle.sv_model.specs.Engine.{EngineMeaning}
+use Rattle.sv_model.specs.Node.{Setting, Node, Decision, decided, token_of}
+use Rattle.sv_model.specs.Step.{View, Steps, left}
+
+-- a call of a node's step: what it was given, and what it answered
+pub record Call : Type 0 where
+  pub moment : Moment
+  pub input : Input
+  pub answer : Result (List Output) StepFault
+
+-- these calls, one behind the other, lead from a node to a node
+abbrev pub Leads : Setting → View → List Call → View → Type 0
+Leads set old [] new = new ≡ old
+Leads set old (c ∷ cs) new = (between : View) × Steps set old c.moment c.input c.answer between × Leads set between cs new
+
+-- what a whole step has done: the token of a request that came, the commit with its events, the responses that were put
+-- out, and the tokens that were refused
+pub record Item : Type 0 where
+  pub asked : Option Token
+  pub commit : Option Commit
+  pub events : List Told
+  pub replies : List (Token × Response)
+  pub refused : List Token
+
+abbrev pub asked_by : (ℕ → Token) → Input → Option Token
+asked_by token (Ask number r) = Some (token number)
+asked_by token (Incoming p) = None
+asked_by token Poke = None
+asked_by token Tick = None
+asked_by token (Move k to) = None
+
+abbrev pub reply_in : (ℕ → Token) → Output → Option (Token × Response)
+reply_in token (Answer number response) = Some (token number, response)
+reply_in token (Refuse number cause) = None
+reply_in token (Send p) = None
+reply_in token Moved = None
+reply_in token (MoveRefused why) = None
+
+abbrev pub refusal_in : (ℕ → Token) → Output → Option Token
+refusal_in token (Answer number response) = None
+refusal_in token (Refuse number cause) = Some (token number)
+refusal_in token (Send p) = None
+refusal_in token Moved = None
+refusal_in token (MoveRefused why) = None
+
+abbrev pub item_of : Setting → Node → Input → Decision → List Output → Item
+item_of set n input d outputs =
+    record {
+      asked = asked_by (token_of set n.durable) input;
+      commit = d.commit;
+      events = d.events;
+      replies = filter_map (reply_in (token_of set n.durable)) outputs;
+      refused = filter_map (refusal_in (token_of set n.durable)) outputs;
+    }
+
+-- by the answer of a call: a step that was refused has done nothing
+abbrev pub item_by : EngineMeaning → Setting → Node → Moment → Input → Result (List Output) StepFault → Option Item
+item_by m set n moment input (Ok outputs) = Some (item_of set n input (decided m set n moment input) outputs)
+item_by m set n moment input (Err fault) = None
+
+abbrev pub node_by : EngineMeaning → Setting → Node → Moment → Input → Result (List Output) StepFault → Node
+node_by m set n moment input (Ok outputs) = left (decided m set n moment input)
+node_by m set n moment input (Err fault) = n
+
+-- all that these calls of a node have done
+abbrev pub trace_of : EngineMeaning → Setting → Node → List Call → List Item
+trace_of m set n [] = []
+trace_of m set n (c ∷ cs) = option_to_list (item_by m set n c.moment c.input c.answer) ++ trace_of m set (node_by m set n c.moment c.input c.answer) cs
+
+-- ---- read off a trace
+
+-- the commits, in order
+abbrev pub commits_of : List Item → List Commit
+commits_of trace = flat_map (λ i. option_to_list i.commit) trace
+
+-- the tokens of the requests that came
+abbrev pub asked_of : List Item → List Token
+asked_of trace = flat_map (λ i. option_to_list i.asked) trace
+
+-- the responses that were put out, each to its token
+abbrev pub replies_of : List Item → List (Token × Response)
+replies_of trace = flat_map (λ i. i.replies) trace
+
+-- the tokens that were refused
+abbrev pub refused_of : List Item → List Token
+refused_of trace = flat_map (λ i. i.refused) trace
+
+-- the token of a request that was served
+abbrev pub served_by : Commit → List Token
+served_by (Served token r now handed fresh) = token ∷ []
+served_by (Expired k now) = []
+
+-- the tokens that were served
+abbrev pub served_of : List Commit → List Token
+served_of commits = flat_map served_by commits
+
+abbrev pub same_token : Token → Token → Bool
+same_token a b = (a.number == b.number) && ((a.node == b.node) && (a.boot == b.boot))
+
+-- how often a token is in a list
+abbrev pub times : Token → List Token → ℕ
+times t [] = 0
+times t (u ∷ us) = cond (same_token t u) 1 0 + times t us
+
+abbrev pub is_of : Token → Option Token → Bool
+is_of t None = false
+is_of t (Some u) = same_token t u
+
+-- how many commits there were when the request of a token came, where so many stand before the trace
+abbrev pub arrival_behind : ℕ → List Item → Token → ℕ
+arrival_behind before [] t = before
+arrival_behind before (i ∷ is) t = cond (is_of t i.asked) before (arrival_behind (before + length (option_to_list i.commit)) is t)
