@@ -62,6 +62,8 @@ pub record Follows (m : EngineMeaning) (xs : List (Option Session)) (store : Sto
   pub lawful : IfSome d.commit (IsLawful m store)
   pub stands : (arrival : Token → ℕ) (before : List Commit) → HasArrived arrival (length before) (asked_by (token_of alone (node_of xs).durable) input)
       → after m nothing_stored before ≡ store → IfSome d.commit (MayStand m arrival before)
+  -- no session comes from another node or goes there
+  pub unmarked : d.mark ≡ None
   pub fit : IsFit m store (item_of alone (node_of xs) input d d.outputs)
   pub tokens : (t : Token) → times t (served_of (option_to_list d.commit)) + times t (filter_map (refusal_in (token_of alone (node_of xs).durable)) d.outputs)
       ≡ times t (option_to_list (asked_by (token_of alone (node_of xs).durable) input))
@@ -81,6 +83,7 @@ idle_follows m xs store input outputs h quiet refuses =
       holds = h;
       lawful = tt;
       stands = λ arrival before arrived is. tt;
+      unmarked = refl;
       fit = record { events = refl; replies = quiet };
       tokens = λ t. none_and (times t (filter_map (refusal_in (token_of alone (node_of xs).durable)) outputs)) ∙ refuses t;
     }
@@ -220,6 +223,7 @@ module _ (m : EngineMeaning) (untouched : TouchesOnlyHanded m) (can : NamesKeys 
             (holds_behind xs store (m.names r) place fresh.0 out h at touched fresh_key room);
         lawful = subst (λ (o : Outcome). IsNewKey store fresh.0 o.birth) (sym same_outcome) (new_key xs store fresh.0 out.birth h fresh_key);
         stands = λ arrival before arrived is. (arrived, excuse arrival before arrived is);
+        unmarked = refl;
         fit = record {
           events = ap (λ (o : Outcome). o.events) (sym same_outcome);
           replies = ap (λ (o : Outcome). (named_token, o.response) ∷ []) (sym same_outcome);
@@ -289,6 +293,7 @@ one_over m xs store now place s h there over =
       holds = ended_holds xs store place h less;
       lawful = record { session = s; there = held; expired = over };
       stands = λ arrival before arrived is. tt;
+      unmarked = refl;
       fit = record {
         events = ap (expiry_events (own_key (place + 1))) (sym held);
         replies = ap (filter_map (reply_in (token_of alone (node_of xs).durable))) none;

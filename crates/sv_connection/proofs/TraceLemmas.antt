@@ -14,16 +14,18 @@ use Rattle.sv_model.specs.declared.response.Response.{Response}
 use Rattle.sv_model.specs.declared.session.Session.{Session}
 use Rattle.sv_model.specs.declared.commit.Commit.{Commit}
 use Rattle.sv_model.specs.declared.commit.Commit.TheVariants.{Served, Expired}
+use Rattle.sv_model.specs.declared.event.Told.{Told}
 use Rattle.sv_model.specs.declared.input.Input.{Input}
 use Rattle.sv_model.specs.declared.output.Output.{Output}
 use Rattle.sv_model.specs.declared.site.StepFault.{StepFault}
-use Rattle.sv_model.specs.Engine.{EngineMeaning, TouchesOnlyHanded, NamesKeys}
+use Rattle.sv_model.specs.Engine.{EngineMeaning, TouchesOnlyHanded, NamesKeys, heard_all}
 use Rattle.sv_model.specs.Container.{Store, nothing_stored, committed, after, IsLawful, AreLawful, MayStand, AllMayStand}
 use Rattle.sv_model.specs.Node.{Node, Decision, decided, session_in}
-use Rattle.sv_model.specs.Step.{View, Steps, IsStep, left}
+use Rattle.sv_model.specs.Step.{View, Steps, IsStep, left, told, with_mark}
 use Rattle.sv_connection.specs.Table.{alone, node_of, keys_of}
-use Rattle.sv_model.specs.Trace.{Call, Leads, Item, item_of, item_by, node_by, trace_of, commits_of, asked_of, replies_of, refused_of, served_by, served_of, same_token, times, is_of, arrival_behind}
+use Rattle.sv_model.specs.Trace.{Call, Leads, Item, item_of, item_by, node_by, trace_of, told_of, commits_of, asked_of, replies_of, refused_of, served_by, served_of, same_token, times, is_of, arrival_behind}
 use Rattle.sv_model.specs.OneContainer.{active_at, IsOneContainer, IsAcknowledged, store_with, replies_with, IsFit, AreFit, AreDistinct, tokens_in}
+use Rattle.sv_connection.specs.Solo.{IsHistory}
 use Rattle.sv_connection.proofs.TableLemmas.{get_nothing}
 use Rattle.sv_connection.proofs.FollowLemmas.{Holds, Follows, HasArrived, follows}
 
@@ -216,6 +218,39 @@ module _ (m : EngineMeaning) (untouched : TouchesOnlyHanded m) (can : NamesKeys 
       one_more xs store old led.0 end c.moment c.input c.answer cs h at led.1
       (λ ys after h2 at2. runs ys after led.0 end cs h2 at2 led.2)
 
+  -- ---- what listeners are told
+
+  heard-append : (heard : List (List ℕ)) (ts us : List Told) → heard_all m heard (ts ++ us) ≡ heard_all m (heard_all m heard ts) us
+  heard-append heard [] us = refl
+  heard-append heard (t ∷ ts) us = heard-append (m.hear heard t) ts us
+
+  -- one call, and those behind it
+  heard_more : (xs : List (Option Session)) (store : Store) (old between end : View) (moment : Moment) (input : Input) (answer : Result (List Output) StepFault) (cs : List Call)
+      → Holds xs store → IsAt old xs → Steps alone old moment input answer between
+      → ((ys : List (Option Session)) (after : Store) → Holds ys after → IsAt between ys → end.heard ≡ heard_all m between.heard (told_of (trace_of m alone (node_of ys) cs)))
+      → end.heard ≡ heard_all m old.heard (told_of (option_to_list (item_by m alone (node_of xs) moment input answer) ++ trace_of m alone (node_by m alone (node_of xs) moment input answer) cs))
+  heard_more xs store old between end moment input (Ok outputs) cs h at step later =
+      let d : Decision = decided m alone (node_of xs) moment input in
+      let f = follows m untouched can xs store moment input h in
+      let same = step_at xs old moment input at in
+      let noted : between.heard ≡ heard_all m old.heard d.events =
+      step.heard ∙ ap (λ e. heard_all e old.heard (told (decided old.meaning alone old.node moment input))) at.meaning ∙ ap (λ e. heard_all m old.heard (told e)) same
+      ∙ ap (λ mark. heard_all m old.heard (with_mark d.events mark)) f.unmarked in
+      later f.next (store_with m store d.commit) f.holds (record { meaning = step.meaning ∙ at.meaning; node = step.node ∙ ap left same ∙ f.left_is })
+      ∙ ap (λ n. heard_all m between.heard (told_of (trace_of m alone n cs))) (sym f.left_is)
+      ∙ ap (λ noticed. heard_all m noticed (told_of (trace_of m alone (left d) cs))) noted
+      ∙ sym (heard-append old.heard d.events (told_of (trace_of m alone (left d) cs)))
+  heard_more xs store old between end moment input (Err fault) cs h at step later =
+      later xs store h (record { meaning = ap (λ (v : View). v.meaning) step.1 ∙ at.meaning; node = ap (λ (v : View). v.node) step.1 ∙ at.node })
+      ∙ ap (λ (v : View). heard_all m v.heard (told_of (trace_of m alone (node_of xs) cs))) step.1
+
+  pub hears : (xs : List (Option Session)) (store : Store) (old end : View) (calls : List Call) → Holds xs store → IsAt old xs → Leads alone old calls end
+      → end.heard ≡ heard_all m old.heard (told_of (trace_of m alone (node_of xs) calls))
+  hears xs store old end [] h at led = ap (λ (v : View). v.heard) led
+  hears xs store old end (c ∷ cs) h at led =
+      heard_more xs store old led.0 end c.moment c.input c.answer cs h at led.1
+      (λ ys after h2 at2. hears ys after led.0 end cs h2 at2 led.2)
+
 -- ---- from the beginning
 
 begins : Holds [] nothing_stored
@@ -224,9 +259,9 @@ begins = record { few = omega arith; map = λ k. ap session_in (sym (get_nothing
 at_most_one : (a b c : ℕ) → a + b ≡ c → c ≤ 1 → a + b ≤ 1
 at_most_one a b c is le = omega (arith, is, le)
 
-pub all_runs : (m : EngineMeaning) → TouchesOnlyHanded m → NamesKeys m → (first end : View) (calls : List Call) → first.meaning ≡ m → first.node ≡ node_of [] → Leads alone first calls end
+pub all_runs : (m : EngineMeaning) → TouchesOnlyHanded m → NamesKeys m → (first end : View) (calls : List Call) → IsHistory m first calls end
     → Runs m nothing_stored (trace_of m alone (node_of []) calls) end.node
-all_runs m untouched can first end calls meaning node led = runs m untouched can [] nothing_stored first end calls begins (record { meaning = meaning; node = node }) led
+all_runs m untouched can first end calls h = runs m untouched can [] nothing_stored first end calls begins (record { meaning = h.meaning; node = h.node }) h.led
 
 pub one_container : (m : EngineMeaning) (trace : List Item) (end : Node) → Runs m nothing_stored trace end → IsOneContainer m trace (active_at end)
 one_container m trace end r = record { lawful = r.lawful; stands = r.stands (arrival_behind 0 trace) [] (λ t. omega arith) refl; holds = r.holds }
@@ -237,3 +272,7 @@ acknowledged m trace end r = record {
   answered = r.answered;
   once = λ distinct t. at_most_one (times t (served_of (commits_of trace))) (times t (refused_of trace)) (times t (asked_of trace)) (r.tokens t) (distinct t);
 }
+
+pub heard : (m : EngineMeaning) → TouchesOnlyHanded m → NamesKeys m → (first end : View) (calls : List Call) → IsHistory m first calls end
+    → end.heard ≡ heard_all m first.heard (told_of (trace_of m alone (node_of []) calls))
+heard m untouched can first end calls h = hears m untouched can [] nothing_stored first end calls begins (record { meaning = h.meaning; node = h.node }) h.led

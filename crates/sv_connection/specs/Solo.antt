@@ -7,6 +7,7 @@ use Rattle.sv_model.specs.declared.output.Output.{Output}
 use Rattle.sv_model.specs.declared.site.StepFault.{StepFault}
 use Rattle.sv_model.specs.Engine.{EngineMeaning}
 use Rattle.sv_model.specs.Step.{View, Steps}
+use Rattle.sv_model.specs.Trace.{Call, Leads}
 use Rattle.sv_connection.specs.Table.{alone, node_of}
 use Rattle.sv_connection.specs.declared.solo.Solo.{Solo}
 
@@ -24,3 +25,9 @@ solo_steps meaning heard old moment input answer new = Steps alone (view_of mean
 pub record IsNew {E : Type 0} (s : Solo E) (engine : E) : Type 0 where
   pub over : s.engine ≡ engine
   pub none : s.sessions.items ≡ []
+
+-- all calls of a node alone since it was made over an engine of this meaning, and what they have led to
+pub record IsHistory (m : EngineMeaning) (first : View) (calls : List Call) (end : View) : Type 0 where
+  pub meaning : first.meaning ≡ m
+  pub node : first.node ≡ node_of []
+  pub led : Leads alone first calls end

@@ -4,18 +4,18 @@
 //! engine that keeps an engine's laws.
 
 ghost use Rattle.std.specs.Prelude.{◌≡◌, List, []};
-ghost use Rattle.sv_model.specs.Engine.{EngineMeaning, TouchesOnlyHanded, NamesKeys};
+ghost use Rattle.sv_model.specs.Engine.{EngineMeaning, TouchesOnlyHanded, NamesKeys, heard_all};
 ghost use Rattle.sv_model.specs.Step.{View};
 ghost use Rattle.sv_connection.specs.Table.{alone, node_of};
-ghost use Rattle.sv_model.specs.Trace.{Call, Leads, trace_of};
+ghost use Rattle.sv_connection.specs.Solo.{IsHistory};
+ghost use Rattle.sv_model.specs.Trace.{Call, told_of, trace_of};
 ghost use Rattle.sv_model.specs.OneContainer.{IsOneContainer, IsAcknowledged, active_at};
 
 /// The commits of all steps are a run of one container, in which a request is served without the session that it names
 /// only where the container had none since the request came; and the node holds the container's sessions.
 pub fn one_container()
     ensures { (m : EngineMeaning) → TouchesOnlyHanded m → NamesKeys m
-        → (first end : View) (calls : List Call) → first.meaning ≡ m → first.node ≡ node_of []
-        → Leads alone first calls end
+        → (first end : View) (calls : List Call) → IsHistory m first calls end
         → IsOneContainer m (trace_of m alone (node_of []) calls) (active_at end.node) }
 {}
 
@@ -23,7 +23,13 @@ pub fn one_container()
 /// no token is served twice, and none that is refused is served.
 pub fn acknowledged()
     ensures { (m : EngineMeaning) → TouchesOnlyHanded m → NamesKeys m
-        → (first end : View) (calls : List Call) → first.meaning ≡ m → first.node ≡ node_of []
-        → Leads alone first calls end
+        → (first end : View) (calls : List Call) → IsHistory m first calls end
         → IsAcknowledged m (trace_of m alone (node_of []) calls) }
+{}
+
+/// Listeners are told the events of the commits, in their order, and nothing else.
+pub fn heard()
+    ensures { (m : EngineMeaning) → TouchesOnlyHanded m → NamesKeys m
+        → (first end : View) (calls : List Call) → IsHistory m first calls end
+        → end.heard ≡ heard_all m first.heard (told_of (trace_of m alone (node_of []) calls)) }
 {}

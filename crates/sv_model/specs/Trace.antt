@@ -97,6 +97,10 @@ commits_of trace = flat_map (λ i. option_to_list i.commit) trace
 abbrev pub asked_of : List Item → List Token
 asked_of trace = flat_map (λ i. option_to_list i.asked) trace
 
+-- what listeners were told of the commits
+abbrev pub told_of : List Item → List Told
+told_of trace = flat_map (λ i. i.events) trace
+
 -- the responses that were put out, each to its token
 abbrev pub replies_of : List Item → List (Token × Response)
 replies_of trace = flat_map (λ i. i.replies) trace

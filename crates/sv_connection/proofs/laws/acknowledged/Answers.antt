@@ -5,4 +5,4 @@ use Rattle.sv_connection.proofs.TraceLemmas.{all_runs, acknowledged}
 use Rattle.sv_connection.proofs.laws.acknowledged.Goals as goal
 
 pub returns : goal.returns
-returns c m untouched can first end calls meaning node led = acknowledged m (trace_of m alone (node_of []) calls) end.node (all_runs m untouched can first end calls meaning node led)
+returns c m untouched can first end calls h = acknowledged m (trace_of m alone (node_of []) calls) end.node (all_runs m untouched can first end calls h)
