@@ -1,9 +1,9 @@
 -- Each step of a node alone goes side by side with the container: what the step commits may stand, and the node's sessions
 -- stay those of the container.
-use Rattle.std.proofs.Common.{◌≡◌, ◌≢◌, ◌⊎◌, ℕ, zero, suc, ◌+◌, ◌<◌, ◌≤◌, Bool, true, false, cond, Option, Some, None, List, [], ◌∷◌, ◌++◌, length, take, refl, sym, ap, ◌∙◌, subst, ⊎_elim, arith, inl, inr}
+use Rattle.std.proofs.Common.{◌≡◌, ◌≢◌, ℕ, ◌+◌, ◌<◌, ◌≤◌, Bool, true, false, cond, Option, Some, None, List, [], ◌∷◌, ◌++◌, length, refl, sym, ap, ◌∙◌, subst, ⊎_elim, arith}
 use Rattle.std.specs.Prelude.{is_some, slice_get, slice_set, get_or, IfSome, ⊤}
 use Rattle.std.specs.Option.{option_to_list, option_map}
-use Rattle.std.specs.List.{filter_map, flat_map, position_from}
+use Rattle.std.specs.List.{filter_map, position_from}
 use Rattle.std.specs.FinMap.{get, insert, entries}
 use Rattle.std.proofs.Math.Seq.{take-length}
 use Rattle.std.proofs.lemmas.Option.{slice_get_cases, slice_get_within, same_Some}
@@ -17,26 +17,31 @@ use Rattle.sv_model.specs.declared.packet.Packet.{Packet}
 use Rattle.sv_model.specs.declared.state.KeyState.{KeyState}
 use Rattle.sv_model.specs.declared.state.KeyState.TheVariants.{Active, Ended}
 use Rattle.sv_model.specs.declared.commit.Commit.{Commit}
-use Rattle.sv_model.specs.declared.commit.Commit.TheVariants.{Served, Expired}
+use Rattle.sv_model.specs.declared.commit.Commit.TheVariants.{Served}
 use Rattle.sv_model.specs.declared.outcome.Outcome.{Outcome}
-use Rattle.sv_model.specs.declared.outcome.Fate.{Fate}
 use Rattle.sv_model.specs.declared.outcome.Fate.TheVariants.{Untouched}
 use Rattle.sv_model.specs.declared.outcome.Birth.{Birth}
 use Rattle.sv_model.specs.declared.outcome.Birth.TheVariants.{Absent, Alive, Ended as BirthEnded}
 use Rattle.sv_model.specs.declared.input.Input.{Input}
 use Rattle.sv_model.specs.declared.input.Input.TheVariants.{Ask, Packet as Incoming, Poke, Tick, Move}
 use Rattle.sv_model.specs.declared.output.Output.{Output}
-use Rattle.sv_model.specs.declared.output.Output.TheVariants.{Answer, Refuse, Send, Moved, MoveRefused}
+use Rattle.sv_model.specs.declared.output.Output.TheVariants.{Refuse, MoveRefused}
 use Rattle.sv_model.specs.declared.output.Cause.{Cause}
 use Rattle.sv_model.specs.Engine.{EngineMeaning, TouchesOnlyHanded, NamesKeys}
 use Rattle.sv_model.specs.Keys.{same_key, set_key}
-use Rattle.sv_model.specs.Container.{Store, nothing_stored, committed, after, stored, fated, born, made_with, outcome_of, handed_if, held_by, IsLawful, IsNewKey, IsExcused, IsExpiry, MayStand, expiry_events}
+use Rattle.sv_model.specs.Container.{Store, nothing_stored, after, stored, fated, born, made_with, outcome_of, handed_if, IsLawful, IsNewKey, IsExcused, MayStand, expiry_events}
 use Rattle.sv_model.specs.Session.{is_expired}
-use Rattle.sv_model.specs.Node.{Node, Decision, Keys, decided, on_packet, on_move, on_tick, on_poke, first_over, is_over, expire, grant_again, held_in, session_in, answer_of, answered, answered_unless, refused, idle, no_birth, fresh_of, token_of, on_ask, fated_keys, born_keys, kept_with}
+use Rattle.sv_model.specs.NodeState.{Node, session_in}
+use Rattle.sv_model.specs.Decision.{Decision, idle}
+use Rattle.sv_model.specs.Node.{decided}
+use Rattle.sv_model.specs.Migration.{on_packet, on_move}
+use Rattle.sv_model.specs.Time.{on_tick, first_over, is_over, expire, grant_again}
+use Rattle.sv_model.specs.Waiting.{on_ask}
+use Rattle.sv_model.specs.Serving.{held_in, answer_of, answered, answered_unless, no_birth, fresh_of, token_of, born_keys, kept_with}
 use Rattle.sv_model.specs.Step.{left}
 use Rattle.sv_model.proofs.KeyLemmas.{keys_tell}
 use Rattle.sv_connection.specs.Table.{own_key, keys_of, IsPlace, IsMade, if_active, fated_at, born_behind, alone, node_of, state_of, refusal_for, numbered, is_past}
-use Rattle.sv_model.specs.Trace.{Item, item_of, asked_by, reply_in, refusal_in, served_of, times, same_token}
+use Rattle.sv_model.specs.Trace.{item_of, asked_by, reply_in, refusal_in, served_of, times}
 use Rattle.sv_model.specs.OneContainer.{store_with, IsFit}
 use Rattle.sv_model.proofs.KeptLemmas.{Agree, set_agrees, held_agrees, handed_held, fated_agrees, born_agrees}
 use Rattle.sv_connection.proofs.SoloLemmas.{packets, moves, ended_node}

@@ -1,6 +1,6 @@
 -- What a call of a connection leads to, put together.
 use Rattle.std.proofs.Common.{◌≡◌, ℕ, List, subst, Option, Some, None, Result, Ok, Err, inl, inr, [], refl, ◌∙◌}
-use Rattle.std.specs.Prelude.{Bool, true, find, IfSome}
+use Rattle.std.specs.Prelude.{Bool, true, find}
 use Rattle.sv_model.specs.declared.key.Moment.{Moment}
 use Rattle.sv_model.specs.declared.request.Request.{Request}
 use Rattle.sv_model.specs.declared.input.Input.{Input}

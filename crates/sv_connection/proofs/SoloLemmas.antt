@@ -1,10 +1,10 @@
 -- A step of a node alone, put together.
 use Rattle.std.specs.Option.{option_to_list}
-use Rattle.std.proofs.Common.{◌≡◌, ℕ, zero, suc, ◌+◌, ◌<◌, ◌≤◌, Bool, true, false, cond, Option, Some, None, List, [], ◌∷◌, ◌++◌, length, refl, sym, ap, ◌∙◌, subst, ⊎_elim, ◌⊎◌}
+use Rattle.std.proofs.Common.{◌≡◌, ℕ, zero, suc, ◌+◌, ◌<◌, ◌≤◌, Bool, true, false, cond, Option, Some, None, List, [], ◌∷◌, ◌++◌, length, refl, sym, ap, ◌∙◌, subst, ⊎_elim}
 use Rattle.std.specs.Prelude.{slice_get, slice_set, not, nat_lt, nat_le, ◌==◌, ◌&&◌, ◌||◌, IfSome, position}
 use Rattle.std.proofs.lemmas.List.{length-set}
 use Rattle.std.proofs.lemmas.Option.{slice_get_within}
-use Rattle.std.specs.FinMap.{get, insert, entries}
+use Rattle.std.specs.FinMap.{insert, entries}
 use Rattle.std.specs.List.{filter_map, position_from}
 use Rattle.std.proofs.lemmas.Iterator.Adapters.{position_from-zero}
 use Rattle.sv_model.specs.declared.key.Key.{Key}
@@ -24,8 +24,13 @@ use Rattle.sv_model.specs.declared.output.Output.TheVariants.{Answer, Refuse, Mo
 use Rattle.sv_model.specs.declared.output.MoveRefusal.TheVariants.{BadPeer, EpochsSpent}
 use Rattle.sv_model.specs.declared.output.Cause.{Cause}
 use Rattle.sv_model.specs.Engine.{EngineMeaning, heard_all}
-use Rattle.sv_model.specs.Node.{held_in, no_birth, answer_of, answered, answered_unless, refused, served, on_ask, on_tick, on_move, on_packet, is_ours, on_ours, idle, sender, addressee, expire, first_over, grant_again, fresh_of, kept_with, last, move_refused, hands_over, Node, Decision}
-use Rattle.sv_model.specs.Step.{IsStep, left, told}
+use Rattle.sv_model.specs.Serving.{held_in, no_birth, answer_of, answered_unless, kept_with}
+use Rattle.sv_model.specs.Waiting.{on_ask}
+use Rattle.sv_model.specs.Time.{on_tick, expire, first_over, grant_again}
+use Rattle.sv_model.specs.Migration.{on_move, on_packet, on_ours, sender, addressee, move_refused, hands_over}
+use Rattle.sv_model.specs.Decision.{idle, Decision}
+use Rattle.sv_model.specs.NodeState.{last, Node}
+use Rattle.sv_model.specs.Step.{IsStep, told}
 use Rattle.sv_connection.specs.Table.{own_key, numbered, told_end, keys_of, IsPlace, fated_at, born_behind, is_past, without_at, end_at, alone, node_of, refusal_for}
 use Rattle.sv_connection.specs.Solo.{view_at}
 use Rattle.std.proofs.Common.{arith}

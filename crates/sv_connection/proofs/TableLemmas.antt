@@ -4,15 +4,13 @@ use Rattle.std.specs.Prelude.{slice_get, slice_set, get_or, T, ◌&&◌, ◌||�
 use Rattle.std.specs.declared.cmp.Ordering.TheVariants.{Less}
 use Rattle.std.specs.Option.{option_map}
 use Rattle.std.specs.FinMap.Entries.{below_all}
-use Rattle.std.specs.FinMap.{FinMap, get, insert, len, entries, find, is_sorted, from_sorted, same_map, get-insert, get-from_sorted, entries-from_sorted, len-entries}
-use Rattle.std.specs.Cmp.{IsTotalOrder}
-use Rattle.std.specs.Ordering.{is_lt, eq_by_cmp}
+use Rattle.std.specs.FinMap.{get, insert, len, entries, find, is_sorted, same_map, get-insert, get-from_sorted, entries-from_sorted, len-entries}
+use Rattle.std.specs.Ordering.{is_lt}
 use Rattle.std.specs.Cmp.{nat_cmp_is}
 use Rattle.std.proofs.lemmas.Bool.{cases_eq, ne_eqb, le-leb, leb-false}
 use Rattle.std.proofs.lemmas.Bool.Decides.{leb_tells}
 use Rattle.std.proofs.lemmas.List.{length-append, length-set}
 use Rattle.std.proofs.lemmas.Option.{slice_get_past, slice_get_cases}
-use Rattle.std.proofs.lemmas.Cmp.{eq_by_cmp_equiv}
 use Rattle.sv_model.specs.declared.key.Key.{Key}
 use Rattle.sv_model.specs.declared.session.Session.{Session}
 use Rattle.sv_model.specs.declared.state.KeyState.{KeyState}
@@ -29,7 +27,10 @@ use Rattle.sv_model.specs.declared.outcome.Birth.TheVariants.{Absent, Alive, End
 use Rattle.sv_model.specs.declared.output.Cause.{Cause}
 use Rattle.sv_model.specs.declared.output.Cause.TheVariants.{TableFull, SerialsSpent}
 use Rattle.sv_model.specs.Engine.{EngineMeaning}
-use Rattle.sv_model.specs.Node.{Keys, held_in, session_in, kept_at, ended_at, fated_keys, born_keys, next_with, kept_with, is_settled, is_dead, is_unmade, is_birth, no_birth, fresh_of, on_ask, served, waits, last, first_over, grant_again}
+use Rattle.sv_model.specs.NodeState.{Keys, session_in, is_settled, is_dead, is_unmade, last}
+use Rattle.sv_model.specs.Serving.{held_in, kept_at, ended_at, fated_keys, born_keys, next_with, kept_with, is_birth, no_birth, fresh_of, served}
+use Rattle.sv_model.specs.Waiting.{on_ask, waits}
+use Rattle.sv_model.specs.Time.{first_over, grant_again}
 use Rattle.sv_model.specs.Session.{is_expired}
 use Rattle.std.specs.List.{filter_map, position_from}
 use Rattle.sv_model.proofs.KeyLemmas.{keys_total, exact_keys, keys_tell}

@@ -1,10 +1,8 @@
 -- All that a node alone has done, over every list of calls.
 use Rattle.std.specs.Option.{option_to_list}
-use Rattle.std.proofs.Common.{◌≡◌, ◌⊎◌, ℕ, zero, suc, ◌+◌, ◌<◌, ◌≤◌, Bool, true, false, cond, Option, Some, None, List, [], ◌∷◌, ◌++◌, length, map, refl, sym, ap, ◌∙◌, subst, arith}
-use Rattle.std.specs.Prelude.{IfSome, Result, Ok, Err, ◌==◌, ◌&&◌}
-use Rattle.std.specs.List.{flat_map}
-use Rattle.std.specs.FinMap.{get}
-use Rattle.std.proofs.lemmas.List.{length-append, append-nil, append_assoc, map-append}
+use Rattle.std.proofs.Common.{◌≡◌, ℕ, ◌+◌, ◌≤◌, Bool, true, false, cond, Option, Some, None, List, [], ◌∷◌, ◌++◌, length, refl, sym, ap, ◌∙◌, subst, arith}
+use Rattle.std.specs.Prelude.{IfSome, Result, Ok, Err, ◌&&◌}
+use Rattle.std.proofs.lemmas.List.{length-append, append-nil, map-append}
 use Rattle.std.proofs.lemmas.Grind.{flat_map-append}
 use Rattle.std.proofs.lemmas.Bool.{eq-eqb}
 use Rattle.sv_model.specs.declared.key.Key.{Key}
@@ -20,14 +18,16 @@ use Rattle.sv_model.specs.declared.output.Output.{Output}
 use Rattle.sv_model.specs.declared.site.StepFault.{StepFault}
 use Rattle.sv_model.specs.Engine.{EngineMeaning, TouchesOnlyHanded, NamesKeys, heard_all}
 use Rattle.sv_model.specs.Container.{Store, nothing_stored, committed, after, IsLawful, AreLawful, MayStand, AllMayStand}
-use Rattle.sv_model.specs.Node.{Node, Decision, decided, session_in}
-use Rattle.sv_model.specs.Step.{View, Steps, IsStep, left, told, with_mark}
-use Rattle.sv_connection.specs.Table.{alone, node_of, keys_of}
+use Rattle.sv_model.specs.NodeState.{Node, session_in}
+use Rattle.sv_model.specs.Decision.{Decision}
+use Rattle.sv_model.specs.Node.{decided}
+use Rattle.sv_model.specs.Step.{View, Steps, left, told, with_mark}
+use Rattle.sv_connection.specs.Table.{alone, node_of}
 use Rattle.sv_model.specs.Trace.{Call, Leads, Item, item_of, item_by, node_by, trace_of, told_of, commits_of, asked_of, replies_of, refused_of, served_by, served_of, same_token, times, is_of, arrival_behind}
-use Rattle.sv_model.specs.OneContainer.{active_at, IsOneContainer, IsAcknowledged, store_with, replies_with, IsFit, AreFit, AreDistinct, tokens_in}
+use Rattle.sv_model.specs.OneContainer.{active_at, IsOneContainer, IsAcknowledged, store_with, replies_with, IsFit, AreFit, tokens_in}
 use Rattle.sv_connection.specs.Solo.{IsHistory}
 use Rattle.sv_connection.proofs.TableLemmas.{get_nothing}
-use Rattle.sv_connection.proofs.FollowLemmas.{Holds, Follows, HasArrived, follows}
+use Rattle.sv_connection.proofs.FollowLemmas.{Holds, HasArrived, follows}
 
 -- ---- lists
 

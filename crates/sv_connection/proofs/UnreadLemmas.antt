@@ -1,9 +1,9 @@
 -- What stands at the front of the unread bytes, however many of them are buffered.
-use Rattle.std.proofs.Common.{◌≡◌, ℕ, List, ◌++◌, sym, ap, ◌∙◌, subst, Option, Some, None, Err, append_assoc, append-nil}
+use Rattle.std.proofs.Common.{◌≡◌, ℕ, List, sym, ◌∙◌, subst, Option, Some, None, Err}
 use Rattle.std.specs.Prelude.{false, true, IfSome}
-use Rattle.std.specs.Io.KnownBytes.{Keeps, Consumes, IsAtEnd, prepend_known}
+use Rattle.std.specs.Io.KnownBytes.{Keeps, prepend_known}
 use Rattle.sv_message.specs.Stream.{Stream}
-use Rattle.sv_message.specs.Fault.{IsFaultAt, HasNoMessage}
+use Rattle.sv_message.specs.Fault.{IsFaultAt}
 use Rattle.sv_message.specs.Reader.{Reads}
 use Rattle.sv_message.specs.declared.fault.ReadFault.{ReadFault}
 use Rattle.sv_message.specs.declared.fault.ReadFault.TheVariants.{BadHead, HeadTooLong, BadHost, BadFraming, BodyTooLong, Coding, Expectation, Memory, Closed}

@@ -1,5 +1,5 @@
 -- What one call of a connection does.
-use Rattle.std.specs.Prelude.{◌≡◌, ◌≢◌, ◌⊎◌, ℕ, ◌||◌, ◌++◌, List, [], Bool, true, false, Option, Some, None, Result, Ok, Err, IfSome, ⊤, codes, find}
+use Rattle.std.specs.Prelude.{◌≡◌, ◌≢◌, ◌⊎◌, ℕ, ◌||◌, List, [], Bool, true, false, Option, Some, None, Result, Ok, Err, IfSome, ⊤, codes, find}
 use Rattle.std.specs.Io.KnownBytes.{Consumes, Appends}
 use Rattle.sv_model.specs.declared.key.Moment.{Moment}
 use Rattle.sv_model.specs.declared.request.Request.{Request}

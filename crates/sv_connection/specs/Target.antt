@@ -1,5 +1,5 @@
 -- The targets that are served today (RFC 9112, section 3.2): a `/`, and then slashes, letters, digits, `-` and `_`.
-use Rattle.std.specs.Prelude.{◌≡◌, ℕ, ◌==◌, ◌||◌, ◌&&◌, Bool, List, [], ◌∷◌, codes, Option, Some, None, nat_le, if◌then◌else◌, true, false}
+use Rattle.std.specs.Prelude.{ℕ, ◌==◌, ◌||◌, ◌&&◌, Bool, List, [], ◌∷◌, codes, Option, Some, None, nat_le, if◌then◌else◌, false}
 use Rattle.std.specs.List.{list_all}
 use Rattle.std.specs.Str.{bytes_eq}
 use Rattle.sv_connection.specs.declared.target.TargetFault.{TargetFault}

@@ -1,8 +1,7 @@
 -- The laws of the engine of this crate's tests.
-use Rattle.std.proofs.Common.{◌≡◌, ℕ, ◌<◌, ◌≤◌, List, [], length, Option, Some, None, arith}
+use Rattle.std.proofs.Common.{ℕ, ◌<◌, ◌≤◌, length, Option, Some, None, arith}
 use Rattle.std.proofs.lemmas.List.Elements.{All-nil}
 use Rattle.sv_model.specs.Attributes.{Attribute}
-use Rattle.std.specs.Prelude.{IfSome}
 use Rattle.sv_model.specs.declared.key.Key.{Key}
 use Rattle.sv_model.specs.declared.key.Secret.{Secret}
 use Rattle.sv_model.specs.Engine.{KeepsLimits}

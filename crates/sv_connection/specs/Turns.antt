@@ -1,5 +1,5 @@
 -- What the engine of this crate's tests answers: it ends a session that is handed in, and without one it makes one.
-use Rattle.std.specs.Prelude.{ℕ, pos, true, false, Option, Some, None, List, []}
+use Rattle.std.specs.Prelude.{ℕ, pos, true, false, Option, Some, None, []}
 use Rattle.sv_model.specs.declared.key.Key.{Key}
 use Rattle.sv_model.specs.declared.key.Secret.{Secret}
 use Rattle.sv_model.specs.declared.request.Request.{Request}

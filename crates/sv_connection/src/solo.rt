@@ -2,7 +2,7 @@
 
 ghost use Rattle.std.specs.Prelude.{◌≡◌, ◌+◌, ◌≤◌, length, vec_items, Ok};
 ghost use Rattle.sv_model.specs.Site.{with_list};
-ghost use Rattle.sv_model.specs.Node.{is_birth, no_birth};
+ghost use Rattle.sv_model.specs.Serving.{is_birth, no_birth};
 ghost use Rattle.sv_model.specs.declared.input.Input.TheVariants.{Ask, Tick};
 ghost use Rattle.sv_model.specs.declared.state.TheConstants.{KEY_LIMIT};
 ghost use Rattle.std.specs.FinMap.{get};

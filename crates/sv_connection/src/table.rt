@@ -3,7 +3,7 @@
 ghost use Rattle.std.specs.Prelude.{◌≡◌, ◌+◌, ◌<◌, length, Some, IfSome, position, slice_get, option_copied, vec_len, vec_capacity};
 ghost use Rattle.std.specs.Option.{option_to_list, option_map};
 ghost use Rattle.std.specs.FinMap.{get};
-ghost use Rattle.sv_model.specs.Node.{held_in};
+ghost use Rattle.sv_model.specs.Serving.{held_in};
 ghost use Rattle.sv_connection.specs.Table.{IsPlace, IsMade, keys_of, state_of, active_in, if_active, fated_at, born_behind, is_past, without_at, end_at};
 
 use sv_model::event::{Event, Told};

@@ -1,5 +1,5 @@
 -- The container's map and a node's keys go side by side.
-use Rattle.std.proofs.Common.{◌≡◌, ◌≢◌, ◌⊎◌, ℕ, Bool, true, false, cond, Option, Some, None, List, refl, sym, ap, ◌∙◌, subst, ⊎_elim}
+use Rattle.std.proofs.Common.{◌≡◌, ◌≢◌, ℕ, Bool, true, false, cond, Option, Some, None, refl, sym, ap, ◌∙◌, ⊎_elim}
 use Rattle.std.specs.Prelude.{is_some}
 use Rattle.std.specs.Option.{option_map}
 use Rattle.std.specs.FinMap.{get, insert, get-insert}
@@ -14,7 +14,8 @@ use Rattle.sv_model.specs.declared.outcome.Birth.{Birth}
 use Rattle.sv_model.specs.declared.outcome.Birth.TheVariants.{Absent, Alive, Ended as BirthEnded}
 use Rattle.sv_model.specs.Keys.{same_key, set_key}
 use Rattle.sv_model.specs.Container.{held_by, handed_if, fated, born}
-use Rattle.sv_model.specs.Node.{Keys, session_in, held_in, kept_at, ended_at, fated_keys, born_keys}
+use Rattle.sv_model.specs.NodeState.{Keys, session_in}
+use Rattle.sv_model.specs.Serving.{held_in, kept_at, ended_at, fated_keys, born_keys}
 use Rattle.sv_model.proofs.KeyLemmas.{keys_total, keys_tell}
 
 -- the container has the sessions that are active here

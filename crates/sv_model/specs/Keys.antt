@@ -1,5 +1,5 @@
 -- Keys in their order, and what is kept under them.
-use Rattle.std.specs.Prelude.{ℕ, Bool, cond}
+use Rattle.std.specs.Prelude.{Bool, cond}
 use Rattle.std.specs.Ordering.{nat_cmp, ordering_then, eq_by_cmp}
 use Rattle.std.specs.declared.cmp.Ordering.{Ordering}
 use Rattle.sv_model.specs.declared.key.Key.{Key}

@@ -8,6 +8,12 @@ pub mod Step
 pub mod Method
 pub mod Keys
 pub mod Container
+pub mod NodeState
+pub mod Decision
+pub mod Serving
+pub mod Waiting
+pub mod Migration
+pub mod Time
 pub mod Node
 pub mod Trace
 pub mod OneContainer

@@ -1,7 +1,7 @@
 -- What holds of all that a node alone has done: its sessions are those of one container, and its answers are that
 -- container's replies, in one order of all commits.
 use Rattle.std.specs.Option.{option_to_list}
-use Rattle.std.specs.Prelude.{◌≡◌, ℕ, ◌+◌, ◌<◌, ◌≤◌, Option, Some, None, List, [], ◌∷◌, map, ⊤}
+use Rattle.std.specs.Prelude.{◌≡◌, ◌+◌, ◌≤◌, Option, Some, None, List, [], ◌∷◌, map, ⊤}
 use Rattle.std.specs.FinMap.{get}
 use Rattle.sv_model.specs.declared.key.Key.{Key}
 use Rattle.sv_model.specs.declared.key.Token.{Token}
@@ -11,7 +11,7 @@ use Rattle.sv_model.specs.declared.event.Told.{Told}
 use Rattle.sv_model.specs.declared.commit.Commit.{Commit}
 use Rattle.sv_model.specs.Engine.{EngineMeaning}
 use Rattle.sv_model.specs.Container.{Store, nothing_stored, committed, after, AreLawful, AllMayStand, events_of, reply_of}
-use Rattle.sv_model.specs.Node.{Node, session_in}
+use Rattle.sv_model.specs.NodeState.{Node, session_in}
 
 use Rattle.sv_model.specs.Trace.{Item, commits_of, asked_of, replies_of, refused_of, served_of, times, arrival_behind}
 

@@ -1,5 +1,5 @@
 -- Plain pages.
-use Rattle.std.specs.Prelude.{ℕ, Bool, List, [], ◌∷◌, ◌++◌, codes, unwrap_or}
+use Rattle.std.specs.Prelude.{ℕ, Bool, List, [], ◌++◌, codes, unwrap_or}
 use Rattle.http.specs.StatusCode.{code_digits, reason_phrase}
 use Rattle.sv_model.specs.declared.field.Field.{Field}
 use Rattle.sv_model.specs.declared.response.Response.{Response}

@@ -7,7 +7,9 @@ use Rattle.sv_model.specs.declared.output.Output.{Output}
 use Rattle.sv_model.specs.declared.site.StepFault.{StepFault}
 use Rattle.sv_model.specs.declared.site.StepFault.TheVariants.{Memory}
 use Rattle.sv_model.specs.Engine.{EngineMeaning, heard_all}
-use Rattle.sv_model.specs.Node.{Setting, Node, Decision, decided}
+use Rattle.sv_model.specs.NodeState.{Setting, Node}
+use Rattle.sv_model.specs.Decision.{Decision}
+use Rattle.sv_model.specs.Node.{decided}
 
 -- a node with its engine's meaning, and what its listeners have noted
 pub record View : Type 0 where

@@ -1,6 +1,6 @@
 use Rattle.std.proofs.Common.{◌≡◌, length, sym, ap, ◌∙◌, arith}
 use Rattle.sv_model.specs.declared.output.Output.TheVariants.{Answer, Refuse}
-use Rattle.sv_model.specs.Node.{no_birth}
+use Rattle.sv_model.specs.Serving.{no_birth}
 use Rattle.sv_connection.specs.Table.{fated_at, born_behind, node_of}
 use Rattle.sv_connection.proofs.TableLemmas.{few_born, length_fated}
 use Rattle.sv_connection.proofs.SoloLemmas.{refuses, answers, serves, stands_at, notes_all, made_of, put_one}
