@@ -1,3 +1,4 @@
+pub mod Blanks
 pub mod Attributes
 pub mod Field
 pub mod Page

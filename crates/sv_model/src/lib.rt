@@ -8,6 +8,7 @@
 #![tactic(auto)]
 
 pub mod attributes;
+pub mod blanks;
 pub mod commit;
 pub mod engine;
 pub mod event;

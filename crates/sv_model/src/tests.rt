@@ -1,6 +1,7 @@
 //! Plain pages, fields and the plain values that contracts see as lists.
 
 mod attributes;
+mod blanks;
 mod copies;
 
 use crate::field::{Field, place_of_field, plain_type, set_field};

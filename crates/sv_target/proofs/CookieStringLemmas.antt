@@ -9,7 +9,7 @@ use Rattle.std.proofs.lemmas.List.Elements.{All-cons, All-head, All-nil, All-tai
 use Rattle.std.proofs.lemmas.List.Folds.{list_any-append}
 use Rattle.std.proofs.lemmas.List.Splits.{length-slice_split, slice_split_at, slice_split_none}
 use Rattle.sv_model.specs.declared.request.Cookie.{Cookie}
-use Rattle.sv_target.specs.Blanks.{is_blank, trim, trim_start}
+use Rattle.sv_model.specs.Blanks.{is_blank, trim, trim_start}
 use Rattle.sv_target.specs.Cookies.{is_equals, is_pair, is_semicolon, pair_of, pairs_among, pairs_of}
 use Rattle.sv_target.specs.CookieString.{IsSendable, cookie_string, pair_text}
 

@@ -2,7 +2,7 @@
 use Rattle.std.specs.Prelude.{◌≡◌, ℕ, false, List, [], ◌∷◌, ◌++◌, codes}
 use Rattle.std.specs.List.{list_any}
 use Rattle.sv_model.specs.declared.request.Cookie.{Cookie}
-use Rattle.sv_target.specs.Blanks.{is_blank}
+use Rattle.sv_model.specs.Blanks.{is_blank}
 use Rattle.sv_target.specs.Cookies.{is_equals, is_semicolon}
 
 -- a name, `=` and a value

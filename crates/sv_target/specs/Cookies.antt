@@ -3,7 +3,7 @@ use Rattle.std.specs.Prelude.{ℕ, Bool, ◌==◌, List, codes, bytes_eq, map, f
 use Rattle.std.specs.List.{after_first, before_first, flat_map, list_any, slice_split}
 use Rattle.sv_model.specs.declared.field.Field.{Field}
 use Rattle.sv_model.specs.declared.request.Cookie.{Cookie}
-use Rattle.sv_target.specs.Blanks.{trim}
+use Rattle.sv_model.specs.Blanks.{trim}
 
 abbrev pub is_semicolon : ℕ → Bool
 is_semicolon b = b == 59

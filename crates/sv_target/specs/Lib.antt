@@ -1,4 +1,3 @@
-pub mod Blanks
 pub mod Cookies
 pub mod CookieString
 pub mod SessionCookie

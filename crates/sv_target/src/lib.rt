@@ -7,7 +7,6 @@
 //! what is read of it are each other's inverse. Nothing here knows whether a session that is named exists.
 #![tactic(auto)]
 
-mod blanks;
 pub mod cookies;
 pub mod laws;
 pub mod session_cookie;

@@ -1,5 +1,5 @@
 use Rattle.std.proofs.Common.{◌≡◌, ◌++◌, map}
-use Rattle.sv_target.specs.Blanks.{trim}
+use Rattle.sv_model.specs.Blanks.{trim}
 use Rattle.sv_target.specs.Cookies.{pairs_among}
 use Rattle.sv_target.proofs.cookies.add_pairs.Given as goal
 

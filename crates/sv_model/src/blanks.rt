@@ -1,7 +1,7 @@
 //! Blanks at the ends of a text: spaces and tabs (RFC 9110, section 5.6.3).
 
 ghost use Rattle.std.specs.Prelude.{◌≡◌};
-ghost use Rattle.sv_target.specs.Blanks as spec;
+ghost use Rattle.sv_model.specs.Blanks as spec;
 
 fn is_blank(byte: u8) -> bool
     ensures { result ≡ spec.is_blank byte }
@@ -37,7 +37,7 @@ fn trim_end(text: &[u8]) -> &[u8]
 
 /// The text without the blanks at both ends.
 #[tactic(auto, unfolding(crate::specs::Blanks::trim))]
-pub(crate) fn trim(text: &[u8]) -> &[u8]
+pub fn trim(text: &[u8]) -> &[u8]
     ensures { result.now ≡ spec.trim text.now }
 {
     trim_end(trim_start(text))
