@@ -1,9 +1,10 @@
-//! What a commit makes of one key.
+//! What a commit makes of the sessions that it speaks of.
 
 ghost use Rattle.std.specs.Prelude.{◌≡◌, ◌++◌, length, take, OnOk, OnErr};
-ghost use Rattle.sv_record.specs.Ranges.{IsChange};
+ghost use Rattle.sv_record.specs.Ranges.{IsChange, IsCommit};
 ghost use Rattle.sv_record.specs.Reading.{Gives};
-ghost use Rattle.sv_record.specs.Record.{change};
+ghost use Rattle.sv_record.specs.Record as spec;
+ghost use Rattle.sv_record.specs.Record.{change, commit};
 ghost use Rattle.sv_record.specs.declared.version.Version.TheVariants.{One};
 
 use crate::fault::RecordFault;
@@ -38,6 +39,29 @@ pub(crate) fn read_change(
     }
 }
 
+/// What a commit makes of the session that was named and of the one that was made.
+#[tactic(auto, unfolding(crate::specs::Record::commit))]
+pub(crate) fn read_changes(
+    alloc: Global,
+    version: Version,
+    bytes: &[u8],
+) -> Result<((Change, Change), &[u8]), RecordFault>
+    ensures { Gives (λ x. (x.0, x.1.now)) result ((commit version).read bytes.now) }
+{
+    let (named, rest) = read_change(alloc, version, bytes)?;
+    let (born, rest) = read_change(alloc, version, rest)?;
+    if is_absent(&named) && is_absent(&born) {
+        return Err(RecordFault::BadField);
+    }
+    Ok(((named, born), rest))
+}
+
+fn is_absent(change: &Change) -> bool
+    ensures { result ≡ spec.is_absent change.now }
+{
+    matches!(change, Change::Absent)
+}
+
 #[tactic(auto, unfolding(crate::specs::Record::change))]
 pub(crate) fn write_change(made: &Change, out: &mut Vec<u8>) -> Result<(), AllocError>
     requires { IsChange made.now }
@@ -57,4 +81,19 @@ pub(crate) fn write_change(made: &Change, out: &mut Vec<u8>) -> Result<(), Alloc
             write_key(*key, out)
         }
     }
+}
+
+#[tactic(auto, unfolding(crate::specs::Record::commit))]
+pub(crate) fn write_changes(
+    named: &Change,
+    born: &Change,
+    out: &mut Vec<u8>,
+) -> Result<(), AllocError>
+    requires { IsCommit named.now born.now }
+    ensures ok { OnOk result (out.new.items ≡ out.old.items ++ (commit One).text (named.now, born.now)) }
+    ensures fits { OnOk result ((commit One).Fits (named.now, born.now)) }
+    ensures err { OnErr result (take (length out.old.items) out.new.items ≡ out.old.items) }
+{
+    write_change(named, out)?;
+    write_change(born, out)
 }
