@@ -79,7 +79,8 @@ unfoldable pub frame_at : List ℕ → Result (Option (Frame × ℕ)) RecordFaul
 frame_at [] = Ok None
 frame_at (first ∷ bytes) = if first == PEER || first == CONTROL then (sized_at bytes >>= taken_at first) else Err Foreign
 
--- The bytes end before a payload does: something is missing. The length is within the limit, where it is there.
+-- The bytes end before a payload does, whatever that is: something is missing. The first byte is one that a frame has,
+-- and the length is within the limit, where they are there.
 pub record IsFront (bytes : List ℕ) : Type 0 where
   pub first : ℕ
   pub payload : List ℕ

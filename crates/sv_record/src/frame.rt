@@ -39,10 +39,12 @@ pub enum Frame {
     Halt,
 }
 
-/// Reads the first frame, and says how many bytes it takes; none where the bytes are too few.
+/// Reads the first frame, and says how many bytes it takes.
 ///
-/// A first byte that no frame has, and a length past [`PAYLOAD_LIMIT`], are faults at once; the payload is judged when
-/// all of it is there.
+/// The answer is none where bytes are missing: there is no first byte, or behind [`PEER`] or [`CONTROL`] the length's
+/// four bytes aren't all there, or the length is at most [`PAYLOAD_LIMIT`] and the payload isn't all there. Nothing of a
+/// payload is judged before its last byte is there. Another first byte is [`RecordFault::Foreign`] and a greater length
+/// [`RecordFault::BadField`], both at once.
 pub fn read_frame(alloc: Global, bytes: &[u8]) -> Result<Option<(Frame, usize)>, RecordFault>
     // What is read is spelled so.
     ensures found { IfOk result (λ o. IfSome o (λ x. HasSpelling x.0 × ((rest : List ℕ) × (bytes.now ≡ spelling x.0 ++ rest)))) }
@@ -51,7 +53,7 @@ pub fn read_frame(alloc: Global, bytes: &[u8]) -> Result<Option<(Frame, usize)>,
     ensures within { IfOk result (λ o. IfSome o (λ x. IsFrame x.0)) }
     // What is spelled so is read, whatever follows, unless memory is refused.
     ensures only { (f : Frame) (rest : List ℕ) → HasSpelling f → bytes.now ≡ spelling f ++ rest → Gives (λ x. x) result (Ok (Some (f, length (spelling f)))) }
-    // There is no frame yet where something is missing.
+    // None where bytes are missing, and there alone.
     ensures none { IfOk result (λ o. IfNone o (IsFront bytes.now)) }
     ensures front { IsFront bytes.now → result ≡ Ok None }
     // A fault is the first trouble.

@@ -6,6 +6,7 @@ mod limits;
 mod packets;
 mod records;
 mod shown;
+mod written;
 
 use crate::{
     Frame, RecordFault, read_frame, read_packet, read_record, write_frame, write_packet,

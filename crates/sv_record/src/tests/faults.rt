@@ -2,6 +2,7 @@
 
 use crate::RecordFault;
 use crate::tests::{KEY, bytes_of, record_fault};
+use std::alloc::AllocError;
 use std::test::Fail;
 
 /// A record up to its session.
@@ -99,6 +100,12 @@ fn first_trouble_of_a_session(rt: HostRuntime) -> Result<(), Fail> {
         bytes.extend_from_slice(&bytes_of(alloc, texts)?)?;
         assert_eq!(rt; record_fault(alloc, &bytes), Some(want), "of {bytes:?}");
     }
+    Ok(())
+}
+
+#[test]
+fn refused_memory_is_a_fault(rt: HostRuntime) -> Result<(), Fail> {
+    assert_eq!(rt; RecordFault::from(AllocError), RecordFault::Memory);
     Ok(())
 }
 
