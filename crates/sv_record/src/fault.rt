@@ -3,7 +3,7 @@
 ghost use Rattle.std.specs.Prelude.{◌≡◌};
 ghost use Rattle.sv_record.specs.declared.fault.RecordFault.TheVariants.{Memory};
 
-use std::alloc::{AllocError, AllocFailed};
+use std::alloc::AllocError;
 use thiserror::Error;
 
 /// The first trouble in the order of the bytes, or want of memory.
@@ -30,14 +30,6 @@ impl From<AllocError> for RecordFault {
     ghost from_gives = { λ _ fault. fault ≡ Memory };
 
     fn from(_refused: AllocError) -> RecordFault {
-        RecordFault::Memory
-    }
-}
-
-impl<T: Drop> From<AllocFailed<T>> for RecordFault {
-    ghost from_gives = { λ _ fault. fault ≡ Memory };
-
-    fn from(_refused: AllocFailed<T>) -> RecordFault {
         RecordFault::Memory
     }
 }

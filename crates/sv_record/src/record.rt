@@ -43,8 +43,8 @@ fn read_whole(alloc: Global, bytes: &[u8]) -> Result<Record, RecordFault>
 
 /// Adds a record to the bytes, by the newest version. Where memory is refused the bytes are as before.
 ///
-/// Its numbers of nodes are below 8, its epochs and serials not 0, its sessions within the limits, and of a commit at
-/// least one change isn't absent.
+/// Its numbers of nodes are below 8, its epochs, its serials and the boot that it begins not 0, its sessions within the
+/// limits, and of a commit at least one change isn't absent.
 pub fn write_record(entry: &Record, out: &mut Vec<u8>) -> Result<(), AllocError>
     requires { IsRecord entry.now }
     ensures ok { OnOk result (out.new.items ≡ out.old.items ++ spelling entry.now) }
