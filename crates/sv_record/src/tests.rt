@@ -34,21 +34,27 @@ fn digit(byte: u8) -> Option<u8> {
     }
 }
 
-/// The bytes that the digits of these texts say, two for a byte. Spaces between them count for nothing.
-fn bytes_of(alloc: Global, texts: &[&str]) -> Result<Vec<u8>, Fail> {
-    let mut bytes = Vec::new(alloc);
+/// Adds the bytes that the digits of a text say, two for a byte. Spaces between them count for nothing.
+fn push_digits(bytes: &mut Vec<u8>, text: &str) -> Result<(), Fail> {
     let mut high = None;
-    for text in texts {
-        for byte in text.bytes() {
-            match (digit(byte), high) {
-                (None, _) => {}
-                (Some(number), None) => high = Some(number),
-                (Some(number), Some(first)) => {
-                    bytes.push(first << 4 | number)?;
-                    high = None;
-                }
+    for byte in text.bytes() {
+        match (digit(byte), high) {
+            (None, _) => {}
+            (Some(number), None) => high = Some(number),
+            (Some(number), Some(first)) => {
+                bytes.push(first << 4 | number)?;
+                high = None;
             }
         }
+    }
+    Ok(())
+}
+
+/// The bytes of these texts, one behind the other.
+fn bytes_of(alloc: Global, texts: &[&str]) -> Result<Vec<u8>, Fail> {
+    let mut bytes = Vec::new(alloc);
+    for text in texts {
+        push_digits(&mut bytes, text)?;
     }
     Ok(bytes)
 }

@@ -16,6 +16,24 @@ fn frame_text(alloc: Global, frame: &Frame) -> Result<String, Fail> {
     Ok(text)
 }
 
+/// The frame at the front as a text, the bytes that it takes, and its spelling.
+fn frame_shown(alloc: Global, stream: &[u8]) -> Result<(String, usize, Vec<u8>), Fail> {
+    match frame_again(alloc, stream)? {
+        Some((frame, taken, again)) => Ok((frame_text(alloc, &frame)?, taken, again)),
+        None => Err("no frame is whole".into()),
+    }
+}
+
+/// The first place where the bytes, cut there, are answered by a frame.
+fn whole_before_its_end(alloc: Global, bytes: &[u8]) -> Result<Option<usize>, Fail> {
+    for end in 0..bytes.len() {
+        if frame_again(alloc, &bytes[..end])?.is_some() {
+            return Ok(Some(end));
+        }
+    }
+    Ok(None)
+}
+
 /// Each frame, spelled by hand; behind it may stand anything.
 #[test]
 fn each_frame(rt: HostRuntime) -> Result<(), Fail> {
@@ -38,21 +56,12 @@ fn each_frame(rt: HostRuntime) -> Result<(), Fail> {
         let mut more = Vec::from_slice(alloc, &bytes)?;
         more.extend_from_slice(&[0xe1, 0x00])?;
         for stream in [&bytes, &more] {
-            match frame_again(alloc, stream)? {
-                Some((frame, taken, again)) => {
-                    assert_eq!(rt; frame_text(alloc, &frame)?.as_str(), want);
-                    assert_eq!(rt; taken, bytes.len(), "bytes of {want}");
-                    assert_eq!(rt; again.as_slice(), bytes.as_slice(), "{want} again");
-                }
-                None => assert!(rt; false, "{want} is whole"),
-            }
+            let (text, taken, again) = frame_shown(alloc, stream)?;
+            assert_eq!(rt; text.as_str(), want);
+            assert_eq!(rt; taken, bytes.len(), "bytes of {want}");
+            assert_eq!(rt; again.as_slice(), bytes.as_slice(), "{want} again");
         }
-        for end in 0..bytes.len() {
-            assert!(rt;
-                frame_again(alloc, &bytes[..end])?.is_none(),
-                "{want} cut at {end}"
-            );
-        }
+        assert_eq!(rt; whole_before_its_end(alloc, &bytes)?, None, "{want} cut");
     }
     Ok(())
 }

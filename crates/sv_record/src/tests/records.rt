@@ -106,24 +106,48 @@ fn a_first_count_has_63_bytes(rt: HostRuntime) -> Result<(), Fail> {
     Ok(())
 }
 
-/// Whatever one byte becomes, the bytes are a fault or the spelling of what is read.
+/// How many of the 256 values at a place are read as a record, of which those bytes are the spelling.
+fn values_read(alloc: Global, bytes: &[u8], at: usize) -> Result<u64, Fail> {
+    let mut read = 0u64;
+    for value in 0..=255u8 {
+        match is_spelled_again(alloc, &with_byte(alloc, bytes, at, value)?) {
+            Ok(true) => read = read.saturating_add(1),
+            Ok(false) => return Err("a record has another spelling".into()),
+            Err(RecordFault::Memory) => return Err("memory was refused".into()),
+            Err(_) => {}
+        }
+    }
+    Ok(read)
+}
+
+/// Whatever one byte becomes, the bytes are a fault or the spelling of what is read. Another version is none; another
+/// kind or length leaves bytes behind, wants more or is out of its range; and a byte of 128 and more is no text between
+/// smaller ones (RFC 3629, section 3).
 #[test]
 fn each_byte_of_a_first_count_changed(rt: HostRuntime) -> Result<(), Fail> {
     let alloc = rt.alloc();
     let bytes = bytes_of(alloc, &["01 02 00 01", KEY, SESSION])?;
-    let mut read = 0u64;
-    for at in 0..bytes.len() {
-        for value in 0..=255u8 {
-            match is_spelled_again(alloc, &with_byte(alloc, &bytes, at, value)?) {
-                Ok(same) => {
-                    assert!(rt; same, "{value} at {at}");
-                    read = read.saturating_add(1);
-                }
-                Err(fault) => assert!(rt; fault != RecordFault::Memory, "{value} at {at}"),
-            }
+    let rows: [(u64, u64, &str); 12] = [
+        (4, 1, "the version and the kinds"),
+        (1, 8, "the home"),
+        (7, 256, "the serial, but for its last byte"),
+        (1, 255, "the last byte of a serial that isn't 0"),
+        (16, 256, "the secret"),
+        (1, 16, "the context"),
+        (20, 256, "the moments and the interval"),
+        (1, 2, "whether the session is fresh"),
+        (4, 1, "the count and the length of the name"),
+        (5, 128, "the name"),
+        (2, 1, "the length of the value"),
+        (1, 256, "the value"),
+    ];
+    let mut at = 0usize;
+    for (places, values, what) in rows {
+        for _ in 0..places {
+            assert_eq!(rt; values_read(alloc, &bytes, at)?, values, "{what}, at {at}");
+            at = at.saturating_add(1);
         }
     }
-    // Among them are the unchanged bytes, once for each place.
-    assert!(rt; read > 63);
+    assert_eq!(rt; at, bytes.len());
     Ok(())
 }
