@@ -1,7 +1,10 @@
 //! What a step of a node does to the one container that all nodes make up.
 
+ghost use Rattle.std.specs.Prelude.{◌≡◌, IfOk};
+
 use crate::key::{Key, Secret, Token};
 use crate::request::Request;
+use std::alloc::{AllocError, Global};
 
 /// A step of the container.
 #[derive(Drop)]
@@ -21,4 +24,29 @@ pub enum Commit {
         key: Key,
         now: u64,
     },
+}
+
+impl Commit {
+    /// An equal commit; the values of a request's fields share their bytes with it.
+    pub fn copy(&self, alloc: Global) -> Result<Commit, AllocError>
+        ensures { IfOk result (λ copy. copy ≡ self.now) }
+    {
+        let copy = match *self {
+            Commit::Served {
+                token,
+                ref request,
+                now,
+                handed,
+                fresh,
+            } => Commit::Served {
+                token,
+                request: request.copy(alloc)?,
+                now,
+                handed,
+                fresh,
+            },
+            Commit::Expired { key, now } => Commit::Expired { key, now },
+        };
+        Ok(copy)
+    }
 }

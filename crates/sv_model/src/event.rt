@@ -1,8 +1,12 @@
 //! What listeners are told (Jakarta Servlet 6.0, chapter "Application Lifecycle Events").
 
+ghost use Rattle.std.specs.Prelude.{◌≡◌, IfOk};
+
+use crate::copied::Copied;
 use crate::key::Key;
 use crate::sequence::Sequence;
 use crate::text::Text;
+use std::alloc::{AllocError, Global};
 
 /// An event of one context.
 #[derive(Drop)]
@@ -48,4 +52,59 @@ pub enum Event {
 pub struct Told {
     pub context: u8,
     pub event: Event,
+}
+
+impl Event {
+    /// An equal event in memory of its own.
+    pub fn copy(&self, alloc: Global) -> Result<Event, AllocError>
+        ensures { IfOk result (λ copy. copy ≡ self.now) }
+    {
+        let copy = match *self {
+            Event::ContextUp => Event::ContextUp,
+            Event::ContextDown => Event::ContextDown,
+            Event::RequestIn => Event::RequestIn,
+            Event::RequestOut => Event::RequestOut,
+            Event::Created(key) => Event::Created(key),
+            Event::Destroyed(key) => Event::Destroyed(key),
+            Event::Added {
+                key,
+                ref name,
+                ref value,
+            } => Event::Added {
+                key,
+                name: name.copy(alloc)?,
+                value: value.copy(alloc)?,
+            },
+            Event::Removed {
+                key,
+                ref name,
+                ref old,
+            } => Event::Removed {
+                key,
+                name: name.copy(alloc)?,
+                old: old.copy(alloc)?,
+            },
+            Event::Replaced {
+                key,
+                ref name,
+                ref old,
+            } => Event::Replaced {
+                key,
+                name: name.copy(alloc)?,
+                old: old.copy(alloc)?,
+            },
+            Event::Passivate(key) => Event::Passivate(key),
+            Event::Activate(key) => Event::Activate(key),
+        };
+        Ok(copy)
+    }
+}
+
+impl Copied for Told {
+    fn copy(&self, alloc: Global) -> Result<Told, AllocError> {
+        Ok(Told {
+            context: self.context,
+            event: self.event.copy(alloc)?,
+        })
+    }
 }

@@ -4,15 +4,26 @@ ghost use Rattle.std.specs.Prelude.{◌≡◌, OnOk, OnErr, IfSome, IfNone, ◌<
 ghost use Rattle.std.specs.Str.{bytes_eq};
 ghost use Rattle.sv_model.specs.Field.{with_field, place_of_field, plain_type};
 
+use crate::copied::Copied;
 use crate::sequence::Sequence;
 use http_header::{HeaderName, HeaderValue};
-use std::alloc::AllocError;
+use std::alloc::{AllocError, Global};
 
 /// A field line: a name, held in lower case, and a value without the white space round it.
 #[derive(Drop)]
 pub struct Field {
     pub name: HeaderName,
     pub value: HeaderValue,
+}
+
+impl Copied for Field {
+    /// The bytes of the value are shared with the copy.
+    fn copy(&self, _: Global) -> Result<Field, AllocError> {
+        Ok(Field {
+            name: self.name.clone()?,
+            value: self.value.clone()?,
+        })
+    }
 }
 
 /// The place of the first field of a name.

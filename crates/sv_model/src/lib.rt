@@ -10,6 +10,7 @@
 pub mod attributes;
 pub mod blanks;
 pub mod commit;
+pub mod copied;
 pub mod engine;
 pub mod event;
 pub mod field;

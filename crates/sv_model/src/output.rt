@@ -1,7 +1,10 @@
 //! What a step puts out.
 
+ghost use Rattle.std.specs.Prelude.{◌≡◌, IfOk};
+
 use crate::packet::Packet;
 use crate::response::Response;
+use std::alloc::{AllocError, Global};
 
 /// Why a request was refused; nothing was done for it.
 #[derive(Clone, Copy, Debug, PartialEq, Eq)]
@@ -43,4 +46,26 @@ pub enum Output {
     Send(Packet),
     Moved,
     MoveRefused(MoveRefusal),
+}
+
+impl Output {
+    /// An equal output; the values of a response's fields share their bytes with it.
+    pub fn copy(&self, alloc: Global) -> Result<Output, AllocError>
+        ensures { IfOk result (λ copy. copy ≡ self.now) }
+    {
+        let copy = match *self {
+            Output::Answer {
+                token,
+                ref response,
+            } => Output::Answer {
+                token,
+                response: response.copy(alloc)?,
+            },
+            Output::Refuse { token, cause } => Output::Refuse { token, cause },
+            Output::Send(ref packet) => Output::Send(packet.copy(alloc)?),
+            Output::Moved => Output::Moved,
+            Output::MoveRefused(why) => Output::MoveRefused(why),
+        };
+        Ok(copy)
+    }
 }

@@ -1,9 +1,13 @@
 //! A request as a site is asked it.
 
+ghost use Rattle.std.specs.Prelude.{◌≡◌, IfOk};
+
+use crate::copied::Copied;
 use crate::field::Field;
 use crate::sequence::Sequence;
 use crate::text::Text;
 use http::Method;
+use std::alloc::{AllocError, Global};
 
 /// A parameter of the query or of a form, decoded.
 #[derive(Drop)]
@@ -38,4 +42,45 @@ pub struct Request {
     pub body: Sequence<u8>,
     /// The connection closes behind the response.
     pub close: bool,
+}
+
+impl Copied for Param {
+    fn copy(&self, alloc: Global) -> Result<Param, AllocError> {
+        Ok(Param {
+            name: self.name.copy(alloc)?,
+            value: self.value.copy(alloc)?,
+        })
+    }
+}
+
+impl Copied for Cookie {
+    fn copy(&self, alloc: Global) -> Result<Cookie, AllocError> {
+        Ok(Cookie {
+            name: self.name.copy(alloc)?,
+            value: self.value.copy(alloc)?,
+        })
+    }
+}
+
+impl Request {
+    /// An equal request; the values of its fields share their bytes with it.
+    pub fn copy(&self, alloc: Global) -> Result<Request, AllocError>
+        ensures { IfOk result (λ copy. copy ≡ self.now) }
+    {
+        let query = match &self.query {
+            Some(query) => Some(query.copy(alloc)?),
+            None => None,
+        };
+        Ok(Request {
+            method: self.method.clone()?,
+            raw_path: self.raw_path.copy(alloc)?,
+            path: self.path.copy(alloc)?,
+            query,
+            fields: self.fields.copy(alloc)?,
+            cookies: self.cookies.copy(alloc)?,
+            params: self.params.copy(alloc)?,
+            body: self.body.copy(alloc)?,
+            close: self.close,
+        })
+    }
 }

@@ -1,7 +1,8 @@
 //! A vector that contracts see as the list of its elements.
 
-ghost use Rattle.std.specs.Prelude.{◌≡◌, ◌++◌, ◌∷◌, List, [], OnOk, OnErr, ◌<◌, length, slice_set};
+ghost use Rattle.std.specs.Prelude.{◌≡◌, ◌++◌, ◌∷◌, List, [], IfOk, OnOk, OnErr, ◌<◌, length, slice_set};
 
+use crate::copied::Copied;
 use std::alloc::{AllocError, Global};
 use std::marker::Model;
 
@@ -85,7 +86,29 @@ impl<T: Drop> Sequence<T> {
     }
 }
 
+impl<T: Copied> Sequence<T> {
+    /// Equal elements in memory of their own.
+    pub fn copy(&self, alloc: Global) -> Result<Self, AllocError>
+        ensures { IfOk result (λ copy. copy ≡ self.now) }
+    {
+        let mut items = Vec::with_capacity(alloc, self.items.len())?;
+        for item in self.items.iter() {
+            items.push(item.copy(alloc)?)?;
+        }
+        Ok(Sequence { items })
+    }
+}
+
 impl Sequence<u8> {
+    /// Equal bytes in memory of their own.
+    pub fn copy(&self, alloc: Global) -> Result<Self, AllocError>
+        ensures { IfOk result (λ copy. copy ≡ self.now) }
+    {
+        Ok(Sequence {
+            items: Vec::from_slice(alloc, self.items.as_slice())?,
+        })
+    }
+
     /// Adds bytes at the end.
     pub fn extend_from_slice(&mut self, more: &[u8]) -> Result<(), AllocError>
         ensures ok { OnOk result (self.new ≡ self.old ++ more.now) }

@@ -3,14 +3,19 @@
 mod attributes;
 mod blanks;
 mod copies;
+mod expiry;
+mod messages;
 
+use crate::engine::EngineFault;
 use crate::field::{Field, place_of_field, plain_type, set_field};
+use crate::method::is_head;
 use crate::page::{phrase, plain_body, plain_page};
 use crate::sequence::Sequence;
+use crate::site::StepFault;
 use crate::text::Text;
-use http::StatusCode;
+use http::{Method, StatusCode};
 use http_header::{HeaderName, HeaderValue};
-use std::alloc::Global;
+use std::alloc::{AllocError, Global};
 use std::test::Fail;
 
 /// A field of a name and a value.
@@ -136,4 +141,30 @@ fn lists_and_texts(rt: HostRuntime) -> Result<(), Fail> {
     assert_eq!(rt; Text::from_str(alloc, "bramble")?.as_str(), "bramble");
     assert_eq!(rt; Text::new(alloc).as_str(), "");
     Ok(())
+}
+
+/// Methods are compared with case (RFC 9110, section 9.1).
+#[test]
+fn methods(rt: HostRuntime) -> Result<(), Fail> {
+    let alloc = rt.alloc();
+    let rows: [(&[u8], bool); 5] = [
+        (b"HEAD", true),
+        (b"head", false),
+        (b"GET", false),
+        (b"HEADS", false),
+        (b"HEA", false),
+    ];
+    for (name, want) in rows {
+        let method = Method::from_bytes(alloc, name)?;
+        assert_eq!(rt; is_head(&method), want, "{}", method.as_str());
+    }
+    Ok(())
+}
+
+/// Want of memory keeps its name on the way up.
+#[test]
+fn want_of_memory(rt: HostRuntime) {
+    assert_eq!(rt; EngineFault::from(AllocError), EngineFault::Memory);
+    assert_eq!(rt; StepFault::from(AllocError), StepFault::Memory);
+    assert_eq!(rt; StepFault::from(EngineFault::Memory), StepFault::Memory);
 }

@@ -46,6 +46,13 @@ impl Text {
         Ok(Text { text })
     }
 
+    /// An equal text in memory of its own.
+    pub fn copy(&self, alloc: Global) -> Result<Self, AllocError>
+        ensures { IfOk result (λ copy. copy ≡ self.now) }
+    {
+        Text::from_str(alloc, self.as_str())
+    }
+
     /// The text in place.
     pub fn as_str(&self) -> &str
         ensures { result.now ≡ self.now }
