@@ -1,4 +1,6 @@
+mod CountLemmas
 mod HelloLemmas
+mod NumeralLemmas
 mod OnceLemmas
+mod RefusalLemmas
 mod ThinLemmas
-mod WordLemmas

@@ -1,5 +1,5 @@
 -- An engine that has no listeners.
-use Rattle.std.proofs.Common.{◌≡◌, ℕ, List, [], ◌∷◌, refl}
+use Rattle.std.proofs.Common.{◌≡◌, List, [], ◌∷◌, refl}
 use Rattle.std.specs.Prelude.{Bool}
 use Rattle.sv_model.specs.Engine.{heard_all}
 use Rattle.sv_model.specs.declared.event.Told.{Told}

@@ -1,5 +1,5 @@
 -- What an engine answers that has one context, `/shop`, and in it one servlet, at the exact pattern `/hello`.
-use Rattle.std.specs.Prelude.{◌≡◌, ℕ, ℤ, pos, ◌&&◌, ◌||◌, Bool, true, false, nat_eq, Option, None, List, [], ◌∷◌, codes, if◌then◌else◌}
+use Rattle.std.specs.Prelude.{◌≡◌, ℕ, pos, ◌&&◌, ◌||◌, Bool, true, false, nat_eq, None, List, [], ◌∷◌, codes, if◌then◌else◌}
 use Rattle.std.specs.List.{starts_with}
 use Rattle.std.specs.Str.{bytes_eq}
 use Rattle.sv_model.specs.declared.key.Key.{Key}

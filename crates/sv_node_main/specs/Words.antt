@@ -1,9 +1,7 @@
 -- The words of the command line.
-use Rattle.std.specs.Prelude.{ℕ, ◌^◌, ◌&&◌, ◌==◌, not, Bool, List, [], ◌∷◌, length, codes, Option, Some, None, Result, Ok, Err, nat_lt, slice_index, if◌then◌else◌}
-use Rattle.std.specs.Char.{digit_value}
-use Rattle.std.specs.List.{list_all}
+use Rattle.std.specs.Prelude.{ℕ, List, [], ◌∷◌, codes, Option, Some, None, Result, Ok, Err, if◌then◌else◌}
 use Rattle.std.specs.Str.{bytes_eq}
-use Rattle.std.specs.Str.Parse.{digits_value}
+use Rattle.sv_node_main.specs.Numeral.{number_in}
 use Rattle.sv_node_main.specs.declared.words.Words.{Words}
 use Rattle.sv_node_main.specs.declared.words.Words.TheVariants.{Once, Node}
 use Rattle.sv_node_main.specs.declared.words.Arguments.{Arguments}
@@ -12,23 +10,6 @@ use Rattle.sv_node_main.specs.declared.words.Arguments.{Arguments}
 pub data Command : Type 0 where
   ServeOnce : (config : List ℕ) (now : ℕ) → Command
   RunNode : (config journal : List ℕ) (number : ℕ) → Command
-
--- a decimal digit
-abbrev pub is_digit : ℕ → Bool
-is_digit c = nat_lt (digit_value c) 10
-
--- one or more decimal digits, and nothing else
-abbrev pub is_numeral : List ℕ → Bool
-is_numeral word = nat_lt 0 (length word) && list_all is_digit word
-
--- a sign stands first
-abbrev pub starts_with_plus : List ℕ → Bool
-starts_with_plus word = slice_index word 0 == 43
-
--- the number of decimal digits, where it is below 2 ^ k
-unfoldable pub number_in : ℕ → List ℕ → Option ℕ
-number_in k word =
-    if not (starts_with_plus word) && (is_numeral word && nat_lt (digits_value 10 word) (2 ^ k)) then Some (digits_value 10 word) else None
 
 abbrev pub once_at : List ℕ → Option ℕ → Option Command
 once_at config None = None

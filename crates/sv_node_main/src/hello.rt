@@ -1,16 +1,16 @@
 //! A servlet that says hello.
 
-ghost use Rattle.std.specs.Prelude.{◌≡◌, ◌≢◌, IfOk};
-ghost use Rattle.sv_servlet.specs.Reply.{Answers, field_result, fault_name};
-ghost use Rattle.sv_servlet.specs.declared.reply.ReplyFault.TheVariants.{Memory};
-ghost use Rattle.sv_model.specs.Field.{plain_type};
-ghost use Rattle.sv_node_main.specs.Hello.{sent_fault};
+ghost use Rattle.std.specs.Prelude.{◌≡◌};
+ghost use Rattle.sv_session.specs.Edit.{Edit};
+ghost use Rattle.sv_servlet.specs.Servlet.{lent};
+ghost use Rattle.sv_node_main.specs.Hello.{hello_of};
+ghost use Rattle.sv_node_main.specs.Refusal.{Ends};
 
+use crate::refusal::{Refusal, next_after};
 use std::alloc::{AllocError, Global};
 use sv_model::field::plain_type;
-use sv_model::text::Text;
 use sv_servlet::call::Call;
-use sv_servlet::reply::{Reply, ReplyFault};
+use sv_servlet::reply::Reply;
 use sv_servlet::servlet::{InitFault, Next, Phase, Servlet};
 use sv_session::edit::SessionEdit;
 
@@ -37,15 +37,14 @@ impl Hello {
     }
 }
 
-/// What a servlet answers where its reply refused a call: the error page with the fault's name.
-fn send_fault(alloc: Global, fault: ReplyFault) -> Result<Next, AllocError>
-    ensures { IfOk result (λ next. (fault ≢ Memory) × (next ≡ sent_fault fault)) }
+/// Writes the greeting; the edit of the session is left alone.
+#[tactic(auto, unfolding(crate::specs::Hello::hello_of))]
+fn say_hello(reply: &mut Reply) -> Result<(), Refusal>
+    ensures { (e : Edit) → Ends (hello_of (lent e reply.old)) (lent e reply.new) result }
 {
-    if fault == ReplyFault::Memory {
-        return Err(AllocError);
-    }
-    let text = Text::from_str(alloc, fault.name())?;
-    Ok(Next::SendError { code: 500, text })
+    reply.set(plain_type())?;
+    reply.write(b"Hello\n")?;
+    Ok(())
 }
 
 impl Servlet for Hello {
@@ -67,14 +66,8 @@ impl Servlet for Hello {
         reply: &mut Reply,
     ) -> Result<Next, AllocError> {
         self.calls = self.calls.saturating_add(1);
-        match reply.set(plain_type()) {
-            Ok(()) => {}
-            Err(fault) => return send_fault(self.alloc, fault),
-        }
-        match reply.write(b"Hello\n") {
-            Ok(()) => Ok(Next::Done),
-            Err(fault) => send_fault(self.alloc, fault),
-        }
+        let ended = say_hello(reply);
+        next_after(self.alloc, ended)
     }
 
     fn destroy(&mut self) {

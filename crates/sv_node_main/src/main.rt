@@ -6,8 +6,11 @@
 //! and ends the program with its status.
 #![tactic(auto)]
 
+mod count;
 mod hello;
+mod numeral;
 mod once;
+mod refusal;
 #[cfg(test)]
 mod tests;
 mod thin;

@@ -1,8 +1,10 @@
 //! The words of the command line.
 
 ghost use Rattle.std.specs.Prelude.{◌≡◌, map, string_bytes};
-ghost use Rattle.sv_node_main.specs.Words.{command_of, command_in, number_in, once_at, node_at, starts_with_plus};
+ghost use Rattle.sv_node_main.specs.Numeral.{number_in};
+ghost use Rattle.sv_node_main.specs.Words.{command_of, command_in, once_at, node_at};
 
+use crate::numeral::{read_u8, read_u64};
 use thiserror::Error;
 
 /// What the program is asked to do.
@@ -25,33 +27,6 @@ pub enum Words<'a> {
 #[derive(Clone, Copy, Debug, PartialEq, Eq, Error)]
 #[error("the words are neither `--once CONFIG NOW` nor `CONFIG JOURNAL NUMBER`")]
 pub struct Arguments;
-
-/// A sign stands first, which `parse` would take.
-fn starts_with_plus(word: &str) -> bool
-    ensures { result ≡ starts_with_plus word.now }
-{
-    !word.is_empty() && word.as_bytes()[0] == b'+'
-}
-
-/// The number of a word of decimal digits, where it fits.
-fn read_u64(word: &str) -> Option<u64>
-    ensures { result ≡ number_in 64 word.now }
-{
-    if starts_with_plus(word) {
-        return None;
-    }
-    word.parse::<u64>().ok()
-}
-
-/// The number of a word of decimal digits, where it fits.
-fn read_u8(word: &str) -> Option<u8>
-    ensures { result ≡ number_in 8 word.now }
-{
-    if starts_with_plus(word) {
-        return None;
-    }
-    word.parse::<u8>().ok()
-}
 
 /// `--once CONFIG NOW`.
 fn read_once<'a>(config: &'a str, now: &str) -> Result<Words<'a>, Arguments>

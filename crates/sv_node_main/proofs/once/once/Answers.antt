@@ -1,5 +1,5 @@
 use Rattle.std.proofs.Common.{◌+◌, sym, subst, ◌∙◌, arith}
-use Rattle.sv_connection.specs.Connection.{is_single, sight_of}
+use Rattle.sv_connection.specs.Connection.{is_single}
 use Rattle.sv_node_main.proofs.OnceLemmas.{begins, as_turn, goes_on, stops, runs_out}
 use Rattle.sv_node_main.proofs.once.once.Goals as goal
 

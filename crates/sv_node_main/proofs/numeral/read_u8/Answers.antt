@@ -1,6 +1,6 @@
 use Rattle.std.proofs.Common.{sym, ◌∙◌}
-use Rattle.sv_node_main.proofs.WordLemmas.{signed_word, parsed_word}
-use Rattle.sv_node_main.proofs.words.read_u8.Goals as goal
+use Rattle.sv_node_main.proofs.NumeralLemmas.{signed_word, parsed_word}
+use Rattle.sv_node_main.proofs.numeral.read_u8.Goals as goal
 
 pub returns-then-starts_with_plus : goal.returns-then-starts_with_plus
 returns-then-starts_with_plus c = signed_word 8 c.args.word.now c.if-starts_with_plus.ensures

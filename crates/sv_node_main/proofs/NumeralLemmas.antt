@@ -1,12 +1,15 @@
--- Numbers in words, and lists of three words.
-use Rattle.std.proofs.Common.{◌≡◌, ℕ, ◌^◌, ◌<◌, List, [], ◌∷◌, length, get_or, drop, refl, arith, Option, Some, None, Result, Ok, Err, ap, sym, ◌∙◌, subst, map}
-use Rattle.std.specs.Prelude.{Bool, true, false, not, ◌&&◌, nat_lt, ◌==◌, slice_index, cond}
+-- Texts that are numerals.
+use Rattle.std.proofs.Common.{◌≡◌, ℕ, ◌^◌, ◌<◌, List, [], ◌∷◌, length, drop, refl, arith, Some, None, Result, Ok, Err, ap, ◌∙◌, subst}
+use Rattle.std.specs.Prelude.{Bool, true, false, not, ◌&&◌, nat_lt, cond}
 use Rattle.std.specs.Char.{digit_value}
 use Rattle.std.specs.List.{list_all}
 use Rattle.std.specs.Result.{result_ok, OkIff}
+use Rattle.std.specs.Str.{IsUtf8}
 use Rattle.std.specs.Str.Parse.{digits_value, AllDigits, IsNumeral, without_leading_plus, ParsesUnsigned}
 use Rattle.std.proofs.lemmas.Bool.Decides.{nat_tests}
-use Rattle.sv_node_main.specs.Words.{is_digit, is_numeral, starts_with_plus, number_in}
+use Rattle.std.proofs.lemmas.Fmt.{IsAscii-from_digits}
+use Rattle.std.proofs.lemmas.Str.{IsUtf8-from_ascii}
+use Rattle.sv_node_main.specs.Numeral.{is_digit, is_numeral, starts_with_plus, number_in}
 
 both : (a b : Bool) → a ≡ true → b ≡ true → a && b ≡ true
 both true b x y = y
@@ -92,3 +95,11 @@ parsed_word {E} k bs r none h =
     let P : List ℕ → Type 0 = λ w. OkIff r (IsNumeral 10 w × (digits_value 10 w < 2 ^ k)) (digits_value 10 w) in
     parsed k bs r (subst P (unsigned bs none) h)
     ∙ let_through (starts_with_plus bs) (is_numeral bs && nat_lt (digits_value 10 bs) (2 ^ k)) (digits_value 10 bs) none
+
+-- bytes that are no text are no number
+pub no_text : (k : ℕ) (bs : List ℕ) → (IsUtf8 bs → ⊥) → None ≡ number_in k bs
+unfolding number_in fits
+no_text k bs none =
+    not_chosen (not (starts_with_plus bs) && (is_numeral bs && nat_lt (digits_value 10 bs) (2 ^ k))) (digits_value 10 bs)
+    (λ passes. none (IsUtf8-from_ascii bs (IsAscii-from_digits bs
+    (true_fits bs k (second_true (not (starts_with_plus bs)) (is_numeral bs && nat_lt (digits_value 10 bs) (2 ^ k)) passes)).0.1)))

@@ -1,0 +1,5 @@
+use Rattle.sv_node_main.proofs.CountLemmas.{count_keeps}
+use Rattle.sv_node_main.proofs.count.CountServlet.init.Goals as goal
+
+pub returns-clause-keeps_edits : goal.returns-clause-keeps_edits
+returns-clause-keeps_edits c = count_keeps
