@@ -1,3 +1,4 @@
+mod CookieLemmas
 mod CountLemmas
 mod HelloLemmas
 mod NumeralLemmas

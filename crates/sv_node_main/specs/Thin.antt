@@ -1,102 +1,89 @@
--- What an engine answers that has one context, `/shop`, and in it one servlet, at the exact pattern `/hello`.
-use Rattle.std.specs.Prelude.{◌≡◌, ℕ, pos, ◌&&◌, ◌||◌, Bool, true, false, nat_eq, None, List, [], ◌∷◌, codes, if◌then◌else◌}
-use Rattle.std.specs.List.{starts_with}
-use Rattle.std.specs.Str.{bytes_eq}
+-- The container function of one context, `/shop`, with a servlet at `/hello` and one at `/count` (Jakarta Servlet 6.0).
+use Rattle.std.specs.Prelude.{ℕ, ℤ, Option, Some, None, List, [], ◌∷◌, ◌++◌, codes, if◌then◌else◌}
 use Rattle.sv_model.specs.declared.key.Key.{Key}
 use Rattle.sv_model.specs.declared.key.Secret.{Secret}
 use Rattle.sv_model.specs.declared.request.Request.{Request}
 use Rattle.sv_model.specs.declared.response.Response.{Response}
+use Rattle.sv_model.specs.declared.session.Session.{Session}
+use Rattle.sv_model.specs.declared.event.Event.{Event}
+use Rattle.sv_model.specs.declared.event.Event.TheVariants.{RequestIn, RequestOut, Destroyed}
 use Rattle.sv_model.specs.declared.event.Told.{Told}
-use Rattle.sv_model.specs.declared.field.Field.{Field}
-use Rattle.sv_model.specs.declared.event.Event.TheVariants.{RequestIn, RequestOut}
 use Rattle.sv_model.specs.declared.outcome.Outcome.{Outcome}
-use Rattle.sv_model.specs.declared.outcome.Fate.TheVariants.{Untouched}
+use Rattle.sv_model.specs.declared.outcome.Fate.{Fate}
+use Rattle.sv_model.specs.declared.outcome.Fate.TheVariants.{Untouched, Ended}
+use Rattle.sv_model.specs.declared.outcome.Birth.{Birth}
 use Rattle.sv_model.specs.declared.outcome.Birth.TheVariants.{Absent}
 use Rattle.sv_model.specs.Engine.{EngineMeaning}
-use Rattle.sv_model.specs.Method.{is_head}
-use Rattle.sv_model.specs.Page.{plain_page}
 use Rattle.sv_session.specs.Edit.{Edit, begun}
-use Rattle.sv_servlet.specs.Call.{Asked}
-use Rattle.sv_servlet.specs.Reply.{new_reply}
-use Rattle.sv_servlet.specs.ReplyState.{ReplyState}
-use Rattle.sv_servlet.specs.Servlet.{Serves, Answer, lent}
+use Rattle.sv_servlet.specs.Servlet.{Serves}
 use Rattle.sv_servlet.specs.declared.servlet.Phase.{Phase}
-use Rattle.sv_servlet.specs.declared.servlet.Phase.TheVariants.{Ready, Failed}
-use Rattle.sv_servlet.specs.declared.servlet.Next.{Next}
-use Rattle.sv_servlet.specs.declared.servlet.Next.TheVariants.{Done, Forward, Include, SendError, Fault}
+use Rattle.sv_node_main.specs.declared.admission.Admission.{Admission}
+use Rattle.sv_node_main.specs.declared.context.Mapped.{Mapped}
+use Rattle.sv_node_main.specs.declared.context.Mapped.TheVariants.{Hello, Count, Nothing}
+use Rattle.sv_node_main.specs.declared.context.TheConstants.{CONTEXT}
+use Rattle.sv_node_main.specs.declared.thin.Thin.{Thin}
+use Rattle.sv_node_main.specs.Admission.{admission, expired_of, held_of}
+use Rattle.sv_node_main.specs.Context.{is_in_context, mapped_at, named_by}
+use Rattle.sv_node_main.specs.Hosted.{Hosting, IsHosted, Answered, answered_by, hosting_of, missing_page, not_found}
+use Rattle.sv_node_main.specs.SetCookie.{with_cookie}
 
--- the mark of a servlet tells whether its initialisation succeeded
-abbrev pub IsMarked : Phase → Bool → Type 0
-IsMarked phase true = phase ≡ Ready
-IsMarked phase false = phase ≡ Failed
+-- what the context has: two servlets, and the seconds after which a session expires
+pub record Deployed : Type 0 where
+  pub hello : Hosting
+  pub count : Hosting
+  pub interval : ℤ
 
--- the path is that of the context, or below it
-abbrev pub is_in_context : List ℕ → Bool
-is_in_context path = bytes_eq path (codes "/shop") || starts_with nat_eq path (codes "/shop/")
+abbrev pub deployed : {S : Type 0} → (S → Serves) → Thin S → Deployed
+deployed serves t = record { hello = hosting_of serves t.hello; count = hosting_of serves t.count; interval = t.interval }
 
--- the path is the servlet's
-abbrev pub is_hello : List ℕ → Bool
-is_hello path = bytes_eq path (codes "/shop/hello")
+-- both servlets have been initialised
+pub record IsStarted {S : Type 0} (serves : S → Serves) (phase : S → Phase) (t : Thin S) : Type 0 where
+  pub hello : IsHosted serves phase t.hello
+  pub count : IsHosted serves phase t.count
 
--- what the servlet is asked (Jakarta Servlet 6.0, section "Request Path Elements")
-abbrev pub call_of : Request → Asked
-call_of r =
-    record {
-      method = r.method;
-      request_uri = r.raw_path;
-      context_path = codes "/shop";
-      servlet_path = codes "/hello";
-      path_info = None;
-      query = r.query;
-      params = r.params;
-      fields = r.fields;
-      body = r.body;
-      attributes = [];
-      resume = 0;
-    }
+-- the servlet of the path is asked; where there is none, none is found (chapter "Mapping Requests to Servlets")
+abbrev pub answered_at : Mapped → Deployed → Request → Edit → Answered
+answered_at Hello d r e = answered_by d.hello r (codes "/hello") e
+answered_at Count d r e = answered_by d.count r (codes "/count") e
+answered_at Nothing d r e = not_found r e
 
--- no session is at hand, and what the servlet does about one is dropped
-abbrev pub edit_at : ℕ → Key × Secret → Edit
-edit_at now fresh = begun None 0 (pos 1800) now fresh
+-- the events are the context's
+abbrev pub told : Event → Told
+told event = record { context = CONTEXT; event = event }
 
--- the plain page in place of what is not served yet, behind the fields that were set so far
-abbrev pub error_page : Request → List Field → Response
-error_page r fields = plain_page 500 fields (is_head r.method) r.close
+-- a session that has expired is told first
+abbrev pub destroyed_of : Option Key → List Told
+destroyed_of None = []
+destroyed_of (Some key) = told (Destroyed key) ∷ []
 
--- the reply as a response, or that page
-abbrev pub replied : Request → ReplyState → Next → Response
-replied r reply Done = record { status = reply.status; fields = reply.fields; body = reply.body; head_only = is_head r.method; close = r.close }
-replied r reply (Forward path) = error_page r reply.fields
-replied r reply (Include path resume) = error_page r reply.fields
-replied r reply (SendError code text) = error_page r reply.fields
-replied r reply (Fault name) = error_page r reply.fields
+-- then the request comes in, what the servlet did is told, and the request goes out (chapter "Application Lifecycle Events")
+abbrev pub events_for : Option Key → List Told → List Told
+events_for expired edited = destroyed_of expired ++ told RequestIn ∷ [] ++ edited ++ told RequestOut ∷ []
 
-abbrev pub response_by : Request → Answer → Response
-response_by r a = replied r a.lent.reply a.next
+-- what became of the session that was handed in: it has expired, or it is what the edit made of it
+abbrev pub fate_for : Option Key → Fate → Fate
+fate_for None fate = fate
+fate_for (Some key) fate = Ended
 
--- the plain page where no servlet is found (Jakarta Servlet 6.0, section "Mapping Requests to Servlets")
-abbrev pub not_found : Request → Response
-not_found r = plain_page 404 [] (is_head r.method) r.close
+-- what comes of a request, by the session that had expired, the key and secret of a birth, the response, and what the edit left
+abbrev pub outcome_of : Option Key → Key × Secret → Response → Fate → Birth → List Told → Outcome
+outcome_of expired fresh response fate birth events =
+    record { response = with_cookie birth fresh response; fate = fate_for expired fate; birth = birth; events = events_for expired events }
 
--- a servlet whose initialisation failed is not found
-abbrev pub response_for : Serves → Bool → Request → ℕ → Key × Secret → Response
-response_for serves ready r now fresh =
-    if ready && is_hello r.path then response_by r (serves (call_of r) (lent (edit_at now fresh) new_reply)) else not_found r
+abbrev pub outcome_by : Option Key → Key × Secret → Answered → Outcome
+outcome_by expired fresh a = outcome_of expired fresh a.response a.edit.fate a.edit.birth a.edit.events
 
--- the events of a request, where it is in the context (Jakarta Servlet 6.0, chapter "Application Lifecycle Events")
-abbrev pub events_for : List ℕ → List Told
-events_for path = if is_in_context path then record { context = 0; event = RequestIn } ∷ record { context = 0; event = RequestOut } ∷ [] else []
+-- a request in the context, with what became of the session that was handed in
+abbrev pub served_in : Deployed → Request → Admission → ℕ → Key × Secret → Outcome
+served_in d r a now fresh = outcome_by (expired_of a) fresh (answered_at (mapped_at r.path) d r (begun (held_of a) CONTEXT d.interval now fresh))
 
--- no session is touched
-abbrev pub outcome_for : Serves → Bool → Request → ℕ → Key × Secret → Outcome
-outcome_for serves ready r now fresh =
-    record { response = response_for serves ready r now fresh; fate = Untouched; birth = Absent; events = events_for r.path }
+-- a request in no context: no session is touched, and nothing is told
+abbrev pub served_outside : Request → Outcome
+served_outside r = record { response = missing_page r; fate = Untouched; birth = Absent; events = [] }
 
--- it names no session, and has no listeners
-abbrev pub thin_meaning : Serves → Bool → EngineMeaning
-thin_meaning serves ready =
-    record {
-      names = λ r. None;
-      serve = λ r held now fresh. outcome_for serves ready r now fresh;
-      hear = λ heard t. heard;
-    }
+abbrev pub served : Deployed → Request → Option (Key × Session) → ℕ → Key × Secret → Outcome
+served d r handed now fresh = if is_in_context r.path then served_in d r (admission (named_by r) handed now) now fresh else served_outside r
+
+-- there are no listeners
+abbrev pub thin_meaning : Deployed → EngineMeaning
+thin_meaning d = record { names = named_by; serve = served d; hear = λ heard t. heard }

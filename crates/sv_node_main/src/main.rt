@@ -2,29 +2,42 @@
 //!
 //! `node --once CONFIG NOW` serves standard input to its end on one node that stands alone, at the moment NOW in
 //! whole seconds since 1970, and writes the responses to standard output. CONFIG `-` is the built-in deployment:
-//! the context `/shop` with a servlet at `/hello`. A fault prints one line `node: ` and its name on standard error
-//! and ends the program with its status.
+//! the context `/shop`, where a session expires after 1,800 seconds without a request, with a servlet that says hello at
+//! `/hello` and one that counts a session's requests at `/count`. A fault prints one line `node: ` and its name on
+//! standard error and ends the program with its status.
 #![tactic(auto)]
 
+ghost use Rattle.std.specs.Prelude.{◌≡◌};
+ghost use Rattle.sv_node_main.specs.Fault.{fault_of, status_of};
+ghost use Rattle.sv_node_main.specs.declared.Fault.TheVariants.{Memory};
+
+mod admission;
+mod context;
 mod count;
 mod hello;
+mod hosted;
 mod numeral;
 mod once;
 mod refusal;
+mod set_cookie;
 #[cfg(test)]
 mod tests;
 mod thin;
 mod words;
 
+use count::Count;
 use hello::Hello;
 use once::{OnceFault, once};
-use std::alloc::{AllocError, Global};
+use std::alloc::{AllocError, AllocFailed};
 use std::process::ExitCode;
 use std::rt::Env;
 use std::{env, fmt, io};
 use sv_servlet::servlet::Servlet;
 use thin::Thin;
 use words::{Words, read_words};
+
+/// The seconds after which a session of the built-in deployment expires.
+const INTERVAL: i32 = 1_800;
 
 /// Why the program ends before its work is done.
 #[derive(Clone, Copy, Debug, PartialEq, Eq)]
@@ -54,12 +67,24 @@ impl fmt::Display for Fault {
 }
 
 impl From<AllocError> for Fault {
+    ghost from_gives = { λ _ fault. fault ≡ Memory };
+
     fn from(_: AllocError) -> Self {
         Fault::Memory
     }
 }
 
+impl<T: Drop> From<AllocFailed<T>> for Fault {
+    ghost from_gives = { λ _ fault. fault ≡ Memory };
+
+    fn from(_: AllocFailed<T>) -> Self {
+        Fault::Memory
+    }
+}
+
 impl From<OnceFault> for Fault {
+    ghost from_gives = { λ once fault. fault ≡ fault_of once };
+
     fn from(fault: OnceFault) -> Self {
         match fault {
             OnceFault::Input => Fault::Input,
@@ -69,7 +94,9 @@ impl From<OnceFault> for Fault {
 }
 
 /// The exit status of a fault.
-fn status_of(fault: Fault) -> u8 {
+fn status_of(fault: Fault) -> u8
+    ensures { result ≡ status_of fault }
+{
     match fault {
         Fault::Arguments => 2,
         Fault::Unreadable => 3,
@@ -84,9 +111,7 @@ fn words_of<R: Env + AllocGlobal>(rt: &R) -> Result<Vec<String>, Fault> {
         return Err(Fault::Memory);
     };
     for word in args.skip(1) {
-        if words.push(word).is_err() {
-            return Err(Fault::Memory);
-        }
+        words.push(word)?;
     }
     Ok(words)
 }
@@ -94,11 +119,9 @@ fn words_of<R: Env + AllocGlobal>(rt: &R) -> Result<Vec<String>, Fault> {
 /// Serves standard input with the built-in deployment.
 fn serve_input(rt: &HostRuntime, now: u64) -> Result<(), Fault> {
     let alloc = rt.alloc();
-    let Ok(hello) = Box::new(alloc, Hello::new(alloc)) else {
-        return Err(Fault::Memory);
-    };
-    let servlet: Box<dyn Servlet> = hello;
-    let engine = Thin::start(alloc, servlet);
+    let hello: Box<dyn Servlet> = Box::new(alloc, Hello::new(alloc))?;
+    let count: Box<dyn Servlet> = Box::new(alloc, Count::new(alloc))?;
+    let engine = Thin::start(alloc, hello, count, INTERVAL);
     let mut reader = rt.reader();
     let mut writer = io::writer(rt);
     once(alloc, engine, now, &mut reader, &mut writer)?;

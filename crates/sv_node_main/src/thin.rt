@@ -1,224 +1,201 @@
-//! An engine with one context, `/shop`, and in it one servlet, at the exact pattern `/hello`.
+//! An engine with one context, `/shop`, and in it two servlets, at the exact patterns `/hello` and `/count`.
 
-ghost use Rattle.std.specs.Prelude.{◌≡◌, true, IfOk, []};
-ghost use Rattle.sv_model.specs.Engine.{heard_all};
-ghost use Rattle.sv_servlet.specs.Reply.{new_reply};
-ghost use Rattle.sv_servlet.specs.Servlet.{lent};
-ghost use Rattle.sv_servlet.specs.declared.servlet.Phase.TheVariants.{New, Ready};
-ghost use Rattle.sv_node_main.specs.Thin.{IsMarked, call_of, edit_at, error_page, events_for, is_hello, is_in_context, not_found, replied, response_by, thin_meaning};
+ghost use Rattle.std.specs.Prelude.{◌≡◌, IfOk};
+ghost use Rattle.sv_servlet.specs.declared.servlet.Phase.TheVariants.{New};
+ghost use Rattle.sv_node_main.specs.Context.{mapped_at};
+ghost use Rattle.sv_node_main.specs.Hosted.{answered};
+ghost use Rattle.sv_node_main.specs.Thin.{IsStarted, answered_at, deployed, events_for, fate_for, outcome_of, served_in, served_outside, told};
 
-use http::StatusCode;
+use crate::admission::{Admission, admit};
+use crate::context::{CONTEXT, Mapped, is_in_context, mapped_at, named_by};
+use crate::hosted::{Hosted, missing_page};
+use crate::set_cookie::with_cookie;
 use std::alloc::{AllocError, Global};
 use sv_model::engine::{Engine, EngineFault};
 use sv_model::event::{Event, Told};
-use sv_model::field::Field;
 use sv_model::key::{Key, Secret};
-use sv_model::method::is_head;
 use sv_model::outcome::{Birth, Fate, Outcome};
-use sv_model::page::plain_page;
 use sv_model::request::Request;
 use sv_model::response::Response;
 use sv_model::sequence::Sequence;
 use sv_model::session::Session;
-use sv_servlet::attributes::RequestAttributes;
-use sv_servlet::call::Call;
-use sv_servlet::reply::{Replied, Reply};
-use sv_servlet::servlet::{Next, Servlet};
-use sv_session::edit::SessionEdit;
+use sv_servlet::servlet::Servlet;
+use sv_session::edit::{Edited, SessionEdit};
 
-/// The seconds after which a session of the context would expire.
-const INTERVAL: i32 = 1_800;
-
-/// An engine over one servlet. It touches no session and has no listeners.
+/// An engine over two servlets. It keeps no sessions itself, and has no listeners.
 #[derive(Drop)]
 pub struct Thin<S> {
-    pub servlet: S,
-    /// The servlet's initialisation succeeded.
-    pub ready: bool,
+    pub hello: Hosted<S>,
+    pub count: Hosted<S>,
+    /// The seconds after which a session that is made expires; 0 and less never.
+    interval: i32,
     alloc: Global,
 }
 
-/// The path is that of the context, or below it.
-fn is_in_context(path: &str) -> bool
-    ensures { result ≡ is_in_context path.now }
+/// An event for the listeners of the context.
+fn told(event: Event) -> Told
+    ensures { result ≡ told event }
 {
-    path == "/shop" || path.as_bytes().starts_with(b"/shop/")
-}
-
-/// The path is the servlet's.
-fn is_hello(path: &str) -> bool
-    ensures { result ≡ is_hello path.now }
-{
-    path == "/shop/hello"
-}
-
-/// The events of a request to a path.
-fn events_for(alloc: Global, path: &str) -> Result<Sequence<Told>, AllocError>
-    ensures { IfOk result (λ events. events ≡ events_for path.now) }
-{
-    let mut events = Sequence::new(alloc);
-    if is_in_context(path) {
-        events.push(Told {
-            context: 0,
-            event: Event::RequestIn,
-        })?;
-        events.push(Told {
-            context: 0,
-            event: Event::RequestOut,
-        })?;
+    Told {
+        context: CONTEXT,
+        event,
     }
-    Ok(events)
 }
 
-/// The page where no servlet is found.
-fn not_found(alloc: Global, request: &Request) -> Result<Response, AllocError>
-    ensures { IfOk result (λ response. response ≡ not_found request.now) }
-{
-    let head_only = is_head(&request.method);
-    plain_page(
-        alloc,
-        StatusCode::NOT_FOUND,
-        Sequence::new(alloc),
-        head_only,
-        request.close,
-    )
-}
-
-/// The page in place of what is not served yet, behind the fields that were set so far.
-fn error_page(
+/// The events of a request in the context, with those of its edit.
+fn events_for(
     alloc: Global,
-    request: &Request,
-    fields: Sequence<Field>,
-) -> Result<Response, AllocError>
-    ensures { IfOk result (λ response. response ≡ error_page request.now fields) }
+    expired: Option<Key>,
+    edited: Sequence<Told>,
+) -> Result<Sequence<Told>, AllocError>
+    ensures { IfOk result (λ events. events ≡ events_for expired edited) }
 {
-    let head_only = is_head(&request.method);
-    plain_page(
-        alloc,
-        StatusCode::INTERNAL_SERVER_ERROR,
-        fields,
-        head_only,
-        request.close,
-    )
-}
-
-/// The response for a reply and for what is to follow it.
-fn replied(
-    alloc: Global,
-    request: &Request,
-    reply: Reply,
-    next: Next,
-) -> Result<Response, AllocError>
-    ensures { IfOk result (λ response. response ≡ replied request.now reply next) }
-{
-    let head_only = is_head(&request.method);
-    let Replied {
-        status,
-        fields,
-        body,
-    } = reply.finish();
-    match next {
-        Next::Done => Ok(Response {
-            status,
-            fields,
-            body,
-            head_only,
-            close: request.close,
-        }),
-        _ => error_page(alloc, request, fields),
+    let mut events = Vec::new(alloc);
+    if let Some(key) = expired {
+        events.push(told(Event::Destroyed(key)))?;
     }
+    events.push(told(Event::RequestIn))?;
+    let mut edited = edited.into_vec();
+    events.append(&mut edited)?;
+    events.push(told(Event::RequestOut))?;
+    Ok(Sequence::from_vec(events))
+}
+
+/// What became of the session that was handed in.
+fn fate_for(expired: Option<Key>, fate: Fate) -> Fate
+    ensures { result ≡ fate_for expired fate }
+{
+    match expired {
+        Some(_) => Fate::Ended,
+        None => fate,
+    }
+}
+
+/// What comes of a request in the context.
+fn outcome_of(
+    alloc: Global,
+    expired: Option<Key>,
+    fresh: (Key, Secret),
+    response: Response,
+    edited: Edited,
+) -> Result<Outcome, AllocError>
+    ensures { IfOk result (λ o. o ≡ outcome_of expired fresh response edited.fate edited.birth edited.events) }
+{
+    let Edited {
+        fate,
+        birth,
+        events,
+    } = edited;
+    Ok(Outcome {
+        response: with_cookie(alloc, &birth, fresh, response)?,
+        fate: fate_for(expired, fate),
+        birth,
+        events: events_for(alloc, expired, events)?,
+    })
+}
+
+/// What comes of a request in no context.
+fn served_outside(alloc: Global, request: &Request) -> Result<Outcome, AllocError>
+    ensures { IfOk result (λ o. o ≡ served_outside request.now) }
+{
+    Ok(Outcome {
+        response: missing_page(alloc, request)?,
+        fate: Fate::Untouched,
+        birth: Birth::Absent,
+        events: Sequence::new(alloc),
+    })
 }
 
 impl<S: Servlet> Thin<S> {
-    /// Initialises the servlet; one that fails is not found from then on.
-    pub fn start(alloc: Global, servlet: S) -> Thin<S>
-        requires { S.servlet_phase servlet ≡ New }
-        ensures marked { IsMarked (S.servlet_phase result.servlet) result.ready }
-        ensures same { S.serves result.servlet ≡ S.serves servlet }
+    /// Initialises both servlets. A session that is made expires after `interval` seconds without a request.
+    pub fn start(alloc: Global, hello: S, count: S, interval: i32) -> Thin<S>
+        requires hello { S.servlet_phase hello ≡ New }
+        requires count { S.servlet_phase count ≡ New }
+        ensures started { IsStarted S.serves S.servlet_phase result }
+        ensures hello { S.serves result.hello.servlet ≡ S.serves hello }
+        ensures count { S.serves result.count.servlet ≡ S.serves count }
+        ensures interval { result.interval ≡ interval }
     {
-        let mut servlet = servlet;
-        let ready = servlet.init().is_ok();
         Thin {
-            servlet,
-            ready,
+            hello: Hosted::start(hello),
+            count: Hosted::start(count),
+            interval,
             alloc,
         }
     }
 
-    /// Asks the servlet.
-    fn respond(
+    /// Asks the servlet of the request's path.
+    fn answer(
         &mut self,
         request: &Request,
+        edit: &mut SessionEdit,
+    ) -> Result<Response, AllocError>
+        requires { IsStarted S.serves S.servlet_phase self.old }
+        ensures started { IsStarted S.serves S.servlet_phase self.new }
+        ensures same { deployed S.serves self.new ≡ deployed S.serves self.old }
+        ensures answer { IfOk result (λ response. answered response edit.new ≡ answered_at (mapped_at request.now.path) (deployed S.serves self.old) request.now edit.old) }
+    {
+        match mapped_at(request.path.as_str()) {
+            Mapped::Hello => self.hello.answer(self.alloc, request, "/hello", edit),
+            Mapped::Count => self.count.answer(self.alloc, request, "/count", edit),
+            Mapped::Nothing => missing_page(self.alloc, request),
+        }
+    }
+
+    /// Serves a request in the context.
+    fn serve_in(
+        &mut self,
+        request: &Request,
+        admission: Admission,
         now: u64,
         fresh: (Key, Secret),
-    ) -> Result<Response, AllocError>
-        requires { S.servlet_phase self.old.servlet ≡ Ready }
-        ensures phase { S.servlet_phase self.new.servlet ≡ Ready }
-        ensures same { S.serves self.new.servlet ≡ S.serves self.old.servlet }
-        ensures ready { self.new.ready ≡ self.old.ready }
-        ensures response { IfOk result (λ response. response ≡ response_by request.now (S.serves self.old.servlet (call_of request.now) (lent (edit_at now fresh) new_reply))) }
+    ) -> Result<Outcome, AllocError>
+        requires { IsStarted S.serves S.servlet_phase self.old }
+        ensures started { IsStarted S.serves S.servlet_phase self.new }
+        ensures same { deployed S.serves self.new ≡ deployed S.serves self.old }
+        ensures outcome { IfOk result (λ o. o ≡ served_in (deployed S.serves self.old) request.now admission now fresh) }
     {
-        let attributes = RequestAttributes::new(self.alloc);
-        let call = Call {
-            method: &request.method,
-            request_uri: request.raw_path.as_str(),
-            context_path: "/shop",
-            servlet_path: "/hello",
-            path_info: None,
-            query: request.query.as_ref().map(|query| query.as_str()),
-            params: request.params.as_slice(),
-            fields: request.fields.as_slice(),
-            body: request.body.as_slice(),
-            attributes: &attributes,
-            resume: 0,
-        };
-        let mut edit = SessionEdit::begin(self.alloc, None, 0, INTERVAL, now, fresh);
-        let mut reply = Reply::new(self.alloc);
-        let next = self.servlet.service(&call, &mut edit, &mut reply)?;
-        replied(self.alloc, request, reply, next)
+        let (expired, held) = admission.into_parts();
+        let mut edit = SessionEdit::begin(self.alloc, held, CONTEXT, self.interval, now, fresh);
+        let response = self.answer(request, &mut edit)?;
+        outcome_of(self.alloc, expired, fresh, response, edit.finish())
     }
 }
 
 impl<S: Servlet> Engine for Thin<S> {
-    ghost use Rattle.std.specs.Prelude.{[], ◌≡◌, refl};
-    ghost use Rattle.sv_node_main.specs.Thin.{IsMarked, thin_meaning};
+    ghost use Rattle.std.specs.Prelude.{[]};
+    ghost use Rattle.sv_node_main.specs.Thin.{IsStarted, deployed, thin_meaning};
+    ghost use Rattle.sv_node_main.specs.ThinLaws.{touches_only_handed, keeps_limits, names_keys};
 
-    ghost meaning = { λ t. thin_meaning (S.serves t.servlet) t.ready };
+    ghost meaning = { λ t. thin_meaning (deployed S.serves t) };
 
     ghost heard = { λ t. [] };
 
-    ghost valid = { λ t. IsMarked (S.servlet_phase t.servlet) t.ready };
+    ghost valid = { λ t. IsStarted S.serves S.servlet_phase t };
 
-    fn names(&self, _request: &Request) -> Option<(Key, Secret)> {
-        None
+    fn names(&self, request: &Request) -> Option<(Key, Secret)> {
+        named_by(request)
     }
 
     fn serve(
         &mut self,
         request: &Request,
-        _session: Option<(Key, &Session)>,
+        session: Option<(Key, &Session)>,
         now: u64,
         fresh: (Key, Secret),
     ) -> Result<Outcome, EngineFault> {
-        let events = events_for(self.alloc, request.path.as_str())?;
-        let response = if self.ready && is_hello(request.path.as_str()) {
-            self.respond(request, now, fresh)?
-        } else {
-            not_found(self.alloc, request)?
-        };
-        Ok(Outcome {
-            response,
-            fate: Fate::Untouched,
-            birth: Birth::Absent,
-            events,
-        })
+        if !is_in_context(request.path.as_str()) {
+            return Ok(served_outside(self.alloc, request)?);
+        }
+        let admission = admit(self.alloc, named_by(request), session, now)?;
+        Ok(self.serve_in(request, admission, now, fresh)?)
     }
 
     fn tell(&mut self, _told: &[Told]) {}
 
-    ghost untouched = { λ t v r now fresh. refl };
+    ghost untouched = { λ t v. touches_only_handed S.serves S.servlet_phase t v };
 
-    ghost within_limits = { λ t v r held now fresh h. (tt, tt) };
+    ghost within_limits = { λ t v. keeps_limits S.serves S.servlet_phase t v };
 
-    ghost names_keys = { λ t v r. tt };
+    ghost names_keys = { λ t v. names_keys (deployed S.serves t) };
 }
