@@ -2,6 +2,7 @@
 use Rattle.std.specs.Prelude.{◌≡◌, ℕ, ◌<◌, Option, None, List, [], ◌∷◌, IfSome, ⊤}
 use Rattle.sv_model.specs.declared.key.Key.{Key}
 use Rattle.sv_model.specs.declared.key.Secret.{Secret}
+use Rattle.sv_model.specs.declared.key.TheConstants.{NODE_LIMIT}
 use Rattle.sv_model.specs.declared.request.Request.{Request}
 use Rattle.sv_model.specs.declared.session.Session.{Session}
 use Rattle.sv_model.specs.declared.event.Told.{Told}
@@ -49,4 +50,4 @@ KeepsLimits m = (r : Request) (held : Option (Key × Session)) (now : ℕ) (fres
 
 -- a key that is named has a home that can be a node, and a serial that can be handed out
 abbrev pub NamesKeys : EngineMeaning → Type 0
-NamesKeys m = (r : Request) → IfSome (m.names r) (λ n. (n.0.home < 8) × (0 < n.0.serial))
+NamesKeys m = (r : Request) → IfSome (m.names r) (λ n. (n.0.home < NODE_LIMIT) × (0 < n.0.serial))

@@ -1,5 +1,8 @@
 //! What names a session, and what a step is given by its caller.
 
+/// The nodes of a cluster, at most; they are numbered from 0.
+pub const NODE_LIMIT: u8 = 8;
+
 /// The name of a session in the whole cluster, in order of home and then serial.
 #[derive(Clone, Copy, Debug, PartialEq, Eq, PartialOrd, Ord)]
 pub struct Key {

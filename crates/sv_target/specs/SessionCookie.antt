@@ -7,6 +7,7 @@ use Rattle.std.specs.Int.{w64, to_be_bytes, from_be_bytes}
 use Rattle.hex.specs.Hex.{encode_lower, decode_sized}
 use Rattle.sv_model.specs.declared.key.Key.{Key}
 use Rattle.sv_model.specs.declared.key.Secret.{Secret}
+use Rattle.sv_model.specs.declared.key.TheConstants.{NODE_LIMIT}
 use Rattle.sv_model.specs.declared.request.Cookie.{Cookie}
 
 -- what a session's cookie says, in 26 bytes: the context, the home, the serial (8 bytes, the highest first), the secret
@@ -29,7 +30,7 @@ secret_of bytes = record { 0 = slice_range bytes 10 26 }
 
 -- the bytes are of this context, and their key is one that a node can make: a home below 8 and a serial above 0
 abbrev pub names_session : ℕ → List ℕ → Bool
-names_session context bytes = slice_index bytes 0 == context && nat_lt (key_of bytes).home 8 && nat_lt 0 (key_of bytes).serial
+names_session context bytes = slice_index bytes 0 == context && nat_lt (key_of bytes).home NODE_LIMIT && nat_lt 0 (key_of bytes).serial
 
 -- the session of a context that such bytes name
 unfoldable pub session_of_bytes : ℕ → List ℕ → Option (Key × Secret)
@@ -47,7 +48,7 @@ session_cookie cookies context = slice_get (filter_map (session_of_cookie contex
 -- a session that a cookie can name: numbers within their types, a home below 8 and a serial above 0
 pub record IsNameable (context : ℕ) (key : Key) (secret : Secret) : Type 0 where
   pub context_fits : context < 2 ^ 8
-  pub home : key.home < 8
+  pub home : key.home < NODE_LIMIT
   pub serial : 0 < key.serial
   pub serial_fits : key.serial < 2 ^ 64
   pub secret_len : length secret.0 ≡ 16

@@ -6,7 +6,7 @@ ghost use Rattle.std.specs.List.{list_any};
 ghost use Rattle.sv_target.specs.SessionCookie as spec;
 
 use hex::FromHex;
-use sv_model::key::{Key, Secret};
+use sv_model::key::{Key, NODE_LIMIT, Secret};
 use sv_model::request::Cookie;
 
 /// The name of the cookie.
@@ -14,9 +14,6 @@ pub const NAME: &str = "JSESSIONID";
 
 /// The bytes that its value spells, two digits each.
 const BYTES: usize = 26;
-
-/// The nodes of a cluster, at most.
-const NODE_LIMIT: u8 = 8;
 
 /// The value of a session's cookie: in digits of `0-9a-f` the context's number (2), the home (2), the serial (16) and
 /// the secret (32).
