@@ -3,19 +3,19 @@
 //! The responses follow RFC 9112, sections 4 to 6: a status line, the Date of the moment (784111777 is the example
 //! date of RFC 9110, section 5.6.7), the fields of the page, Content-Length, Connection where it closes.
 
+mod counting;
+mod outcomes;
+mod sessions;
+
+use crate::count::Count;
 use crate::hello::Hello;
 use crate::once::{OnceFault, once};
 use crate::thin::Thin;
 use crate::words::{Arguments, Words, read_words};
-use http::Method;
 use std::alloc::Global;
 use std::io;
 use std::io::{ErrorKind, Read, Write};
 use std::test::Fail;
-use sv_model::engine::Engine;
-use sv_model::request::Request;
-use sv_model::sequence::Sequence;
-use sv_model::text::Text;
 use sv_servlet::servlet::Servlet;
 
 const NOW: u64 = 784_111_777;
@@ -43,6 +43,12 @@ const TOO_LARGE: &str =
 
 const NOT_IMPLEMENTED: &str =
     "HTTP/1.1 501 Not Implemented\r\nDate: Sun, 06 Nov 1994 08:49:37 GMT\r\ncontent-type: text/plain\r\nContent-Length: 20\r\nConnection: close\r\n\r\n501 Not Implemented\n";
+
+const FIRST_COUNT: &str =
+    "HTTP/1.1 200 OK\r\nDate: Sun, 06 Nov 1994 08:49:37 GMT\r\ncontent-type: text/plain\r\nset-cookie: JSESSIONID=0000000000000000000100000000000000000000000000000001; Path=/shop; HttpOnly\r\nContent-Length: 2\r\n\r\n1\n";
+
+const SECOND_COUNT: &str =
+    "HTTP/1.1 200 OK\r\nDate: Sun, 06 Nov 1994 08:49:37 GMT\r\ncontent-type: text/plain\r\nContent-Length: 2\r\n\r\n2\n";
 
 /// A stream, and all that is written for it.
 struct Row(&'static str, &'static str, &'static str);
@@ -116,8 +122,9 @@ const ROWS: [Row; 14] = [
 fn written(alloc: Global, input: &[u8]) -> Result<Vec<u8>, Fail> {
     let mut reader = input;
     let mut writer = Vec::new(alloc);
-    let servlet: Box<dyn Servlet> = Box::new(alloc, Hello::new(alloc))?;
-    let engine = Thin::start(alloc, servlet);
+    let hello: Box<dyn Servlet> = Box::new(alloc, Hello::new(alloc))?;
+    let count: Box<dyn Servlet> = Box::new(alloc, Count::new(alloc))?;
+    let engine = Thin::start(alloc, hello, count, 1_800);
     once(alloc, engine, NOW, &mut reader, &mut writer)?;
     Ok(writer)
 }
@@ -141,6 +148,25 @@ fn pipelined(rt: HostRuntime) -> Result<(), Fail> {
         input.extend_from_slice(b"GET /shop/hello HTTP/1.1\r\nHost: a\r\n\r\n")?;
         output.extend_from_slice(HELLO.as_bytes())?;
     }
+    let text = written(alloc, input.as_slice())?;
+    assert_eq!(rt; text.as_slice(), output.as_slice());
+    Ok(())
+}
+
+/// The first request makes a session: key 1 of node 0 in context 0, with the secret 1 of the first request. The second
+/// names it.
+#[test]
+fn counted(rt: HostRuntime) -> Result<(), Fail> {
+    let alloc = rt.alloc();
+    let mut input = Vec::new(alloc);
+    input.extend_from_slice(b"GET /shop/count HTTP/1.1\r\nHost: a\r\n\r\n")?;
+    input.extend_from_slice(b"GET /shop/count HTTP/1.1\r\nHost: a\r\n")?;
+    input.extend_from_slice(
+        b"Cookie: JSESSIONID=0000000000000000000100000000000000000000000000000001\r\n\r\n",
+    )?;
+    let mut output = Vec::new(alloc);
+    output.extend_from_slice(FIRST_COUNT.as_bytes())?;
+    output.extend_from_slice(SECOND_COUNT.as_bytes())?;
     let text = written(alloc, input.as_slice())?;
     assert_eq!(rt; text.as_slice(), output.as_slice());
     Ok(())
@@ -192,39 +218,14 @@ fn failing_streams(rt: HostRuntime) -> Result<(), Fail> {
     let request = b"GET /shop/hello HTTP/1.1\r\nHost: a\r\n\r\n".as_slice();
     let mut reader = Failing(request);
     let mut writer = Vec::new(alloc);
-    let engine = Thin::start(alloc, Hello::new(alloc));
+    let engine = Thin::start(alloc, Hello::new(alloc), Hello::new(alloc), 1_800);
     let answer = once(alloc, engine, NOW, &mut reader, &mut writer);
     assert_eq!(rt; answer, Err(OnceFault::Input));
     assert_eq!(rt; writer.as_slice(), HELLO.as_bytes());
     let mut whole = request;
-    let engine = Thin::start(alloc, Hello::new(alloc));
+    let engine = Thin::start(alloc, Hello::new(alloc), Hello::new(alloc), 1_800);
     let answer = once(alloc, engine, NOW, &mut whole, &mut Shut);
     assert_eq!(rt; answer, Err(OnceFault::Output));
-    Ok(())
-}
-
-/// What an engine names, through the trait's bound.
-fn is_nameless<E: Engine>(engine: &E, request: &Request) -> bool {
-    engine.names(request).is_none()
-}
-
-#[test]
-fn names_nothing(rt: HostRuntime) -> Result<(), Fail> {
-    let alloc = rt.alloc();
-    let request = Request {
-        method: Method::from_bytes(alloc, b"GET")?,
-        raw_path: Text::from_str(alloc, "/shop/hello")?,
-        path: Text::from_str(alloc, "/shop/hello")?,
-        query: None,
-        fields: Sequence::new(alloc),
-        cookies: Sequence::new(alloc),
-        params: Sequence::new(alloc),
-        body: Sequence::new(alloc),
-        close: false,
-    };
-    let engine = Thin::start(alloc, Hello::new(alloc));
-    assert!(rt; engine.ready);
-    assert!(rt; is_nameless(&engine, &request));
     Ok(())
 }
 

@@ -125,11 +125,7 @@ impl<S: Servlet> Thin<S> {
     }
 
     /// Asks the servlet of the request's path.
-    fn answer(
-        &mut self,
-        request: &Request,
-        edit: &mut SessionEdit,
-    ) -> Result<Response, AllocError>
+    fn answer(&mut self, request: &Request, edit: &mut SessionEdit) -> Result<Response, AllocError>
         requires { IsStarted S.serves S.servlet_phase self.old }
         ensures started { IsStarted S.serves S.servlet_phase self.new }
         ensures same { deployed S.serves self.new ≡ deployed S.serves self.old }
