@@ -1,4 +1,4 @@
-use Rattle.std.proofs.Common.{ap, arith, length, List, ℕ, sym, subst, ◌≡◌, []}
+use Rattle.std.proofs.Common.{ap, arith, length, List, ℕ, sym, subst}
 use Rattle.sv_model.specs.Attributes.{Attribute, attributes_size, IsAboveAll}
 use Rattle.sv_model.proofs.AttributesLemmas.{attributes_size-nil, IsAboveAll-nil}
 use Rattle.sv_model.proofs.tests.attributes.single.Goals as goal
