@@ -31,39 +31,33 @@ use once::{OnceFault, once};
 use std::alloc::{AllocError, AllocFailed};
 use std::process::ExitCode;
 use std::rt::Env;
-use std::{env, fmt, io};
+use std::{env, io};
 use sv_servlet::servlet::Servlet;
 use thin::Thin;
+use thiserror::Error;
 use words::{Words, read_words};
 
 /// The seconds after which a session of the built-in deployment expires.
 const INTERVAL: i32 = 1_800;
 
 /// Why the program ends before its work is done.
-#[derive(Clone, Copy, Debug, PartialEq, Eq)]
+#[derive(Clone, Copy, Debug, PartialEq, Eq, Error)]
 enum Fault {
     /// Status 2: the words are none that the program takes.
+    #[error("Arguments")]
     Arguments,
     /// Status 3: the CONFIG can't be read.
+    #[error("Unreadable")]
     Unreadable,
     /// Status 5: standard input can't be read.
+    #[error("Input")]
     Input,
     /// Status 5: standard output can't be written.
+    #[error("Output")]
     Output,
     /// Status 5: memory was refused before the first request.
+    #[error("Memory")]
     Memory,
-}
-
-impl fmt::Display for Fault {
-    fn fmt<W: fmt::Write>(&self, f: &mut fmt::Formatter<W>) -> fmt::Result {
-        match self {
-            Fault::Arguments => write!(f, "Arguments"),
-            Fault::Unreadable => write!(f, "Unreadable"),
-            Fault::Input => write!(f, "Input"),
-            Fault::Output => write!(f, "Output"),
-            Fault::Memory => write!(f, "Memory"),
-        }
-    }
 }
 
 impl From<AllocError> for Fault {
