@@ -1,5 +1,5 @@
 -- What an answer of a reply tells of what was expected.
-use Rattle.std.proofs.Common.{◌≡◌, ◌≢◌, refl, Result, Ok, Err}
+use Rattle.std.proofs.Common.{◌≡◌, ◌≢◌, refl, Result, Err}
 use Rattle.sv_servlet.specs.ReplyState.{ReplyState}
 use Rattle.sv_servlet.specs.Reply.{Answers}
 use Rattle.sv_servlet.specs.declared.reply.ReplyFault.{ReplyFault}

@@ -1,5 +1,5 @@
 -- What a servlet means (Jakarta Servlet 6.0, chapter "The Servlet Interface").
-use Rattle.std.specs.Prelude.{◌≡◌, ℕ, List, Result, Ok, Err}
+use Rattle.std.specs.Prelude.{Result, Ok, Err}
 use Rattle.sv_session.specs.Edit.{Edit, KeepsEdit}
 use Rattle.sv_servlet.specs.Call.{Asked}
 use Rattle.sv_servlet.specs.ReplyState.{ReplyState}
