@@ -1,7 +1,7 @@
 -- The cookie of a session can be the value of a field.
-use Rattle.std.proofs.Common.{◌≡◌, ℕ, zero, suc, ◌<◌, true, List, ◌∷◌, ◌++◌, refl, arith}
+use Rattle.std.proofs.Common.{◌≡◌, ℕ, ◌<◌, true, ◌∷◌, ◌++◌, refl, arith}
 use Rattle.std.specs.Prelude.{codes}
-use Rattle.std.specs.Int.{byte_at, bytes_high_first}
+use Rattle.std.specs.Int.{bytes_high_first}
 use Rattle.std.proofs.lemmas.Bool.Decides.{nat_tests}
 use Rattle.std.proofs.lemmas.List.Elements.{All-append, All-weaker}
 use Rattle.hex.specs.Hex.{IsBytes, encode_lower, is_hex_digit}
@@ -11,6 +11,7 @@ use Rattle.http_header.specs.Token.{is_value_byte}
 use Rattle.http_header.proofs.TokenLemmas.{AllPass-from_test}
 use Rattle.sv_model.specs.declared.key.Key.{Key}
 use Rattle.sv_model.specs.declared.key.Secret.{Secret}
+use Rattle.sv_target.proofs.ByteLemmas.{IsBytes-cons, IsBytes-bytes_high_first}
 use Rattle.sv_target.specs.SessionCookie.{cookie_text, session_bytes}
 use Rattle.sv_node_main.specs.SetCookie.{cookie_value}
 use Rattle.sv_node_main.specs.declared.context.TheConstants.{CONTEXT}
@@ -18,23 +19,10 @@ use Rattle.sv_node_main.specs.declared.context.TheConstants.{CONTEXT}
 digit_fits : (c : ℕ) → is_hex_digit c ≡ true → is_value_byte c ≡ true
 digit_fits c digit = grind (arith, nat_tests)
 
-IsBytes-cons : (b : ℕ) (bytes : List ℕ) → b < 256 → IsBytes bytes → IsBytes (b ∷ bytes)
-IsBytes-cons b bytes first others zero = first
-IsBytes-cons b bytes first others (suc i) = others i
-
-byte_at-lt : (i n : ℕ) → byte_at i n < 256
-byte_at-lt zero n = omega arith
-byte_at-lt (suc i) n = omega arith
-
--- the bytes of a number before other bytes
-IsBytes-number : (k n : ℕ) (bytes : List ℕ) → IsBytes bytes → IsBytes (bytes_high_first k n ++ bytes)
-IsBytes-number zero n bytes fit = fit
-IsBytes-number (suc k) n bytes fit = IsBytes-cons (byte_at k n) (bytes_high_first k n ++ bytes) (byte_at-lt k n) (IsBytes-number k n bytes fit)
-
 IsBytes-session : (named : Key × Secret) → named.0.home < 256 → IsBytes named.1.0 → IsBytes (session_bytes CONTEXT named.0 named.1)
 IsBytes-session named home secret =
     let number = bytes_high_first 8 named.0.serial ++ named.1.0 in
-    IsBytes-cons CONTEXT (named.0.home ∷ number) (omega arith) (IsBytes-cons named.0.home number home (IsBytes-number 8 named.0.serial named.1.0 secret))
+    IsBytes-cons CONTEXT (named.0.home ∷ number) (omega arith) (IsBytes-cons named.0.home number home (IsBytes-bytes_high_first 8 named.0.serial named.1.0 secret))
 
 text_fits : (named : Key × Secret) → IsBytes (session_bytes CONTEXT named.0 named.1) → IsFieldValue (cookie_text CONTEXT named.0 named.1)
 unfolding cookie_text

@@ -1,4 +1,4 @@
-mod ByteLemmas
+pub mod ByteLemmas
 mod CookieLemmas
 pub mod CookieStringLemmas
 pub mod NamedLemmas
