@@ -133,8 +133,8 @@ module _ (m : EngineMeaning) (store : Store) (i : Item) (is : List Item) (end : 
       (step.stands arrival before (came_now arrival (length before) (arrival_behind (length before + length (option_to_list i.commit)) is) i.asked came) at)
       (rest.stands arrival more
       (λ t. subst (λ n. arrival t ≤ arrival_behind n is t) (sym long)
-          (arrival_later (arrival t) (length before) (length (option_to_list i.commit)) (arrival_behind (length before + length (option_to_list i.commit)) is t) (is_of t i.asked) (came t)
-          (grows (length before + length (option_to_list i.commit)) is t)))
+      (arrival_later (arrival t) (length before) (length (option_to_list i.commit)) (arrival_behind (length before + length (option_to_list i.commit)) is t) (is_of t i.asked) (came t)
+      (grows (length before + length (option_to_list i.commit)) is t)))
       (after-append m nothing_stored before (option_to_list i.commit) ∙ ap (λ s. after m s (option_to_list i.commit)) at ∙ after_with m store i.commit))
 
   served_split : (t : Token) → times t (served_of (option_to_list i.commit ++ later_commits)) ≡ times t (served_of (option_to_list i.commit)) + times t (served_of later_commits)

@@ -12,7 +12,6 @@ use Rattle.sv_model.specs.declared.commit.Commit.{Commit}
 use Rattle.sv_model.specs.Engine.{EngineMeaning}
 use Rattle.sv_model.specs.Container.{Store, nothing_stored, committed, after, AreLawful, AllMayStand, events_of, reply_of}
 use Rattle.sv_model.specs.NodeState.{Node, session_in}
-
 use Rattle.sv_model.specs.Trace.{Item, commits_of, asked_of, replies_of, refused_of, served_of, times, arrival_behind}
 
 -- the sessions that a node holds active

@@ -3,8 +3,8 @@
 ghost use Rattle.std.specs.Prelude.{◌≡◌, ◌++◌, ◌∷◌, [], IfOk, IfSome, OnOk, is_some, position};
 ghost use Rattle.sv_target.specs.Cookies as spec;
 
-use sv_model::blanks::trim;
 use std::alloc::{AllocError, Global};
+use sv_model::blanks::trim;
 use sv_model::field::Field;
 use sv_model::request::Cookie;
 use sv_model::sequence::Sequence;

@@ -132,12 +132,23 @@ fn shown_event(alloc: Global, event: &Event) -> Result<String, Fail> {
     Ok(format!(in alloc; "{kind} {serial} {name} {value}")?)
 }
 
+/// The text of a request's copy.
+fn copied_request(alloc: Global, request: &Request) -> Result<String, Fail> {
+    shown_request(alloc, &request.copy(alloc)?)
+}
+
 #[test]
 fn requests_are_copied(rt: HostRuntime) -> Result<(), Fail> {
     let alloc = rt.alloc();
-    let whole = request(alloc)?.copy(alloc)?;
-    assert_eq!(rt; shown_request(alloc, &whole)?.as_str(), REQUEST);
-    let bare = Request {
+    let request = request(alloc)?;
+    assert_eq!(rt; copied_request(alloc, &request)?.as_str(), REQUEST);
+    Ok(())
+}
+
+#[test]
+fn requests_with_nothing_are_copied(rt: HostRuntime) -> Result<(), Fail> {
+    let alloc = rt.alloc();
+    let request = Request {
         method: Method::from_bytes(alloc, b"get")?,
         raw_path: Text::from_str(alloc, "*")?,
         path: Text::from_str(alloc, "/")?,
@@ -148,10 +159,8 @@ fn requests_are_copied(rt: HostRuntime) -> Result<(), Fail> {
         body: Sequence::new(alloc),
         close: false,
     };
-    assert_eq!(rt;
-        shown_request(alloc, &bare.copy(alloc)?)?.as_str(),
-        "get * /\nbody \nclose false\n"
-    );
+    let copy = copied_request(alloc, &request)?;
+    assert_eq!(rt; copy.as_str(), "get * /\nbody \nclose false\n");
     Ok(())
 }
 
@@ -188,26 +197,38 @@ fn plain_events_are_copied(rt: HostRuntime) -> Result<(), Fail> {
 }
 
 #[test]
-fn events_of_attributes_are_copied(rt: HostRuntime) -> Result<(), Fail> {
+fn added_values_are_copied(rt: HostRuntime) -> Result<(), Fail> {
     let alloc = rt.alloc();
-    let added = Event::Added {
+    let event = Event::Added {
         key: KEY,
         name: Text::from_str(alloc, "n")?,
         value: bytes(alloc, "v")?,
     };
-    assert_eq!(rt; copied_event(alloc, added)?.as_str(), "7 7 n v");
-    let removed = Event::Removed {
+    assert_eq!(rt; copied_event(alloc, event)?.as_str(), "7 7 n v");
+    Ok(())
+}
+
+#[test]
+fn removed_values_are_copied(rt: HostRuntime) -> Result<(), Fail> {
+    let alloc = rt.alloc();
+    let event = Event::Removed {
         key: KEY,
         name: Text::from_str(alloc, "n")?,
         old: bytes(alloc, "")?,
     };
-    assert_eq!(rt; copied_event(alloc, removed)?.as_str(), "8 7 n ");
-    let replaced = Event::Replaced {
+    assert_eq!(rt; copied_event(alloc, event)?.as_str(), "8 7 n ");
+    Ok(())
+}
+
+#[test]
+fn replaced_values_are_copied(rt: HostRuntime) -> Result<(), Fail> {
+    let alloc = rt.alloc();
+    let event = Event::Replaced {
         key: KEY,
         name: Text::new(alloc),
         old: bytes(alloc, "v")?,
     };
-    assert_eq!(rt; copied_event(alloc, replaced)?.as_str(), "9 7  v");
+    assert_eq!(rt; copied_event(alloc, event)?.as_str(), "9 7  v");
     Ok(())
 }
 
@@ -224,45 +245,54 @@ fn what_is_told_is_copied(rt: HostRuntime) -> Result<(), Fail> {
     Ok(())
 }
 
+/// A commit by its kind, and what it holds.
+fn shown_commit(alloc: Global, commit: &Commit) -> Result<String, Fail> {
+    Ok(match commit {
+        Commit::Served {
+            token,
+            request,
+            now,
+            handed,
+            fresh: (key, secret),
+        } => {
+            let request = shown_request(alloc, request)?;
+            let (serial, first) = (key.serial, secret.0[0]);
+            format!(in alloc; "{token:?} {now} {handed} {serial} {first} {request}")?
+        }
+        Commit::Expired { key, now } => format!(in alloc; "expired {} {now}", key.serial)?,
+    })
+}
+
+/// The text of a commit's copy.
+fn copied_commit(alloc: Global, commit: &Commit) -> Result<String, Fail> {
+    shown_commit(alloc, &commit.copy(alloc)?)
+}
+
 #[test]
-fn commits_are_copied(rt: HostRuntime) -> Result<(), Fail> {
+fn served_requests_are_copied(rt: HostRuntime) -> Result<(), Fail> {
     let alloc = rt.alloc();
     let token = Token {
         number: 4,
         node: 1,
         boot: 2,
     };
-    let served = Commit::Served {
+    let commit = Commit::Served {
         token,
         request: request(alloc)?,
         now: 1000,
         handed: true,
         fresh: (KEY, Secret([9; 16])),
     };
-    match served.copy(alloc)? {
-        Commit::Served {
-            token: number,
-            request,
-            now,
-            handed,
-            fresh,
-        } => {
-            assert_eq!(rt; number, token);
-            assert_eq!(rt; shown_request(alloc, &request)?.as_str(), REQUEST);
-            assert_eq!(rt; now, 1000);
-            assert!(rt; handed);
-            assert_eq!(rt; fresh, (KEY, Secret([9; 16])));
-        }
-        Commit::Expired { .. } => return Err("it was served".into()),
-    }
-    let expired = Commit::Expired { key: KEY, now: 5 };
-    match expired.copy(alloc)? {
-        Commit::Expired { key, now } => {
-            assert_eq!(rt; key, KEY);
-            assert_eq!(rt; now, 5);
-        }
-        Commit::Served { .. } => return Err("it was ended".into()),
-    }
+    let wanted = format!(in alloc; "{token:?} 1000 true 7 9 {REQUEST}")?;
+    assert_eq!(rt; copied_commit(alloc, &commit)?.as_str(), wanted.as_str());
+    Ok(())
+}
+
+#[test]
+fn expiries_are_copied(rt: HostRuntime) -> Result<(), Fail> {
+    let alloc = rt.alloc();
+    let commit = Commit::Expired { key: KEY, now: 5 };
+    assert_eq!(rt; copied_commit(alloc, &commit)?.as_str(), "expired 7 5");
     Ok(())
 }
 
@@ -298,26 +328,34 @@ fn shown_input(alloc: Global, input: &Input) -> Result<String, Fail> {
     })
 }
 
+/// The text of an input's copy.
+fn copied_input(alloc: Global, input: &Input) -> Result<String, Fail> {
+    shown_input(alloc, &input.copy(alloc)?)
+}
+
 #[test]
-fn inputs_are_copied(rt: HostRuntime) -> Result<(), Fail> {
+fn asked_requests_are_copied(rt: HostRuntime) -> Result<(), Fail> {
     let alloc = rt.alloc();
-    let asked = format!(in alloc; "ask 6 {REQUEST}")?;
+    let input = Input::Ask {
+        token: 6,
+        request: request(alloc)?,
+    };
+    let wanted = format!(in alloc; "ask 6 {REQUEST}")?;
+    assert_eq!(rt; copied_input(alloc, &input)?.as_str(), wanted.as_str());
+    Ok(())
+}
+
+#[test]
+fn other_inputs_are_copied(rt: HostRuntime) -> Result<(), Fail> {
+    let alloc = rt.alloc();
     let rows = [
-        (
-            Input::Ask {
-                token: 6,
-                request: request(alloc)?,
-            },
-            asked.as_str(),
-        ),
         (Input::Packet(packet()), "packet Some(4)"),
         (Input::Poke, "poke"),
         (Input::Tick, "tick"),
         (Input::Move { key: KEY, to: 5 }, "move 7 5"),
     ];
     for (input, want) in &rows {
-        let copy = input.copy(alloc)?;
-        assert_eq!(rt; shown_input(alloc, &copy)?.as_str(), *want);
+        assert_eq!(rt; copied_input(alloc, input)?.as_str(), *want);
     }
     Ok(())
 }
@@ -336,25 +374,32 @@ fn shown_output(alloc: Global, output: &Output) -> Result<String, Fail> {
     })
 }
 
+/// The text of an output's copy.
+fn copied_output(alloc: Global, output: &Output) -> Result<String, Fail> {
+    shown_output(alloc, &output.copy(alloc)?)
+}
+
 #[test]
-fn outputs_are_copied(rt: HostRuntime) -> Result<(), Fail> {
+fn answers_are_copied(rt: HostRuntime) -> Result<(), Fail> {
     let alloc = rt.alloc();
-    let answered = format!(in alloc; "answer 6 {RESPONSE}")?;
+    let output = Output::Answer {
+        token: 6,
+        response: response(alloc)?,
+    };
+    let wanted = format!(in alloc; "answer 6 {RESPONSE}")?;
+    assert_eq!(rt; copied_output(alloc, &output)?.as_str(), wanted.as_str());
+    Ok(())
+}
+
+#[test]
+fn other_outputs_are_copied(rt: HostRuntime) -> Result<(), Fail> {
+    let alloc = rt.alloc();
+    let refused = Output::Refuse {
+        token: 6,
+        cause: Cause::Deadline,
+    };
     let rows = [
-        (
-            Output::Answer {
-                token: 6,
-                response: response(alloc)?,
-            },
-            answered.as_str(),
-        ),
-        (
-            Output::Refuse {
-                token: 6,
-                cause: Cause::Deadline,
-            },
-            "refuse 6 Deadline",
-        ),
+        (refused, "refuse 6 Deadline"),
         (Output::Send(packet()), "send Some(4)"),
         (Output::Moved, "moved"),
         (
@@ -363,8 +408,7 @@ fn outputs_are_copied(rt: HostRuntime) -> Result<(), Fail> {
         ),
     ];
     for (output, want) in &rows {
-        let copy = output.copy(alloc)?;
-        assert_eq!(rt; shown_output(alloc, &copy)?.as_str(), *want);
+        assert_eq!(rt; copied_output(alloc, output)?.as_str(), *want);
     }
     Ok(())
 }

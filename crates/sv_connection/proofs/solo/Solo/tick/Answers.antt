@@ -1,6 +1,5 @@
 use Rattle.std.specs.Option.{option_to_list}
 use Rattle.std.proofs.Common.{refl, sym, ap, [], ◌∷◌}
-
 use Rattle.sv_connection.proofs.SoloLemmas.{ticked}
 use Rattle.sv_connection.proofs.solo.Solo.tick.Goals as goal
 
