@@ -15,7 +15,8 @@ use Rattle.sv_model.specs.declared.outcome.Fate.TheVariants.{Untouched, Kept, En
 use Rattle.sv_model.specs.declared.outcome.Birth.{Birth}
 use Rattle.sv_model.specs.declared.outcome.Birth.TheVariants.{Absent, Alive, Ended as BirthEnded}
 use Rattle.sv_model.specs.Session.{is_expired}
-use Rattle.sv_model.specs.NodeState.{Keys, Setting, Node}
+use Rattle.sv_model.specs.declared.node.Setting.{Setting}
+use Rattle.sv_model.specs.NodeState.{Keys, Node}
 use Rattle.sv_model.specs.Serving.{held_in}
 
 -- a key of the one node

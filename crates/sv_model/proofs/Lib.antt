@@ -2,3 +2,4 @@ pub mod FieldLemmas
 pub mod AttributesLemmas
 pub mod KeyLemmas
 pub mod KeptLemmas
+pub mod SameLemmas

@@ -18,3 +18,4 @@ pub mod Time
 pub mod Node
 pub mod Trace
 pub mod OneContainer
+pub mod Replay

@@ -2,17 +2,12 @@
 use Rattle.std.specs.Prelude.{ℕ, ◌-◌, ◌^◌, ◌==◌, ◌&&◌, ◌||◌, Bool, true, false, nat_le, Option, Some, None, List}
 use Rattle.std.specs.FinMap.{FinMap}
 use Rattle.sv_model.specs.declared.key.Key.{Key}
-use Rattle.sv_model.specs.declared.request.Request.{Request}
 use Rattle.sv_model.specs.declared.session.Session.{Session}
 use Rattle.sv_model.specs.declared.state.KeyState.{KeyState}
+pub use Rattle.sv_model.specs.declared.node.Setting.{Setting}
+pub use Rattle.sv_model.specs.declared.node.Parked.{Parked}
 use Rattle.sv_model.specs.declared.state.KeyState.TheVariants.{Active, Sent, Gone, Ended}
 use Rattle.sv_model.specs.Keys.{key_cmp}
-
--- a node's number, how many nodes there are, and the seconds for which a request waits
-pub record Setting : Type 0 where
-  pub node : ℕ
-  pub nodes : ℕ
-  pub deadline : ℕ
 
 abbrev pub Keys : Type 0
 Keys = FinMap key_cmp KeyState
@@ -22,15 +17,6 @@ pub record Durable : Type 0 where
   pub keys : Keys
   pub boot : ℕ
   pub next : ℕ
-
--- a request that waits for its session
-pub record Parked : Type 0 where
-  pub token : ℕ
-  pub request : Request
-  pub key : Key
-  -- when it came, in seconds
-  pub since : ℕ
-  pub want : ℕ
 
 -- what it keeps until it stops: the requests that wait, in order of arrival, and the number of its next want
 pub record Node : Type 0 where

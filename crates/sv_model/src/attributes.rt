@@ -1,6 +1,7 @@
 //! The attributes of a session: names with values.
 
 ghost use Rattle.std.specs.Prelude.{◌≡◌, ◌+◌, ◌<◌, ◌^◌, ◌++◌, ◌∷◌, ℕ, List, [], length, option_copied, IfOk, OnOk, OnErr};
+ghost use Rattle.std.specs.Bool.{Decides};
 ghost use Rattle.std.specs.Map.Iter.{TakesFirst};
 ghost use Rattle.std.specs.Iterator.{at_most};
 
@@ -77,6 +78,13 @@ impl Attributes {
         ensures rising { NamesRise self.now }
     {
         self.by_name.len()
+    }
+
+    /// The two are equal.
+    pub fn is_same(&self, other: &Attributes) -> bool
+        ensures { Decides result (self.now ≡ other.now) }
+    {
+        self.by_name == other.by_name
     }
 
     /// The bytes of all names and values.

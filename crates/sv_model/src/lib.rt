@@ -17,6 +17,7 @@ pub mod field;
 pub mod input;
 pub mod key;
 pub mod method;
+pub mod node;
 pub mod outcome;
 pub mod output;
 pub mod packet;

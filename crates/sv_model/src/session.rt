@@ -1,6 +1,7 @@
 //! A session with its attributes (Jakarta Servlet 6.0, chapter "Sessions").
 
 ghost use Rattle.std.specs.Prelude.{◌≡◌, IfOk};
+ghost use Rattle.std.specs.Bool.{Decides};
 ghost use Rattle.sv_model.specs.Session.{is_expired};
 
 use crate::attributes::Attributes;
@@ -52,6 +53,19 @@ impl Session {
                 Some(end) => end <= now,
                 None => false,
             }
+    }
+
+    /// The two are equal.
+    pub fn is_same(&self, other: &Session) -> bool
+        ensures { Decides result (self.now ≡ other.now) }
+    {
+        self.context == other.context
+            && self.secret == other.secret
+            && self.created == other.created
+            && self.last == other.last
+            && self.interval == other.interval
+            && self.fresh == other.fresh
+            && self.attributes.is_same(&other.attributes)
     }
 
     /// An equal session in memory of its own.
