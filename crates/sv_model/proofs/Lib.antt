@@ -3,3 +3,6 @@ pub mod AttributesLemmas
 pub mod KeyLemmas
 pub mod KeptLemmas
 pub mod SameLemmas
+pub mod EntryLemmas
+pub mod JournalLemmas
+pub mod RangeLemmas

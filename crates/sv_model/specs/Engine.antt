@@ -1,8 +1,7 @@
 -- What an engine means, and its laws.
-use Rattle.std.specs.Prelude.{◌≡◌, ℕ, ◌<◌, Option, None, List, [], ◌∷◌, IfSome, ⊤}
+use Rattle.std.specs.Prelude.{◌≡◌, ℕ, Option, None, List, [], ◌∷◌, IfSome, ⊤}
 use Rattle.sv_model.specs.declared.key.Key.{Key}
 use Rattle.sv_model.specs.declared.key.Secret.{Secret}
-use Rattle.sv_model.specs.declared.key.TheConstants.{NODE_LIMIT}
 use Rattle.sv_model.specs.declared.request.Request.{Request}
 use Rattle.sv_model.specs.declared.session.Session.{Session}
 use Rattle.sv_model.specs.declared.event.Told.{Told}
@@ -11,6 +10,7 @@ use Rattle.sv_model.specs.declared.outcome.Fate.{Fate}
 use Rattle.sv_model.specs.declared.outcome.Fate.TheVariants.{Untouched, Kept, Ended as FateEnded}
 use Rattle.sv_model.specs.declared.outcome.Birth.{Birth}
 use Rattle.sv_model.specs.declared.outcome.Birth.TheVariants.{Absent, Alive, Ended as BirthEnded}
+use Rattle.sv_model.specs.Keys.{IsKey}
 use Rattle.sv_model.specs.Session.{IsWithinLimits}
 
 -- what an engine answers, and what its listeners note
@@ -50,4 +50,4 @@ KeepsLimits m = (r : Request) (held : Option (Key × Session)) (now : ℕ) (fres
 
 -- a key that is named has a home that can be a node, and a serial that can be handed out
 abbrev pub NamesKeys : EngineMeaning → Type 0
-NamesKeys m = (r : Request) → IfSome (m.names r) (λ n. (n.0.home < NODE_LIMIT) × (0 < n.0.serial))
+NamesKeys m = (r : Request) → IfSome (m.names r) (λ n. IsKey n.0)

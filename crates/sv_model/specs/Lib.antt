@@ -10,6 +10,8 @@ pub mod Method
 pub mod Keys
 pub mod Container
 pub mod NodeState
+pub mod Membership
+pub mod Outputs
 pub mod Decision
 pub mod Serving
 pub mod Waiting
@@ -19,3 +21,6 @@ pub mod Node
 pub mod Trace
 pub mod OneContainer
 pub mod Replay
+pub mod Ranges
+pub mod Opening
+pub mod Journaled

@@ -16,6 +16,7 @@ pub mod event;
 pub mod field;
 pub mod input;
 pub mod key;
+pub mod laws;
 pub mod method;
 pub mod node;
 pub mod outcome;
