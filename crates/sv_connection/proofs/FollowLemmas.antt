@@ -223,7 +223,7 @@ module _ (m : EngineMeaning) (untouched : TouchesOnlyHanded m) (can : NamesKeys 
   served_follows room place at =
       record {
         next = born_behind out.birth (fated_at place out.fate xs);
-        left_is = ap (λ d. record { durable = d; parked = []; want = 1 }) (ap (λ (k : Key). kept_with (m.names r) k out (node_of xs).durable) fresh_key ∙ sym (kept xs (m.names r) place out at));
+        left_is = ap (λ d. record { durable = d; parked = []; next_want = 1 }) (ap (λ (k : Key). kept_with (m.names r) k out (node_of xs).durable) fresh_key ∙ sym (kept xs (m.names r) place out at));
         holds = subst (Holds (born_behind out.birth (fated_at place out.fate xs))) (ap (λ (o : Outcome). stored (m.names r) fresh.0 o store) (sym same_outcome))
             (holds_behind xs store (m.names r) place fresh.0 out h at touched fresh_key room);
         lawful = subst (λ (o : Outcome). IsNewKey store fresh.0 o.birth) (sym same_outcome) (new_key xs store fresh.0 out.birth h fresh_key);

@@ -5,4 +5,4 @@ mod QuietLemmas
 mod TableLemmas
 mod SoloLemmas
 mod FollowLemmas
-mod TraceLemmas
+pub mod TraceLemmas

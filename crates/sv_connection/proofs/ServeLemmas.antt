@@ -22,34 +22,19 @@ use Rattle.sv_connection.specs.declared.arrive.Arrived.TheVariants.{Fault}
 use Rattle.sv_connection.specs.Arrive.{Arrives}
 use Rattle.sv_connection.specs.Manner.{manner_of}
 use Rattle.sv_connection.specs.Reply.{speaks_to}
-use Rattle.sv_connection.specs.Serve.{how, request_of, said_by, verdict, Follows, IsAnswered, IsStarved, IsSaid, IsPage, StandsAt}
+use Rattle.sv_connection.specs.Serve.{how, request_of, verdict, outputs_of, Follows, IsAnswered, IsStarved, IsSaid, IsPage, StandsAt}
 
--- the site put out a list, and what it says to the token was said
-pub answered_ok : {S : Type 0} (steps : S → Moment → Input → Result (List Output) StepFault → S → Type 0) (moment : Moment) (token : ℕ) (single : Bool)
-    (raw : RawRequest) (request : Request) (manner : Manner) (seen outputs : List Output) (so sn : S) (wo wn : Option (List ℕ)) (closed : Bool) (served : Served)
-    → request ≡ request_of single raw → manner ≡ manner_of single raw moment.now → steps so moment (Ask token request) (Ok outputs) sn
-    → served.outputs.items ≡ outputs → seen ≡ outputs → Follows (said_by manner.head_only manner.close (find (speaks_to token) seen)) manner.now wo wn closed served.outcome
+-- the site was stepped, and what follows was said
+pub answered : {S : Type 0} (steps : S → Moment → Input → Result (List Output) StepFault → S → Type 0) (moment : Moment) (token : ℕ) (single : Bool)
+    (raw : RawRequest) (request : Request) (manner : Manner) (answer : Result (List Output) StepFault) (so sn : S) (wo wn : Option (List ℕ)) (closed : Bool) (served : Served)
+    → request ≡ request_of single raw → manner ≡ manner_of single raw moment.now → steps so moment (Ask token request) answer sn
+    → served.outputs.items ≡ outputs_of answer → Follows (verdict token manner.head_only manner.close answer) manner.now wo wn closed served.outcome
     → IsAnswered steps (how moment token single) raw so sn wo wn closed served
-answered_ok steps moment token single raw request manner seen outputs so sn wo wn closed served asked made step listed same follows = record {
-  answer = Ok outputs;
-  step = subst (λ (r : Request). steps so moment (Ask token r) (Ok outputs) sn) asked step;
+answered steps moment token single raw request manner answer so sn wo wn closed served asked made step listed follows = record {
+  answer = answer;
+  step = subst (λ (r : Request). steps so moment (Ask token r) answer sn) asked step;
   outputs = listed;
-  follows =
-      subst (λ (m : Manner). Follows (said_by m.head_only m.close (find (speaks_to token) outputs)) m.now wo wn closed served.outcome) made
-      (subst (λ (os : List Output). Follows (said_by manner.head_only manner.close (find (speaks_to token) os)) manner.now wo wn closed served.outcome) same follows);
-}
-
--- the site refused the step, and what follows was said
-pub answered_err : {S : Type 0} (steps : S → Moment → Input → Result (List Output) StepFault → S → Type 0) (moment : Moment) (token : ℕ) (single : Bool)
-    (raw : RawRequest) (request : Request) (manner : Manner) (fault : StepFault) (so sn : S) (wo wn : Option (List ℕ)) (closed : Bool) (served : Served)
-    → request ≡ request_of single raw → manner ≡ manner_of single raw moment.now → steps so moment (Ask token request) (Err fault) sn
-    → served.outputs.items ≡ [] → Follows (verdict token manner.head_only manner.close (Err fault)) manner.now wo wn closed served.outcome
-    → IsAnswered steps (how moment token single) raw so sn wo wn closed served
-answered_err steps moment token single raw request manner fault so sn wo wn closed served asked made step listed follows = record {
-  answer = Err fault;
-  step = subst (λ (r : Request). steps so moment (Ask token r) (Err fault) sn) asked step;
-  outputs = listed;
-  follows = subst (λ (m : Manner). Follows (verdict token m.head_only m.close (Err fault)) m.now wo wn closed served.outcome) made follows;
+  follows = subst (λ (m : Manner). Follows (verdict token m.head_only m.close answer) m.now wo wn closed served.outcome) made follows;
 }
 
 starved_shut : (wo wn : Option (List ℕ)) (closed : Bool) (outcome : Outcome) → IsStarved wo wn closed outcome → closed ≡ true

@@ -29,7 +29,7 @@ use Rattle.sv_model.specs.Waiting.{on_ask}
 use Rattle.sv_model.specs.Time.{on_tick, expire, first_over, grant_again}
 use Rattle.sv_model.specs.Migration.{on_move, on_packet, on_ours, sender, addressee, move_refused, hands_over}
 use Rattle.sv_model.specs.Decision.{idle, Decision}
-use Rattle.sv_model.specs.NodeState.{last, Node}
+use Rattle.sv_model.specs.NodeState.{last_number, Node}
 use Rattle.sv_model.specs.Step.{IsStep, told}
 use Rattle.sv_connection.specs.Table.{own_key, numbered, told_end, keys_of, IsPlace, fated_at, born_behind, is_past, without_at, end_at, alone, node_of, refusal_for}
 use Rattle.sv_connection.specs.Solo.{view_at}
@@ -69,7 +69,7 @@ module _ (m : EngineMeaning) (xs : List (Option Session)) (moment : Moment) (tok
         meaning = meaning;
         node =
             ap node_of behind
-            ∙ ap (λ d. record { durable = d; parked = []; want = 1 })
+            ∙ ap (λ d. record { durable = d; parked = []; next_want = 1 })
             (kept xs (m.names r) place out at ∙ ap (λ (k : Key × Secret). kept_with (m.names r) k.0 out (node_of xs).durable) (sym (fresh_is xs moment few)));
         heard = tells;
         outputs_are = put;
@@ -82,12 +82,12 @@ IsTick m xs heard now place =
     IsStep (view_at m xs heard) (on_tick alone (node_of xs) now) [] (view_at m (without_at place xs) (heard_all m heard (end_at place xs)))
 
 pub ended_node : (xs : List (Option Session)) (place : ℕ) → place < length xs
-    → ◌≡◌ {A = Node} (record { durable = record { keys = insert (keys_of xs) (own_key (place + 1)) (Ended 1); boot = 1; next = length xs + 1 }; parked = []; want = 1 }) (node_of (slice_set xs place None))
-ended_node xs place less = λ i. record { durable = record { keys = sym (put_own xs place None less) i; boot = 1; next = sym (length-set xs place None) i + 1 }; parked = []; want = 1 }
+    → ◌≡◌ {A = Node} (record { durable = record { keys = insert (keys_of xs) (own_key (place + 1)) (Ended 1); boot = 1; next = length xs + 1 }; parked = []; next_want = 1 }) (node_of (slice_set xs place None))
+ended_node xs place less = λ i. record { durable = record { keys = sym (put_own xs place None less) i; boot = 1; next = sym (length-set xs place None) i + 1 }; parked = []; next_want = 1 }
 
 -- what a tick leaves of a decision, where no request waits
 abbrev pub tick_node : Decision → Node
-tick_node d = record { durable = d.durable; parked = []; want = d.want }
+tick_node d = record { durable = d.durable; parked = []; next_want = d.next_want }
 
 -- by the least key that has expired
 ticks_by : (m : EngineMeaning) (xs : List (Option Session)) (heard : List (List ℕ)) (now : ℕ) (found : Option (Key × KeyState)) → first_over now (entries (keys_of xs)) ≡ found
@@ -154,7 +154,7 @@ nobody (suc to) = or_right (suc to == 0) (nat_le 1 (suc to)) (le-leb 1 (suc to) 
 
 pub moves : (xs : List (Option Session)) (k : Key) (to : ℕ) (st : Option KeyState) → on_move alone (node_of xs) k to st ≡ idle (node_of xs) (MoveRefused (refusal_for st) ∷ [])
 moves xs k to None = refl
-moves xs k to (Some (Active e s)) = ap (λ b. cond b (idle (node_of xs) (MoveRefused BadPeer ∷ [])) (cond (e == last) (move_refused (node_of xs) EpochsSpent) (hands_over alone (node_of xs) k e s to (Moved ∷ [])))) (nobody to)
+moves xs k to (Some (Active e s)) = ap (λ b. cond b (idle (node_of xs) (MoveRefused BadPeer ∷ [])) (cond (e == last_number) (move_refused (node_of xs) EpochsSpent) (hands_over alone (node_of xs) k e s to (Moved ∷ [])))) (nobody to)
 moves xs k to (Some (Sent e s there)) = refl
 moves xs k to (Some (Gone e)) = refl
 moves xs k to (Some (Ended e)) = refl

@@ -27,7 +27,7 @@ use Rattle.sv_model.specs.declared.outcome.Birth.TheVariants.{Absent, Alive, End
 use Rattle.sv_model.specs.declared.output.Cause.{Cause}
 use Rattle.sv_model.specs.declared.output.Cause.TheVariants.{TableFull, SerialsSpent}
 use Rattle.sv_model.specs.Engine.{EngineMeaning}
-use Rattle.sv_model.specs.NodeState.{Keys, session_in, is_settled, is_dead, is_unmade, last}
+use Rattle.sv_model.specs.NodeState.{Keys, session_in, is_settled, is_dead, is_unmade, last_number}
 use Rattle.sv_model.specs.Serving.{held_in, kept_at, ended_at, fated_keys, born_keys, next_with, kept_with, is_birth, no_birth, fresh_of, served}
 use Rattle.sv_model.specs.Waiting.{on_ask, waits}
 use Rattle.sv_model.specs.Time.{first_over, grant_again}
@@ -325,13 +325,13 @@ asks m xs moment token r (Some named) can =
     ap (λ b. cond b (served m alone (node_of xs) moment token r []) (waits alone (node_of xs) moment token r named.0)) (served_now xs named.0 can.1)
 
 pub fresh_is : (xs : List (Option Session)) (moment : Moment) → length xs ≤ 65_536 → fresh_of alone (node_of xs).durable moment ≡ (own_key (length xs + 1), moment.secret)
-fresh_is xs moment few = ap (λ b. (own_key (cond b 0 (length xs + 1)), moment.secret)) (ne_eqb (length xs + 1) last (λ is. omega (arith, is, few)))
+fresh_is xs moment few = ap (λ b. (own_key (cond b 0 (length xs + 1)), moment.secret)) (ne_eqb (length xs + 1) last_number (λ is. omega (arith, is, few)))
 
 -- only the limit on keys can refuse a birth
 pub room : (xs : List (Option Session)) (b : Birth) → length xs ≤ 65_536
     → no_birth (node_of xs).durable b ≡ cond (is_birth b) (cond (nat_le 65_536 (length xs)) (Some TableFull) None) None
 room xs b few =
-    ap (λ t. cond (is_birth b) (cond t (Some SerialsSpent) (cond (nat_le 65_536 (len (keys_of xs))) (Some TableFull) None)) None) (ne_eqb (length xs + 1) last (λ is. omega (arith, is, few)))
+    ap (λ t. cond (is_birth b) (cond t (Some SerialsSpent) (cond (nat_le 65_536 (len (keys_of xs))) (Some TableFull) None)) None) (ne_eqb (length xs + 1) last_number (λ is. omega (arith, is, few)))
     ∙ ap (λ n. cond (is_birth b) (cond (nat_le 65_536 n) (Some TableFull) None) None) (len_is xs)
 
 room_left : (xs : List (Option Session)) (b : Bool) → nat_le 65_536 (length xs) ≡ b → None ≡ cond b (Some TableFull) None → length xs < 65_536

@@ -24,14 +24,14 @@ use Rattle.sv_model.specs.Node.{decided}
 use Rattle.sv_model.specs.Step.{View, Steps, left, told, with_mark}
 use Rattle.sv_connection.specs.Table.{alone, node_of}
 use Rattle.sv_model.specs.Trace.{Call, Leads, Item, item_of, item_by, node_by, trace_of, told_of, commits_of, asked_of, replies_of, refused_of, served_by, served_of, same_token, times, is_of, arrival_behind}
-use Rattle.sv_model.specs.OneContainer.{active_at, IsOneContainer, IsAcknowledged, store_with, replies_with, IsFit, AreFit, tokens_in}
+use Rattle.sv_model.specs.OneContainer.{active_at, IsOneContainer, IsAcknowledged, store_with, replies_with, IsFit, AreFit, tokens_in, AreDistinct, IsServedOnce}
 use Rattle.sv_connection.specs.Solo.{IsHistory}
 use Rattle.sv_connection.proofs.TableLemmas.{get_nothing}
 use Rattle.sv_connection.proofs.FollowLemmas.{Holds, HasArrived, follows}
 
 -- ---- lists
 
-times-append : (t : Token) (xs ys : List Token) → times t (xs ++ ys) ≡ times t xs + times t ys
+pub times-append : (t : Token) (xs ys : List Token) → times t (xs ++ ys) ≡ times t xs + times t ys
 times-append t [] ys = let all : times t ys ≡ 0 + times t ys = omega arith in all
 times-append t (x ∷ xs) ys =
     let rest : times t (xs ++ ys) ≡ times t xs + times t ys = times-append t xs ys in
@@ -256,8 +256,11 @@ module _ (m : EngineMeaning) (untouched : TouchesOnlyHanded m) (can : NamesKeys 
 begins : Holds [] nothing_stored
 begins = record { few = omega arith; map = λ k. ap session_in (sym (get_nothing k)); made = λ k is. absurd cc }
 
-at_most_one : (a b c : ℕ) → a + b ≡ c → c ≤ 1 → a + b ≤ 1
-at_most_one a b c is le = omega (arith, is, le)
+as_many : (a b c : ℕ) → a + b ≡ c → a + b ≤ c
+as_many a b c is = omega (arith, is)
+
+at_most_one : (a c : ℕ) → a ≤ c → c ≤ 1 → a ≤ 1
+at_most_one a c under le = omega (arith, under, le)
 
 pub all_runs : (m : EngineMeaning) → TouchesOnlyHanded m → NamesKeys m → (first end : View) (calls : List Call) → IsHistory m first calls end
     → Runs m nothing_stored (trace_of m alone (node_of []) calls) end.node
@@ -270,8 +273,12 @@ pub acknowledged : (m : EngineMeaning) (trace : List Item) (end : Node) → Runs
 acknowledged m trace end r = record {
   fit = r.fit;
   answered = r.answered;
-  once = λ distinct t. at_most_one (times t (served_of (commits_of trace))) (times t (refused_of trace)) (times t (asked_of trace)) (r.tokens t) (distinct t);
+  once = λ t. as_many (times t (served_of (commits_of trace))) (times t (refused_of trace)) (times t (asked_of trace)) (r.tokens t);
 }
+
+pub served_once : (m : EngineMeaning) (trace : List Item) → IsAcknowledged m trace → AreDistinct (asked_of trace) → IsServedOnce trace
+served_once m trace acknowledged distinct t =
+    at_most_one (times t (served_of (commits_of trace)) + times t (refused_of trace)) (times t (asked_of trace)) (acknowledged.once t) (distinct t)
 
 pub heard : (m : EngineMeaning) → TouchesOnlyHanded m → NamesKeys m → (first end : View) (calls : List Call) → IsHistory m first calls end
     → end.heard ≡ heard_all m first.heard (told_of (trace_of m alone (node_of []) calls))

@@ -104,7 +104,7 @@ alone = record { node = 0; nodes = 1; deadline = 0 }
 
 -- a node that has made these sessions, since its first start; no request waits
 abbrev pub node_of : List (Option Session) → Node
-node_of sessions = record { durable = record { keys = keys_of sessions; boot = 1; next = length sessions + 1 }; parked = []; want = 1 }
+node_of sessions = record { durable = record { keys = keys_of sessions; boot = 1; next = length sessions + 1 }; parked = []; next_want = 1 }
 
 -- why a session isn't handed over where there is no other node
 abbrev pub refusal_for : Option KeyState → MoveRefusal

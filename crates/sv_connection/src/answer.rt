@@ -1,15 +1,16 @@
 //! Says what a step of the site leads to.
 
-ghost use Rattle.std.specs.Prelude.{◌≡◌, ℕ, Err, Some, find};
+ghost use Rattle.std.specs.Prelude.{◌≡◌, ℕ, Err, Some, find, vec_items};
+ghost use Rattle.sv_model.specs.Site.{with_list};
 ghost use Rattle.std.specs.Io.KnownBytes.{Appends};
 ghost use Rattle.sv_connection.specs.Manner.{manner_of};
 ghost use Rattle.sv_connection.specs.Reply.{refusal, speaks_to};
 ghost use Rattle.sv_target.specs.Cookies.{cookies_of};
-ghost use Rattle.sv_connection.specs.Serve.{Follows, said_by, verdict, IsSaid, request_of};
+ghost use Rattle.sv_connection.specs.Serve.{Follows, said_by, verdict, outputs_of, IsSaid, request_of};
 
 use crate::outcome::Outcome;
 use crate::reply::{refusal, reply_to};
-use crate::speak::{Sent, say, starve};
+use crate::speak::{Said, say, starve};
 use crate::target::ReadTarget;
 use std::alloc::Global;
 use std::io::Write;
@@ -63,7 +64,7 @@ pub fn request_of(alloc: Global, raw: RawRequest, read: ReadTarget, single: bool
 }
 
 /// The site will answer later.
-const PARKED: Sent = Sent {
+const PARKED: Said = Said {
     outcome: Outcome::Parked,
     closed: false,
 };
@@ -75,7 +76,7 @@ fn say_refusal<W: Write>(
     writer: &mut W,
     cause: Cause,
     manner: Manner,
-) -> Sent
+) -> Said
     ensures { IsSaid (refusal cause manner.head_only manner.close) manner.now Outcome.Answered (W.contents writer.old) (W.contents writer.new) result.closed result.outcome }
 {
     match refusal(alloc, cause, manner.head_only, manner.close) {
@@ -98,7 +99,7 @@ fn say_output<W: Write>(
     writer: &mut W,
     output: &Output,
     manner: Manner,
-) -> Sent
+) -> Said
     ensures { Follows (said_by manner.head_only manner.close (Some output.now)) manner.now (W.contents writer.old) (W.contents writer.new) result.closed result.outcome }
 {
     match output {
@@ -116,14 +117,14 @@ fn say_output<W: Write>(
 }
 
 /// Sends what the first output says that speaks to the token; without one the request is parked.
-pub fn say_outputs<W: Write>(
+fn say_outputs<W: Write>(
     alloc: Global,
     buffer: &mut Vec<u8>,
     writer: &mut W,
     token: u64,
     outputs: &[Output],
     manner: Manner,
-) -> Sent
+) -> Said
     ensures { Follows (said_by manner.head_only manner.close (find (speaks_to token) outputs.now)) manner.now (W.contents writer.old) (W.contents writer.new) result.closed result.outcome }
 {
     match reply_to(token, outputs) {
@@ -133,21 +134,48 @@ pub fn say_outputs<W: Write>(
 }
 
 /// Sends what a fault of the step leads to.
-pub fn say_step_fault<W: Write>(
+fn say_step_fault<W: Write>(
     alloc: Global,
     buffer: &mut Vec<u8>,
     writer: &mut W,
     fault: StepFault,
     manner: Manner,
-) -> Sent
+) -> Said
     ensures { (token : ℕ) → Follows (verdict token manner.head_only manner.close (Err fault)) manner.now (W.contents writer.old) (W.contents writer.new) result.closed result.outcome }
 {
     match fault {
         StepFault::Full => say_refusal(alloc, buffer, writer, Cause::JournalFull, manner),
         StepFault::Memory => say_refusal(alloc, buffer, writer, Cause::Memory, manner),
-        StepFault::Failed | StepFault::Device => Sent {
+        StepFault::Failed | StepFault::Device => Said {
             outcome: Outcome::Failed,
             closed: true,
         },
+    }
+}
+
+/// Sends what a step leads to: what it says to the token, or the refusal of a step that was not taken.
+pub fn say_step<W: Write>(
+    alloc: Global,
+    buffer: &mut Vec<u8>,
+    writer: &mut W,
+    token: u64,
+    step: &Result<Vec<Output>, StepFault>,
+    manner: Manner,
+) -> Said
+    ensures { Follows (verdict token manner.head_only manner.close (with_list vec_items step.now)) manner.now (W.contents writer.old) (W.contents writer.new) result.closed result.outcome }
+{
+    match step {
+        Ok(outputs) => say_outputs(alloc, buffer, writer, token, outputs.as_slice(), manner),
+        Err(fault) => say_step_fault(alloc, buffer, writer, *fault, manner),
+    }
+}
+
+/// All that a step has put out.
+pub fn outputs_of(alloc: Global, step: Result<Vec<Output>, StepFault>) -> Vec<Output>
+    ensures { result.items ≡ outputs_of (with_list vec_items step) }
+{
+    match step {
+        Ok(outputs) => outputs,
+        Err(_) => Vec::new(alloc),
     }
 }

@@ -1,8 +1,8 @@
 //! Serves requests from a reader to a writer, over a site.
 
-ghost use Rattle.std.specs.Prelude.{◌≡◌, true};
+ghost use Rattle.std.specs.Prelude.{◌≡◌, true, []};
 
-use crate::answer::{manner_of, request_of, say_outputs, say_step_fault};
+use crate::answer::{manner_of, outputs_of, request_of, say_step};
 use crate::arrive::{Arrived, arrive};
 use crate::outcome::{Outcome, Served};
 use crate::speak::{say_read_fault, say_target_fault};
@@ -28,8 +28,19 @@ pub struct Connection {
     ghost shut: { requests.closed ≡ true → closed ≡ true },
 }
 
+/// A call that has not stepped the site.
+fn unserved(alloc: Global, outcome: Outcome) -> Served
+    ensures outcome { result.outcome ≡ outcome }
+    ensures outputs { result.outputs.items ≡ [] }
+{
+    Served {
+        outcome,
+        outputs: Vec::new(alloc),
+    }
+}
+
 impl Connection {
-    ghost use Rattle.std.specs.Prelude.{◌≡◌, true, false};
+    ghost use Rattle.std.specs.Prelude.{◌≡◌, true, false, []};
     ghost use Rattle.sv_target.specs.Cookies.{cookies_of};
     ghost use Rattle.sv_connection.specs.Serve.{how, IsAnswered, IsDirected, IsServed};
     ghost use Rattle.sv_connection.specs.Connection.{IsFresh, is_closed, is_single, sight_of};
@@ -69,30 +80,12 @@ impl Connection {
     {
         let manner = manner_of(&raw, self.single, moment.now);
         let request = request_of(self.alloc, raw, read, self.single);
-        match site.step(moment, Input::Ask { token, request }) {
-            Ok(outputs) => {
-                let sent = say_outputs(
-                    self.alloc,
-                    &mut self.buffer,
-                    writer,
-                    token,
-                    outputs.as_slice(),
-                    manner,
-                );
-                self.closed = sent.closed;
-                Served {
-                    outcome: sent.outcome,
-                    outputs,
-                }
-            }
-            Err(fault) => {
-                let sent = say_step_fault(self.alloc, &mut self.buffer, writer, fault, manner);
-                self.closed = sent.closed;
-                Served {
-                    outcome: sent.outcome,
-                    outputs: Vec::new(self.alloc),
-                }
-            }
+        let step = site.step(moment, Input::Ask { token, request });
+        let said = say_step(self.alloc, &mut self.buffer, writer, token, &step, manner);
+        self.closed = said.closed;
+        Served {
+            outcome: said.outcome,
+            outputs: outputs_of(self.alloc, step),
         }
     }
 
@@ -115,36 +108,23 @@ impl Connection {
         ensures once_closed { is_closed self.old ≡ true → (result.outcome ≡ Closed) × (R.remaining reader.new ≡ R.remaining reader.old) }
         ensures served { IsServed S.steps (how moment token (is_single self.old)) (sight_of self.old (R.remaining reader.old) (W.contents writer.old) site.old) (sight_of self.new (R.remaining reader.new) (W.contents writer.new) site.new) result }
     {
-        let outputs = Vec::new(self.alloc);
         if self.closed {
-            return Served {
-                outcome: Outcome::Closed,
-                outputs,
-            };
+            return unserved(self.alloc, Outcome::Closed);
         }
         match arrive(&mut self.requests, reader) {
             Arrived::Request(raw) => self.direct(writer, site, moment, token, raw),
             Arrived::Fault(fault) => {
                 self.closed = true;
-                let sent = say_read_fault(self.alloc, &mut self.buffer, writer, fault, moment.now);
-                Served {
-                    outcome: sent.outcome,
-                    outputs,
-                }
+                let said = say_read_fault(self.alloc, &mut self.buffer, writer, fault, moment.now);
+                unserved(self.alloc, said.outcome)
             }
             Arrived::End => {
                 self.closed = true;
-                Served {
-                    outcome: Outcome::Closed,
-                    outputs,
-                }
+                unserved(self.alloc, Outcome::Closed)
             }
             Arrived::Broken => {
                 self.closed = true;
-                Served {
-                    outcome: Outcome::ReadFailed,
-                    outputs,
-                }
+                unserved(self.alloc, Outcome::ReadFailed)
             }
         }
     }
@@ -170,7 +150,7 @@ impl Connection {
             Err(fault) => {
                 self.closed = true;
                 let head_only = is_head(&raw.method);
-                let sent = say_target_fault(
+                let said = say_target_fault(
                     self.alloc,
                     &mut self.buffer,
                     writer,
@@ -178,10 +158,7 @@ impl Connection {
                     head_only,
                     moment.now,
                 );
-                Served {
-                    outcome: sent.outcome,
-                    outputs: Vec::new(self.alloc),
-                }
+                unserved(self.alloc, said.outcome)
             }
         }
     }

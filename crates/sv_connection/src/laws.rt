@@ -8,8 +8,8 @@ ghost use Rattle.sv_model.specs.Engine.{EngineMeaning, TouchesOnlyHanded, NamesK
 ghost use Rattle.sv_model.specs.Step.{View};
 ghost use Rattle.sv_connection.specs.Table.{alone, node_of};
 ghost use Rattle.sv_connection.specs.Solo.{IsHistory};
-ghost use Rattle.sv_model.specs.Trace.{Call, told_of, trace_of};
-ghost use Rattle.sv_model.specs.OneContainer.{IsOneContainer, IsAcknowledged, active_at};
+ghost use Rattle.sv_model.specs.Trace.{Call, Item, asked_of, told_of, trace_of};
+ghost use Rattle.sv_model.specs.OneContainer.{IsOneContainer, IsAcknowledged, IsServedOnce, AreDistinct, active_at};
 
 /// The commits of all steps are a run of one container, in which a request is served without the session that it names
 /// only where the container had none since the request came; and the node holds the container's sessions.
@@ -19,12 +19,14 @@ pub fn one_container()
         → IsOneContainer m (trace_of m alone (node_of []) calls) (active_at end.node) }
 {}
 
-/// Each answer is the container's reply to its request, which was served once; where each request has a token of its own
-/// no token is served twice, and none that is refused is served.
+/// Each answer is the container's reply to its request, at the place of the commit that served it; a token is served or
+/// refused no more often than a request came under it. So where each request has a token of its own no token is served
+/// twice, and none that is refused is served.
 pub fn acknowledged()
-    ensures { (m : EngineMeaning) → TouchesOnlyHanded m → NamesKeys m
+    ensures each { (m : EngineMeaning) → TouchesOnlyHanded m → NamesKeys m
         → (first end : View) (calls : List Call) → IsHistory m first calls end
         → IsAcknowledged m (trace_of m alone (node_of []) calls) }
+    ensures once { (m : EngineMeaning) (trace : List Item) → IsAcknowledged m trace → AreDistinct (asked_of trace) → IsServedOnce trace }
 {}
 
 /// Listeners are told the events of the commits, in their order, and nothing else.

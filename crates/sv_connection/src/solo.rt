@@ -2,13 +2,13 @@
 
 ghost use Rattle.std.specs.Prelude.{◌≡◌, ◌+◌, ◌≤◌, length, vec_items, Ok};
 ghost use Rattle.sv_model.specs.Site.{with_list};
-ghost use Rattle.sv_model.specs.Serving.{is_birth, no_birth};
+ghost use Rattle.sv_model.specs.Serving.{no_birth};
 ghost use Rattle.sv_model.specs.declared.input.Input.TheVariants.{Ask, Tick};
 ghost use Rattle.sv_model.specs.declared.state.TheConstants.{KEY_LIMIT};
 ghost use Rattle.std.specs.FinMap.{get};
 ghost use Rattle.sv_connection.specs.Table.{own_key, keys_of, node_of, refusal_for};
 
-use crate::table::{add_born, expire, named_place, session_at, settle, state_at};
+use crate::table::{add_born, expire, is_birth, make_room, named_place, session_at, settle, state_at};
 use std::alloc::Global;
 use sv_model::engine::Engine;
 use sv_model::input::Input;
@@ -43,16 +43,6 @@ fn fresh_of(sessions: &[Option<Session>], moment: Moment) -> (Key, Secret)
         serial: sessions.len() as u64 + 1,
     };
     (key, moment.secret)
-}
-
-/// A session was made.
-fn is_birth(birth: &Birth) -> bool
-    ensures { result ≡ is_birth birth.now }
-{
-    match birth {
-        Birth::Absent => false,
-        Birth::Alive(_) | Birth::Ended => true,
-    }
 }
 
 /// Why a session can't be made beside these.
@@ -110,7 +100,6 @@ impl<E: Engine> Solo<E> {
         ensures step { solo_steps E.meaning E.heard self.old moment (Ask token request) (with_list vec_items result) self.new }
     {
         let mut outputs = Vec::with_capacity(self.alloc, 1)?;
-        self.sessions.try_reserve(1)?;
         let named = self.engine.names(&request);
         let place = named_place(self.sessions.as_slice(), named);
         let fresh = fresh_of(self.sessions.as_slice(), moment);
@@ -120,6 +109,7 @@ impl<E: Engine> Solo<E> {
             outputs.push_reserved(Output::Refuse { token, cause });
             return Ok(outputs);
         }
+        make_room(&mut self.sessions, &outcome.birth)?;
         let Outcome {
             response,
             fate,

@@ -18,7 +18,7 @@ use sv_model::sequence::Sequence;
 
 /// How a text was sent, and whether the connection is closed behind it.
 #[derive(Clone, Copy, Debug, PartialEq, Eq)]
-pub struct Sent {
+pub struct Said {
     pub outcome: Outcome,
     pub closed: bool,
 }
@@ -42,16 +42,16 @@ fn write_text<W: Write>(writer: &mut W, text: &[u8]) -> bool
 }
 
 /// Sends a text, with the outcome where that is done.
-fn send<W: Write>(writer: &mut W, text: &[u8], done: Outcome, closes: bool) -> Sent
+fn send<W: Write>(writer: &mut W, text: &[u8], done: Outcome, closes: bool) -> Said
     ensures { IsWritten text.now done closes (W.contents writer.old) (W.contents writer.new) result.closed result.outcome }
 {
     if write_text(writer, text) {
-        Sent {
+        Said {
             outcome: done,
             closed: closes,
         }
     } else {
-        Sent {
+        Said {
             outcome: Outcome::WriteFailed,
             closed: true,
         }
@@ -59,7 +59,7 @@ fn send<W: Write>(writer: &mut W, text: &[u8], done: Outcome, closes: bool) -> S
 }
 
 /// Says that memory was refused.
-pub fn starve<W: Write>(writer: &mut W) -> Sent
+pub fn starve<W: Write>(writer: &mut W) -> Said
     ensures { IsStarved (W.contents writer.old) (W.contents writer.new) result.closed result.outcome }
 {
     send(
@@ -78,7 +78,7 @@ pub fn say<W: Write>(
     response: &Response,
     now: u64,
     done: Outcome,
-) -> Sent
+) -> Said
     ensures { IsSaid response.now now done (W.contents writer.old) (W.contents writer.new) result.closed result.outcome }
 {
     buffer.clear();
@@ -124,7 +124,7 @@ fn say_page<W: Write>(
     head_only: bool,
     now: u64,
     done: Outcome,
-) -> Sent
+) -> Said
     ensures { IsSaid (plain_page status [] head_only true) now done (W.contents writer.old) (W.contents writer.new) result.closed result.outcome }
 {
     match plain_page(alloc, status, Sequence::new(alloc), head_only, true) {
@@ -140,7 +140,7 @@ pub fn say_read_fault<W: Write>(
     writer: &mut W,
     fault: ReadFault,
     now: u64,
-) -> Sent
+) -> Said
     ensures { IsPage (status_of_read fault) false now (RequestFault.Read fault) (W.contents writer.old) (W.contents writer.new) result.closed result.outcome }
 {
     let done = Outcome::Refused(RequestFault::Read(fault));
@@ -158,7 +158,7 @@ pub fn say_target_fault<W: Write>(
     fault: TargetFault,
     head_only: bool,
     now: u64,
-) -> Sent
+) -> Said
     ensures { IsPage (status_of_target fault) head_only now (RequestFault.Target fault) (W.contents writer.old) (W.contents writer.new) result.closed result.outcome }
 {
     let done = Outcome::Refused(RequestFault::Target(fault));

@@ -1,11 +1,12 @@
 //! The sessions that a node alone has made.
 
-ghost use Rattle.std.specs.Prelude.{◌≡◌, ◌+◌, ◌<◌, length, Some, IfSome, position, slice_get, option_copied, vec_len, vec_capacity};
+ghost use Rattle.std.specs.Prelude.{◌≡◌, ◌+◌, ◌<◌, length, true, Some, IfSome, IfOk, position, slice_get, option_copied, vec_len, vec_capacity};
 ghost use Rattle.std.specs.Option.{option_to_list, option_map};
 ghost use Rattle.std.specs.FinMap.{get};
-ghost use Rattle.sv_model.specs.Serving.{held_in};
+ghost use Rattle.sv_model.specs.Serving.{held_in, is_birth};
 ghost use Rattle.sv_connection.specs.Table.{IsPlace, IsMade, keys_of, state_of, active_in, if_active, fated_at, born_behind, is_past, without_at, end_at};
 
+use std::alloc::AllocError;
 use sv_model::event::{Event, Told};
 use sv_model::key::{Key, Secret};
 use sv_model::outcome::{Birth, Fate};
@@ -21,7 +22,7 @@ fn place_of(key: Key, made: usize) -> Option<usize>
     Some((key.serial - 1) as usize)
 }
 
-/// What stands at a place.
+/// What stands at a place; its clause is `get`'s in the words of the table.
 fn slot_at(sessions: &[Option<Session>], place: usize) -> Option<&Option<Session>>
     ensures { option_copied result ≡ slice_get sessions.now place }
 {
@@ -42,7 +43,7 @@ pub fn state_at(sessions: &[Option<Session>], key: Key) -> Option<&Option<Sessio
 fn active_session(sessions: &[Option<Session>], place: usize) -> Option<&Session>
     ensures { option_copied result ≡ active_in (slice_get sessions.now place) }
 {
-    match slot_at(sessions, place) {
+    match sessions.get(place) {
         Some(session) => session.as_ref(),
         None => None,
     }
@@ -116,9 +117,30 @@ pub fn settle(sessions: &mut Vec<Option<Session>>, place: Option<usize>, fate: F
     }
 }
 
+/// A session was made.
+pub fn is_birth(birth: &Birth) -> bool
+    ensures { result ≡ is_birth birth.now }
+{
+    match birth {
+        Birth::Absent => false,
+        Birth::Alive(_) | Birth::Ended => true,
+    }
+}
+
+/// Makes room for a session, where one was made.
+pub fn make_room(sessions: &mut Vec<Option<Session>>, birth: &Birth) -> Result<(), AllocError>
+    ensures items { sessions.new.items ≡ sessions.old.items }
+    ensures room { IfOk result (λ _. is_birth birth.now ≡ true → vec_len sessions.new < vec_capacity sessions.new) }
+{
+    if is_birth(birth) {
+        sessions.try_reserve(1)?;
+    }
+    Ok(())
+}
+
 /// Adds the session that was made.
 pub fn add_born(sessions: &mut Vec<Option<Session>>, birth: Birth)
-    requires { vec_len sessions.old < vec_capacity sessions.old }
+    requires { is_birth birth ≡ true → vec_len sessions.old < vec_capacity sessions.old }
     ensures { sessions.new.items ≡ born_behind birth sessions.old.items }
 {
     match birth {

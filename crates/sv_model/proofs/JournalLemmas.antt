@@ -30,7 +30,7 @@ use Rattle.sv_model.specs.declared.output.Cause.{Cause}
 use Rattle.sv_model.specs.declared.output.Output.{Output}
 use Rattle.sv_model.specs.declared.output.Cause.TheVariants.{TableFull, SerialsSpent}
 use Rattle.sv_model.specs.Engine.{EngineMeaning, TouchesOnlyHanded}
-use Rattle.sv_model.specs.NodeState.{Keys, Durable, Node, last, session_in, is_settled, is_dead, is_unmade, epoch_in}
+use Rattle.sv_model.specs.NodeState.{Keys, Durable, Node, last_number, session_in, is_settled, is_dead, is_unmade, epoch_in}
 use Rattle.sv_model.specs.Decision.{Decision, idle}
 use Rattle.sv_model.specs.Serving.{fresh_of, held_in, no_birth, ended_at, fated_keys, born_keys, next_with, named_change, born_change, entry_of, answer_of, answered_unless, refused, served}
 use Rattle.sv_model.specs.Waiting.{on_ask, waits, first_of, without, serve_first, serve_parked}
@@ -107,7 +107,7 @@ module _ (set : Setting) (d : Durable) (moment : Moment) where
   room_by true is none = absurd (let no : Some TableFull ≡ None = none in cc)
   room_by false is none = above KEY_LIMIT (len d.keys) is
 
-  next_by : (b : Bool) → (d.next == last) ≡ b → cond b (Some SerialsSpent) (cond (nat_le KEY_LIMIT (len d.keys)) (Some TableFull) None) ≡ None → is_next set d (fresh_of set d moment).0 ≡ true
+  next_by : (b : Bool) → (d.next == last_number) ≡ b → cond b (Some SerialsSpent) (cond (nat_le KEY_LIMIT (len d.keys)) (Some TableFull) None) ≡ None → is_next set d (fresh_of set d moment).0 ≡ true
   next_by true is none = absurd (let no : Some SerialsSpent ≡ None = none in cc)
   next_by false is none =
       let room : nat_lt (len d.keys) KEY_LIMIT ≡ true = room_by (nat_le KEY_LIMIT (len d.keys)) refl none in
@@ -116,8 +116,8 @@ module _ (set : Setting) (d : Durable) (moment : Moment) where
 
   born_fits : (birth : Birth) → no_birth d birth ≡ None → fits_born set d (born_change (fresh_of set d moment).0 birth) ≡ true
   born_fits Absent none = refl
-  born_fits (Alive s) none = next_by (d.next == last) refl none
-  born_fits BirthEnded none = next_by (d.next == last) refl none
+  born_fits (Alive s) none = next_by (d.next == last_number) refl none
+  born_fits BirthEnded none = next_by (d.next == last_number) refl none
 
 module _ (set : Setting) (n : Node) where
   either : (b : Bool) (x y : Decision) → (b ≡ true → IsJournaled set n x) → (b ≡ false → IsJournaled set n y) → IsJournaled set n (cond b x y)
@@ -153,7 +153,7 @@ module _ (set : Setting) (n : Node) where
     serves token r waiting = unless (no_birth n.durable (answer_of m set n.durable moment r).birth) token r waiting refl
 
     waiting : (token : ℕ) (r : Request) (k : Key) → IsJournaled set n (waits set n moment token r k)
-    waiting token r k = either (nat_le PARK_LIMIT (length n.parked)) _ _ (λ _. quiet (refused n token _ n.parked) refl refl refl) (λ _. either (n.want == last) (refused n token _ n.parked) _ (λ _. quiet (refused n token _ n.parked) refl refl refl) (λ _. quiet _ refl refl refl))
+    waiting token r k = either (nat_le PARK_LIMIT (length n.parked)) _ _ (λ _. quiet (refused n token _ n.parked) refl refl refl) (λ _. either (n.next_want == last_number) (refused n token _ n.parked) _ (λ _. quiet (refused n token _ n.parked) refl refl refl) (λ _. quiet _ refl refl refl))
 
     asks : (token : ℕ) (r : Request) (named : Option (Key × Secret)) → IsJournaled set n (on_ask m set n moment token r named)
     asks token r None = serves token r n.parked
@@ -174,7 +174,7 @@ module _ (set : Setting) (n : Node) where
 
     wanted : (from : ℕ) (k : Key) (boot number : ℕ) (st : Option KeyState) → get n.durable.keys k ≡ st → IsJournaled set n (on_want set n from k boot number st)
     wanted from k boot number None is = unmade from k boot number
-    wanted from k boot number (Some (Active e s)) is = either (e == last) (idle n []) (hands_over set n k e s from []) (λ _. quiet (idle n []) refl refl refl) (λ _. sends k e s from [] is)
+    wanted from k boot number (Some (Active e s)) is = either (e == last_number) (idle n []) (hands_over set n k e s from []) (λ _. quiet (idle n []) refl refl refl) (λ _. sends k e s from [] is)
     wanted from k boot number (Some (Sent e s to)) is = either (to == from) _ _ (λ _. quiet (idle n _) refl refl refl) (λ _. unmade from k boot number)
     wanted from k boot number (Some (Gone e)) is = unmade from k boot number
     wanted from k boot number (Some (Ended e)) is = quiet _ refl refl refl
@@ -218,7 +218,7 @@ module _ (set : Setting) (n : Node) where
     moves : (k : Key) (to : ℕ) (st : Option KeyState) → get n.durable.keys k ≡ st → IsJournaled set n (on_move set n k to st)
     moves k to None is = quiet _ refl refl refl
     moves k to (Some (Active e s)) is = either ((to == set.node) || nat_le set.nodes to) _ _ (λ _. quiet (move_refused n _) refl refl refl)
-        (λ _. either (e == last) (move_refused n _) (hands_over set n k e s to _) (λ _. quiet (move_refused n _) refl refl refl) (λ _. sends k e s to _ is))
+        (λ _. either (e == last_number) (move_refused n _) (hands_over set n k e s to _) (λ _. quiet (move_refused n _) refl refl refl) (λ _. sends k e s to _ is))
     moves k to (Some (Sent e s there)) is = quiet _ refl refl refl
     moves k to (Some (Gone e)) is = quiet _ refl refl refl
     moves k to (Some (Ended e)) is = quiet _ refl refl refl

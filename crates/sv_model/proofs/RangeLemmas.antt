@@ -39,10 +39,10 @@ use Rattle.sv_model.specs.declared.event.Told.{Told}
 use Rattle.sv_model.specs.Keys.{same_key, IsNode, IsCounting, IsKey}
 use Rattle.sv_model.specs.Session.{IsWithinLimits}
 use Rattle.sv_model.specs.Engine.{EngineMeaning, KeepsWithin, BringsWithin, KeepsLimits, NamesKeys}
-use Rattle.sv_model.specs.NodeState.{Keys, Durable, Node, last, session_in, is_settled, is_dead, is_unmade, epoch_in}
+use Rattle.sv_model.specs.NodeState.{Keys, Durable, Node, last_number, session_in, is_settled, is_dead, is_unmade, epoch_in}
 use Rattle.sv_model.specs.Outputs.{packet_in, sends_in}
 use Rattle.sv_model.specs.Membership.{In}
-use Rattle.sv_model.specs.Decision.{Decision, idle, moved}
+use Rattle.sv_model.specs.Decision.{Decision, idle, with_record}
 use Rattle.sv_model.specs.Serving.{fresh_of, held_in, no_birth, kept_at, ended_at, fated_keys, born_keys, next_with, named_change, born_change, entry_of, answer_of, answered_unless, refused, served}
 use Rattle.sv_model.specs.Waiting.{numbers, others, wants, on_ask, waits, parks, first_of, without, serve_first, serve_parked}
 use Rattle.sv_model.specs.Migration.{no_if_unmade, says_no, on_want, hands_over, takes_over, on_grant, on_ack, is_wanted, is_ours, on_ours, move_refused, on_move}
@@ -180,7 +180,7 @@ module _ (set : Setting) (is : IsSetting set) (n : Node) (r : IsRanged n) where
 
   -- one key changes
   changes : (entry : Record) (k : Key) (st : KeyState) (mark : Option Told) (outputs : List Output) → IsRecord entry → IsKey k → IsState st → AllByRecursion IsPacket (sends_in outputs)
-      → IsRangedStep (moved n entry k st mark outputs)
+      → IsRangedStep (with_record n entry k st mark outputs)
   changes entry k st mark outputs ranged key state sent = record {
     entry = ranged;
     packets = sent;
@@ -190,22 +190,22 @@ module _ (set : Setting) (is : IsSetting set) (n : Node) (r : IsRanged n) where
   module _ (m : EngineMeaning) (limits : KeepsLimits m) (names : NamesKeys m) (moment : Moment) where
     -- where a serial is left the fresh key is one of a node, and the next serial is no more than the last
     abbrev IsSpare : Type 0
-    IsSpare = IsKey (fresh_of set n.durable moment).0 × (n.durable.next + 1 ≤ last)
+    IsSpare = IsKey (fresh_of set n.durable moment).0 × (n.durable.next + 1 ≤ last_number)
 
-    spare : (b : Bool) (other : Option Cause) → (n.durable.next == last) ≡ b → cond b (Some SerialsSpent) other ≡ None → IsSpare
+    spare : (b : Bool) (other : Option Cause) → (n.durable.next == last_number) ≡ b → cond b (Some SerialsSpent) other ≡ None → IsSpare
     spare true other at none = absurd (let no : Some SerialsSpent ≡ None = none in cc)
     spare false other at none =
-        let apart : n.durable.next ≡ last → ⊥ = eqb-false n.durable.next last at in
+        let apart : n.durable.next ≡ last_number → ⊥ = eqb-false n.durable.next last_number at in
         ((here_is, subst (λ b. 0 < cond b 0 n.durable.next) (sym at) r.next), omega (arith, r.next_within, apart))
 
     born_ranged : (keys : Keys) (birth : Birth) → AreRanged keys → BringsWithin birth → no_birth n.durable birth ≡ None
-        → AreRanged (born_keys (fresh_of set n.durable moment).0 birth keys) × IsChange (born_change (fresh_of set n.durable moment).0 birth) × (0 < next_with birth n.durable.next) × (next_with birth n.durable.next ≤ last)
+        → AreRanged (born_keys (fresh_of set n.durable moment).0 birth keys) × IsChange (born_change (fresh_of set n.durable moment).0 birth) × (0 < next_with birth n.durable.next) × (next_with birth n.durable.next ≤ last_number)
     born_ranged keys Absent h within none = (h, tt, r.next, r.next_within)
     born_ranged keys (Alive s) h within none =
-        let f = spare (n.durable.next == last) _ refl none in
+        let f = spare (n.durable.next == last_number) _ refl none in
         (with_key keys _ (Active 1 s) h f.0 (omega arith, within), (f.0, within), omega arith, f.1)
     born_ranged keys BirthEnded h within none =
-        let f = spare (n.durable.next == last) _ refl none in
+        let f = spare (n.durable.next == last_number) _ refl none in
         (with_key keys _ (Ended 1) h f.0 (omega arith), f.0, omega arith, f.1)
 
     unless : (cause : Option Cause) (token : ℕ) (q : Request) (waiting : List Parked) → no_birth n.durable (answer_of m set n.durable moment q).birth ≡ cause → AllByRecursion (λ p. IsKey p.key) waiting
@@ -228,22 +228,22 @@ module _ (set : Setting) (is : IsSetting set) (n : Node) (r : IsRanged n) where
     wanting : (k : Key) (want : ℕ) → IsKey k → AllByRecursion IsPacket (sends_in (wants set n.durable k want))
     wanting k want key = wants_ranged set.node k n.durable.boot want (others set) here_is key others_are
 
-    parking : (token : ℕ) (q : Request) (k : Key) → IsKey k → (n.want == last) ≡ false → IsRangedStep (parks set n moment token q k)
+    parking : (token : ℕ) (q : Request) (k : Key) → IsKey k → (n.next_want == last_number) ≡ false → IsRangedStep (parks set n moment token q k)
     parking token q k key apart = record {
       entry = tt;
-      packets = wanting k n.want key;
+      packets = wanting k n.next_want key;
       left_is = record {
         known = r.known;
         next = r.next;
-        waiting = all_both (λ p. IsKey p.key) n.parked (record { token = token; request = q; key = k; since = moment.now; want = n.want } ∷ []) r.waiting (key, tt);
+        waiting = all_both (λ p. IsKey p.key) n.parked (record { token = token; request = q; key = k; since = moment.now; want = n.next_want } ∷ []) r.waiting (key, tt);
         next_within = r.next_within;
-        want_within = let no : n.want ≡ last → ⊥ = eqb-false n.want last apart in omega (arith, r.want_within, no);
+        want_within = let no : n.next_want ≡ last_number → ⊥ = eqb-false n.next_want last_number apart in omega (arith, r.want_within, no);
       };
     }
 
     waiting : (token : ℕ) (q : Request) (k : Key) → IsKey k → IsRangedStep (waits set n moment token q k)
     waiting token q k key = either (nat_le PARK_LIMIT (length n.parked)) _ _ (λ _. quiet (Refuse token ParkFull ∷ []) n.parked tt r.waiting)
-        (λ _. either (n.want == last) _ (parks set n moment token q k) (λ _. quiet (Refuse token WantsSpent ∷ []) n.parked tt r.waiting) (parking token q k key))
+        (λ _. either (n.next_want == last_number) _ (parks set n moment token q k) (λ _. quiet (Refuse token WantsSpent ∷ []) n.parked tt r.waiting) (parking token q k key))
 
     asks : (token : ℕ) (q : Request) (named : Option (Key × Secret)) → IfSome named (λ x. IsKey x.0) → IsRangedStep (on_ask m set n moment token q named)
     asks token q None key = serves token q n.parked r.waiting
@@ -272,7 +272,7 @@ module _ (set : Setting) (is : IsSetting set) (n : Node) (r : IsRanged n) where
 
     wanted : (from : ℕ) (k : Key) (boot want : ℕ) (st : Option KeyState) → get n.durable.keys k ≡ st → IsNode from → IsKey k → IsRangedStep (on_want set n from k boot want st)
     wanted from k boot want None at there key = unmade from k boot want there key
-    wanted from k boot want (Some (Active e s)) at there key = either (e == last) _ (hands_over set n k e s from []) (λ _. nothing) (λ _. sends k e s from [] at there tt)
+    wanted from k boot want (Some (Active e s)) at there key = either (e == last_number) _ (hands_over set n k e s from []) (λ _. nothing) (λ _. sends k e s from [] at there tt)
     wanted from k boot want (Some (Sent e s to)) at there key =
         let own = r.known k (Sent e s to) at in
         either (to == from) _ _ (λ _. still _ ((here_is, there, key, own.1.0, own.1.1), tt)) (λ _. unmade from k boot want there key)
@@ -301,7 +301,7 @@ module _ (set : Setting) (is : IsSetting set) (n : Node) (r : IsRanged n) where
     moves : (k : Key) (to : ℕ) (st : Option KeyState) → get n.durable.keys k ≡ st → IsNode to → IsRangedStep (on_move set n k to st)
     moves k to None at there = still _ tt
     moves k to (Some (Active e s)) at there = either ((to == set.node) || nat_le set.nodes to) _ _ (λ _. still _ tt)
-        (λ _. either (e == last) _ (hands_over set n k e s to (Moved ∷ [])) (λ _. still _ tt) (λ _. sends k e s to (Moved ∷ []) at there tt))
+        (λ _. either (e == last_number) _ (hands_over set n k e s to (Moved ∷ [])) (λ _. still _ tt) (λ _. sends k e s to (Moved ∷ []) at there tt))
     moves k to (Some (Sent e s away)) at there = still _ tt
     moves k to (Some (Gone e)) at there = still _ tt
     moves k to (Some (Ended e)) at there = still _ tt

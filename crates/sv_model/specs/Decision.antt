@@ -19,14 +19,14 @@ pub record Decision : Type 0 where
   pub outputs : List Output
   pub durable : Durable
   pub parked : List Parked
-  pub want : ℕ
+  pub next_want : ℕ
 
 -- nothing changes
 abbrev pub idle : Node → List Output → Decision
 idle n outputs =
-    record { entry = None; commit = None; events = []; mark = None; outputs = outputs; durable = n.durable; parked = n.parked; want = n.want }
+    record { entry = None; commit = None; events = []; mark = None; outputs = outputs; durable = n.durable; parked = n.parked; next_want = n.next_want }
 
 -- one key changes, by a record, with no commit
-abbrev pub moved : Node → Record → Key → KeyState → Option Told → List Output → Decision
-moved n entry k st mark outputs =
+abbrev pub with_record : Node → Record → Key → KeyState → Option Told → List Output → Decision
+with_record n entry k st mark outputs =
     record (idle n outputs) { entry = Some entry; mark = mark; durable = record (n.durable) { keys = insert n.durable.keys k st } }

@@ -17,14 +17,14 @@ use Rattle.sv_model.specs.declared.output.MoveRefusal.TheVariants.{UnknownKey, N
 use Rattle.sv_model.specs.declared.state.TheConstants.{KEY_LIMIT}
 use Rattle.sv_model.specs.Engine.{EngineMeaning}
 use Rattle.sv_model.specs.Keys.{same_key}
-use Rattle.sv_model.specs.NodeState.{Setting, Parked, Node, last, epoch_in, is_unmade}
-use Rattle.sv_model.specs.Decision.{Decision, idle, moved}
+use Rattle.sv_model.specs.NodeState.{Setting, Parked, Node, last_number, epoch_in, is_unmade}
+use Rattle.sv_model.specs.Decision.{Decision, idle, with_record}
 use Rattle.sv_model.specs.Waiting.{serve_parked}
 
 -- the session is handed to another node
 abbrev pub hands_over : Setting → Node → Key → ℕ → Session → ℕ → List Output → Decision
 hands_over set n k e s to more =
-    moved n (SentRecord k (e + 1) to s) k (Sent (e + 1) s to) (Some (record { context = s.context; event = Passivate k })) (Send (Grant set.node to k (e + 1) s) ∷ more)
+    with_record n (SentRecord k (e + 1) to s) k (Sent (e + 1) s to) (Some (record { context = s.context; event = Passivate k })) (Send (Grant set.node to k (e + 1) s) ∷ more)
 
 -- there is no such session, as far as this node can tell
 abbrev pub says_no : Setting → Node → ℕ → Key → ℕ → ℕ → Decision
@@ -35,7 +35,7 @@ no_if_unmade set n from k boot want = cond (is_unmade set n.durable k) (says_no 
 
 abbrev pub on_want : Setting → Node → ℕ → Key → ℕ → ℕ → Option KeyState → Decision
 on_want set n from k boot want None = no_if_unmade set n from k boot want
-on_want set n from k boot want (Some (Active e s)) = cond (e == last) (idle n []) (hands_over set n k e s from [])
+on_want set n from k boot want (Some (Active e s)) = cond (e == last_number) (idle n []) (hands_over set n k e s from [])
 on_want set n from k boot want (Some (Sent e s to)) = cond (to == from) (idle n (Send (Grant set.node from k e s) ∷ [])) (no_if_unmade set n from k boot want)
 on_want set n from k boot want (Some (Gone e)) = no_if_unmade set n from k boot want
 on_want set n from k boot want (Some (Ended e)) = says_no set n from k boot want
@@ -43,7 +43,7 @@ on_want set n from k boot want (Some (Ended e)) = says_no set n from k boot want
 -- the session is taken over
 abbrev pub takes_over : Setting → Node → ℕ → Key → ℕ → Session → Decision
 takes_over set n from k e s =
-    moved n (TakenRecord k e from s) k (Active e s) (Some (record { context = s.context; event = Activate k })) (Send (Ack set.node from k e) ∷ [])
+    with_record n (TakenRecord k e from s) k (Active e s) (Some (record { context = s.context; event = Activate k })) (Send (Ack set.node from k e) ∷ [])
 
 abbrev pub on_grant : Setting → Node → ℕ → Key → ℕ → Session → Option KeyState → Decision
 on_grant set n from k e s st =
@@ -54,7 +54,7 @@ on_grant set n from k e s st =
 abbrev pub on_ack : Node → Key → ℕ → Option KeyState → Decision
 on_ack n k e None = idle n []
 on_ack n k e (Some (Active f s)) = idle n []
-on_ack n k e (Some (Sent f s to)) = cond (f == e) (moved n (GoneRecord k e) k (Gone e) None []) (idle n [])
+on_ack n k e (Some (Sent f s to)) = cond (f == e) (with_record n (GoneRecord k e) k (Gone e) None []) (idle n [])
 on_ack n k e (Some (Gone f)) = idle n []
 on_ack n k e (Some (Ended f)) = idle n []
 
@@ -97,7 +97,7 @@ move_refused n why = idle n (MoveRefused why ∷ [])
 abbrev pub on_move : Setting → Node → Key → ℕ → Option KeyState → Decision
 on_move set n k to None = move_refused n UnknownKey
 on_move set n k to (Some (Active e s)) =
-    cond ((to == set.node) || nat_le set.nodes to) (move_refused n BadPeer) (cond (e == last) (move_refused n EpochsSpent) (hands_over set n k e s to (Moved ∷ [])))
+    cond ((to == set.node) || nat_le set.nodes to) (move_refused n BadPeer) (cond (e == last_number) (move_refused n EpochsSpent) (hands_over set n k e s to (Moved ∷ [])))
 on_move set n k to (Some (Sent e s there)) = move_refused n NotActive
 on_move set n k to (Some (Gone e)) = move_refused n NotActive
 on_move set n k to (Some (Ended e)) = move_refused n NotActive

@@ -18,15 +18,15 @@ pub record Durable : Type 0 where
   pub boot : ℕ
   pub next : ℕ
 
--- what it keeps until it stops: the requests that wait, in order of arrival, and the number of its next want
+-- what it keeps until it stops: the requests that wait, in order of arrival, and the number of the next want that it sends
 pub record Node : Type 0 where
   pub durable : Durable
   pub parked : List Parked
-  pub want : ℕ
+  pub next_want : ℕ
 
--- the last number: no serial, want or epoch has it
-abbrev pub last : ℕ
-last = 2 ^ 64 - 1
+-- the last number of 64 bits: no serial, want or epoch has it
+abbrev pub last_number : ℕ
+last_number = 2 ^ 64 - 1
 
 -- the session of a state
 abbrev pub session_in : Option KeyState → Option Session

@@ -56,9 +56,13 @@ AreDistinct tokens = (t : Token) → times t tokens ≤ 1
 abbrev pub tokens_in : List (Token × Response) → List Token
 tokens_in replies = map (λ a. a.0) replies
 
--- each answer is the reply of its step's own commit; no token is served twice, or answered or refused twice; one that
--- is answered is served, and one that is refused is not
+-- each answer is the reply of its step's own commit, and a token is answered as often as it is served; it is served or
+-- refused no more often than a request came under it
 pub record IsAcknowledged (m : EngineMeaning) (trace : List Item) : Type 0 where
   pub fit : AreFit m nothing_stored trace
   pub answered : (t : Token) → times t (tokens_in (replies_of trace)) ≡ times t (served_of (commits_of trace))
-  pub once : AreDistinct (asked_of trace) → (t : Token) → times t (served_of (commits_of trace)) + times t (refused_of trace) ≤ 1
+  pub once : (t : Token) → times t (served_of (commits_of trace)) + times t (refused_of trace) ≤ times t (asked_of trace)
+
+-- no token is served twice, or refused twice, and one that is refused is not served
+abbrev pub IsServedOnce : List Item → Type 0
+IsServedOnce trace = (t : Token) → times t (served_of (commits_of trace)) + times t (refused_of trace) ≤ 1

@@ -18,7 +18,7 @@ use Rattle.sv_model.specs.declared.input.Input.{Input}
 use Rattle.sv_model.specs.declared.input.Input.TheVariants.{Ask, Packet as Incoming, Poke, Tick, Move}
 use Rattle.sv_model.specs.Keys.{IsNode, IsCounting, IsKey}
 use Rattle.sv_model.specs.Session.{IsWithinLimits}
-use Rattle.sv_model.specs.NodeState.{Node, last}
+use Rattle.sv_model.specs.NodeState.{Node, last_number}
 use Rattle.sv_model.specs.Decision.{Decision}
 use Rattle.sv_model.specs.Outputs.{sends_in}
 use Rattle.sv_model.specs.Step.{left}
@@ -90,8 +90,8 @@ pub record IsRanged (n : Node) : Type 0 where
   pub next : IsCounting n.durable.next
   pub waiting : AllByRecursion (λ p. IsKey p.key) n.parked
   -- no number is past the last
-  pub next_within : n.durable.next ≤ last
-  pub want_within : n.want ≤ last
+  pub next_within : n.durable.next ≤ last_number
+  pub want_within : n.next_want ≤ last_number
 
 -- what a step does, and what it leaves
 pub record IsRangedStep (d : Decision) : Type 0 where

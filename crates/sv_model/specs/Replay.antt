@@ -13,7 +13,7 @@ use Rattle.sv_model.specs.declared.record.Change.{Change}
 use Rattle.sv_model.specs.declared.record.Change.TheVariants.{Absent as Unchanged, Alive as ChangeAlive, Ended as ChangeEnded}
 use Rattle.sv_model.specs.declared.record.Record.{Record}
 use Rattle.sv_model.specs.declared.record.Record.TheVariants.{Boot, Commit, Expired, Sent as SentRecord, Taken, Gone as GoneRecord, State, Counters}
-use Rattle.sv_model.specs.NodeState.{Keys, Durable, last, epoch_in, is_unmade}
+use Rattle.sv_model.specs.NodeState.{Keys, Durable, last_number, epoch_in, is_unmade}
 use Rattle.sv_model.specs.Serving.{kept_at, ended_at}
 
 -- no records
@@ -112,7 +112,7 @@ fits_named keys (ChangeEnded k) = is_active (get keys k)
 
 -- a session that is made has the next key, and there is room for it
 abbrev pub is_next : Setting → Durable → Key → Bool
-is_next set d k = (k.home == set.node) && ((k.serial == d.next) && (not (d.next == last) && nat_lt (len d.keys) KEY_LIMIT))
+is_next set d k = (k.home == set.node) && ((k.serial == d.next) && (not (d.next == last_number) && nat_lt (len d.keys) KEY_LIMIT))
 
 abbrev pub fits_born : Setting → Durable → Change → Bool
 fits_born set d Unchanged = true

@@ -25,12 +25,12 @@ use Rattle.sv_model.specs.declared.output.Cause.TheVariants.{TableFull, SerialsS
 use Rattle.sv_model.specs.declared.state.TheConstants.{KEY_LIMIT}
 use Rattle.sv_model.specs.Container.{held_by}
 use Rattle.sv_model.specs.Engine.{EngineMeaning}
-use Rattle.sv_model.specs.NodeState.{Setting, Keys, Durable, Parked, Node, last, session_in}
+use Rattle.sv_model.specs.NodeState.{Setting, Keys, Durable, Parked, Node, last_number, session_in}
 use Rattle.sv_model.specs.Decision.{Decision, idle}
 
 -- the key and the secret of a session that is made; the serial is 0 where none is left
 abbrev pub fresh_of : Setting → Durable → Moment → Key × Secret
-fresh_of set d moment = (record { home = set.node; serial = cond (d.next == last) 0 d.next }, moment.secret)
+fresh_of set d moment = (record { home = set.node; serial = cond (d.next == last_number) 0 d.next }, moment.secret)
 
 -- the session that the request names, where it is active here
 abbrev pub held_in : Keys → Option (Key × Secret) → Option (Key × Session)
@@ -118,7 +118,7 @@ answered m set n moment token r out waiting =
       outputs = Answer token out.response ∷ [];
       durable = kept_with (m.names r) fresh.0 out n.durable;
       parked = waiting;
-      want = n.want;
+      next_want = n.next_want;
     }
 
 -- the request is refused, and nothing was done for it; `waiting` stays parked
@@ -127,7 +127,7 @@ refused n token cause waiting = record (idle n (Refuse token cause ∷ [])) { pa
 
 -- a session that is made wants a serial, and room for its key
 abbrev pub no_birth : Durable → Birth → Option Cause
-no_birth d birth = cond (is_birth birth) (cond (d.next == last) (Some SerialsSpent) (cond (nat_le KEY_LIMIT (len d.keys)) (Some TableFull) None)) None
+no_birth d birth = cond (is_birth birth) (cond (d.next == last_number) (Some SerialsSpent) (cond (nat_le KEY_LIMIT (len d.keys)) (Some TableFull) None)) None
 
 abbrev pub answered_unless : Option Cause → EngineMeaning → Setting → Node → Moment → ℕ → Request → Outcome → List Parked → Decision
 answered_unless None m set n moment token r out waiting = answered m set n moment token r out waiting

@@ -19,7 +19,7 @@ pub record View : Type 0 where
 
 -- the node that a decision leaves
 abbrev pub left : Decision → Node
-left d = record { durable = d.durable; parked = d.parked; want = d.want }
+left d = record { durable = d.durable; parked = d.parked; next_want = d.next_want }
 
 abbrev pub with_mark : List Told → Option Told → List Told
 with_mark events None = events
@@ -36,7 +36,8 @@ pub record IsStep (old : View) (d : Decision) (outputs : List Output) (new : Vie
   pub heard : new.heard ≡ heard_all old.meaning old.heard (told d)
   pub outputs_are : outputs ≡ d.outputs
 
--- a whole step, or one that want of memory refused and that changed nothing
+-- a call of a node that stands alone and has no disk: a whole step, or one that want of memory refused and that changed
+-- nothing
 abbrev pub Steps : Setting → View → Moment → Input → Result (List Output) StepFault → View → Type 0
 Steps set old moment input (Ok outputs) new = IsStep old (decided old.meaning set old.node moment input) outputs new
 Steps set old moment input (Err fault) new = (fault ≡ Memory) × (new ≡ old)

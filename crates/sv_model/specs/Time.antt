@@ -14,7 +14,7 @@ use Rattle.sv_model.specs.declared.output.Output.TheVariants.{Refuse, Send}
 use Rattle.sv_model.specs.declared.output.Cause.TheVariants.{Deadline}
 use Rattle.sv_model.specs.Session.{is_expired}
 use Rattle.sv_model.specs.NodeState.{Setting, Durable, Parked, Node, is_settled}
-use Rattle.sv_model.specs.Decision.{Decision, idle, moved}
+use Rattle.sv_model.specs.Decision.{Decision, idle, with_record}
 use Rattle.sv_model.specs.Waiting.{wants}
 
 -- the session is active, and has expired
@@ -33,7 +33,7 @@ first_over now (e ∷ es) = cond (is_over now e.1) (Some e) (first_over now es)
 abbrev pub expire : Node → ℕ → Option (Key × KeyState) → List Output → Decision
 expire n now None outputs = idle n outputs
 expire n now (Some (k, Active e s)) outputs =
-    record (moved n (ExpiredRecord k) k (Ended e) None outputs) { commit = Some (Expired k now); events = record { context = s.context; event = Destroyed k } ∷ [] }
+    record (with_record n (ExpiredRecord k) k (Ended e) None outputs) { commit = Some (Expired k now); events = record { context = s.context; event = Destroyed k } ∷ [] }
 expire n now (Some (k, Sent e s to)) outputs = idle n outputs
 expire n now (Some (k, Gone e)) outputs = idle n outputs
 expire n now (Some (k, Ended e)) outputs = idle n outputs

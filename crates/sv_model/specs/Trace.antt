@@ -1,6 +1,7 @@
--- What a node has done, call by call: the requests that came, the commits, and what was put out.
+-- What a node alone has done, call by call: the requests that came, the commits, and what was put out.
 --
--- It is read off the calls of a node's step and their answers, for a node of many as for one alone.
+-- It is read off the calls of its step and their answers. A line of a world of many nodes holds such an item too, and beside
+-- it what a node alone never has: a record, a session that has come or gone, and a step that a stop has cut.
 use Rattle.std.specs.Option.{option_to_list}
 use Rattle.std.specs.Prelude.{◌≡◌, ℕ, ◌+◌, ◌==◌, ◌&&◌, Bool, false, cond, Result, Ok, Err, Option, Some, None, List, [], ◌∷◌, ◌++◌, length}
 use Rattle.std.specs.List.{filter_map, flat_map}
@@ -33,7 +34,7 @@ abbrev pub Leads : Setting → View → List Call → View → Type 0
 Leads set old [] new = new ≡ old
 Leads set old (c ∷ cs) new = (between : View) × Steps set old c.moment c.input c.answer between × Leads set between cs new
 
--- what a whole step has done: the token of a request that came, the commit with its events, the responses that were put
+-- what a step has done: the token of a request that came, the commit with its events, the responses that were put
 -- out, and the tokens that were refused
 pub record Item : Type 0 where
   pub asked : Option Token
@@ -97,7 +98,7 @@ commits_of trace = flat_map (λ i. option_to_list i.commit) trace
 abbrev pub asked_of : List Item → List Token
 asked_of trace = flat_map (λ i. option_to_list i.asked) trace
 
--- what listeners were told of the commits
+-- what listeners were told of the commits; a node of many tells beside it that a session has come or gone
 abbrev pub told_of : List Item → List Told
 told_of trace = flat_map (λ i. i.events) trace
 

@@ -13,7 +13,7 @@ use Rattle.sv_model.specs.declared.output.Output.TheVariants.{Send}
 use Rattle.sv_model.specs.declared.output.Cause.TheVariants.{ParkFull, WantsSpent}
 use Rattle.sv_model.specs.declared.state.TheConstants.{PARK_LIMIT}
 use Rattle.sv_model.specs.Engine.{EngineMeaning}
-use Rattle.sv_model.specs.NodeState.{Setting, Durable, Parked, Node, last, is_settled, is_dead}
+use Rattle.sv_model.specs.NodeState.{Setting, Durable, Parked, Node, last_number, is_settled, is_dead}
 use Rattle.sv_model.specs.Decision.{Decision, idle}
 use Rattle.sv_model.specs.Serving.{refused, served}
 
@@ -33,14 +33,14 @@ wants set d k want = map (λ p. Send (Want set.node p k d.boot want)) (others se
 -- the request is parked, and its session is asked for
 abbrev pub parks : Setting → Node → Moment → ℕ → Request → Key → Decision
 parks set n moment token r k =
-    record (idle n (wants set n.durable k n.want)) {
-      parked = n.parked ++ record { token = token; request = r; key = k; since = moment.now; want = n.want } ∷ [];
-      want = n.want + 1;
+    record (idle n (wants set n.durable k n.next_want)) {
+      parked = n.parked ++ record { token = token; request = r; key = k; since = moment.now; want = n.next_want } ∷ [];
+      next_want = n.next_want + 1;
     }
 
 abbrev pub waits : Setting → Node → Moment → ℕ → Request → Key → Decision
 waits set n moment token r k =
-    cond (nat_le PARK_LIMIT (length n.parked)) (refused n token ParkFull n.parked) (cond (n.want == last) (refused n token WantsSpent n.parked) (parks set n moment token r k))
+    cond (nat_le PARK_LIMIT (length n.parked)) (refused n token ParkFull n.parked) (cond (n.next_want == last_number) (refused n token WantsSpent n.parked) (parks set n moment token r k))
 
 abbrev pub on_named : EngineMeaning → Setting → Node → Moment → ℕ → Request → Key → Option KeyState → Decision
 on_named m set n moment token r k st =

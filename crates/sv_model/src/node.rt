@@ -17,8 +17,11 @@ pub struct Setting {
 /// A request that waits for its session.
 #[derive(Drop)]
 pub struct Parked {
+    /// The number under which it came.
     pub token: u64,
     pub request: Request,
+    /// The key of the session that it waits for, which says when it may be served. Which session it is served with says
+    /// the request itself, once more: the engine is asked again what it names.
     pub key: Key,
     /// When it came, in whole seconds.
     pub since: u64,

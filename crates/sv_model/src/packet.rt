@@ -1,7 +1,6 @@
 //! What nodes send each other. Each packet has the numbers of its sender and its addressee, below 8.
 
 ghost use Rattle.std.specs.Prelude.{◌≡◌, IfOk};
-ghost use Rattle.sv_model.specs.declared.packet.Packet.TheVariants.{Want, Grant, Ack, No};
 
 use crate::key::Key;
 use crate::session::Session;
@@ -50,88 +49,58 @@ impl Packet {
     pub fn copy(&self, alloc: Global) -> Result<Packet, AllocError>
         ensures { IfOk result (λ copy. copy ≡ self.now) }
     {
-        match *self {
+        let copy = match *self {
             Packet::Want {
                 from,
                 to,
                 key,
                 boot,
                 want,
-            } => Ok(copy_want(from, to, key, boot, want)),
+            } => Packet::Want {
+                from,
+                to,
+                key,
+                boot,
+                want,
+            },
             Packet::Grant {
                 from,
                 to,
                 key,
                 epoch,
                 ref session,
-            } => copy_grant(alloc, from, to, key, epoch, session),
+            } => Packet::Grant {
+                from,
+                to,
+                key,
+                epoch,
+                session: session.copy(alloc)?,
+            },
             Packet::Ack {
                 from,
                 to,
                 key,
                 epoch,
-            } => Ok(copy_ack(from, to, key, epoch)),
+            } => Packet::Ack {
+                from,
+                to,
+                key,
+                epoch,
+            },
             Packet::No {
                 from,
                 to,
                 key,
                 boot,
                 want,
-            } => Ok(copy_no(from, to, key, boot, want)),
-        }
-    }
-}
-
-fn copy_want(from: u8, to: u8, key: Key, boot: u64, want: u64) -> Packet
-    ensures { result ≡ Want from to key boot want }
-{
-    Packet::Want {
-        from,
-        to,
-        key,
-        boot,
-        want,
-    }
-}
-
-fn copy_grant(
-    alloc: Global,
-    from: u8,
-    to: u8,
-    key: Key,
-    epoch: u64,
-    session: &Session,
-) -> Result<Packet, AllocError>
-    ensures { IfOk result (λ copy. copy ≡ Grant from to key epoch session.now) }
-{
-    Ok(Packet::Grant {
-        from,
-        to,
-        key,
-        epoch,
-        session: session.copy(alloc)?,
-    })
-}
-
-fn copy_ack(from: u8, to: u8, key: Key, epoch: u64) -> Packet
-    ensures { result ≡ Ack from to key epoch }
-{
-    Packet::Ack {
-        from,
-        to,
-        key,
-        epoch,
-    }
-}
-
-fn copy_no(from: u8, to: u8, key: Key, boot: u64, want: u64) -> Packet
-    ensures { result ≡ No from to key boot want }
-{
-    Packet::No {
-        from,
-        to,
-        key,
-        boot,
-        want,
+            } => Packet::No {
+                from,
+                to,
+                key,
+                boot,
+                want,
+            },
+        };
+        Ok(copy)
     }
 }

@@ -2,6 +2,7 @@
 
 ghost use Rattle.std.specs.Prelude.{◌≡◌, List, Result, vec_items};
 ghost use Rattle.sv_model.specs.Site.{with_list};
+ghost use Rattle.sv_model.specs.Ranges.{IsInput};
 ghost use Rattle.sv_model.specs.declared.key.Moment.{Moment};
 ghost use Rattle.sv_model.specs.declared.input.Input.{Input};
 ghost use Rattle.sv_model.specs.declared.output.Output.{Output};
@@ -65,8 +66,11 @@ pub trait Site {
     ghost site_valid: { Self → Type 0 };
 
     /// Takes one input, and puts out what follows once all of it is durable.
+    ///
+    /// The keys and the node numbers of a packet, and of an order to move a session, are within the ranges of the formats.
     fn step(&mut self, moment: Moment, input: Input) -> Result<Vec<Output>, StepFault>
-        requires { site_valid self.old }
+        requires valid { site_valid self.old }
+        requires input { IsInput input }
         ensures valid { site_valid self.new }
         ensures step { steps self.old moment input (with_list vec_items result) self.new };
 }

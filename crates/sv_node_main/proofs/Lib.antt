@@ -5,3 +5,4 @@ mod NumeralLemmas
 mod OnceLemmas
 mod RefusalLemmas
 mod ThinLemmas
+pub mod HistoryLemmas

@@ -1,7 +1,9 @@
 //! Serves one stream of requests on a node that stands alone.
 
-ghost use Rattle.std.specs.Prelude.{◌≡◌};
-ghost use Rattle.sv_node_main.specs.Once.{secret_of, ending, HasServed};
+ghost use Rattle.std.specs.Prelude.{◌≡◌, false};
+ghost use Rattle.sv_connection.specs.Serve.{sight};
+ghost use Rattle.sv_connection.specs.Solo.{solo_steps};
+ghost use Rattle.sv_node_main.specs.Once.{secret_of, ending, calls_of, HasServed, IsOneHistory};
 
 use std::alloc::Global;
 use std::io::{Read, Write};
@@ -53,7 +55,10 @@ pub fn once<E: Engine + Drop, R: Read, W: Write>(
     writer: &mut W,
 ) -> Result<(), OnceFault>
     requires { E.valid engine }
-    ensures { HasServed E.meaning E.heard engine now (R.remaining reader.old) (W.contents writer.old) (R.remaining reader.new) (W.contents writer.new) result }
+    ensures served { HasServed E.meaning E.heard engine now (R.remaining reader.old) (W.contents writer.old) (R.remaining reader.new) (W.contents writer.new) result }
+    // However it was served, the laws of a node alone hold of its steps.
+    ensures history { (s : HasServed E.meaning E.heard engine now (R.remaining reader.old) (W.contents writer.old) (R.remaining reader.new) (W.contents writer.new) result)
+        → IsOneHistory E.meaning E.heard engine s.first s.end.site (calls_of (solo_steps E.meaning E.heard) now (sight (R.remaining reader.old) (W.contents writer.old) s.first false) s.end result s.stream) }
 {
     let mut site = Solo::new(alloc, engine);
     let mut connection = Connection::new(alloc, false);

@@ -18,7 +18,7 @@ use Rattle.sv_record.specs.Frame.{envelope, first_of, payload_of, spelling, HasS
 use Rattle.sv_record.proofs.FormatLaws.{AreBytes, AreBytes-take, AreBytes-drop, bind_ok, guard_ok, held_ok, chosen, ok_is, Lawful, number_lawful, nothing_lawful, pair_lawful, wide8, wide32, TakesByKind, kind_takes, no_kind_takes}
 use Rattle.sv_record.proofs.FieldLaws.{node_lawful, key_lawful}
 use Rattle.sv_record.proofs.KindLaws.{packet_lawful}
-use Rattle.sv_record.specs.Ranges.{IsFrame}
+use Rattle.sv_record.specs.Frame.{IsFrame}
 use Rattle.sv_record.proofs.RangeLemmas.{frame_range}
 use Rattle.sv_record.proofs.SizeLemmas.{packet_size}
 use Rattle.sv_record.proofs.WholeLaws.{ended_ok, whole_takes, whole_again}

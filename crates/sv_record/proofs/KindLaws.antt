@@ -13,7 +13,8 @@ use Rattle.sv_record.specs.declared.version.Version.{Version}
 use Rattle.sv_record.specs.Format.{nothing, pair}
 use Rattle.sv_record.specs.Field.{long, counting, node, key}
 use Rattle.sv_record.specs.Session.{session}
-use Rattle.sv_record.specs.Record.{kind_of_change, change_fields, ChangeFits, change_by_kind, change, is_absent, commit, kind_of_state, state_fields, StateFits, state_by_kind, key_state, handover, record_format}
+use Rattle.sv_model.specs.Ranges.{is_absent}
+use Rattle.sv_record.specs.Record.{kind_of_change, change_fields, ChangeFits, change_by_kind, change, commit, kind_of_state, state_fields, StateFits, state_by_kind, key_state, handover, record_format}
 use Rattle.sv_record.specs.Record as spec
 use Rattle.sv_record.specs.Packet.{ends, asked, granted, acknowledged, packet_format}
 use Rattle.sv_record.specs.Packet as packet

@@ -32,8 +32,11 @@ use Rattle.sv_record.specs.declared.frame.Frame.TheVariants.{Peer, Move, Tick, H
 use Rattle.sv_record.specs.Field.{counting, node, key}
 use Rattle.sv_record.specs.Frame as frame
 use Rattle.sv_record.specs.Packet as packet
-use Rattle.sv_record.specs.Ranges.{IsNode, IsCounting, IsKey, IsChange, IsState, IsHandover, IsRecord, IsPacket, IsFrame}
-use Rattle.sv_record.specs.Record.{change, commit, handover, is_absent, key_state}
+use Rattle.sv_model.specs.Keys.{IsNode, IsCounting, IsKey}
+use Rattle.sv_model.specs.Ranges.{IsChange, IsState, IsHandover, IsRecord, IsPacket}
+use Rattle.sv_record.specs.Frame.{IsFrame}
+use Rattle.sv_model.specs.Ranges.{is_absent}
+use Rattle.sv_record.specs.Record.{change, commit, handover, key_state}
 use Rattle.sv_record.specs.Record as spec
 
 name_length : (total n : ℕ) → 0 < n → n ≤ NAME_LIMIT → total + n ≤ SESSION_LIMIT → is_name_length One total n ≡ true

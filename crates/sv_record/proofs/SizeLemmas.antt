@@ -14,6 +14,13 @@ use Rattle.sv_record.specs.Format.{texts, FitAll}
 use Rattle.sv_record.specs.Field.{long, counting, node, key, flag, signed}
 use Rattle.sv_record.specs.Session.{Attribute, Before, at_first, behind, is_value_length, name, value, attribute, attributes, context, session}
 use Rattle.sv_record.specs.Packet as packet
+use Rattle.sv_record.specs.Record as record_
+use Rattle.sv_model.specs.declared.record.Change.{Change}
+use Rattle.sv_model.specs.declared.record.Change.TheVariants.{Absent, Alive, Ended}
+use Rattle.sv_model.specs.declared.record.Record.{Record}
+use Rattle.sv_model.specs.declared.record.Record.TheVariants as rec
+use Rattle.sv_model.specs.declared.state.KeyState.{KeyState}
+use Rattle.sv_model.specs.declared.state.KeyState.TheVariants as kept
 
 within : (total n : ℕ) → is_value_length One total n ≡ true → total + n ≤ SESSION_LIMIT
 within total n e =
@@ -53,3 +60,28 @@ packet_size (Want from to k boot want) fits = omega arith
 packet_size (Grant from to k e s) fits = omega (arith, session_size s fits.1.1.1)
 packet_size (Ack from to k e) fits = omega arith
 packet_size (No from to k boot want) fits = omega arith
+
+change_size : (x : Change) → (record_.change One).Fits x → length ((record_.change One).text x) ≤ 60000
+unfolding record_.change key long counting node
+change_size Absent fits = omega arith
+change_size (Alive k s) fits = omega (arith, session_size s fits.1)
+change_size (Ended k) fits = omega arith
+
+state_size : (x : KeyState) → (record_.key_state One).Fits x → length ((record_.key_state One).text x) ≤ 60000
+unfolding record_.key_state long counting node
+state_size (kept.Active e s) fits = omega (arith, session_size s fits.1)
+state_size (kept.Sent e s to) fits = omega (arith, session_size s fits.1.1)
+state_size (kept.Gone e) fits = omega arith
+state_size (kept.Ended e) fits = omega arith
+
+-- a record is well within the limit of an entry
+pub record_size : (r : Record) → record_.HasSpelling r → length (record_.spelling r) ≤ 131072
+unfolding record_.record_format record_.commit key long counting node
+record_size (rec.Boot b) fits = omega arith
+record_size (rec.Commit named born) fits = omega (arith, change_size named fits.0.0, change_size born fits.0.1, length-append ((record_.change One).text named) ((record_.change One).text born))
+record_size (rec.Expired k) fits = omega arith
+record_size (rec.Sent k e to s) fits = omega (arith, session_size s fits.1.1.1)
+record_size (rec.Taken k e from s) fits = omega (arith, session_size s fits.1.1.1)
+record_size (rec.Gone k e) fits = omega arith
+record_size (rec.State k s) fits = omega (arith, state_size s fits.1)
+record_size (rec.Counters b next) fits = omega arith

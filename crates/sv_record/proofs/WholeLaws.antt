@@ -60,3 +60,7 @@ module _ {A : Type 0} (format : Version → Format A) (lawful : (v : Version) �
 
   pub one_spelling : (bytes : List ℕ) (a : A) → IsBytes bytes → (whole format bytes ≡ Ok a) ↔ ((format One).Fits a × (bytes ≡ written format a))
   one_spelling bytes a fits = (λ e. whole_takes bytes a (are_bytes bytes fits) e, λ is. ap (whole format) is.1 ∙ whole_again a is.0)
+
+  -- two values of one spelling are one
+  pub one_value : (a b : A) → (format One).Fits a → (format One).Fits b → written format a ≡ written format b → a ≡ b
+  one_value a b first second same = ok_is a b (sym (whole_again a first) ∙ ap (whole format) same ∙ whole_again b second)

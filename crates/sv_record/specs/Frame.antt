@@ -1,6 +1,8 @@
 -- A frame on a connection: a first byte, four bytes of length, and so many bytes of payload.
 use Rattle.std.specs.Prelude.{◌≡◌, ◌<◌, ◌^◌, ◌≤◌, ◌⊎◌, ℕ, ◌+◌, Option, Some, None, List, [], ◌∷◌, ◌++◌, length, take, drop, Result, Ok, Err, nat_lt, ◌==◌, ◌||◌, if◌then◌else◌}
 use Rattle.std.specs.Int.{w8, w32, to_be_bytes, from_be_bytes}
+use Rattle.sv_model.specs.Keys.{IsNode, IsKey}
+use Rattle.sv_model.specs.Ranges.{IsPacket}
 use Rattle.sv_record.specs.declared.fault.RecordFault.{RecordFault}
 use Rattle.sv_record.specs.declared.fault.RecordFault.TheVariants.{Foreign, BadField}
 use Rattle.sv_record.specs.declared.frame.Frame.{Frame}
@@ -39,6 +41,13 @@ HasSpelling (Peer p) = packet.HasSpelling p
 HasSpelling (Move k to) = (pair key node).Fits (k, to)
 HasSpelling Tick = Unit {0}
 HasSpelling Halt = Unit {0}
+
+-- a frame that may be written
+abbrev pub IsFrame : Frame → Type 0
+IsFrame (Peer p) = IsPacket p
+IsFrame (Move k to) = IsKey k × IsNode to
+IsFrame Tick = Unit {0}
+IsFrame Halt = Unit {0}
 
 -- reading a command's fields; another kind is foreign
 abbrev pub command_by_kind : ByKind Frame

@@ -6,4 +6,3 @@ pub mod Session
 pub mod Record
 pub mod Packet
 pub mod Frame
-pub mod Ranges

@@ -8,6 +8,7 @@ use Rattle.sv_model.specs.declared.record.Change.{Change}
 use Rattle.sv_model.specs.declared.record.Change.TheVariants.{Absent, Alive, Ended}
 use Rattle.sv_model.specs.declared.record.Record.{Record}
 use Rattle.sv_model.specs.declared.record.Record.TheVariants.{Boot, Commit, Expired, Sent, Taken, Gone, State, Counters}
+use Rattle.sv_model.specs.Ranges.{is_absent}
 use Rattle.sv_record.specs.declared.fault.RecordFault.{RecordFault}
 use Rattle.sv_record.specs.declared.fault.RecordFault.TheVariants.{Foreign, BadField}
 use Rattle.sv_record.specs.declared.version.Version.{Version}
@@ -46,12 +47,6 @@ change_by_kind v =
 -- a change
 unfoldable pub change : Version → Format Change
 change v = tagged kind_of_change (change_fields v) (ChangeFits v) (change_by_kind v)
-
--- there is no key, or nothing has changed
-abbrev pub is_absent : Change → Bool
-is_absent Absent = true
-is_absent (Alive k s) = false
-is_absent (Ended k) = false
 
 -- the session that a request names and the one that was made, of which at least one isn't absent
 unfoldable pub commit : Version → Format (Change × Change)

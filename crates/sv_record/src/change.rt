@@ -1,7 +1,7 @@
 //! What a commit makes of the sessions that it speaks of.
 
 ghost use Rattle.std.specs.Prelude.{◌≡◌, ◌++◌, length, take, OnOk, OnErr};
-ghost use Rattle.sv_record.specs.Ranges.{IsChange, IsCommit};
+ghost use Rattle.sv_model.specs.Ranges.{is_absent, IsChange, IsCommit};
 ghost use Rattle.sv_record.specs.Reading.{Gives};
 ghost use Rattle.sv_record.specs.Record as spec;
 ghost use Rattle.sv_record.specs.Record.{change, commit};
@@ -57,7 +57,7 @@ pub(crate) fn read_changes(
 }
 
 fn is_absent(change: &Change) -> bool
-    ensures { result ≡ spec.is_absent change.now }
+    ensures { result ≡ is_absent change.now }
 {
     matches!(change, Change::Absent)
 }

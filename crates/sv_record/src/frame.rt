@@ -2,7 +2,7 @@
 
 ghost use Rattle.std.specs.Prelude.{◌≡◌, ◌≤◌, ◌+◌, ◌++◌, List, ℕ, length, take, drop, IfOk, IfErr, IfSome, IfNone, OnOk, OnErr, Ok, Some, None, option_copied};
 ghost use Rattle.std.specs.Int.{w32, to_be_bytes};
-ghost use Rattle.sv_record.specs.Ranges.{IsFrame};
+ghost use Rattle.sv_record.specs.Frame.{IsFrame};
 ghost use Rattle.sv_record.specs.Reading.{Gives};
 ghost use Rattle.sv_record.specs.Frame.{HasSpelling, IsFront, command_at, command_by_kind, frame_at, payload_at, payload_of, sized_at, spelling};
 ghost use Rattle.sv_record.specs.Frame as spec;

@@ -1,7 +1,7 @@
 //! A session that goes from node to node.
 
 ghost use Rattle.std.specs.Prelude.{◌≡◌, ◌++◌, length, take, OnOk, OnErr};
-ghost use Rattle.sv_record.specs.Ranges.{IsHandover};
+ghost use Rattle.sv_model.specs.Ranges.{IsHandover};
 ghost use Rattle.sv_record.specs.Reading.{Gives};
 ghost use Rattle.sv_record.specs.Record.{handover};
 ghost use Rattle.sv_record.specs.declared.version.Version.TheVariants.{One};

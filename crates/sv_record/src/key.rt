@@ -3,7 +3,7 @@
 ghost use Rattle.std.specs.Prelude.{◌≡◌, ◌++◌, length, take, OnOk, OnErr};
 ghost use Rattle.sv_record.specs.Reading.{Gives};
 ghost use Rattle.sv_record.specs.Field.{key};
-ghost use Rattle.sv_record.specs.Ranges.{IsKey};
+ghost use Rattle.sv_model.specs.Keys.{IsKey};
 
 use crate::fault::RecordFault;
 use crate::number::{read_counting, read_node, write_counting, write_node};

@@ -3,8 +3,8 @@
 //!
 //! The floor of formats, above the plain data of `sv_model`. All numbers are big-endian, and a record or packet begins
 //! with its version. Contracts cite `specs/`: a `Format` is the spelling of a value, which values have one, and how
-//! bytes are read, with the first trouble in their order. `Record`, `Packet` and `Frame` are made of such formats, and
-//! `Ranges` says what may be written. Nothing here knows what a record does to a node, or reads a file or a connection.
+//! bytes are read, with the first trouble in their order. `Record`, `Packet` and `Frame` are made of such formats; what may be
+//! written is said by the ranges of `sv_model`. Nothing here knows what a record does to a node, or reads a file or a connection.
 #![tactic(auto)]
 
 mod attribute;
@@ -27,7 +27,8 @@ mod version;
 pub use fault::RecordFault;
 pub use frame::{CONTROL, Frame, PAYLOAD_LIMIT, PEER, read_frame, write_frame};
 pub use packet::{read_packet, write_packet};
-pub use record::{read_record, write_record};
+pub use record::{RECORD_LIMIT, read_record, write_record};
+pub use sv_model::packet::Packet;
 pub use sv_model::record::Record;
 
 #[cfg(test)]

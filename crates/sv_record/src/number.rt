@@ -4,7 +4,7 @@ ghost use Rattle.std.specs.Prelude.{◌≡◌, ◌++◌, length, take, OnOk, OnE
 ghost use Rattle.std.specs.Int.{w8, w16, to_be_bytes};
 ghost use Rattle.sv_record.specs.Reading.{Gives, number_at, bytes_at};
 ghost use Rattle.sv_record.specs.Field.{long, counting, node, flag, signed};
-ghost use Rattle.sv_record.specs.Ranges.{IsCounting, IsNode};
+ghost use Rattle.sv_model.specs.Keys.{IsCounting, IsNode};
 
 use crate::fault::RecordFault;
 use std::alloc::AllocError;

@@ -2,7 +2,7 @@
 
 ghost use Rattle.std.specs.Prelude.{◌≡◌, ◌++◌, length, take, IfOk, OnOk, OnErr, Ok};
 ghost use Rattle.sv_model.specs.declared.packet.Packet.{Packet};
-ghost use Rattle.sv_record.specs.Ranges.{IsPacket};
+ghost use Rattle.sv_model.specs.Ranges.{IsPacket};
 ghost use Rattle.sv_record.specs.Reading.{Gives};
 ghost use Rattle.sv_record.specs.Packet.{HasSpelling, packet_of, spelling};
 

@@ -2,7 +2,8 @@
 
 ghost use Rattle.std.specs.Prelude.{◌≡◌, ◌++◌, length, take, OnOk, OnErr};
 ghost use Rattle.sv_model.specs.declared.packet.Packet.TheVariants.{Want, Grant, Ack, No};
-ghost use Rattle.sv_record.specs.Ranges.{IsKey, IsNode, IsPacket};
+ghost use Rattle.sv_model.specs.Keys.{IsKey, IsNode};
+ghost use Rattle.sv_model.specs.Ranges.{IsPacket};
 ghost use Rattle.sv_record.specs.Reading.{Gives};
 ghost use Rattle.sv_record.specs.Packet.{asked, by_kind, ends, errand, packet_format};
 ghost use Rattle.sv_record.specs.declared.version.Version.TheVariants.{One};

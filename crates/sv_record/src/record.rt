@@ -2,7 +2,7 @@
 
 ghost use Rattle.std.specs.Prelude.{◌≡◌, ◌++◌, length, take, IfOk, OnOk, OnErr, Ok};
 ghost use Rattle.sv_model.specs.declared.record.Record.{Record};
-ghost use Rattle.sv_record.specs.Ranges.{IsRecord};
+ghost use Rattle.sv_model.specs.Ranges.{IsRecord};
 ghost use Rattle.sv_record.specs.Reading.{Gives};
 ghost use Rattle.sv_record.specs.Record.{HasSpelling, record_of, spelling};
 
@@ -12,6 +12,9 @@ use crate::record_fields::{read_fields, write_fields};
 use crate::version::read_version;
 use std::alloc::{AllocError, Global};
 use sv_model::record::Record;
+
+/// The bytes of a record, at most: no more than an entry of a journal holds.
+pub const RECORD_LIMIT: usize = 131_072;
 
 /// Reads a record, which is all of the bytes.
 ///

@@ -2,7 +2,7 @@
 
 ghost use Rattle.std.specs.Prelude.{◌≡◌, ◌++◌, length, take, OnOk, OnErr};
 ghost use Rattle.sv_model.specs.declared.record.Record.TheVariants.{Boot, Commit, Expired, Sent, Taken, Gone, State, Counters};
-ghost use Rattle.sv_record.specs.Ranges.{IsRecord};
+ghost use Rattle.sv_model.specs.Ranges.{IsRecord};
 ghost use Rattle.sv_record.specs.Reading.{Gives};
 ghost use Rattle.sv_record.specs.Record.{by_kind, record_format};
 ghost use Rattle.sv_record.specs.declared.version.Version.TheVariants.{One};

@@ -1,7 +1,7 @@
 //! What a node keeps of a key.
 
 ghost use Rattle.std.specs.Prelude.{◌≡◌, ◌++◌, length, take, OnOk, OnErr};
-ghost use Rattle.sv_record.specs.Ranges.{IsState};
+ghost use Rattle.sv_model.specs.Ranges.{IsState};
 ghost use Rattle.sv_record.specs.Reading.{Gives};
 ghost use Rattle.sv_record.specs.Record.{key_state};
 ghost use Rattle.sv_record.specs.declared.version.Version.TheVariants.{One};

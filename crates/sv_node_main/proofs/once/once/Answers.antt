@@ -1,6 +1,7 @@
 use Rattle.std.proofs.Common.{◌+◌, sym, subst, ◌∙◌, arith}
 use Rattle.sv_connection.specs.Connection.{is_single}
 use Rattle.sv_node_main.proofs.OnceLemmas.{begins, as_turn, goes_on, stops, runs_out}
+use Rattle.sv_node_main.proofs.HistoryLemmas.{one_history}
 use Rattle.sv_node_main.proofs.once.once.Goals as goal
 
 pub loop-count-init : goal.loop-count-init
@@ -20,14 +21,22 @@ loop-count-preserved g c = record {
       c.loop-count.invariant.single c.serve_next-served.ensures.served);
 }
 
-pub returns-in-Some : goal.returns-in-Some
-returns-in-Some g c =
+pub returns-in-Some-clause-served : goal.returns-in-Some-clause-served
+returns-in-Some-clause-served g c =
     stops _ _ c.args.engine c.args.now _ _ c.loop-count.count _ c.serve_next-served.new.self _ _ c.serve_next-served.new.site c.serve_next-served.result c.in-Some.end
     c.loop-count.invariant.underway (sym c.ending.ensures ∙ c.in-Some.is)
     (as_turn _ _ c.args.now (c.loop-count.count + 1) c.secret_of.result (is_single c.loop-count.connection) _ _ c.serve_next-served.result c.secret_of.ensures
     c.loop-count.invariant.single c.serve_next-served.ensures.served)
 
-pub returns : goal.returns
-returns g c =
+pub returns-clause-served : goal.returns-clause-served
+returns-clause-served g c =
     runs_out _ _ c.args.engine c.args.now _ _ c.loop-count.count c.loop-count.connection _ _ c.loop-count.site c.loop-count.invariant.underway
     (omega (arith, c.loop-count-test.false, c.loop-count.auto.count-end))
+
+pub returns-in-Some-clause-history : goal.returns-in-Some-clause-history
+returns-in-Some-clause-history g c s =
+    one_history g.E.Engine.meaning g.E.Engine.heard c.args.now c.args.engine (g.met.E.Engine.untouched c.args.engine c.requires) (g.met.E.Engine.names_keys c.args.engine c.requires) _ s.end _ s.stream s.new
+
+pub returns-clause-history : goal.returns-clause-history
+returns-clause-history g c s =
+    one_history g.E.Engine.meaning g.E.Engine.heard c.args.now c.args.engine (g.met.E.Engine.untouched c.args.engine c.requires) (g.met.E.Engine.names_keys c.args.engine c.requires) _ s.end _ s.stream s.new

@@ -7,7 +7,7 @@ returns-in-Err-clause-directed g c = inl (record {
   fault = c.in-Err.fault;
   has_fault = c.in-Err.ensures.fault;
   site = refl;
-  outputs = c.new.ensures.items;
+  outputs = c.unserved.ensures.outputs;
   closes = refl;
-  page = rw (← c.is_head-head_only.ensures) (page_shut _ _ _ _ _ _ _ _ c.say_target_fault-sent.ensures);
+  page = rw (c.unserved.ensures.outcome, ← c.is_head-head_only.ensures) (page_shut _ _ _ _ _ _ _ _ c.say_target_fault-said.ensures);
 })

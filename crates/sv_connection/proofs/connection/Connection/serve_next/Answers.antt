@@ -10,7 +10,7 @@ returns-in-Fault-clause-served g c =
     let after = prepend_known c.arrive.new.requests.rest (g.R.Read.remaining c.arrive.new.reader) in
     inl (record {
       site = refl;
-      outputs = c.new-outputs.ensures.items;
+      outputs = c.unserved-in-Fault.ensures.outputs;
       closed = refl;
-      idle = Faulty c.in-Fault.fault (stands before after c.arrive.new.requests c.in-Fault.fault c.in-Fault.ensures) (page_shut _ _ _ _ _ _ _ _ c.say_read_fault-sent.ensures);
+      idle = Faulty c.in-Fault.fault (stands before after c.arrive.new.requests c.in-Fault.fault c.in-Fault.ensures) (rw c.unserved-in-Fault.ensures.outcome (page_shut _ _ _ _ _ _ _ _ c.say_read_fault-said.ensures));
     })
