@@ -1,5 +1,6 @@
 -- How a stream of requests is served.
-use Rattle.std.specs.Prelude.{◌≡◌, ◌⊎◌, inl, inr, ℕ, ◌+◌, ◌^◌, Bool, false, List, [], ◌∷◌, ◌++◌, replicate, Option, Some, None, Result, Ok, Err}
+use Rattle.std.specs.Prelude.{◌≡◌, ◌⊎◌, ℕ, ◌+◌, ◌^◌, Bool, false, List, [], ◌∷◌, ◌++◌, replicate, Option, Some, None, Result, Ok, Err}
+use Rattle.std.proofs.Common.{inl, inr}
 use Rattle.std.specs.Int.{to_be_bytes, w64}
 use Rattle.std.specs.Io.KnownBytes.{prepend_known}
 use Rattle.sv_model.specs.declared.key.Secret.{Secret}
