@@ -2,7 +2,8 @@
 use Rattle.std.proofs.Common.{◌≡◌, ℕ, Bool, true, false, cond, Some, List, [], ◌∷◌, refl, sym, ap, ◌∙◌, subst, inl, inr, ⊎_elim}
 use Rattle.std.specs.Prelude.{T, ◌&&◌}
 use Rattle.std.specs.Cmp.{eq_by_cmp_equiv}
-use Rattle.std.specs.FinMap.{get, entries, find, entries_sorted, get-entries}
+use Rattle.std.specs.FinMap.{empty, get, entries, find, entries_sorted, get-entries, len-entries, len-empty}
+use Rattle.std.proofs.lemmas.List.{nil_from_length}
 use Rattle.std.specs.FinMap.Entries.{below_all, is_sorted}
 use Rattle.std.specs.Ordering.{is_lt, is_eq, ordering_reverse}
 use Rattle.std.specs.declared.cmp.Ordering.{Ordering}
@@ -54,3 +55,6 @@ over_in now [] e is = absurd (cc)
 over_in now (f ∷ es) e is = cond_both (is_over now f.1) (Some f) (first_over now es) (λ o. o ≡ Some e → In e (f ∷ es) × (is_over now e.1 ≡ true))
     (λ t s. let k : f ≡ e = cc in (inl k, ap (λ (g : Entry). is_over now g.1) (sym k) ∙ t))
     (λ t s. let r = over_in now es e s in (inr r.0, r.1)) is
+
+pub no_entries : entries {R = key_cmp} (empty {X = KeyState}) ≡ []
+no_entries = nil_from_length (entries {R = key_cmp} (empty {X = KeyState})) (sym (len-entries (empty {X = KeyState} {R = key_cmp})) ∙ len-empty key_cmp KeyState)

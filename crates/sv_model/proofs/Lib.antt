@@ -6,3 +6,4 @@ pub mod SameLemmas
 pub mod EntryLemmas
 pub mod JournalLemmas
 pub mod RangeLemmas
+pub mod RowLemmas

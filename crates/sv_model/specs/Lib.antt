@@ -24,3 +24,4 @@ pub mod Replay
 pub mod Ranges
 pub mod Opening
 pub mod Journaled
+pub mod Rows

@@ -2,13 +2,20 @@
 //!
 //! They speak of the definitions alone: the step of [`crate::node`]'s node by the whole table.
 
+ghost use Rattle.std.specs.Prelude.{List};
+ghost use Rattle.sv_model.specs.declared.event.Told.{Told};
 ghost use Rattle.sv_model.specs.declared.key.Moment.{Moment};
+ghost use Rattle.sv_model.specs.declared.key.Secret.{Secret};
+ghost use Rattle.sv_model.specs.declared.request.Request.{Request};
+ghost use Rattle.sv_model.specs.declared.response.Response.{Response};
+ghost use Rattle.sv_model.specs.declared.session.Session.{Session};
 ghost use Rattle.sv_model.specs.declared.input.Input.{Input};
 ghost use Rattle.sv_model.specs.declared.node.Setting.{Setting};
 ghost use Rattle.sv_model.specs.Engine.{EngineMeaning, TouchesOnlyHanded, KeepsLimits, NamesKeys};
 ghost use Rattle.sv_model.specs.NodeState.{Node};
 ghost use Rattle.sv_model.specs.Node.{decided};
 ghost use Rattle.sv_model.specs.Journaled.{IsJournaled};
+ghost use Rattle.sv_model.specs.Rows.{IsExample, IsHandedOver, AreLate, IsNeverMade, AreTicks};
 ghost use Rattle.sv_model.specs.Ranges.{IsSetting, IsInput, IsRanged, IsRangedStep};
 
 /// The record of a step may stand behind those of the node, and makes of what the node kept durably what it keeps behind
@@ -23,4 +30,18 @@ pub fn journaled()
 pub fn ranged()
     ensures { (m : EngineMeaning) → KeepsLimits m → NamesKeys m → (set : Setting) → IsSetting set → (n : Node) → IsRanged n
         → (moment : Moment) (input : Input) → IsInput input → IsRangedStep (decided m set n moment input) }
+{}
+
+/// Examples of the table with three nodes, written out: a session is made at one node and handed over to another that is
+/// asked for it; packets that come again or late change nothing; a request for a session that was never made is served
+/// without it; what was lost is sent again, and a request that has waited long enough is refused.
+pub fn worked()
+    ensures handed_over { (m : EngineMeaning) (secret : Secret) (first again : Request) (made kept : Session) (one two : Response) (events more : List Told)
+        → IsExample m secret first again made kept one two events more → IsHandedOver m secret first again made kept one two events more }
+    ensures late { (m : EngineMeaning) (secret : Secret) (first again : Request) (made kept : Session) (one two : Response) (events more : List Told)
+        → IsExample m secret first again made kept one two events more → AreLate m secret first again made kept one two events more }
+    ensures never_made { (m : EngineMeaning) (secret : Secret) (first again : Request) (made kept : Session) (one two : Response) (events more : List Told)
+        → IsExample m secret first again made kept one two events more → IsNeverMade m secret first again made kept one two events more }
+    ensures ticks { (m : EngineMeaning) (secret : Secret) (first again : Request) (made kept : Session) (one two : Response) (events more : List Told)
+        → IsExample m secret first again made kept one two events more → AreTicks m secret first again made kept one two events more }
 {}

@@ -1,0 +1,100 @@
+-- The worked examples of the table, computed.
+use Rattle.std.proofs.Common.{◌≡◌, ℕ, Bool, true, false, cond, Option, Some, None, List, [], ◌∷◌, refl, sym, ap, ◌∙◌}
+use Rattle.std.specs.FinMap.{empty, insert, get, len, entries, entries-insert, len-empty, get-empty, get-insert}
+use Rattle.sv_model.specs.declared.key.Key.{Key}
+use Rattle.sv_model.specs.declared.key.Secret.{Secret}
+use Rattle.sv_model.specs.declared.key.Moment.{Moment}
+use Rattle.sv_model.specs.declared.node.Setting.{Setting}
+use Rattle.sv_model.specs.declared.node.Parked.{Parked}
+use Rattle.sv_model.specs.declared.request.Request.{Request}
+use Rattle.sv_model.specs.declared.response.Response.{Response}
+use Rattle.sv_model.specs.declared.session.Session.{Session}
+use Rattle.sv_model.specs.declared.event.Told.{Told}
+use Rattle.sv_model.specs.declared.outcome.Outcome.{Outcome}
+use Rattle.sv_model.specs.declared.outcome.Fate.TheVariants.{Untouched, Kept}
+use Rattle.sv_model.specs.declared.outcome.Birth.TheVariants.{Absent, Alive}
+use Rattle.sv_model.specs.declared.state.KeyState.{KeyState}
+use Rattle.sv_model.specs.declared.state.KeyState.TheVariants.{Active, Sent, Gone}
+use Rattle.sv_model.specs.declared.packet.Packet.TheVariants.{No}
+use Rattle.sv_model.specs.declared.input.Input.TheVariants.{Ask, Packet as Incoming, Poke}
+use Rattle.sv_model.specs.Keys.{key_cmp}
+use Rattle.sv_model.specs.Engine.{EngineMeaning}
+use Rattle.sv_model.specs.NodeState.{Keys, Node}
+use Rattle.sv_model.specs.Serving.{held_in, served, no_birth, answer_of, answered, answered_unless}
+use Rattle.sv_model.specs.Waiting.{on_ask}
+use Rattle.sv_model.specs.Node.{decided}
+use Rattle.sv_model.specs.Rows.{of_three, first_key, keeps, at_rest, at_second, waiting, IsExample, IsHandedOver, AreLate, IsNeverMade, AreTicks}
+use Rattle.sv_model.proofs.KeyLemmas.{keys_total}
+use Rattle.sv_model.proofs.EntryLemmas.{no_entries}
+
+-- a request that is answered so
+serves_as : (m : EngineMeaning) (set : Setting) (n : Node) (moment : Moment) (token : ℕ) (r : Request) (waiting : List Parked) (out : Outcome) → answer_of m set n.durable moment r ≡ out → no_birth n.durable out.birth ≡ None
+    → served m set n moment token r waiting ≡ answered m set n moment token r out waiting
+serves_as m set n moment token r waiting out is none =
+    ap (λ (o : Outcome). answered_unless (no_birth n.durable o.birth) m set n moment token r o waiting) is
+    ∙ ap (λ cause. answered_unless cause m set n moment token r out waiting) none
+
+module _ (m : EngineMeaning) (secret : Secret) (first again : Request) (made kept : Session) (one two : Response) (events more : List Told) (is : IsExample m secret first again made kept one two events more) where
+  -- the session is made, and the one that was named is kept
+  abbrev making : Outcome
+  making = record { response = one; fate = Untouched; birth = Alive made; events = events }
+
+  abbrev keeping : Outcome
+  keeping = record { response = two; fate = Kept kept; birth = Absent; events = more }
+
+  -- node 1, waiting, where it knows nothing and where it holds the session
+  abbrev wanting : Keys → Node
+  wanting keys = waiting m secret first again made kept one two events more keys
+
+  abbrev held_keys : Keys
+  held_keys = insert empty (first_key 0) (Active 2 made)
+
+  pub handed_over : IsHandedOver m secret first again made kept one two events more
+  handed_over = record {
+    made_here =
+        ap (λ named. on_ask m (of_three 0) (at_rest (keeps empty 1)) (at_second 1_000 secret) 1 first named) is.none
+        ∙ serves_as m (of_three 0) (at_rest (keeps empty 1)) (at_second 1_000 secret) 1 first [] making
+        (ap (λ named. m.serve first (held_in empty named) 1_000 (first_key 0, secret)) is.none ∙ is.makes (first_key 0)) (rw (len-empty key_cmp KeyState) refl)
+        ∙ (rw (is.none) refl);
+    parked = rw (is.names, get-empty key_cmp (first_key 0)) refl;
+    wanted = rw (get-insert keys_total empty (first_key 0) (Active 1 made) (first_key 0)) refl;
+    granted = rw (get-empty key_cmp (first_key 0), len-empty key_cmp KeyState) refl;
+    poked =
+        (let settled : decided m (of_three 1) (wanting held_keys) (at_second 1_000 secret) Poke ≡ served m (of_three 1) (wanting held_keys) (at_second 1_000 secret) 1 again []
+            = rw (get-insert keys_total empty (first_key 0) (Active 2 made) (first_key 0)) refl in settled)
+        ∙ serves_as m (of_three 1) (wanting held_keys) (at_second 1_000 secret) 1 again [] keeping
+        (ap (λ named. m.serve again (held_in held_keys named) 1_000 (first_key 1, secret)) is.names
+        ∙ (rw (get-insert keys_total empty (first_key 0) (Active 2 made) (first_key 0)) (is.keeps_it (first_key 1)))) refl
+        ∙ (rw (is.names, get-insert keys_total empty (first_key 0) (Active 2 made) (first_key 0)) refl);
+    acknowledged = rw (get-insert keys_total empty (first_key 0) (Sent 2 made 1) (first_key 0)) refl;
+  }
+
+  pub late : AreLate m secret first again made kept one two events more
+  late = record {
+    unknown = rw (get-empty key_cmp (first_key 0)) refl;
+    again_granted = rw (get-insert keys_total empty (first_key 0) (Active 2 kept) (first_key 0)) refl;
+    stale = rw (get-insert keys_total empty (first_key 0) (Gone 5) (first_key 0)) refl;
+    other_ack = rw (get-insert keys_total empty (first_key 0) (Sent 4 made 1) (first_key 0)) refl;
+    old_no = refl;
+    other_no = refl;
+    unknown_moved = rw (get-empty key_cmp (first_key 0)) refl;
+    gone_moved = rw (get-insert keys_total empty (first_key 0) (Gone 2) (first_key 0)) refl;
+    moved_to_itself = rw (get-insert keys_total empty (first_key 0) (Active 2 made) (first_key 0)) refl;
+  }
+
+  pub never_made : IsNeverMade m secret first again made kept one two events more
+  never_made = record {
+    denied = rw (get-empty key_cmp (first_key 0)) refl;
+    served_without =
+        serves_as m (of_three 1) (wanting empty) (at_second 1_000 secret) 1 again [] making
+        (ap (λ named. m.serve again (held_in empty named) 1_000 (first_key 1, secret)) is.names
+        ∙ (rw (get-empty key_cmp (first_key 0)) (is.without (first_key 1)))) (rw (len-empty key_cmp KeyState) refl)
+        ∙ (rw (is.names, get-empty key_cmp (first_key 0)) refl);
+  }
+
+  pub ticks : AreTicks m secret first again made kept one two events more
+  ticks = record {
+    second_before = rw (no_entries, no_entries, get-empty key_cmp (first_key 0)) refl;
+    deadline = rw (no_entries, no_entries) refl;
+    granted_again = rw (entries-insert keys_total empty (first_key 0) (Sent 2 made 1), no_entries, entries-insert keys_total empty (first_key 0) (Sent 2 made 1), no_entries) refl;
+  }
