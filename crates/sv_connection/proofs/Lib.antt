@@ -1,7 +1,7 @@
 pub mod UnreadLemmas
 mod SaidLemmas
 mod ServeLemmas
-mod QuietLemmas
+pub mod QuietLemmas
 mod TableLemmas
 mod SoloLemmas
 mod FollowLemmas

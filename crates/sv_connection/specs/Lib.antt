@@ -6,5 +6,3 @@ pub mod Arrive
 pub mod Serve
 pub mod Connection
 pub mod Manner
-pub mod Turns
-pub mod TurnLaws

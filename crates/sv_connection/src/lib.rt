@@ -15,5 +15,3 @@ pub mod solo;
 mod speak;
 mod table;
 pub mod target;
-#[cfg(test)]
-mod tests;

@@ -30,6 +30,4 @@ pub mod sequence;
 pub mod session;
 pub mod site;
 pub mod state;
-#[cfg(test)]
-mod tests;
 pub mod text;

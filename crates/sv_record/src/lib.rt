@@ -30,6 +30,3 @@ pub use packet::{read_packet, write_packet};
 pub use record::{RECORD_LIMIT, read_record, write_record};
 pub use sv_model::packet::Packet;
 pub use sv_model::record::Record;
-
-#[cfg(test)]
-mod tests;
