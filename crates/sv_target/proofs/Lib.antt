@@ -2,5 +2,7 @@ pub mod ByteLemmas
 mod CookieLemmas
 pub mod CookieStringLemmas
 pub mod NamedLemmas
+mod PathLemmas
+mod SegmentLemmas
 pub mod SessionCookieLemmas
 mod SpellingLemmas

@@ -8,7 +8,12 @@
 #![tactic(auto)]
 
 pub mod cookies;
+mod fault;
 pub mod laws;
+mod path;
+mod segment;
 pub mod session_cookie;
 #[cfg(test)]
 mod tests;
+
+pub use fault::TargetFault;
