@@ -10,10 +10,14 @@
 pub mod cookies;
 mod fault;
 pub mod laws;
+mod parameters;
 mod path;
 mod segment;
 pub mod session_cookie;
+mod target;
 #[cfg(test)]
 mod tests;
 
 pub use fault::TargetFault;
+pub use parameters::{form, params};
+pub use target::Target;

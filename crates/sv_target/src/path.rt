@@ -76,10 +76,7 @@ fn ends_in_dots(parts: &[&str]) -> bool
 }
 
 /// The segments of a path, with the one that stands behind a last `.` or `..`.
-fn resolve<'a>(
-    alloc: Global,
-    parts: &[&'a str],
-) -> Result<Vec<CowStr<'a, Global>>, TargetFault>
+fn resolve<'a>(alloc: Global, parts: &[&'a str]) -> Result<Vec<CowStr<'a, Global>>, TargetFault>
     ensures ok { IfOk result (λ kept. spec.resolved (map (λ part. cut_of part.now) parts.now)
         ≡ Some (map cow_str_bytes kept.items)) }
     ensures bad { IsErrOf result TargetFault.BadTarget

@@ -1,4 +1,4 @@
-use Rattle.std.proofs.Common.{◌≡◌, ◌++◌, List, ℕ, map, [], ◌∷◌, true, sym, ◌∙◌, ap, rules}
+use Rattle.std.proofs.Common.{◌≡◌, List, ℕ, map, true, sym, ◌∙◌, ap, rules}
 use Rattle.std.specs.Prelude.{Some}
 use Rattle.std.specs.Borrow.{Bor}
 use Rattle.std.specs.Cow.{cow_str_bytes}
