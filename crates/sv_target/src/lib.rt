@@ -15,8 +15,6 @@ mod path;
 mod segment;
 pub mod session_cookie;
 mod target;
-#[cfg(test)]
-mod tests;
 
 pub use fault::TargetFault;
 pub use parameters::{form, params};

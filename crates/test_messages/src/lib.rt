@@ -7,6 +7,10 @@
 #[cfg(test)]
 mod bodies;
 #[cfg(test)]
+mod cookies;
+#[cfg(test)]
+mod forms;
+#[cfg(test)]
 mod heads;
 #[cfg(test)]
 mod limits;
@@ -17,6 +21,12 @@ mod pipelines;
 #[cfg(test)]
 mod responses;
 #[cfg(test)]
+mod session_cookies;
+#[cfg(test)]
+mod session_texts;
+#[cfg(test)]
 mod smuggling;
+#[cfg(test)]
+mod targets;
 #[cfg(test)]
 mod told;
