@@ -46,7 +46,10 @@ type Named = Option<(u8, u64, [u8; 16])>;
 
 fn numbers(session: Option<(Key, Secret)>) -> Named {
     match session {
-        Some((key, secret)) => Some((key.home, key.serial, secret.0)),
+        Some((key, secret)) => {
+            let Secret(bytes) = secret;
+            Some((key.home, key.serial, bytes))
+        }
         None => None,
     }
 }
