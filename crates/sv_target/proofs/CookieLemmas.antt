@@ -1,7 +1,7 @@
 -- A part of a Cookie field, cut at its first `=`, and the parts of a field's value.
-use Rattle.std.proofs.Common.{◌≡◌, ℕ, suc, ◌+◌, Bool, true, false, cond, ◌||◌, not, Some, None, List, [], ◌∷◌, map, length, refl, ap, arith}
+use Rattle.std.proofs.Common.{◌≡◌, ℕ, suc, ◌+◌, ◌≤◌, Bool, true, false, cond, ◌||◌, not, Some, None, List, [], ◌∷◌, map, length, take_all, refl, ap, arith}
 use Rattle.std.specs.Prelude.{is_some, position, nat_lt}
-use Rattle.std.specs.List.{list_any, position_or_len}
+use Rattle.std.specs.List.{before_first, list_any, position_or_len}
 use Rattle.std.proofs.lemmas.Bool.Decides.{nat_tests}
 use Rattle.std.proofs.lemmas.Option.{cond_some}
 
@@ -23,3 +23,10 @@ position_or_len-position p xs i found = (cond_some _ _ _ found).1
 pub map-map : {X Y Z : Type 0} (f : Y → Z) (g : X → Y) (xs : List X) → map f (map g xs) ≡ map (λ x. f (g x)) xs
 map-map f g [] = refl
 map-map f g (x ∷ xs) = ap (λ ys. f (g x) ∷ ys) (map-map f g xs)
+
+cond_none : (a b : ℕ) → cond (nat_lt a b) (Some a) None ≡ None → b ≤ a
+cond_none a b none = grind (arith, nat_tests)
+
+-- where none passes, all of the list stands before it
+pub before_none : {X : Type 0} (p : X → Bool) (xs : List X) → position p xs ≡ None → before_first p xs ≡ xs
+before_none p xs none = take_all (position_or_len p xs) xs (cond_none _ _ none)

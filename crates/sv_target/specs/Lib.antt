@@ -1,3 +1,7 @@
 pub mod Cookies
 pub mod CookieString
+pub mod Params
+pub mod Path
+pub mod Segment
 pub mod SessionCookie
+pub mod Target

@@ -1,4 +1,4 @@
-//! Laws of cookies, over the definitions alone.
+//! Laws of cookies and targets, over the definitions alone.
 
 ghost use Rattle.std.specs.Prelude.{◌≡◌, ℕ, List, ◌∷◌, ◌++◌, Some, None, All, Any};
 ghost use Rattle.sv_model.specs.declared.key.Key.{Key};
@@ -7,6 +7,7 @@ ghost use Rattle.sv_model.specs.declared.request.Cookie.{Cookie};
 ghost use Rattle.sv_target.specs.Cookies.{pairs_of};
 ghost use Rattle.sv_target.specs.CookieString.{IsSendable, cookie_string};
 ghost use Rattle.sv_target.specs.SessionCookie.{IsCookieOf, IsNameable, session_cookie};
+ghost use Rattle.sv_target.specs.Target.{IsOneTarget, IsReadWithin};
 
 /// What a client sends of its cookies is read as those cookies, where each is one that a server may set.
 pub fn sent_is_read()
@@ -29,4 +30,10 @@ pub fn read_is_written()
     ensures { (context : ℕ) (key : Key) (secret : Secret) (cookies : List Cookie)
         → session_cookie cookies context ≡ Some (key, secret)
         → IsNameable context key secret × Any (IsCookieOf context key secret) cookies }
+{}
+
+/// A text is one target, or none; and one that begins with `/` is read within a context as the target of a request is.
+pub fn target_is_one()
+    ensures one { IsOneTarget }
+    ensures within { IsReadWithin }
 {}

@@ -8,7 +8,14 @@
 #![tactic(auto)]
 
 pub mod cookies;
+mod fault;
 pub mod laws;
+mod parameters;
+mod path;
+mod segment;
 pub mod session_cookie;
-#[cfg(test)]
-mod tests;
+mod target;
+
+pub use fault::TargetFault;
+pub use parameters::{form, params};
+pub use target::Target;

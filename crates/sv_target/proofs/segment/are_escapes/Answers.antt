@@ -1,0 +1,12 @@
+use Rattle.std.proofs.Common.{rules, tests}
+use Rattle.std.proofs.lemmas.Iterator.Search.{all_from_yields_List}
+use Rattle.std.proofs.lemmas.Iterator.Splits.{YieldsList-from_slice_split}
+use Rattle.sv_target.specs.Segment.{are_escapes, begins_escape, is_percent}
+use Rattle.sv_target.proofs.segment.are_escapes.Goals as goal
+
+pub returns : goal.returns
+unfolding are_escapes
+returns c =
+    all_from_yields_List begins_escape _ _ c.all.result c.all.ensures.ran
+    (YieldsList-from_slice_split _ is_percent c.args.behind.now c.split.ensures.rest c.split.ensures.done c.split.ensures.closure (λ x b q k. search (rules, tests)))
+    (λ x b q k. search (rules, tests))
