@@ -6,3 +6,4 @@ mod TableLemmas
 mod SoloLemmas
 mod FollowLemmas
 pub mod TraceLemmas
+mod RequestLemmas

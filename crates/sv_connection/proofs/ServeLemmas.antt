@@ -21,16 +21,18 @@ use Rattle.sv_connection.specs.declared.outcome.Served.{Served}
 use Rattle.sv_connection.specs.declared.arrive.Arrived.TheVariants.{Fault}
 use Rattle.sv_connection.specs.Arrive.{Arrives}
 use Rattle.sv_connection.specs.Manner.{manner_of}
+use Rattle.sv_connection.specs.Request.{request_of}
+use Rattle.sv_target.specs.declared.target.Target.{Target}
 use Rattle.sv_connection.specs.Reply.{speaks_to}
-use Rattle.sv_connection.specs.Serve.{how, request_of, verdict, outputs_of, Follows, IsAnswered, IsStarved, IsSaid, IsPage, StandsAt}
+use Rattle.sv_connection.specs.Serve.{how, verdict, outputs_of, Follows, IsAnswered, IsStarved, IsSaid, IsPage, StandsAt}
 
 -- the site was stepped, and what follows was said
 pub answered : {S : Type 0} (steps : S → Moment → Input → Result (List Output) StepFault → S → Type 0) (moment : Moment) (token : ℕ) (single : Bool)
-    (raw : RawRequest) (request : Request) (manner : Manner) (answer : Result (List Output) StepFault) (so sn : S) (wo wn : Option (List ℕ)) (closed : Bool) (served : Served)
-    → request ≡ request_of single raw → manner ≡ manner_of single raw moment.now → steps so moment (Ask token request) answer sn
+    (raw : RawRequest) (target : Target) (request : Request) (manner : Manner) (answer : Result (List Output) StepFault) (so sn : S) (wo wn : Option (List ℕ)) (closed : Bool) (served : Served)
+    → request ≡ request_of single raw target → manner ≡ manner_of single raw moment.now → steps so moment (Ask token request) answer sn
     → served.outputs.items ≡ outputs_of answer → Follows (verdict token manner.head_only manner.close answer) manner.now wo wn closed served.outcome
-    → IsAnswered steps (how moment token single) raw so sn wo wn closed served
-answered steps moment token single raw request manner answer so sn wo wn closed served asked made step listed follows = record {
+    → IsAnswered steps (how moment token single) raw target so sn wo wn closed served
+answered steps moment token single raw target request manner answer so sn wo wn closed served asked made step listed follows = record {
   answer = answer;
   step = subst (λ (r : Request). steps so moment (Ask token r) answer sn) asked step;
   outputs = listed;

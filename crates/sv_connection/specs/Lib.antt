@@ -1,6 +1,6 @@
 pub mod Solo
 pub mod Table
-pub mod Target
+pub mod Request
 pub mod Reply
 pub mod Arrive
 pub mod Serve

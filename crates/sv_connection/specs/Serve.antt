@@ -2,7 +2,6 @@
 use Rattle.std.specs.Prelude.{◌≡◌, ◌≢◌, ◌⊎◌, ℕ, ◌||◌, List, [], Bool, true, false, Option, Some, None, Result, Ok, Err, IfSome, ⊤, codes, find}
 use Rattle.std.specs.Io.KnownBytes.{Consumes, Appends}
 use Rattle.sv_model.specs.declared.key.Moment.{Moment}
-use Rattle.sv_model.specs.declared.request.Request.{Request}
 use Rattle.sv_model.specs.declared.response.Response.{Response}
 use Rattle.sv_model.specs.declared.input.Input.{Input}
 use Rattle.sv_model.specs.declared.input.Input.TheVariants.{Ask}
@@ -19,15 +18,16 @@ use Rattle.sv_message.specs.Response.{IsResponseText}
 use Rattle.sv_message.specs.declared.request.RawRequest.{RawRequest}
 use Rattle.sv_message.specs.declared.fault.ReadFault.{ReadFault}
 use Rattle.sv_message.specs.declared.fault.ReadFault.TheVariants.{BadHead, HeadTooLong, BadHost, BadFraming, BodyTooLong, Coding, Expectation, Memory, Closed as ReaderClosed}
-use Rattle.sv_connection.specs.declared.target.TargetFault.{TargetFault}
-use Rattle.sv_connection.specs.declared.target.TargetFault.TheVariants.{Connect, BadTarget, Memory as TargetMemory}
+use Rattle.sv_target.specs.declared.fault.TargetFault.{TargetFault}
+use Rattle.sv_target.specs.declared.fault.TargetFault.TheVariants.{Connect, BadTarget, Memory as TargetMemory}
+use Rattle.sv_target.specs.declared.target.Target.{Target as TargetValue}
+use Rattle.sv_target.specs.Target.{IsTarget}
 use Rattle.sv_connection.specs.declared.outcome.RequestFault.{RequestFault}
 use Rattle.sv_connection.specs.declared.outcome.RequestFault.TheVariants.{Read, Target}
 use Rattle.sv_connection.specs.declared.outcome.Outcome.{Outcome}
 use Rattle.sv_connection.specs.declared.outcome.Outcome.TheVariants.{Answered, Parked, Closed, Refused, ReadFailed, WriteFailed, Failed as SiteFailed}
 use Rattle.sv_connection.specs.declared.outcome.Served.{Served}
-use Rattle.sv_target.specs.Cookies.{cookies_of}
-use Rattle.sv_connection.specs.Target.{fault_of_target}
+use Rattle.sv_connection.specs.Request.{request_of, HasTargetFault}
 use Rattle.sv_connection.specs.Reply.{refusal, speaks_to}
 
 -- how a call is made
@@ -48,21 +48,6 @@ pub record Sight (S : Type 0) : Type 0 where
 
 abbrev pub sight : {S : Type 0} → Option (List ℕ) → Option (List ℕ) → S → Bool → Sight S
 sight unread written site closed = record { unread = unread; written = written; site = site; closed = closed }
-
--- the request that the site is asked
-abbrev pub request_of : Bool → RawRequest → Request
-request_of single raw =
-    record {
-      method = raw.method;
-      raw_path = raw.target;
-      path = raw.target;
-      query = None;
-      fields = raw.fields;
-      cookies = cookies_of raw.fields;
-      params = [];
-      body = raw.body;
-      close = raw.close || single;
-    }
 
 -- what follows from a step's answer
 pub data Verdict : Type 0 where
@@ -166,26 +151,31 @@ pub record IsIdle {S : Type 0} (how : How) (old new : Sight S) (served : Served)
   pub idle : Idle how old new served.outcome
 
 -- the site was stepped once, by the request, and what it answered was said
-pub record IsAnswered {S : Type 0} (steps : S → Moment → Input → Result (List Output) StepFault → S → Type 0) (how : How) (raw : RawRequest) (so sn : S) (wo wn : Option (List ℕ)) (closed : Bool) (served : Served) : Type 0 where
+pub record IsAnswered {S : Type 0} (steps : S → Moment → Input → Result (List Output) StepFault → S → Type 0) (how : How) (raw : RawRequest) (target : TargetValue) (so sn : S) (wo wn : Option (List ℕ)) (closed : Bool) (served : Served) : Type 0 where
   pub answer : Result (List Output) StepFault
-  pub step : steps so how.moment (Ask how.token (request_of how.single raw)) answer sn
+  pub step : steps so how.moment (Ask how.token (request_of how.single raw target)) answer sn
   pub outputs : served.outputs.items ≡ outputs_of answer
   pub follows : Follows (verdict how.token (is_head raw.method) (raw.close || how.single) answer) how.moment.now wo wn closed served.outcome
 
 -- the method and the target have a fault, or there was no memory for the path and the cookies: the site stands
 pub record IsMisdirected {S : Type 0} (how : How) (raw : RawRequest) (so sn : S) (wo wn : Option (List ℕ)) (closed : Bool) (served : Served) : Type 0 where
   pub fault : TargetFault
-  pub has_fault : fault ≢ TargetMemory → fault_of_target raw.method raw.target ≡ Some fault
+  pub has_fault : HasTargetFault raw fault
   pub site : sn ≡ so
   pub outputs : served.outputs.items ≡ []
   pub closes : closed ≡ true
   pub page : IsPage (status_of_target fault) (is_head raw.method) how.moment.now (Target fault) wo wn closed served.outcome
 
+-- the target was read, and the site was asked by the request that the message then says
+pub record IsAsked {S : Type 0} (steps : S → Moment → Input → Result (List Output) StepFault → S → Type 0) (how : How) (raw : RawRequest) (so sn : S) (wo wn : Option (List ℕ)) (closed : Bool) (served : Served) : Type 0 where
+  pub target : TargetValue
+  pub read : IsTarget raw.target target
+  pub method : raw.method ≢ codes "CONNECT"
+  pub answered : IsAnswered steps how raw target so sn wo wn closed served
+
 -- what a request leads to: by its target it is refused, or the site is asked
 abbrev pub IsDirected : {S : Type 0} → (S → Moment → Input → Result (List Output) StepFault → S → Type 0) → How → RawRequest → S → S → Option (List ℕ) → Option (List ℕ) → Bool → Served → Type 0
-IsDirected steps how raw so sn wo wn closed served =
-    IsMisdirected how raw so sn wo wn closed served
-    ⊎ ((fault_of_target raw.method raw.target ≡ None) × IsAnswered steps how raw so sn wo wn closed served)
+IsDirected steps how raw so sn wo wn closed served = IsMisdirected how raw so sn wo wn closed served ⊎ IsAsked steps how raw so sn wo wn closed served
 
 -- a message was taken from the front of the unread bytes, and led to what it leads to
 pub record IsTaken {S : Type 0} (steps : S → Moment → Input → Result (List Output) StepFault → S → Type 0) (how : How) (old new : Sight S) (served : Served) : Type 0 where

@@ -6,19 +6,19 @@ ghost use Rattle.std.specs.Io.KnownBytes.{Appends};
 ghost use Rattle.sv_connection.specs.Manner.{manner_of};
 ghost use Rattle.sv_connection.specs.Reply.{refusal, speaks_to};
 ghost use Rattle.sv_target.specs.Cookies.{cookies_of};
-ghost use Rattle.sv_connection.specs.Serve.{Follows, said_by, verdict, outputs_of, IsSaid, request_of};
+ghost use Rattle.sv_connection.specs.Serve.{Follows, said_by, verdict, outputs_of, IsSaid};
+ghost use Rattle.sv_connection.specs.Request.{params_in, request_of};
 
 use crate::outcome::Outcome;
 use crate::reply::{refusal, reply_to};
+use crate::request::ReadRequest;
 use crate::speak::{Said, say, starve};
-use crate::target::ReadTarget;
 use std::alloc::Global;
 use std::io::Write;
 use sv_message::request::RawRequest;
 use sv_model::method::is_head;
 use sv_model::output::{Cause, Output};
 use sv_model::request::Request;
-use sv_model::sequence::Sequence;
 use sv_model::site::StepFault;
 
 /// How the response to a request is to be.
@@ -44,20 +44,24 @@ pub fn manner_of(raw: &RawRequest, single: bool, now: u64) -> Manner
 }
 
 /// The request that the site is asked.
-pub fn request_of(alloc: Global, raw: RawRequest, read: ReadTarget, single: bool) -> Request
-    requires path { read.path ≡ raw.target }
+pub fn request_of(raw: RawRequest, read: ReadRequest, single: bool) -> Request
     requires cookies { read.cookies ≡ cookies_of raw.fields }
-    ensures { result ≡ request_of single raw }
+    requires params { read.params ≡ params_in raw read.target }
+    ensures { result ≡ request_of single raw read.target }
 {
-    let ReadTarget { path, cookies } = read;
+    let ReadRequest {
+        target,
+        cookies,
+        params,
+    } = read;
     Request {
         method: raw.method,
-        raw_path: raw.target,
-        path,
-        query: None,
+        raw_path: target.raw_path,
+        path: target.path,
+        query: target.query,
         fields: raw.fields,
         cookies,
-        params: Sequence::new(alloc),
+        params,
         body: raw.body,
         close: raw.close || single,
     }

@@ -6,7 +6,7 @@ use crate::answer::{manner_of, outputs_of, request_of, say_step};
 use crate::arrive::{Arrived, arrive};
 use crate::outcome::{Outcome, Served};
 use crate::speak::{say_read_fault, say_target_fault};
-use crate::target::{ReadTarget, read_request};
+use crate::request::{ReadRequest, read_request};
 use std::alloc::Global;
 use std::io::{Read, Write};
 use sv_message::reader::RequestReader;
@@ -42,6 +42,7 @@ fn unserved(alloc: Global, outcome: Outcome) -> Served
 impl Connection {
     ghost use Rattle.std.specs.Prelude.{◌≡◌, true, false, []};
     ghost use Rattle.sv_target.specs.Cookies.{cookies_of};
+    ghost use Rattle.sv_connection.specs.Request.{params_in};
     ghost use Rattle.sv_connection.specs.Serve.{how, IsAnswered, IsDirected, IsServed};
     ghost use Rattle.sv_connection.specs.Connection.{IsFresh, is_closed, is_single, sight_of};
     ghost use Rattle.sv_connection.specs.declared.outcome.Outcome.TheVariants.{Closed};
@@ -67,19 +68,19 @@ impl Connection {
         moment: Moment,
         token: u64,
         raw: RawRequest,
-        read: ReadTarget,
+        read: ReadRequest,
     ) -> Served
         requires valid { S.site_valid site.old }
         requires not_spent { self.old.requests.closed ≡ false }
-        requires path { read.path ≡ raw.target }
         requires cookies { read.cookies ≡ cookies_of raw.fields }
+        requires params { read.params ≡ params_in raw read.target }
         ensures valid { S.site_valid site.new }
         ensures requests { self.new.requests ≡ self.old.requests }
         ensures single { self.new.single ≡ self.old.single }
-        ensures answered { IsAnswered S.steps (how moment token self.old.single) raw site.old site.new (W.contents writer.old) (W.contents writer.new) self.new.closed result }
+        ensures answered { IsAnswered S.steps (how moment token self.old.single) raw read.target site.old site.new (W.contents writer.old) (W.contents writer.new) self.new.closed result }
     {
         let manner = manner_of(&raw, self.single, moment.now);
-        let request = request_of(self.alloc, raw, read, self.single);
+        let request = request_of(raw, read, self.single);
         let step = site.step(moment, Input::Ask { token, request });
         let said = say_step(self.alloc, &mut self.buffer, writer, token, &step, manner);
         self.closed = said.closed;

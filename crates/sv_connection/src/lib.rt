@@ -11,7 +11,7 @@ pub mod connection;
 pub mod laws;
 pub mod outcome;
 pub mod reply;
+mod request;
 pub mod solo;
 mod speak;
 mod table;
-pub mod target;

@@ -1,8 +1,8 @@
 //! How a call of a connection ends.
 
-use crate::target::TargetFault;
 use sv_message::fault::ReadFault;
 use sv_model::output::Output;
+use sv_target::TargetFault;
 
 /// Why a request was refused by the connection.
 #[derive(Clone, Copy, Debug, PartialEq, Eq)]

@@ -6,7 +6,6 @@ ghost use Rattle.sv_model.specs.Page.{plain_page};
 ghost use Rattle.sv_connection.specs.Serve.{IsWritten, IsSaid, IsStarved, IsPage, memory_lines, status_of_read, status_of_target};
 
 use crate::outcome::{Outcome, RequestFault};
-use crate::target::TargetFault;
 use http::StatusCode;
 use std::alloc::Global;
 use std::io::Write;
@@ -15,6 +14,7 @@ use sv_message::response::write_response;
 use sv_model::page::plain_page;
 use sv_model::response::Response;
 use sv_model::sequence::Sequence;
+use sv_target::TargetFault;
 
 /// How a text was sent, and whether the connection is closed behind it.
 #[derive(Clone, Copy, Debug, PartialEq, Eq)]

@@ -25,7 +25,8 @@ use Rattle.sv_connection.specs.declared.outcome.Served.{Served}
 use Rattle.sv_connection.specs.declared.solo.Solo.{Solo}
 use Rattle.sv_connection.specs.Table.{alone, node_of}
 use Rattle.sv_connection.specs.Solo.{IsNew, IsHistory, solo_steps, view_of, view_at}
-use Rattle.sv_connection.specs.Serve.{How, Sight, request_of, IsDirected, IsServed}
+use Rattle.sv_connection.specs.Request.{request_of}
+use Rattle.sv_connection.specs.Serve.{How, Sight, IsDirected, IsServed}
 use Rattle.sv_connection.proofs.TraceLemmas.{times-append, all_runs, one_container, acknowledged, served_once}
 use Rattle.sv_node_main.specs.declared.once.OnceFault.{OnceFault}
 use Rattle.sv_node_main.specs.Once.{turn_of, Reaches, AtStart, Behind, EndsWith, IsSpent, IsStream, directed_call, call_in, calls_to, call_at_end, calls_of, IsOneHistory}
@@ -81,7 +82,7 @@ module _ {E : Type 0} (meaning : E → EngineMeaning) (heard : E → List (List 
   led_directed : (how : How) (raw : RawRequest) (so sn : Solo E) (wo wn : Option (List ℕ)) (closed : Bool) (served : Served) (d : IsDirected (solo_steps meaning heard) how raw so sn wo wn closed served) (behind : List Call) (end : View)
       → Leads alone (view_of meaning heard sn) behind end → Leads alone (view_of meaning heard so) (directed_call (solo_steps meaning heard) how raw so sn wo wn closed served d ++ behind) end
   led_directed how raw so sn wo wn closed served (inl misdirected) behind end led = subst (λ s. Leads alone (view_of meaning heard s) behind end) misdirected.site led
-  led_directed how raw so sn wo wn closed served (inr asked) behind end led = (view_of meaning heard sn, asked.1.step, led)
+  led_directed how raw so sn wo wn closed served (inr asked) behind end led = (view_of meaning heard sn, asked.answered.step, led)
 
   led_call : (how : How) (old new : Sight (Solo E)) (served : Served) (call : IsServed (solo_steps meaning heard) how old new served) (behind : List Call) (end : View)
       → Leads alone (view_of meaning heard new.site) behind end → Leads alone (view_of meaning heard old.site) (call_in (solo_steps meaning heard) how old new served call ++ behind) end
@@ -107,7 +108,7 @@ module _ {E : Type 0} (meaning : E → EngineMeaning) (heard : E → List (List 
   rise_directed : (how : How) (below : ℕ) (raw : RawRequest) (so sn : Solo E) (wo wn : Option (List ℕ)) (closed : Bool) (served : Served) (d : IsDirected (solo_steps meaning heard) how raw so sn wo wn closed served) (behind : List Call)
       → below < how.token → RiseFrom how.token behind → RiseFrom below (directed_call (solo_steps meaning heard) how raw so sn wo wn closed served d ++ behind)
   rise_directed how below raw so sn wo wn closed served (inl misdirected) behind less rise = rise_later below how.token behind (omega (arith, less)) rise
-  rise_directed how below raw so sn wo wn closed served (inr asked) behind less rise = (how.token, request_of how.single raw, refl, less, rise)
+  rise_directed how below raw so sn wo wn closed served (inr asked) behind less rise = (how.token, request_of how.single raw asked.target, refl, less, rise)
 
   rise_call : (how : How) (below : ℕ) (old new : Sight (Solo E)) (served : Served) (call : IsServed (solo_steps meaning heard) how old new served) (behind : List Call)
       → below < how.token → RiseFrom how.token behind → RiseFrom below (call_in (solo_steps meaning heard) how old new served call ++ behind)

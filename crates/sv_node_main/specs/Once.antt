@@ -19,7 +19,8 @@ use Rattle.sv_model.specs.OneContainer.{AreDistinct, IsOneContainer, IsAcknowled
 use Rattle.sv_message.specs.declared.request.RawRequest.{RawRequest}
 use Rattle.sv_connection.specs.Table.{alone, node_of}
 use Rattle.sv_connection.specs.Solo.{IsNew, IsHistory, solo_steps, view_of}
-use Rattle.sv_connection.specs.Serve.{How, how, Sight, sight, request_of, IsDirected, IsServed}
+use Rattle.sv_connection.specs.Request.{request_of}
+use Rattle.sv_connection.specs.Serve.{How, how, Sight, sight, IsDirected, IsServed}
 use Rattle.sv_node_main.specs.declared.once.OnceFault.{OnceFault}
 use Rattle.sv_node_main.specs.declared.once.OnceFault.TheVariants.{Input as InputFault, Output as OutputFault}
 
@@ -89,7 +90,7 @@ pub record HasServed {E : Type 0} (meaning : E → EngineMeaning) (heard : E →
 abbrev pub directed_call : {S : Type 0} (steps : S → Moment → Input → Result (List Output) StepFault → S → Type 0) (how : How) (raw : RawRequest) (so sn : S) (wo wn : Option (List ℕ)) (closed : Bool) (served : Served)
     → IsDirected steps how raw so sn wo wn closed served → List Call
 directed_call steps how raw so sn wo wn closed served (inl misdirected) = []
-directed_call steps how raw so sn wo wn closed served (inr asked) = record { moment = how.moment; input = Ask how.token (request_of how.single raw); answer = asked.1.answer } ∷ []
+directed_call steps how raw so sn wo wn closed served (inr asked) = record { moment = how.moment; input = Ask how.token (request_of how.single raw asked.target); answer = asked.answered.answer } ∷ []
 
 -- the step of one call of a connection; none where no request was taken, or its target was refused
 abbrev pub call_in : {S : Type 0} (steps : S → Moment → Input → Result (List Output) StepFault → S → Type 0) (how : How) (old new : Sight S) (served : Served) → IsServed steps how old new served → List Call
