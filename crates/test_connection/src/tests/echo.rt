@@ -56,10 +56,26 @@ impl Echo {
                 outputs.push(answer_to(self.alloc, token, request, b"its own")?)?;
                 outputs.push(answer_to(self.alloc, token, request, b"again")?)?;
             }
+            "/params" => {
+                let text = params_of(self.alloc, request)?;
+                outputs.push(answer_to(self.alloc, token, request, text.as_slice())?)?;
+            }
             path => outputs.push(answer_to(self.alloc, token, request, path.as_bytes())?)?,
         }
         Ok(outputs)
     }
+}
+
+/// The parameters of a request, a line each.
+fn params_of(alloc: Global, request: &Request) -> Result<Vec<u8>, AllocError> {
+    let mut text = Vec::new(alloc);
+    for param in request.params.as_slice() {
+        text.extend_from_slice(param.name.as_str().as_bytes())?;
+        text.push(b'=')?;
+        text.extend_from_slice(param.value.as_str().as_bytes())?;
+        text.push(b'\n')?;
+    }
+    Ok(text)
 }
 
 /// An answer with status 200 and no fields.

@@ -4,7 +4,7 @@
 //! date is the example of the latter's section 5.6.7.
 
 use sv_connection::outcome::{Outcome, RequestFault};
-use sv_connection::target::TargetFault;
+use sv_target::TargetFault;
 use sv_message::fault::ReadFault;
 
 /// What a client sends, and what the calls of its connection have to do.
@@ -50,7 +50,7 @@ const BAD_TARGET: (Outcome, usize) = (
     0,
 );
 
-pub(super) const ANSWERS: [Row; 18] = [
+pub(super) const ANSWERS: [Row; 19] = [
     Row {
         name: "two requests in one piece",
         single: false,
@@ -172,6 +172,14 @@ pub(super) const ANSWERS: [Row; 18] = [
         written: "HTTP/1.1 200 OK\r\nDate: Sun, 06 Nov 1994 08:49:37 GMT\r\nContent-Length: 11\r\n\r\n//Pot_09-z/",
     },
     Row {
+        name: "an escape, dots, a query and a form, and then a body in chunks",
+        single: false,
+        sent: "POST /x/../p%61rams?a=1 HTTP/1.1\r\nHost: h\r\nContent-Type: application/x-www-form-urlencoded\r\nContent-Length: 8\r\n\r\nb=x+y%21POST /b HTTP/1.1\r\nHost: h\r\nTransfer-Encoding: chunked\r\n\r\n3\r\nabc\r\n0\r\n\r\n",
+        calls: [ANSWERED, ANSWERED, CLOSED],
+        steps: 2,
+        written: "HTTP/1.1 200 OK\r\nDate: Sun, 06 Nov 1994 08:49:37 GMT\r\nContent-Length: 11\r\n\r\na=1\nb=x y!\nHTTP/1.1 200 OK\r\nDate: Sun, 06 Nov 1994 08:49:37 GMT\r\nContent-Length: 2\r\n\r\n/b",
+    },
+    Row {
         name: "an input of no bytes",
         single: false,
         sent: "",
@@ -216,9 +224,9 @@ pub(super) const REFUSALS: [Row; 9] = [
         written: "HTTP/1.1 400 Bad Request\r\nDate: Sun, 06 Nov 1994 08:49:37 GMT\r\ncontent-type: text/plain\r\nContent-Length: 16\r\nConnection: close\r\n\r\n400 Bad Request\n",
     },
     Row {
-        name: "a length, which is not read today; the page of a message's fault has its body to HEAD too",
+        name: "a length that is no number; the page of a message's fault has its body to HEAD too",
         single: true,
-        sent: "HEAD /a HTTP/1.1\r\nHost: h\r\nContent-Length: 0\r\n\r\n",
+        sent: "HEAD /a HTTP/1.1\r\nHost: h\r\nContent-Length: +0\r\n\r\n",
         calls: [BAD_FRAMING, CLOSED, CLOSED],
         steps: 0,
         written: "HTTP/1.1 400 Bad Request\r\nDate: Sun, 06 Nov 1994 08:49:37 GMT\r\ncontent-type: text/plain\r\nContent-Length: 16\r\nConnection: close\r\n\r\n400 Bad Request\n",
@@ -248,9 +256,9 @@ pub(super) const REFUSALS: [Row; 9] = [
         written: "HTTP/1.1 501 Not Implemented\r\nDate: Sun, 06 Nov 1994 08:49:37 GMT\r\ncontent-type: text/plain\r\nContent-Length: 20\r\nConnection: close\r\n\r\n501 Not Implemented\n",
     },
     Row {
-        name: "a query, which is not read today",
+        name: "a path above the root",
         single: false,
-        sent: "GET /a?b HTTP/1.1\r\nHost: h\r\n\r\nGET /a HTTP/1.1\r\nHost: h\r\n\r\n",
+        sent: "GET /a/../.. HTTP/1.1\r\nHost: h\r\n\r\nGET /a HTTP/1.1\r\nHost: h\r\n\r\n",
         calls: [BAD_TARGET, CLOSED, CLOSED],
         steps: 0,
         written: "HTTP/1.1 400 Bad Request\r\nDate: Sun, 06 Nov 1994 08:49:37 GMT\r\ncontent-type: text/plain\r\nContent-Length: 16\r\nConnection: close\r\n\r\n400 Bad Request\n",
@@ -266,7 +274,7 @@ pub(super) const REFUSALS: [Row; 9] = [
     Row {
         name: "HEAD of a target that is no path",
         single: false,
-        sent: "HEAD /a?b HTTP/1.1\r\nHost: h\r\n\r\n",
+        sent: "HEAD /%2F HTTP/1.1\r\nHost: h\r\n\r\n",
         calls: [BAD_TARGET, CLOSED, CLOSED],
         steps: 0,
         written: "HTTP/1.1 400 Bad Request\r\nDate: Sun, 06 Nov 1994 08:49:37 GMT\r\ncontent-type: text/plain\r\nContent-Length: 16\r\nConnection: close\r\n\r\n",
