@@ -8,7 +8,9 @@ ghost use Rattle.sv_model.specs.declared.state.TheConstants.{KEY_LIMIT};
 ghost use Rattle.std.specs.FinMap.{get};
 ghost use Rattle.sv_connection.specs.Table.{own_key, keys_of, node_of, refusal_for};
 
-use crate::table::{add_born, expire, is_birth, make_room, named_place, session_at, settle, state_at};
+use crate::table::{
+    add_born, expire, is_birth, make_room, named_place, session_at, settle, state_at,
+};
 use std::alloc::Global;
 use sv_model::engine::Engine;
 use sv_model::input::Input;

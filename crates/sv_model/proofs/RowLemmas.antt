@@ -61,7 +61,7 @@ module _ (m : EngineMeaning) (secret : Secret) (first again : Request) (made kep
     granted = rw (get-empty key_cmp (first_key 0), len-empty key_cmp KeyState) refl;
     poked =
         (let settled : decided m (of_three 1) (wanting held_keys) (at_second 1_000 secret) Poke ≡ served m (of_three 1) (wanting held_keys) (at_second 1_000 secret) 1 again []
-            = rw (get-insert keys_total empty (first_key 0) (Active 2 made) (first_key 0)) refl in settled)
+        = rw (get-insert keys_total empty (first_key 0) (Active 2 made) (first_key 0)) refl in settled)
         ∙ serves_as m (of_three 1) (wanting held_keys) (at_second 1_000 secret) 1 again [] keeping
         (ap (λ named. m.serve again (held_in held_keys named) 1_000 (first_key 1, secret)) is.names
         ∙ (rw (get-insert keys_total empty (first_key 0) (Active 2 made) (first_key 0)) (is.keeps_it (first_key 1)))) refl

@@ -8,14 +8,14 @@ mod records;
 mod shown;
 mod written;
 
-use sv_record::{
-    Frame, RecordFault, read_frame, read_packet, read_record, write_frame, write_packet,
-    write_record,
-};
 use std::alloc::Global;
 use std::test::Fail;
 use sv_model::packet::Packet;
 use sv_model::record::Record;
+use sv_record::{
+    Frame, RecordFault, read_frame, read_packet, read_record, write_frame, write_packet,
+    write_record,
+};
 
 /// The key of home 0 and serial 1.
 const KEY: &str = "00 0000000000000001";

@@ -6,10 +6,10 @@ ghost use Rattle.sv_model.specs.declared.outcome.Birth.TheVariants.{Absent};
 ghost use Rattle.test_connection.specs.Turns.{made_at};
 
 use super::AT;
-use sv_connection::solo::Solo;
 use http::{Method, StatusCode};
 use std::alloc::{AllocError, Global};
 use std::test::Fail;
+use sv_connection::solo::Solo;
 use sv_model::attributes::Attributes;
 use sv_model::engine::{Engine, EngineFault};
 use sv_model::event::Told;

@@ -4,8 +4,8 @@
 //! date is the example of the latter's section 5.6.7.
 
 use sv_connection::outcome::{Outcome, RequestFault};
-use sv_target::TargetFault;
 use sv_message::fault::ReadFault;
+use sv_target::TargetFault;
 
 /// What a client sends, and what the calls of its connection have to do.
 pub(super) struct Row {

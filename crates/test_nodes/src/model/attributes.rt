@@ -1,10 +1,10 @@
 //! Attributes by their names.
 
+use std::alloc::Global;
+use std::test::Fail;
 use sv_model::attributes::Attributes;
 use sv_model::sequence::Sequence;
 use sv_model::text::Text;
-use std::alloc::Global;
-use std::test::Fail;
 
 /// Puts a value at a name, and gives the old one.
 fn put(

@@ -1,13 +1,13 @@
 //! Copies are equal to what they are of: that is proved, and here each copy is made with ample memory.
 
+use crate::model::attributes::single;
+use std::alloc::Global;
+use std::test::Fail;
 use sv_model::key::{Key, Secret};
 use sv_model::packet::Packet;
 use sv_model::record::{Change, Record};
 use sv_model::session::Session;
 use sv_model::state::KeyState;
-use crate::model::attributes::single;
-use std::alloc::Global;
-use std::test::Fail;
 
 const KEY: Key = Key { home: 3, serial: 7 };
 

@@ -1,10 +1,10 @@
 //! When a session expires: once as many seconds as its interval have passed since it was last named.
 
+use std::alloc::Global;
+use std::test::Fail;
 use sv_model::attributes::Attributes;
 use sv_model::key::Secret;
 use sv_model::session::Session;
-use std::alloc::Global;
-use std::test::Fail;
 
 fn session(alloc: Global, last: u64, interval: i32) -> Session {
     Session {

@@ -74,7 +74,9 @@ fn is_that_request(copy: &Request) -> bool {
 
 /// It has the parts of the response above.
 fn is_that_response(copy: &Response) -> bool {
-    copy.status.as_u16() == 404 && copy.fields.len() == 1 && copy.body.as_slice() == b"gone".as_slice()
+    copy.status.as_u16() == 404
+        && copy.fields.len() == 1
+        && copy.body.as_slice() == b"gone".as_slice()
 }
 
 #[test]

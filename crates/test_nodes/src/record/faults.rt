@@ -1,9 +1,9 @@
 //! The first trouble of a record, and what a fault says.
 
-use sv_record::RecordFault;
 use crate::record::{KEY, bytes_of, record_fault};
 use std::alloc::AllocError;
 use std::test::Fail;
+use sv_record::RecordFault;
 
 /// A record up to its session.
 const TAKEN: &str = "01 05 00 0000000000000001 0000000000000002 03";

@@ -2,9 +2,9 @@
 
 use crate::record::shown::packet_text;
 use crate::record::{KEY, SESSION, bytes_of, frame_again, frame_fault};
-use sv_record::{Frame, RecordFault};
 use std::alloc::Global;
 use std::test::Fail;
+use sv_record::{Frame, RecordFault};
 
 fn frame_text(alloc: Global, frame: &Frame) -> Result<String, Fail> {
     let text = match frame {

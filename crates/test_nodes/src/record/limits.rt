@@ -1,9 +1,9 @@
 //! The limits of a session, from both sides: 64 attributes, names of 128 bytes, values of 4,096, and 32,768 in all.
 
-use sv_record::RecordFault;
 use crate::record::{bytes_of, is_spelled_again, record_fault};
 use std::alloc::Global;
 use std::test::Fail;
+use sv_record::RecordFault;
 
 /// A record up to the count of its session's attributes.
 const TAKEN: &str = "01 05 00 0000000000000001 0000000000000002 03 \

@@ -1,9 +1,9 @@
 //! Packets of each kind.
 
-use sv_record::RecordFault;
 use crate::record::shown::packet_text;
 use crate::record::{KEY, SESSION, bytes_of, longer, packet_again, packet_fault};
 use std::test::Fail;
+use sv_record::RecordFault;
 
 /// Each kind, spelled by hand by the table of the format.
 #[test]

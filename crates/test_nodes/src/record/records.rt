@@ -1,10 +1,10 @@
 //! Records of each kind, and the commit of a first count byte by byte.
 
-use sv_record::RecordFault;
 use crate::record::shown::record_text;
 use crate::record::{KEY, SESSION, bytes_of, is_spelled_again, longer, record_again, record_fault};
 use std::alloc::Global;
 use std::test::Fail;
+use sv_record::RecordFault;
 
 /// The same session later, at context 15: no longer fresh, with a negative interval and no attributes.
 const BARE: &str =

@@ -1,7 +1,6 @@
 //! Values made in place, and the bytes that are written of them behind what is there.
 
 use crate::record::{KEY, SESSION, bytes_of};
-use sv_record::{Frame, write_frame, write_packet, write_record};
 use std::test::Fail;
 use sv_model::attributes::Attributes;
 use sv_model::key::{Key, Secret};
@@ -10,6 +9,7 @@ use sv_model::record::{Change, Record};
 use sv_model::sequence::Sequence;
 use sv_model::session::Session;
 use sv_model::text::Text;
+use sv_record::{Frame, write_frame, write_packet, write_record};
 
 #[test]
 fn the_commit_of_a_first_count(rt: HostRuntime) -> Result<(), Fail> {
