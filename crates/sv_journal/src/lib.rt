@@ -36,6 +36,3 @@ pub use journal_fault::JournalFault;
 pub use limits::{FILE_LIMIT, PAYLOAD_LIMIT};
 pub use memory_disk::{DiskCall, MemoryDisk};
 pub use not_opened::NotOpened;
-
-#[cfg(test)]
-mod tests;
