@@ -1,5 +1,5 @@
 -- Entries that are gathered from a piece: of the piece a rest is left, and of whatever stands on the disk as much.
-use Rattle.std.proofs.Common.{◌≡◌, ℕ, ◌+◌, ◌-◌, ◌≤◌, ◌<◌, min, List, [], ◌∷◌, ◌++◌, length, take, drop, sym, ◌∙◌, ap, subst, arith, length-append, length-take, length-drop, take-append-drop}
+use Rattle.std.proofs.Common.{◌≡◌, ℕ, ◌+◌, ◌-◌, ◌≤◌, min, List, [], ◌∷◌, ◌++◌, length, take, drop, sym, ◌∙◌, ap, subst, arith, length-append, length-drop, take-append-drop}
 use Rattle.std.proofs.lemmas.List.{append_assoc, drop-append-le, drop-drop}
 use Rattle.std.proofs.Math.Seq.{take-append_seam, take-length}
 use Rattle.sv_journal.specs.Format.{entry, Begins, HasEntries, HasNoEntries, IsShut, IsHead, IsStuck, IsPayload}
@@ -43,6 +43,10 @@ rest_of_rest piece rest next n within room part is =
     let whole : at + (5 + n) ≡ length piece - length next = omega (arith, size, within, room) in
     let twice : drop n (drop 5 rest) ≡ drop (5 + n) rest = drop-drop n 5 rest in
     is ∙ twice ∙ ap (λ (l : List ℕ). drop (5 + n) l) part ∙ drop-drop (5 + n) at piece ∙ ap (λ (k : ℕ). drop k piece) whole
+
+-- what was read into the buffer is a piece of the disk as it was at first
+pub piece_is : (piece buffer seen now : List ℕ) (k at : ℕ) → piece ≡ buffer → buffer ≡ take k (drop at now) → now ≡ seen → piece ≡ take k (drop at seen)
+piece_is piece buffer seen now k at here is same = here ∙ is ∙ ap (λ (l : List ℕ). take k (drop at l)) same
 
 -- from piece to piece of a disk
 module _ (seen piece bytes : List ℕ) (before : List (List ℕ)) (len at k : ℕ) (size : len ≡ length seen) (is : piece ≡ take k (drop at seen)) (begins : Begins bytes before (drop at seen)) where

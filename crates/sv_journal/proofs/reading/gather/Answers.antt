@@ -1,4 +1,4 @@
-use Rattle.std.proofs.Common.{◌≡◌, ◌≤◌, ◌+◌, ◌<◌, ◌-◌, ◌++◌, ◌∷◌, [], List, ℕ, Vec, Global, length, take, drop, min, refl, sym, ap, ◌∙◌, arith}
+use Rattle.std.proofs.Common.{◌≡◌, ◌≤◌, ◌+◌, ◌<◌, ◌-◌, ◌++◌, ◌∷◌, [], List, ℕ, Vec, Global, length, take, drop, min, refl, ap, ◌∙◌, arith}
 use Rattle.std.proofs.lemmas.List.{map_push, take_rest}
 use Rattle.sv_journal.specs.Format.{IsHead, payloads}
 use Rattle.sv_journal.proofs.ReadingLemmas.{piece_stuck, piece_shut, piece_on, piece_left, rest_of_rest, whole_part}

@@ -1,9 +1,9 @@
-use Rattle.std.proofs.Common.{◌≡◌, ◌+◌, ℕ, List, [], take, drop, ap, ◌∙◌, refl, sym, subst, arith, rules}
+use Rattle.std.proofs.Common.{◌≡◌, ℕ, List, [], take, drop, ap, ◌∙◌, refl, sym, subst, arith, rules}
 use Rattle.sv_journal.specs.Format.{Begins, payloads}
 use Rattle.sv_journal.specs.Reading.{Gathers}
 use Rattle.std.specs.Prelude.{Some, None}
 use Rattle.sv_journal.proofs.EntryLemmas.{begins_none}
-use Rattle.sv_journal.proofs.ReadingLemmas.{disk_stuck, disk_ends, disk_on}
+use Rattle.sv_journal.proofs.ReadingLemmas.{piece_is, disk_stuck, disk_ends, disk_on}
 use Rattle.sv_journal.proofs.Quiet.{quiet_then}
 use Rattle.sv_journal.proofs.reading.read_entries.Goals as goal
 
@@ -24,7 +24,7 @@ returns-in_err-taken-clause-damaged g c = λ e told.
     let at = c.loop-entries.at in
     let seen = g.D.Disk.seen c.args.disk.now in
     let k = c.min-count.result in
-    let is : c.deref.result.now ≡ take k (drop at seen) = c.deref.ensures.value ∙ c.in_ok-refill.ensures.bytes (i.quiet.tells_after told) ∙ ap (λ (l : List ℕ). take k (drop at l)) i.quiet.same in
+    let is : c.deref.result.now ≡ take k (drop at seen) = piece_is c.deref.result.now c.refill.new.buffer.items seen (g.D.Disk.seen c.loop-entries.disk) k at c.deref.ensures.value (c.in_ok-refill.ensures.bytes (i.quiet.tells_after told)) i.quiet.same in
     disk_stuck seen c.deref.result.now (drop 16 seen) (payloads c.loop-entries.entries.items) c.args.len at k (c.requires.sized told) is (i.begins told) (c.gather.ensures.damaged (search rules))
 
 pub loop-entries-preserved : goal.loop-entries-preserved
@@ -41,7 +41,7 @@ loop-entries-preserved g c =
       within = omega (arith, i.within, found.1, c.deref.ensures.len, c.refill.ensures.len, c.min-count.ensures);
       room = omega (arith, i.within, c.refill.ensures.len, c.min-count.ensures);
       begins = λ told.
-          let is : c.deref.result.now ≡ take k (drop at seen) = c.deref.ensures.value ∙ c.in_ok-refill.ensures.bytes (i.quiet.tells_after told) ∙ ap (λ (l : List ℕ). take k (drop at l)) i.quiet.same in
+          let is : c.deref.result.now ≡ take k (drop at seen) = piece_is c.deref.result.now c.refill.new.buffer.items seen (g.D.Disk.seen c.loop-entries.disk) k at c.deref.ensures.value (c.in_ok-refill.ensures.bytes (i.quiet.tells_after told)) i.quiet.same in
           disk_on seen c.deref.result.now (drop 16 seen) (payloads c.loop-entries.entries.items) c.args.len at k (c.requires.sized told) is (i.begins told) (payloads c.gather.new.entries.items) c.in-Some.taken found.1 found.2;
     }
 
@@ -51,6 +51,6 @@ returns-in-None-clause-entries g c = λ told.
     let at = c.loop-entries.at in
     let seen = g.D.Disk.seen c.args.disk.now in
     let k = c.min-count.result in
-    let is : c.deref.result.now ≡ take k (drop at seen) = c.deref.ensures.value ∙ c.in_ok-refill.ensures.bytes (i.quiet.tells_after told) ∙ ap (λ (l : List ℕ). take k (drop at l)) i.quiet.same in
+    let is : c.deref.result.now ≡ take k (drop at seen) = piece_is c.deref.result.now c.refill.new.buffer.items seen (g.D.Disk.seen c.loop-entries.disk) k at c.deref.ensures.value (c.in_ok-refill.ensures.bytes (i.quiet.tells_after told)) i.quiet.same in
     let found : Gathers c.deref.result.now (payloads c.loop-entries.entries.items) (payloads c.gather.new.entries.items) None = rw c.in-None.is at c.in_ok-taken.ensures.gathers in
     disk_ends seen c.deref.result.now (drop 16 seen) (payloads c.loop-entries.entries.items) c.args.len at k (c.requires.sized told) is (i.begins told) (payloads c.gather.new.entries.items) found

@@ -1,4 +1,4 @@
-use Rattle.std.proofs.Common.{◌≡◌, List, ℕ, drop, refl, arith, rules}
+use Rattle.std.proofs.Common.{◌≡◌, List, ℕ, drop, refl, rules}
 use Rattle.std.proofs.lemmas.Result.{IfOk-weaker}
 use Rattle.sv_journal.specs.Journal.{JournalView, Holds}
 use Rattle.sv_journal.specs.Format.{HasEntries, payloads}
