@@ -1,29 +1,23 @@
 //! Real files as a stop leaves them.
-use crate::fixtures::{added, compacted, new_path, opened, shown_of};
-use std::alloc::Global;
+use crate::fixtures::{Files, opened, shown_of};
+use std::fs;
 use std::test::Fail;
-use std::{fs, io};
 use sv_journal::{FileDisk, JournalFault};
 
 // Makes both files anew, opens them, and reads the entries, each with a bar behind it.
 fn found_in(
     rt: &HostRuntime,
-    paths: &(String, String),
+    files: &Files,
     a: &[u8],
     b: &[u8],
 ) -> Result<Result<Vec<u8>, JournalFault>, Fail> {
-    fs::write(rt, &paths.0, a)?;
-    fs::write(rt, &paths.1, b)?;
-    let disks = (FileDisk::open(rt, &paths.0)?, FileDisk::open(rt, &paths.1)?);
-    Ok(match opened(rt.alloc(), disks.0, disks.1) {
+    fs::write(rt, &files.a, a)?;
+    fs::write(rt, &files.b, b)?;
+    let (a, b) = (FileDisk::open(rt, &files.a)?, FileDisk::open(rt, &files.b)?);
+    Ok(match opened(rt.alloc(), a, b) {
         Ok(mut journal) => shown_of(rt.alloc(), &mut journal),
         Err(refused) => Err(refused.fault),
     })
-}
-
-fn remove(rt: &HostRuntime, paths: &(String, String)) -> io::Result<()> {
-    fs::remove_file(rt, &paths.0)?;
-    fs::remove_file(rt, &paths.1)
 }
 
 // The entries `one` and `two`, the second of which begins at byte 24.
@@ -36,23 +30,24 @@ const ONE: &[u8] = b"\xA5SVJRNL\x01\0\0\0\0\0\0\0\x01\xA5\0\0\0\x03one\0\0\0\0\x
 // a closed gate is not missed.
 #[test]
 fn a_file_is_cut_at_each_byte_of_its_last_entry(rt: HostRuntime) -> Result<(), Fail> {
-    let paths = new_path(&rt, "cut_at_each")?;
+    let files = Files::new(&rt, "cut_at_each")?;
     for len in 24..=33usize {
-        let found = found_in(&rt, &paths, TWO.get(..len).unwrap_or(TWO), b"")?;
-        if len == 33 {
-            assert_eq!(rt; found?.as_slice(), b"one|two|".as_slice());
+        let found = found_in(&rt, &files, TWO.get(..len).unwrap_or(TWO), b"")?;
+        let wanted = if len == 33 {
+            Some(b"one|two|".as_slice())
         } else {
-            assert_eq!(rt; found.err(), Some(JournalFault::Damaged), "{len}");
-        }
-        let found = found_in(&rt, &paths, ONE.get(..len).unwrap_or(ONE), b"")?;
-        if len == 24 {
-            assert_eq!(rt; found.err(), Some(JournalFault::Damaged));
+            None
+        };
+        assert_eq!(rt; found.as_deref().ok(), wanted, "open, {len}");
+        let found = found_in(&rt, &files, ONE.get(..len).unwrap_or(ONE), b"")?;
+        let wanted = if len > 24 {
+            Some(b"one|".as_slice())
         } else {
-            assert_eq!(rt; found?.as_slice(), b"one|".as_slice(), "{len}");
-        }
+            None
+        };
+        assert_eq!(rt; found.as_deref().ok(), wanted, "closed, {len}");
     }
-    remove(&rt, &paths)?;
-    Ok(())
+    files.remove(&rt)
 }
 
 // The current disk, of generation 2.
@@ -84,28 +79,19 @@ const STOPPED: [(&str, &[u8], &[u8]); 5] = [
 ];
 
 // What is left of B is compacted over once more, and grows from there.
-fn goes_on(rt: &HostRuntime, paths: &(String, String)) -> Result<Vec<u8>, Fail> {
-    let alloc: Global = rt.alloc();
-    let disks = (FileDisk::open(rt, &paths.0)?, FileDisk::open(rt, &paths.1)?);
-    let mut journal = opened(alloc, disks.0, disks.1)?;
-    compacted(&mut journal, &[])?;
-    added(&mut journal, b"last")?;
-    let (a, b) = journal.into_disks();
-    Ok(shown_of(alloc, &mut opened(alloc, a, b)?)?)
-}
-
 #[test]
 fn a_compaction_is_stopped_at_each_sync(rt: HostRuntime) -> Result<(), Fail> {
-    let paths = new_path(&rt, "stopped")?;
+    let files = Files::new(&rt, "stopped")?;
     for (name, b, wanted) in STOPPED {
-        let found = found_in(&rt, &paths, CURRENT, b)?;
-        assert_eq!(rt; found?.as_slice(), wanted, "{name}");
+        let found = found_in(&rt, &files, CURRENT, b)?;
+        assert_eq!(rt; found.as_deref().ok(), Some(wanted), "{name}");
+        files.compact(&rt, b"first")?;
+        files.add(&rt, b"last")?;
         assert_eq!(rt;
-            goes_on(&rt, &paths)?.as_slice(),
-            b"last|".as_slice(),
+            files.found(&rt)?.as_slice(),
+            b"first|last|".as_slice(),
             "{name}"
         );
     }
-    remove(&rt, &paths)?;
-    Ok(())
+    files.remove(&rt)
 }
