@@ -19,8 +19,8 @@ use std::alloc::{AllocError, Global};
 use std::marker::Model;
 use std::mem::swap;
 
-/// A list of entries that only grows. An entry that `append` answered with Ok is there after every stop; one that it
-/// didn't answer is there whole or not at all.
+/// A list of entries, which grows by one at a time and is replaced as a whole. What `append` or `compact` answered with
+/// Ok is there after every stop; what they didn't answer is there whole or not at all.
 #[derive(Drop)]
 pub struct Journal<D: Disk> {
     current: D,
