@@ -1,12 +1,12 @@
 -- One entry more.
-use Rattle.std.proofs.Common.{◌≡◌, ◌≢◌, inl, inr, ℕ, ◌^◌, ◌+◌, ◌-◌, ◌<◌, max, List, [], ◌∷◌, ◌++◌, length, take, drop, refl, sym, ◌∙◌, ap, subst, arith, length-append, length-drop}
+use Rattle.std.proofs.Common.{◌≡◌, ◌≢◌, inl, inr, ℕ, ◌^◌, ◌+◌, ◌<◌, max, List, [], ◌∷◌, ◌++◌, length, drop, refl, sym, ◌∙◌, ap, subst, arith, length-append, length-drop}
 use Rattle.std.proofs.lemmas.Bool.{cases_eq}
 use Rattle.std.proofs.lemmas.Grind.{flat_map-append}
-use Rattle.std.proofs.lemmas.List.{append_assoc, append-nil, take_at}
+use Rattle.std.proofs.lemmas.List.{append_assoc, append-nil}
 use Rattle.std.specs.Int.{w32, to_be_bytes}
 use Rattle.std.specs.List.{flat_map, AllByRecursion}
 use Rattle.sv_journal.specs.Disk.{LeavesOnly}
-use Rattle.sv_journal.specs.Format.{entry, header, front, IsPayload, IsJournal, IsOpen, OpensEither, HasEntries}
+use Rattle.sv_journal.specs.Format.{entry, header, front, IsPayload, IsJournal, IsOlder, OpensEither, HasEntries}
 use Rattle.sv_journal.specs.Commit.{Rests, IsSettled, IsCommitting}
 use Rattle.sv_journal.specs.Journal.{JournalView, Keeps}
 use Rattle.sv_journal.proofs.EntryLemmas.{all_push, ends}
@@ -55,13 +55,13 @@ module _ (generation : ℕ) (entries : List (List ℕ)) (payload : List ℕ) whe
       whole = is ∙ pushed junk;
     }
 
-    pub either : (b : List ℕ) (gate most : ℕ) (junk image : List ℕ) → (IsOpen b → ⊥) → gate ≢ 165 → IsCommitting (front generation entries) gate most (staged payload ++ junk) image → OpensEither b entries (entries ++ payload ∷ []) image
-    either b gate most junk image other shut (inl kept) =
-        inl (inl (record { generation = generation; journal = record { small = small; payloads = payloads; gate = gate; rest = kept.0; shut = shut; whole = kept.2 }; other = other }))
-    either b gate most junk image other shut (inr any) =
+    pub either : (b : List ℕ) (gate most : ℕ) (junk image : List ℕ) → IsOlder b generation → gate ≢ 165 → IsCommitting (front generation entries) gate most (staged payload ++ junk) image → OpensEither b entries (entries ++ payload ∷ []) image
+    either b gate most junk image older shut (inl kept) =
+        inl (record { generation = generation; journal = record { small = small; payloads = payloads; gate = gate; rest = kept.0; shut = shut; whole = kept.2 }; older = older })
+    either b gate most junk image older shut (inr any) =
         elim (cases_eq any.0 165) [
-          | inl is ↦ inr (inl (record { generation = generation; journal = journal_pushed junk image (any.1 ∙ ap (λ (g : ℕ). front generation entries ++ g ∷ (staged payload ++ junk)) is); other = other }))
-          | inr not ↦ inl (inl (record { generation = generation; journal = record { small = small; payloads = payloads; gate = any.0; rest = staged payload ++ junk; shut = not; whole = any.1 }; other = other }))
+          | inl is ↦ inr (record { generation = generation; journal = journal_pushed junk image (any.1 ∙ ap (λ (g : ℕ). front generation entries ++ g ∷ (staged payload ++ junk)) is); older = older })
+          | inr not ↦ inl (record { generation = generation; journal = record { small = small; payloads = payloads; gate = any.0; rest = staged payload ++ junk; shut = not; whole = any.1 }; older = older })
         ]
 
 module _ {D : Type 0} (seen : D → List ℕ) (may_leave : D → List ℕ → Type 0) (journal : JournalView D) (entries : List (List ℕ)) (keeps : Keeps seen may_leave journal entries) where
@@ -94,28 +94,23 @@ module _ {D : Type 0} (seen : D → List ℕ) (may_leave : D → List ℕ → Ty
       }
 
   -- each image that is left opens with the old entries or with the new one last
-  pub moments : (moment : D → ℕ) (left_since : D → ℕ → List ℕ → Type 0) (b payload bytes : List ℕ) (new : D) → (IsOpen b → ⊥) → bytes ≡ staged payload → IsPayload payload
+  pub moments : (moment : D → ℕ) (left_since : D → ℕ → List ℕ → Type 0) (b payload bytes : List ℕ) (new : D) → IsOlder b journal.generation → bytes ≡ staged payload → IsPayload payload
       → LeavesOnly moment left_since journal.current new (IsCommitting (front journal.generation entries) keeps.image.gate (max (length keeps.image.rest) (length bytes)) (bytes ++ drop (length bytes) keeps.image.rest))
       → LeavesOnly moment left_since journal.current new (OpensEither b entries (entries ++ payload ∷ []))
-  moments moment left_since b payload bytes new other is fits left =
+  moments moment left_since b payload bytes new older is fits left =
       let f = front journal.generation entries in
       let junk = drop (length bytes) keeps.image.rest in
       let most = max (length keeps.image.rest) (length bytes) in
       leaves_weaker moment left_since journal.current new (IsCommitting f keeps.image.gate most (bytes ++ junk)) (OpensEither b entries (entries ++ payload ∷ []))
-      (λ image c. either journal.generation entries payload keeps.image.small keeps.image.payloads fits b keeps.image.gate most junk image other keeps.image.shut
+      (λ image c. either journal.generation entries payload keeps.image.small keeps.image.payloads fits b keeps.image.gate most junk image older keeps.image.shut
       (subst (λ (s : List ℕ). IsCommitting f keeps.image.gate most (s ++ junk) image) is c))
       left
 
-  -- what stands behind the header, up to the closing gate and with it
-  pub live_part : HasEntries (take (journal.end + 1 - 16) (drop 16 (seen journal.current))) entries
+  -- what stands behind the header
+  pub live_part : HasEntries (drop 16 (seen journal.current)) entries
   live_part =
-      let f = flat_map entry entries in
       let i = keeps.image in
-      let behind : drop 16 (seen journal.current) ≡ (f ++ i.gate ∷ []) ++ i.rest = ap (λ (l : List ℕ). drop 16 l) i.whole ∙ sym (append_assoc f (i.gate ∷ []) i.rest) in
-      let count : journal.end + 1 - 16 ≡ length (f ++ i.gate ∷ []) = omega (arith, keeps.end_is, length-append f (i.gate ∷ [])) in
-      let part : take (journal.end + 1 - 16) (drop 16 (seen journal.current)) ≡ f ++ i.gate ∷ [] =
-      ap (λ (n : ℕ). take n (drop 16 (seen journal.current))) count ∙ ap (λ (l : List ℕ). take (length (f ++ i.gate ∷ [])) l) behind ∙ take_at (f ++ i.gate ∷ []) i.rest (length (f ++ i.gate ∷ [])) refl in
-      ends (take (journal.end + 1 - 16) (drop 16 (seen journal.current))) entries (i.gate ∷ []) (record { payloads = i.payloads; whole = part }) (i.gate, [], i.shut, refl)
+      ends (drop 16 (seen journal.current)) entries (i.gate ∷ i.rest) (record { payloads = i.payloads; whole = ap (λ (l : List ℕ). drop 16 l) i.whole }) (i.gate, i.rest, i.shut, refl)
 
   -- the journal after it was read
   pub kept_quiet : (next : JournalView D) → seen next.current ≡ seen journal.current → ((c : List ℕ) → may_leave next.current c → may_leave journal.current c)

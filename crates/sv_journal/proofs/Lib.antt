@@ -5,8 +5,14 @@ pub mod Gates
 pub mod Committing
 pub mod EntryLemmas
 pub mod WalkLemmas
+pub mod ReadingLemmas
 pub mod GateLemmas
 pub mod HeadLemmas
 pub mod JournalLemmas
+pub mod StandingLemmas
+pub mod ShutLemmas
 pub mod BlankLemmas
+pub mod FoundLemmas
+pub mod ReplacingLemmas
 pub mod Appending
+pub mod Compacting

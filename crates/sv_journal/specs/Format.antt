@@ -1,9 +1,10 @@
 -- What the bytes of a journal stand for. Numbers are big-endian. An open gate is the byte 165, and any other byte
 -- is a closed one.
-use Rattle.std.specs.Prelude.{◌≡◌, ◌≢◌, ◌⊎◌, ℕ, ◌+◌, ◌<◌, ◌≤◌, ◌^◌, List, [], ◌∷◌, ◌++◌, length, drop, map, slice_index, Vec}
+use Rattle.std.specs.Prelude.{◌≡◌, ◌≢◌, ◌⊎◌, ℕ, ◌+◌, ◌<◌, ◌≤◌, ◌^◌, List, [], ◌∷◌, ◌++◌, length, take, drop, map, slice_index, Vec}
 use Rattle.std.specs.declared.alloc.Global.{Global}
 use Rattle.std.specs.Int.{w32, w64, to_be_bytes}
 use Rattle.std.specs.List.{flat_map, AllByRecursion}
+use Rattle.sv_journal.specs.declared.limits.TheConstants.{PAYLOAD_LIMIT}
 
 -- an open gate, the length and the payload
 abbrev pub entry : List ℕ → List ℕ
@@ -18,7 +19,7 @@ abbrev pub front : ℕ → List (List ℕ) → List ℕ
 front generation entries = header generation ++ flat_map entry entries
 
 abbrev pub IsPayload : List ℕ → Type 0
-IsPayload payload = length payload ≤ 131072
+IsPayload payload = length payload ≤ PAYLOAD_LIMIT
 
 -- The image is that of an open disk of this generation with these entries: behind them stands a gate that isn't
 -- open, and behind that anything.
@@ -35,11 +36,19 @@ pub record IsOpen (image : List ℕ) : Type 0 where
   pub long : 17 ≤ length image
   pub gate : slice_index image 0 ≡ 165
 
--- Disk A is a journal of these entries, and disk B isn't open.
-pub record OpensOnA (a b : List ℕ) (entries : List (List ℕ)) : Type 0 where
+-- the image of a disk that has these entries and nothing behind the gate that ends them
+abbrev pub snapshot : ℕ → List (List ℕ) → List ℕ
+snapshot generation entries = front generation entries ++ 0 ∷ []
+
+-- Beside a journal of this generation the image counts for nothing: its disk isn't open, or its generation is lower.
+abbrev pub IsOlder : List ℕ → ℕ → Type 0
+IsOlder image generation = (IsOpen image → ⊥) ⊎ ((lower : ℕ) × (lower < generation) × (take 16 image ≡ header lower))
+
+-- One disk is a journal of these entries, and the other is older.
+pub record OpensOn (current other : List ℕ) (entries : List (List ℕ)) : Type 0 where
   pub generation : ℕ
-  pub journal : IsJournal a generation entries
-  pub other : IsOpen b → ⊥
+  pub journal : IsJournal current generation entries
+  pub older : IsOlder other generation
 
 -- No disk was open yet, and no more is there than a stop leaves while the first journal is made.
 pub record OpensAsNew (a b : List ℕ) (entries : List (List ℕ)) : Type 0 where
@@ -50,11 +59,16 @@ pub record OpensAsNew (a b : List ℕ) (entries : List (List ℕ)) : Type 0 wher
 
 -- the images of the two disks open with these entries
 abbrev pub Opens : List ℕ → List ℕ → List (List ℕ) → Type 0
-Opens a b entries = OpensOnA a b entries ⊎ OpensAsNew a b entries
+Opens a b entries = OpensOn a b entries ⊎ (OpensOn b a entries ⊎ OpensAsNew a b entries)
 
--- the image of disk A opens, beside that of disk B, with the entries before or with those after
+-- the image of the current disk opens, beside that of the other one, with the entries before or with those after
 abbrev pub OpensEither : List ℕ → List (List ℕ) → List (List ℕ) → List ℕ → Type 0
-OpensEither b before after a = Opens a b before ⊎ Opens a b after
+OpensEither other before after image = OpensOn image other before ⊎ OpensOn image other after
+
+-- the image of the other disk opens, beside that of the current one, with the entries there or with those that
+-- are put in their place
+abbrev pub OpensReplaced : List ℕ → List (List ℕ) → List (List ℕ) → List ℕ → Type 0
+OpensReplaced current before after image = OpensOn current image before ⊎ OpensOn image current after
 
 -- the image of disk A opens, beside that of disk B, with the entries with which another one opens
 abbrev pub OpensAlike : List ℕ → List ℕ → List ℕ → Type 0
@@ -92,7 +106,7 @@ IsHead head n = (rest : List ℕ) × (head ≡ 165 ∷ to_be_bytes w32 n ++ rest
 
 -- No entry and no closed gate begins so, where so many bytes are left.
 abbrev pub IsStuck : List ℕ → ℕ → Type 0
-IsStuck head left = (head ≡ []) ⊎ (((rest : List ℕ) × (head ≡ 165 ∷ rest) × (left < 5)) ⊎ ((n : ℕ) × IsHead head n × (n < 2 ^ 32) × ((131072 < n) ⊎ (left < 5 + n))))
+IsStuck head left = (head ≡ []) ⊎ (((rest : List ℕ) × (head ≡ 165 ∷ rest) × (left < 5)) ⊎ ((n : ℕ) × IsHead head n × (n < 2 ^ 32) × ((PAYLOAD_LIMIT < n) ⊎ (left < 5 + n))))
 
 abbrev pub payloads : List (Vec ℕ Global) → List (List ℕ)
 payloads vs = map (λ v. v.items) vs

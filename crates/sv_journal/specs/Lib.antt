@@ -5,7 +5,12 @@ pub mod FileDisk
 pub mod Format
 pub mod Commit
 pub mod Walk
+pub mod Reading
 pub mod Head
 pub mod Journal
 pub mod Blank
 pub mod Opening
+pub mod Shut
+pub mod Standing
+pub mod Current
+pub mod Replacing

@@ -1,27 +1,31 @@
 //! A journal on two disks.
-ghost use Rattle.std.specs.Prelude.{◌≡◌, ◌⊎◌, ◌<◌, ◌≤◌, ◌+◌, ◌-◌, ◌++◌, [], ◌∷◌, List, ℕ, length, take, drop, max, true, false, IfOk, IfErr, OnOk, OnErr, IsErr, IsErrOf, IsTrue, ◌↔◌};
+ghost use Rattle.std.specs.Prelude.{◌≡◌, ◌⊎◌, ◌<◌, ◌≤◌, ◌+◌, ◌-◌, ◌^◌, ◌++◌, [], ◌∷◌, List, ℕ, length, take, drop, max, not, true, false, IfOk, IfErr, OnOk, OnErr, IsErr, IfSome, IfNone, IsErrOf, IsTrue, ◌↔◌};
 ghost use Rattle.std.specs.Int.{w32, to_be_bytes};
+ghost use Rattle.std.specs.List.{flat_map, All};
 ghost use Rattle.sv_journal.specs.Disk.{LeavesOnly, IsQuiet, TellsOn, HasRisen};
-ghost use Rattle.sv_journal.specs.Format.{Opens, OpensEither, payloads};
-ghost use Rattle.sv_journal.specs.Journal.{Holds, disks, OpensWithoutLoss};
+ghost use Rattle.sv_journal.specs.Format.{entry, Opens, OpensEither, OpensReplaced, payloads};
+ghost use Rattle.sv_journal.specs.Journal.{Holds, IsSound, disk_a, disk_b, disks, OpensWithoutLoss};
+ghost use Rattle.sv_journal.specs.Opening.{journal_at};
+ghost use Rattle.sv_journal.specs.declared.limits.TheConstants.{FILE_LIMIT, PAYLOAD_LIMIT};
 
 use crate::commit::{CLOSED, commit};
-use crate::entries::{ENTRY_HEAD, entries_of};
-use crate::opening::find_or_make;
-use crate::walk::HEADER;
-use crate::{Disk, JournalFault, NotOpened};
+use crate::entries::ENTRY_HEAD;
+use crate::opening::{Place, find_or_make};
+use crate::reading::read_entries;
+use crate::replacing::replace;
+use crate::snapshot::{behind_gate, snapshot_len};
+use crate::{Disk, FILE_LIMIT, JournalFault, NotOpened};
 use std::alloc::{AllocError, Global};
 use std::marker::Model;
+use std::mem::swap;
 
-// The most bytes of the file.
-const MAX_LENGTH: u64 = 1_073_741_824;
-
-/// A list of entries that only grows. An entry that `append` answered with Ok is there after every stop; one that it
-/// didn't answer is there whole or not at all.
+/// A list of entries, which grows by one at a time and is replaced as a whole. What `append` or `compact` answered with
+/// Ok is there after every stop; what they didn't answer is there whole or not at all.
 #[derive(Drop)]
 pub struct Journal<D: Disk> {
     current: D,
     other: D,
+    on_a: bool,
     generation: u64,
     end: u64,
     len: u64,
@@ -34,18 +38,19 @@ impl<D: Disk> Model for Journal<D> {
 
     ghost Value = { JournalView D };
 
-    ghost view = { λ j. record { current = j.current; other = j.other; generation = j.generation; end = j.end; len = j.len; live = j.is_live } };
+    ghost view = { λ j. record { current = j.current; other = j.other; on_a = j.on_a; generation = j.generation; end = j.end; len = j.len; live = j.is_live } };
 
-    ghost invariant = { λ j. IsSound D.tells D.seen D.may_leave (record { current = j.current; other = j.other; generation = j.generation; end = j.end; len = j.len; live = j.is_live }) };
+    ghost invariant = { λ j. IsSound D.tells D.seen D.may_leave (record { current = j.current; other = j.other; on_a = j.on_a; generation = j.generation; end = j.end; len = j.len; live = j.is_live }) };
 }
 
 impl<D: Disk> Journal<D> {
-    /// Opens the disks A and B: both are synced, the journal on A is found, or a first one is made where no more
-    /// stands there than a stop leaves while it is made. On each fault the disks are handed back.
+    /// Opens the disks A and B: both are synced, the open disk of the greater generation is read, and where neither is
+    /// open a first journal is made on A, if no more stands there than a stop leaves while it is made. On each fault
+    /// the disks are handed back.
     ///
-    /// Damaged: disk B is open; disk A is open and has other letters or another format's number, ends at the gate of
-    /// an entry, or has an open entry that is cut off or longer than 131,072 bytes; or no disk is open while A has
-    /// more than 17 bytes or B more than 1.
+    /// Damaged: an open disk has other letters or another format's number; both disks are open with one generation;
+    /// the disk that is read ends at the gate of an entry, or has an open entry that is cut off or longer than 131,072
+    /// bytes; or no disk is open while A has more than 17 bytes or B more than 1.
     pub fn open(alloc: Global, mut a: D, mut b: D) -> Result<Journal<D>, NotOpened<D>>
         // It holds the entries with which the images open.
         ensures holds { IfOk result (λ j. D.tells a → D.tells b → (entries : List (List ℕ)) → Opens (D.seen a) (D.seen b) entries → Holds D.seen D.may_leave j entries) }
@@ -54,9 +59,9 @@ impl<D: Disk> Journal<D> {
         ensures damaged { IfErr result (λ r. r.fault ≡ JournalFault.Damaged → D.tells a → D.tells b → (entries : List (List ℕ)) → Opens (D.seen a) (D.seen b) entries → ⊥) }
 
         // A stop at any moment of the call loses nothing.
-        ensures any_moment { IfOk result (λ j. D.tells a → D.tells b → OpensWithoutLoss D.seen D.may_leave D.moment D.left_since a b j.current j.other) }
+        ensures any_moment { IfOk result (λ j. D.tells a → D.tells b → OpensWithoutLoss D.seen D.may_leave D.moment D.left_since a b (disk_a j) (disk_b j)) }
         ensures any_moment_err { IfErr result (λ r. D.tells a → D.tells b → OpensWithoutLoss D.seen D.may_leave D.moment D.left_since a b r.a r.b) }
-        ensures tells { IfOk result (λ j. TellsOn D.tells a j.current × TellsOn D.tells b j.other) }
+        ensures tells { IfOk result (λ j. TellsOn D.tells a (disk_a j) × TellsOn D.tells b (disk_b j)) }
         ensures tells_err { IfErr result (λ r. TellsOn D.tells a r.a × TellsOn D.tells b r.b) }
 
         ensures unchanged { IfErr result (λ r. r.fault ≡ JournalFault.Damaged → (D.seen r.a ≡ D.seen a) × (D.seen r.b ≡ D.seen b)) }
@@ -64,15 +69,7 @@ impl<D: Disk> Journal<D> {
         ensures fault { IfErr result (λ r. (r.fault ≡ JournalFault.Damaged) ⊎ (r.fault ≡ JournalFault.Device)) }
     {
         match find_or_make(&mut a, &mut b) {
-            Ok(place) => Ok(Journal {
-                current: a,
-                other: b,
-                generation: place.generation,
-                end: place.end,
-                len: place.len,
-                is_live: true,
-                alloc,
-            }),
+            Ok(place) => Ok(seated(alloc, a, b, place)),
             Err(fault) => Err(NotOpened { fault, a, b }),
         }
     }
@@ -82,7 +79,7 @@ impl<D: Disk> Journal<D> {
     /// then; after the other faults the journal is as it was. Full where the file would be longer than
     /// 1,073,741,824 bytes.
     pub fn append(&mut self, payload: &[u8]) -> Result<(), JournalFault>
-        requires { length payload.now ≤ 131072 }
+        requires { length payload.now ≤ PAYLOAD_LIMIT }
         // Once it is Ok, a stop leaves the entries with the new one last.
         ensures added { OnOk result ((entries : List (List ℕ)) → D.tells self.old.current → Holds D.seen D.may_leave self.old entries
             → Holds D.seen D.may_leave self.new (entries ++ payload.now ∷ [])) }
@@ -91,6 +88,7 @@ impl<D: Disk> Journal<D> {
             → LeavesOnly D.moment D.left_since self.old.current self.new.current (OpensEither (D.seen self.old.other) entries (entries ++ payload.now ∷ [])) }
         ensures tells { TellsOn D.tells self.old.current self.new.current }
         ensures other { self.new.other ≡ self.old.other }
+        ensures on_a { self.new.on_a ≡ self.old.on_a }
         ensures generation { self.new.generation ≡ self.old.generation }
         ensures end { OnOk result (self.new.end ≡ self.old.end + 5 + length payload.now) }
         ensures len { OnOk result (self.new.len ≡ max self.old.len (self.old.end + 6 + length payload.now)) }
@@ -98,7 +96,7 @@ impl<D: Disk> Journal<D> {
         ensures live { OnOk result (IsTrue self.new.live) }
 
         ensures failed { IsErrOf result JournalFault.Failed ↔ (self.old.live ≡ false) }
-        ensures full { IsErrOf result JournalFault.Full ↔ (IsTrue self.old.live × (1073741824 < max self.old.len (self.old.end + 6 + length payload.now))) }
+        ensures full { IsErrOf result JournalFault.Full ↔ (IsTrue self.old.live × (FILE_LIMIT < max self.old.len (self.old.end + 6 + length payload.now))) }
         ensures device { IsErrOf result JournalFault.Device → (self.new.live ≡ false) × HasRisen (D.failed self.old.current) (D.failed self.new.current) }
         ensures unchanged { IsErr result → ¬ IsErrOf result JournalFault.Device → self.new ≡ self.old }
         ensures damaged { ¬ IsErrOf result JournalFault.Damaged }
@@ -106,16 +104,70 @@ impl<D: Disk> Journal<D> {
         if !self.is_live {
             return Err(JournalFault::Failed);
         }
-        if self.len > MAX_LENGTH || self.end + ENTRY_HEAD + payload.len() as u64 >= MAX_LENGTH {
+        let Some(end) = end_behind(self.end, self.len, payload) else {
             return Err(JournalFault::Full);
-        }
-        let end = self.end + ENTRY_HEAD + payload.len() as u64;
+        };
         let bytes = staged(self.alloc, payload)?;
         self.is_live = false;
         commit(&mut self.current, self.end, &bytes)?;
         self.is_live = true;
         self.end = end;
         self.len = self.len.max(end + 1);
+        Ok(())
+    }
+
+    /// Puts these entries, each of at most 131,072 bytes, in the place of all others: they are written to the other
+    /// disk with the next generation, and that disk is current from then on. After Device all calls but `len` and
+    /// `into_disks` answer Failed until the disks are opened again, and which entries are there shows then; after the
+    /// other faults the journal is as it was. Full where the file would be longer than 1,073,741,824 bytes, and at the
+    /// generation 2^64 - 1.
+    pub fn compact(&mut self, entries: &[Vec<u8>]) -> Result<(), JournalFault>
+        requires { All (λ payload. length payload.items ≤ PAYLOAD_LIMIT) entries.now }
+        // Once it is Ok, a stop leaves the given entries.
+        ensures replaced { OnOk result ((before : List (List ℕ)) → D.tells self.old.other → Holds D.seen D.may_leave self.old before
+            → Holds D.seen D.may_leave self.new (payloads entries.now)) }
+        // A stop at any moment of the call leaves the old entries or the given ones.
+        ensures any_moment { OnOk result ((before : List (List ℕ)) → D.tells self.old.other → Holds D.seen D.may_leave self.old before
+            → LeavesOnly D.moment D.left_since self.old.other self.new.current (OpensReplaced (D.seen self.old.current) before (payloads entries.now))) }
+        ensures any_moment_err { OnErr result ((before : List (List ℕ)) → D.tells self.old.other → Holds D.seen D.may_leave self.old before
+            → LeavesOnly D.moment D.left_since self.old.other self.new.other (OpensReplaced (D.seen self.old.current) before (payloads entries.now))) }
+        ensures tells { OnOk result (TellsOn D.tells self.old.other self.new.current) }
+        ensures tells_err { OnErr result (TellsOn D.tells self.old.other self.new.other) }
+        ensures other { OnOk result (self.new.other ≡ self.old.current) }
+        ensures current { OnErr result (self.new.current ≡ self.old.current) }
+        ensures on_a { OnOk result (self.new.on_a ≡ not self.old.on_a) }
+        ensures on_a_err { OnErr result (self.new.on_a ≡ self.old.on_a) }
+        ensures generation { OnOk result (self.new.generation ≡ self.old.generation + 1) }
+        ensures end { OnOk result (self.new.end + 1 ≡ self.new.len) }
+        ensures len { OnOk result (self.new.len ≡ 17 + length (flat_map entry (payloads entries.now))) }
+        ensures len_err { OnErr result (self.new.len ≡ self.old.len) }
+        ensures live { OnOk result (IsTrue self.new.live) }
+
+        ensures failed { IsErrOf result JournalFault.Failed ↔ (self.old.live ≡ false) }
+        ensures full { IsErrOf result JournalFault.Full ↔ (IsTrue self.old.live × ((self.old.generation ≡ 2 ^ 64 - 1) ⊎ (FILE_LIMIT < 17 + length (flat_map entry (payloads entries.now))))) }
+        ensures device { IsErrOf result JournalFault.Device → (self.new.live ≡ false) × HasRisen (D.failed self.old.other) (D.failed self.new.other) }
+        ensures unchanged { IsErr result → ¬ IsErrOf result JournalFault.Device → self.new ≡ self.old }
+        ensures damaged { ¬ IsErrOf result JournalFault.Damaged }
+    {
+        if !self.is_live {
+            return Err(JournalFault::Failed);
+        }
+        if self.generation == u64::MAX {
+            return Err(JournalFault::Full);
+        }
+        let Some(len) = snapshot_len(entries) else {
+            return Err(JournalFault::Full);
+        };
+        let generation = self.generation + 1;
+        let bytes = behind_gate(self.alloc, generation, entries)?;
+        self.is_live = false;
+        replace(&mut self.other, &bytes)?;
+        self.is_live = true;
+        swap(&mut self.current, &mut self.other);
+        self.on_a = !self.on_a;
+        self.generation = generation;
+        self.end = len - 1;
+        self.len = len;
         Ok(())
     }
 
@@ -135,8 +187,7 @@ impl<D: Disk> Journal<D> {
         if !self.is_live {
             return Err(JournalFault::Failed);
         }
-        let bytes = read_from(self.alloc, &mut self.current, HEADER, self.end + 1)?;
-        entries_of(self.alloc, &bytes)
+        read_entries(self.alloc, &mut self.current, self.len)
     }
 
     /// The length of the journal's file in bytes when a call last succeeded.
@@ -146,6 +197,13 @@ impl<D: Disk> Journal<D> {
         self.len
     }
 
+    /// No call of a disk has failed in an append or a compaction since the disks were opened.
+    pub fn is_live(&self) -> bool
+        ensures { result ≡ self.now.live }
+    {
+        self.is_live
+    }
+
     /// The disks A and B.
     pub fn into_disks(self) -> (D, D)
         ensures { result ≡ disks self }
@@ -153,43 +211,62 @@ impl<D: Disk> Journal<D> {
         let Journal {
             current,
             other,
+            on_a,
             generation: _,
             end: _,
             len: _,
             is_live: _,
             alloc: _,
         } = self;
-        (current, other)
+        if on_a {
+            (current, other)
+        } else {
+            (other, current)
+        }
     }
+}
+
+// The journal at this place of the disks A and B.
+fn seated<D: Disk>(alloc: Global, a: D, b: D, place: Place) -> Journal<D>
+    requires { IsSound D.tells D.seen D.may_leave (journal_at a b place) }
+    ensures { result ≡ journal_at a b place }
+{
+    let (current, other) = if place.on_a { (a, b) } else { (b, a) };
+    Journal {
+        current,
+        other,
+        on_a: place.on_a,
+        generation: place.generation,
+        end: place.end,
+        len: place.len,
+        is_live: true,
+        alloc,
+    }
+}
+
+// Where the closing gate stands behind one entry more, in a file with these places of the gate and the end; none where
+// the file would be too long.
+fn end_behind(end: u64, len: u64, payload: &[u8]) -> Option<u64>
+    requires within { end < len }
+    requires small { length payload.now ≤ PAYLOAD_LIMIT }
+    ensures end { IfSome result (λ next. (next ≡ end + 5 + length payload.now) × (max len (next + 1) ≤ FILE_LIMIT)) }
+    ensures none { IfNone result (FILE_LIMIT < max len (end + 6 + length payload.now)) }
+{
+    if len > FILE_LIMIT {
+        return None;
+    }
+    let next = end + ENTRY_HEAD + payload.len() as u64;
+    if next < FILE_LIMIT { Some(next) } else { None }
 }
 
 // What is written behind the closed gate: the length, the payload and the next closed gate.
 fn staged(alloc: Global, payload: &[u8]) -> Result<Vec<u8>, AllocError>
-    requires { length payload.now ≤ 131072 }
+    requires { length payload.now ≤ PAYLOAD_LIMIT }
     ensures { IfOk result (λ bytes. bytes.items ≡ to_be_bytes w32 (length payload.now) ++ payload.now ++ 0 ∷ []) }
 {
     let mut bytes = Vec::with_capacity(alloc, payload.len() + ENTRY_HEAD as usize)?;
     bytes.extend_from_slice(&(payload.len() as u32).to_be_bytes())?;
     bytes.extend_from_slice(payload)?;
     bytes.push(CLOSED)?;
-    Ok(bytes)
-}
-
-// The bytes of a disk from one place to another.
-fn read_from<D: Disk>(
-    alloc: Global,
-    disk: &mut D,
-    from: u64,
-    to: u64,
-) -> Result<Vec<u8>, JournalFault>
-    requires ordered { from ≤ to }
-    requires within { D.tells disk.old → to ≤ length (D.seen disk.old) }
-    ensures bytes { IfOk result (λ bytes. D.tells disk.old → bytes.items ≡ take (to - from) (drop from (D.seen disk.old))) }
-    ensures quiet { IsQuiet D.tells D.seen D.may_leave D.moment D.left_since disk.old disk.new }
-    ensures device { IsErrOf result JournalFault.Device → HasRisen (D.failed disk.old) (D.failed disk.new) }
-    ensures fault { IfErr result (λ e. (e ≡ JournalFault.Device) ⊎ (e ≡ JournalFault.Memory)) }
-{
-    let mut bytes = Vec::from_elem(alloc, 0u8, (to - from) as usize)?;
-    disk.read(from, &mut bytes)?;
     Ok(bytes)
 }

@@ -5,10 +5,12 @@
 //! call. A disk tells what its bytes are or tells nothing: `MemoryDisk` tells all, `FileDisk` nothing, and a contract
 //! claims something only of disks that tell.
 //!
-//! Entries are kept on disk A alone; disk B is there for a compaction, which isn't built yet.
+//! The entries are kept on one of the two disks. A compaction writes those that are still needed to the other one,
+//! with the next generation, and the disk of the greater generation is the one that is read.
 #![tactic(auto)]
 
 mod commit;
+mod current;
 mod disk;
 mod entries;
 mod file_disk;
@@ -16,17 +18,21 @@ mod head;
 mod journal;
 mod journal_fault;
 pub mod laws;
+mod limits;
 mod memory_disk;
 mod not_opened;
 mod opening;
+mod reading;
+mod replacing;
+mod shut;
+mod snapshot;
+mod standing;
 mod walk;
 
 pub use disk::{Device, Disk};
 pub use file_disk::FileDisk;
 pub use journal::Journal;
 pub use journal_fault::JournalFault;
+pub use limits::{FILE_LIMIT, PAYLOAD_LIMIT};
 pub use memory_disk::{DiskCall, MemoryDisk};
 pub use not_opened::NotOpened;
-
-#[cfg(test)]
-mod tests;

@@ -1,0 +1,145 @@
+//! Compactions: the bytes that they write, and which of two disks is read.
+use crate::fixtures::{
+    added, compacted, listed, new_journal, opened, records_of, shown_calls, shown_of, with_gate,
+};
+use std::alloc::Global;
+use std::process::Abort;
+use std::test::Fail;
+use sv_journal::{Journal, JournalFault, MemoryDisk};
+
+// The worked example: what a node writes at its first start and behind its first answer, 10 and 63 bytes.
+const BOOT: &[u8] = b"\x01\x01\0\0\0\0\0\0\0\x01";
+
+const COMMIT: &[u8] =
+    b"\x01\x02\0\x01\0\0\0\0\0\0\0\0\x01\0\0\0\0\0\0\0\0\0\0\0\0\0\0\0\x01\0\0\0\0\0\0\0\x03\xE8\0\0\0\0\0\0\x03\xE8\0\0\x07\x08\x01\0\x01\0\x05count\0\x011";
+
+// And what a compaction keeps of it: the node's counters, and one session, 18 and 70 bytes.
+const COUNTERS: &[u8] = b"\x01\x08\0\0\0\0\0\0\0\x01\0\0\0\0\0\0\0\x02";
+
+const STATE: &[u8] =
+    b"\x01\x07\0\0\0\0\0\0\0\0\x01\x01\0\0\0\0\0\0\0\x01\0\0\0\0\0\0\0\0\0\0\0\0\0\0\0\x01\0\0\0\0\0\0\0\x03\xE8\0\0\0\0\0\0\x03\xE8\0\0\x07\x08\x01\0\x01\0\x05count\0\x011";
+
+// Disk B then: a gate, the letters, the format's number and generation 2; two entries; a closed gate.
+const COMPACTED: &[u8] = b"\xA5SVJRNL\x01\0\0\0\0\0\0\0\x02\
+\xA5\0\0\0\x12\x01\x08\0\0\0\0\0\0\0\x01\0\0\0\0\0\0\0\x02\
+\xA5\0\0\0\x46\x01\x07\0\0\0\0\0\0\0\0\x01\x01\0\0\0\0\0\0\0\x01\0\0\0\0\0\0\0\0\0\0\0\0\0\0\0\x01\0\0\0\0\0\0\0\x03\xE8\0\0\0\0\0\0\x03\xE8\0\0\x07\x08\x01\0\x01\0\x05count\0\x011\0";
+
+// The journal on disk A is compacted to disk B.
+fn compacted_journal(alloc: Global) -> Result<Journal<MemoryDisk>, Fail> {
+    let mut journal = new_journal(alloc)?;
+    added(&mut journal, BOOT)?;
+    added(&mut journal, COMMIT)?;
+    compacted(&mut journal, &listed(alloc, &[COUNTERS, STATE])?)?;
+    Ok(journal)
+}
+
+#[test]
+fn a_compaction_writes_the_other_disk(rt: HostRuntime) -> Result<(), Fail> {
+    let (a, b) = compacted_journal(rt.alloc())?.into_disks();
+    assert_eq!(rt; a.bytes().len(), 100);
+    assert_eq!(rt; b.bytes().len(), 115);
+    assert_eq!(rt; b.bytes(), COMPACTED);
+    Ok(())
+}
+
+fn is_read(
+    rt: &impl Abort,
+    alloc: Global,
+    journal: &mut Journal<MemoryDisk>,
+    len: u64,
+    entries: &[&[u8]],
+) -> Result<(), Fail> {
+    assert_eq!(rt; journal.len(), len);
+    let mut wanted = Vec::new(alloc);
+    for entry in entries {
+        wanted.extend_from_slice(entry)?;
+        wanted.push(b'|')?;
+    }
+    let found = shown_of(alloc, journal)?;
+    assert_eq!(rt; found.as_slice(), wanted.as_slice());
+    Ok(())
+}
+
+// B is opened and grows; a second compaction makes A current, and B keeps what it held.
+#[test]
+fn the_greater_generation_is_read(rt: HostRuntime) -> Result<(), Fail> {
+    let alloc = rt.alloc();
+    let (a, b) = compacted_journal(alloc)?.into_disks();
+    let mut journal = opened(alloc, a, b)?;
+    is_read(&rt, alloc, &mut journal, 115, &[COUNTERS, STATE])?;
+    added(&mut journal, BOOT)?;
+    is_read(&rt, alloc, &mut journal, 130, &[COUNTERS, STATE, BOOT])?;
+    compacted(&mut journal, &listed(alloc, &[STATE])?)?;
+    let (a, b) = journal.into_disks();
+    assert_eq!(rt; a.bytes().get(15), Some(&3));
+    assert_eq!(rt; b.bytes().get(15), Some(&2));
+    assert_eq!(rt; b.bytes().len(), 130);
+    // 16 + 75 + 1
+    is_read(&rt, alloc, &mut opened(alloc, a, b)?, 92, &[STATE])
+}
+
+#[test]
+fn a_closed_disk_is_not_read(rt: HostRuntime) -> Result<(), Fail> {
+    let alloc = rt.alloc();
+    let (a, b) = compacted_journal(alloc)?.into_disks();
+    let b = MemoryDisk::with(alloc, &with_gate(alloc, b.bytes(), 0)?)?;
+    is_read(&rt, alloc, &mut opened(alloc, a, b)?, 100, &[BOOT, COMMIT])
+}
+
+// Each byte in the place of either gate: what is read is the journal of the disk that is open, or of the newer one.
+#[test]
+fn each_torn_gate_of_a_compaction_opens(rt: HostRuntime) -> Result<(), Fail> {
+    let alloc = rt.alloc();
+    let (a, b) = compacted_journal(alloc)?.into_disks();
+    let old = records_of(alloc, a.bytes(), b"")?;
+    let new = records_of(alloc, b"", b.bytes())?;
+    for gate in 0..=255u8 {
+        let torn = with_gate(alloc, a.bytes(), gate)?;
+        let found = records_of(alloc, &torn, b.bytes())?;
+        assert_eq!(rt; found.as_slice(), new.as_slice(), "A, {gate}");
+        let torn = with_gate(alloc, b.bytes(), gate)?;
+        let found = records_of(alloc, a.bytes(), &torn)?;
+        let wanted = if gate == 0xA5 { &new } else { &old };
+        assert_eq!(rt; found.as_slice(), wanted.as_slice(), "B, {gate}");
+    }
+    Ok(())
+}
+
+// The calls of a compaction over an older journal, behind the sync of its opening: the gate is closed, the rest is cut
+// away, and what is written behind the closed gate is synced before the gate is opened.
+#[test]
+fn a_compaction_is_four_changes_and_four_syncs(rt: HostRuntime) -> Result<(), Fail> {
+    let alloc = rt.alloc();
+    let (a, b) = compacted_journal(alloc)?.into_disks();
+    let a = MemoryDisk::with(alloc, a.bytes())?;
+    let mut journal = opened(alloc, a, b)?;
+    compacted(&mut journal, &[])?;
+    let wanted = b"S|W\0\0|S|C\x01|S|W\x01SVJRNL\x01\0\0\0\0\0\0\0\x03\0|S|W\0\xA5|S|";
+    let found = shown_calls(alloc, journal.into_disks().0.calls())?;
+    assert_eq!(rt; found.as_slice(), wanted.as_slice());
+    Ok(())
+}
+
+// The greatest generation there is, and the one before it.
+const LAST: &[u8] = b"\xA5SVJRNL\x01\xFF\xFF\xFF\xFF\xFF\xFF\xFF\xFF\xA5\0\0\0\x01x\0";
+
+const BEFORE: &[u8] = b"\xA5SVJRNL\x01\xFF\xFF\xFF\xFF\xFF\xFF\xFF\xFE\0";
+
+fn journal_of(alloc: Global, a: &[u8], b: &[u8]) -> Result<Journal<MemoryDisk>, Fail> {
+    let a = MemoryDisk::with(alloc, a)?;
+    let b = MemoryDisk::with(alloc, b)?;
+    Ok(opened(alloc, a, b)?)
+}
+
+#[test]
+fn the_last_generation_is_full(rt: HostRuntime) -> Result<(), Fail> {
+    let alloc = rt.alloc();
+    let mut journal = journal_of(alloc, BEFORE, LAST)?;
+    assert_eq!(rt; compacted(&mut journal, &[]), Err(JournalFault::Full));
+    added(&mut journal, b"y")?;
+    is_read(&rt, alloc, &mut journal, 29, &[b"x", b"y"])?;
+    let mut journal = journal_of(alloc, BEFORE, b"")?;
+    assert_eq!(rt; compacted(&mut journal, &[]), Ok(()));
+    assert_eq!(rt; compacted(&mut journal, &[]), Err(JournalFault::Full));
+    Ok(())
+}

@@ -1,0 +1,202 @@
+//! The format, byte for byte.
+use crate::fixtures::{added, image, joined, new_journal, opened, read, records_of, shown_of};
+use std::test::Fail;
+use sv_journal::{JournalFault, MemoryDisk};
+
+// The worked example: an empty journal, and one with the first record that a node writes.
+const FIRST_RECORD: [u8; 10] = [1, 1, 0, 0, 0, 0, 0, 0, 0, 1];
+
+#[test]
+fn a_new_journal_is_the_header_and_a_closed_gate(rt: HostRuntime) -> Result<(), Fail> {
+    let alloc = rt.alloc();
+    let mut journal = new_journal(alloc)?;
+    assert!(rt; read(&mut journal)?.is_empty());
+    assert_eq!(rt; journal.len(), 17);
+    let (a, b) = journal.into_disks();
+    assert_eq!(rt; a.bytes(), image(alloc, b"\0")?.as_slice());
+    assert_eq!(rt; b.bytes(), b"".as_slice());
+    Ok(())
+}
+
+#[test]
+fn an_entry_is_a_gate_a_length_and_the_payload(rt: HostRuntime) -> Result<(), Fail> {
+    let alloc = rt.alloc();
+    let mut journal = new_journal(alloc)?;
+    added(&mut journal, &FIRST_RECORD)?;
+    let found = shown_of(alloc, &mut journal)?;
+    assert_eq!(rt; found.as_slice(), b"\x01\x01\0\0\0\0\0\0\0\x01|".as_slice());
+    assert_eq!(rt; journal.len(), 32);
+    let (a, _) = journal.into_disks();
+    let entry = image(alloc, b"\xA5\0\0\0\x0A\x01\x01\0\0\0\0\0\0\0\x01\0")?;
+    assert_eq!(rt; a.bytes(), entry.as_slice());
+    Ok(())
+}
+
+// What stands behind a header of generation 1, and the entries that are read, each with a bar behind it, or none where
+// that is damage.
+const REST: [(&str, &[u8], Option<&[u8]>); 9] = [
+    (
+        "whole",
+        b"\xA5\0\0\0\x0A\x01\x01\0\0\0\0\0\0\0\x01\0",
+        Some(b"\x01\x01\0\0\0\0\0\0\0\x01|"),
+    ),
+    (
+        "another gate",
+        b"\x37\0\0\0\x0A\x01\x01\0\0\0\0\0\0\0\x01\0",
+        Some(b""),
+    ),
+    (
+        "another gate, cut off",
+        b"\x37\0\0\0\x0A\x01\x01\0",
+        Some(b""),
+    ),
+    (
+        "no payload",
+        b"\xA5\0\0\0\0\xA5\0\0\0\x01x\0junk",
+        Some(b"|x|"),
+    ),
+    ("cut off", b"\xA5\0\0\0\x0A\x01\x01\0", None),
+    ("ends at a gate", b"\xA5\0\0\0\x01x", None),
+    ("a length cut off", b"\xA5\0\0\0", None),
+    ("a payload cut off", b"\xA5\0\0\0\x02x", None),
+    ("a length past the limit", b"\xA5\0\x02\0\x01x\0", None),
+];
+
+#[test]
+fn entries_end_at_a_gate_that_is_not_open(rt: HostRuntime) -> Result<(), Fail> {
+    let alloc = rt.alloc();
+    for (name, rest, wanted) in REST {
+        let found = records_of(alloc, &image(alloc, rest)?, b"");
+        match wanted {
+            Some(entries) => assert_eq!(rt; found?.as_slice(), entries, "{name}"),
+            None => assert_eq!(rt; found.err(), Some(JournalFault::Damaged), "{name}"),
+        }
+    }
+    Ok(())
+}
+
+// A length of 131,072 is the longest; 131,073 is damage, whatever stands behind it.
+#[test]
+fn the_longest_payload_has_131072_bytes(rt: HostRuntime) -> Result<(), Fail> {
+    let alloc = rt.alloc();
+    let most = Vec::from_elem(alloc, 7u8, 131_072)?;
+    let mut longest = joined(alloc, b"\xA5\0\x02\0\0", &most)?;
+    longest.push(0)?;
+    let found = records_of(alloc, &image(alloc, &longest)?, b"")?;
+    assert_eq!(rt; found.len(), 131_073);
+    let mut too_long = joined(alloc, b"\xA5\0\x02\0\x01", &most)?;
+    too_long.extend_from_slice(b"\x07\0")?;
+    let found = records_of(alloc, &image(alloc, &too_long)?, b"");
+    assert_eq!(rt; found.err(), Some(JournalFault::Damaged));
+    Ok(())
+}
+
+// Two disks that hold no entry, and whether they are damaged. Where neither is open, at most 17 bytes on A and at most 1
+// on B are what a stop leaves of a first opening.
+const EMPTY: &[u8] = b"\xA5SVJRNL\x01\0\0\0\0\0\0\0\x01\0";
+
+const BLANK: [(&str, &[u8], &[u8], bool); 11] = [
+    (
+        "A closed, 17 bytes",
+        b"\x5ASVJRNL\x01\0\0\0\0\0\0\0\x01\0",
+        b"\0",
+        false,
+    ),
+    (
+        "A closed, 18 bytes",
+        b"\x5ASVJRNL\x01\0\0\0\0\0\0\0\x01\0\0",
+        b"",
+        true,
+    ),
+    ("B of 2 bytes", b"", b"\0\0", true),
+    ("B of 2 bytes beside a journal", EMPTY, b"\xA5\0", false),
+    ("one generation", EMPTY, EMPTY, true),
+    ("B open, A blank", b"", EMPTY, false),
+    (
+        "16 bytes are not open",
+        b"\xA5SVJRNL\x01\0\0\0\0\0\0\0\x01",
+        b"",
+        false,
+    ),
+    ("one open byte", b"\xA5", b"\xA5", false),
+    (
+        "other letters",
+        b"\xA5SVJRNX\x01\0\0\0\0\0\0\0\x01\0",
+        b"",
+        true,
+    ),
+    (
+        "other letters on B beside a journal",
+        EMPTY,
+        b"\xA5SVJRNX\x01\0\0\0\0\0\0\0\x01\0",
+        true,
+    ),
+    (
+        "another number",
+        b"\xA5SVJRNL\x02\0\0\0\0\0\0\0\x01\0",
+        b"",
+        true,
+    ),
+];
+
+#[test]
+fn disks_that_are_not_open_are_blank_or_damaged(rt: HostRuntime) -> Result<(), Fail> {
+    let alloc = rt.alloc();
+    for (name, a, b, is_damaged) in BLANK {
+        let found = records_of(alloc, a, b);
+        if is_damaged {
+            assert_eq!(rt; found.err(), Some(JournalFault::Damaged), "{name}");
+        } else {
+            assert!(rt; found?.is_empty(), "{name}");
+        }
+    }
+    Ok(())
+}
+
+// A disk is read in pieces of 1,048,576 bytes: 26 payloads of 100,000 bytes and 200 short ones lie across the ends of two.
+#[test]
+fn a_long_journal_is_read_in_pieces(rt: HostRuntime) -> Result<(), Fail> {
+    let alloc = rt.alloc();
+    let mut journal = new_journal(alloc)?;
+    for i in 0..26u8 {
+        added(&mut journal, &Vec::from_elem(alloc, i, 100_000)?)?;
+    }
+    for i in 0..200u8 {
+        added(&mut journal, &[i; 50])?;
+    }
+    // 16 + 26 * 100,005 + 200 * 55 + 1
+    assert_eq!(rt; journal.len(), 2_611_147);
+    let (a, b) = journal.into_disks();
+    let found = read(&mut opened(alloc, a, b)?)?;
+    assert_eq!(rt; found.len(), 226);
+    for (i, payload) in found.iter().enumerate() {
+        let (byte, len) = if i < 26 {
+            (i, 100_000)
+        } else {
+            (i.saturating_sub(26), 50)
+        };
+        let is_whole = payload.len() == len && payload.iter().all(|b| usize::from(*b) == byte);
+        assert!(rt; is_whole, "{i}");
+    }
+    Ok(())
+}
+
+#[test]
+fn a_fault_says_what_is_at_fault(rt: HostRuntime) -> Result<(), Fail> {
+    let alloc = rt.alloc();
+    let wanted = "the disks hold no journal that can be read";
+    let text = format!(in alloc; "{}", JournalFault::Damaged)?;
+    assert!(rt; text.as_str() == wanted);
+    let (a, b) = (
+        MemoryDisk::with(alloc, b"\0\0")?,
+        MemoryDisk::with(alloc, b"\0\0")?,
+    );
+    match opened(alloc, a, b) {
+        Ok(_) => assert!(rt; false, "two bytes on B"),
+        Err(refused) => {
+            let text = format!(in alloc; "{refused}")?;
+            assert!(rt; text.as_str() == wanted);
+        }
+    }
+    Ok(())
+}
