@@ -1,30 +1,32 @@
--- What the servlet that counts leaves of the edit, and the numbers that it reads.
+-- What the servlet that counts leaves of what it was lent.
 use Rattle.std.proofs.Common.{ℕ}
 use Rattle.std.specs.Prelude.{◌++◌, codes, decimal}
 use Rattle.sv_model.specs.Field.{plain_type}
-use Rattle.sv_session.specs.Edit.{KeepsEdit}
 use Rattle.sv_session.specs.Calls.{create_result, get_result, value_result}
-use Rattle.sv_session.proofs.EditLemmas.{KeepsEdit-refl, create_keeps, value_keeps}
+use Rattle.sv_session.proofs.EditLemmas.{create_keeps, value_keeps}
+use Rattle.sv_servlet.proofs.KeepsLemmas.{KeepsLent-refl, field_keeps, write_keeps}
+use Rattle.sv_servlet.specs.Call.{Asked}
 use Rattle.sv_servlet.specs.Reply.{field_result, write_result}
-use Rattle.sv_servlet.specs.Servlet.{KeepsEdits, Lent, answer, lent}
+use Rattle.sv_servlet.specs.Servlet.{KeepsLent, Lent, answer, lent}
 use Rattle.sv_servlet.specs.declared.servlet.Next.TheVariants.{Done}
 use Rattle.sv_node_main.specs.Count.{count_in, count_of, count_serves, counted, counted_on, created, kept, shown}
 use Rattle.sv_node_main.proofs.RefusalLemmas.{edit_keeps, read_keeps, reply_keeps}
 
-shown_keeps : (n : ℕ) (l : Lent) → KeepsEdit l.edit (shown n l).lent.edit
-shown_keeps n l = reply_keeps l (write_result l.reply (decimal n ++ codes "\n")) (λ l. answer l Done) (λ reply. KeepsEdit-refl l.edit)
+shown_keeps : (n : ℕ) (l : Lent) → KeepsLent l (shown n l).lent
+shown_keeps n l =
+    reply_keeps l (write_result l.reply (decimal n ++ codes "\n")) (λ l. answer l Done) (write_keeps l.reply (decimal n ++ codes "\n")) (λ reply. KeepsLent-refl (lent l.edit reply))
 
-kept_keeps : (n : ℕ) (l : Lent) → KeepsEdit l.edit (kept n l).lent.edit
+kept_keeps : (n : ℕ) (l : Lent) → KeepsLent l (kept n l).lent
 kept_keeps n l =
     edit_keeps l (value_result l.edit (codes "count") (decimal n)) (shown n) (value_keeps l.edit (codes "count") (decimal n)) (λ new. shown_keeps n (lent new l.reply))
 
-counted_keeps : (l : Lent) → KeepsEdit l.edit (counted_on l).lent.edit
+counted_keeps : (l : Lent) → KeepsLent l (counted_on l).lent
 counted_keeps l = read_keeps l (get_result l.edit (codes "count")) (λ value. kept (counted (count_in value)) l) (λ value. kept_keeps (counted (count_in value)) l)
 
-created_keeps : (l : Lent) → KeepsEdit l.edit (created l).lent.edit
+created_keeps : (l : Lent) → KeepsLent l (created l).lent
 created_keeps l = edit_keeps l (create_result l.edit) counted_on (create_keeps l.edit) (λ new. counted_keeps (lent new l.reply))
 
--- it goes on with the edit, and keeps the limits of sessions
-pub count_keeps : KeepsEdits count_serves
+-- it goes on with the edit and the reply, and keeps the limits of sessions
+pub count_keeps : (call : Asked) (l : Lent) → KeepsLent l (count_serves call l).lent
 unfolding count_of
-count_keeps call l = reply_keeps l (field_result l.reply plain_type) created (λ reply. created_keeps (lent l.edit reply))
+count_keeps call l = reply_keeps l (field_result l.reply plain_type) created (field_keeps l.reply plain_type) (λ reply. created_keeps (lent l.edit reply))

@@ -10,7 +10,7 @@ use crate::context::CONTEXT;
 use std::alloc::{AllocError, Global};
 use sv_model::key::{Key, Secret};
 use sv_model::session::Session;
-use sv_session::expiry::{expired, join_request};
+use sv_session::{expired, join_request};
 
 /// What becomes of the session that is handed in with a request.
 #[derive(Drop)]

@@ -9,10 +9,8 @@ ghost use Rattle.sv_node_main.specs.Refusal.{Ends};
 use crate::refusal::{Refusal, next_after};
 use std::alloc::{AllocError, Global};
 use sv_model::field::plain_type;
-use sv_servlet::call::Call;
-use sv_servlet::reply::Reply;
-use sv_servlet::servlet::{InitFault, Next, Phase, Servlet};
-use sv_session::edit::SessionEdit;
+use sv_servlet::{Call, InitFault, Next, Phase, Reply, Servlet};
+use sv_session::SessionEdit;
 
 /// Writes `Hello` and a line feed as plain text.
 ///

@@ -14,11 +14,8 @@ use sv_model::page::plain_page;
 use sv_model::request::Request;
 use sv_model::response::Response;
 use sv_model::sequence::Sequence;
-use sv_servlet::attributes::RequestAttributes;
-use sv_servlet::call::Call;
-use sv_servlet::reply::{Replied, Reply};
-use sv_servlet::servlet::{Next, Servlet};
-use sv_session::edit::SessionEdit;
+use sv_servlet::{Call, Next, Replied, Reply, RequestAttributes, Servlet};
+use sv_session::SessionEdit;
 
 /// A servlet, and whether its initialisation succeeded (Jakarta Servlet 6.0, section "Servlet Life Cycle").
 #[derive(Drop)]

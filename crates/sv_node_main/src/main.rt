@@ -32,7 +32,7 @@ use std::alloc::{AllocError, AllocFailed};
 use std::process::ExitCode;
 use std::rt::Env;
 use std::{env, io};
-use sv_servlet::servlet::Servlet;
+use sv_servlet::Servlet;
 use thin::Thin;
 use thiserror::Error;
 use words::{Words, read_words};

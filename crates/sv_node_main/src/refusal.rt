@@ -6,9 +6,8 @@ ghost use Rattle.sv_node_main.specs.declared.refusal.Refusal.TheVariants.{Memory
 
 use std::alloc::{AllocError, Global};
 use sv_model::text::Text;
-use sv_servlet::reply::ReplyFault;
-use sv_servlet::servlet::Next;
-use sv_session::fault::SessionFault;
+use sv_servlet::{Next, ReplyFault};
+use sv_session::SessionFault;
 
 /// Why a servlet's work ends before it is done.
 #[derive(Clone, Copy, Debug, PartialEq, Eq)]

@@ -16,7 +16,7 @@ use std::alloc::Global;
 use std::io;
 use std::io::{ErrorKind, Read, Write};
 use std::test::Fail;
-use sv_servlet::servlet::Servlet;
+use sv_servlet::Servlet;
 
 const NOW: u64 = 784_111_777;
 

@@ -19,8 +19,8 @@ use sv_model::request::Request;
 use sv_model::response::Response;
 use sv_model::sequence::Sequence;
 use sv_model::session::Session;
-use sv_servlet::servlet::Servlet;
-use sv_session::edit::{Edited, SessionEdit};
+use sv_servlet::Servlet;
+use sv_session::{Edited, SessionEdit};
 
 /// An engine over two servlets. It keeps no sessions itself, and has no listeners.
 #[derive(Drop)]

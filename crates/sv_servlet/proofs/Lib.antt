@@ -1,1 +1,3 @@
 pub mod ReplyLemmas
+pub mod AttributesLemmas
+pub mod KeepsLemmas

@@ -3,3 +3,4 @@ pub mod Call
 pub mod ReplyState
 pub mod Reply
 pub mod Servlet
+pub mod Filter

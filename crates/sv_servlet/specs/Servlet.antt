@@ -1,5 +1,5 @@
 -- What a servlet means (Jakarta Servlet 6.0, chapter "The Servlet Interface").
-use Rattle.std.specs.Prelude.{Result, Ok, Err}
+use Rattle.std.specs.Prelude.{◌≡◌, true, Result, Ok, Err}
 use Rattle.sv_session.specs.Edit.{Edit, KeepsEdit}
 use Rattle.sv_servlet.specs.Call.{Asked}
 use Rattle.sv_servlet.specs.ReplyState.{ReplyState}
@@ -31,6 +31,21 @@ Serves = Asked → Lent → Answer
 -- a call goes on with the edit that was lent, and puts no other in its place
 abbrev pub KeepsEdits : Serves → Type 0
 KeepsEdits serves = (call : Asked) (l : Lent) → KeepsEdit l.edit (serves call l).lent.edit
+
+-- the reply is held as it was, and while it is, its status and its fields stand still
+pub record KeepsReply (old new : ReplyState) : Type 0 where
+  pub hold : new.is_held ≡ old.is_held
+  pub status : old.is_held ≡ true → new.status ≡ old.status
+  pub fields : old.is_held ≡ true → new.fields ≡ old.fields
+
+-- what was lent is gone on with
+pub record KeepsLent (old new : Lent) : Type 0 where
+  pub edit : KeepsEdit old.edit new.edit
+  pub reply : KeepsReply old.reply new.reply
+
+-- a call lets a reply that is held stand still, and neither holds it nor lets it go
+abbrev pub KeepsReplies : Serves → Type 0
+KeepsReplies serves = (call : Asked) (l : Lent) → KeepsReply l.reply (serves call l).lent.reply
 
 -- where an object stands behind its initialisation
 abbrev pub phase_after_init : Result (Unit {0}) InitFault → Phase

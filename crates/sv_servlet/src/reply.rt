@@ -178,7 +178,8 @@ impl Reply {
     /// Sets a field of a name and a value; does nothing while held.
     ///
     /// The name may be in any case and is kept in lower case. A name or a value that is none is told before a
-    /// reserved name, and that before a 65th field.
+    /// reserved name, and that before a 65th field. The value is kept as it is given; a receiver drops the blanks round
+    /// it (RFC 9110, section 5.5).
     pub fn header(&mut self, name: &str, value: &str) -> Result<(), ReplyFault>
         ensures answer { HeaderAnswers self.old name.now value.now result self.new }
         ensures held { self.old.is_held ≡ true → IsOk result }

@@ -1,7 +1,8 @@
 //! Servlets: objects with a meaning and a phase.
 
 ghost use Rattle.std.specs.Prelude.{◌≡◌, IfOk};
-ghost use Rattle.sv_servlet.specs.Servlet.{Serves, lent, answer, KeepsEdits, phase_after_init};
+ghost use Rattle.sv_servlet.specs.Servlet.{Serves, lent, answer, KeepsEdits, KeepsReplies, phase_after_init};
+ghost use Rattle.sv_servlet.specs.declared.servlet.InitFault.TheVariants.{Memory};
 ghost use Rattle.sv_servlet.specs.declared.servlet.Phase.{Phase};
 ghost use Rattle.sv_servlet.specs.declared.servlet.Phase.TheVariants.{New, Ready, Destroyed};
 
@@ -9,7 +10,7 @@ use crate::call::Call;
 use crate::reply::Reply;
 use std::alloc::AllocError;
 use sv_model::text::Text;
-use sv_session::edit::SessionEdit;
+use sv_session::SessionEdit;
 use thiserror::Error;
 
 /// Where an object stands in its life (Jakarta Servlet 6.0, section "Servlet Life Cycle").
@@ -33,6 +34,14 @@ pub enum InitFault {
     Memory,
 }
 
+impl From<AllocError> for InitFault {
+    ghost from_gives = { λ _ fault. fault ≡ Memory };
+
+    fn from(_: AllocError) -> Self {
+        InitFault::Memory
+    }
+}
+
 /// What follows a servlet's return.
 #[derive(Drop)]
 pub enum Next {
@@ -52,7 +61,8 @@ pub enum Next {
 ///
 /// Its meaning is what `service` answers and leaves in the edit and the reply: a function of the call, the
 /// edit and the reply, whatever the object has lived through. A call may change the object, and leaves that
-/// function the same.
+/// function the same. It goes on with the edit and the reply that it is lent: it puts no other in their place, and
+/// neither holds the reply nor lets it go.
 pub trait Servlet: Drop {
     /// What `service` answers.
     ghost serves: { Self → Serves };
@@ -64,7 +74,8 @@ pub trait Servlet: Drop {
         requires { servlet_phase self.old ≡ New }
         ensures same { serves self.new ≡ serves self.old }
         ensures phase { servlet_phase self.new ≡ phase_after_init result }
-        ensures keeps_edits { KeepsEdits (serves self.new) };
+        ensures keeps_edits { KeepsEdits (serves self.new) }
+        ensures keeps_replies { KeepsReplies (serves self.new) };
 
     /// Serves a request; after want of memory nothing is said of the edit and the reply, which are dropped.
     fn service(

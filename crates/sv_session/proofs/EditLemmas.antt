@@ -18,8 +18,8 @@ use Rattle.sv_model.specs.declared.outcome.Fate.TheVariants.{Untouched, Kept, En
 use Rattle.sv_model.specs.declared.session.Session.{Session}
 use Rattle.sv_model.specs.declared.session.TheConstants.{CONTEXT_LIMIT, ATTRIBUTE_LIMIT, NAME_LIMIT, VALUE_LIMIT, SESSION_LIMIT}
 use Rattle.sv_model.proofs.AttributesLemmas.{All-names-with_attribute, All-values-with_attribute, All-without_attribute, attributes_size-nil, size_removed}
-use Rattle.sv_session.specs.Edit.{Edit, IsWithin, KeepsEdit, begun, held_of, with_held, without_held, has_made}
-use Rattle.sv_session.specs.Calls.{Expected, Answers, after, done, on_session, on_name, is_name, is_too_large, tell, with_attributes, set_event, value_set, removed, made_session, value_result, remove_result, set_result, interval_result, invalidate_result, create_result}
+use Rattle.sv_session.specs.Edit.{Edit, IsWithin, KeepsEdit, begun, held_of, with_held, without_held, has_made, held_by}
+use Rattle.sv_session.specs.Calls.{Expected, Answers, after, done, on_session, is_name, is_too_large, tell, with_attributes, set_event, value_set, removed, made_session, value_result, remove_result, set_result, interval_result, invalidate_result, create_result}
 use Rattle.sv_session.specs.declared.fault.SessionFault.{SessionFault}
 use Rattle.sv_session.specs.declared.fault.SessionFault.TheVariants.{BadName, ValueTooLong, SessionTooLarge, SecondCreation}
 
@@ -75,7 +75,7 @@ module _ (context : ℕ) (interval : ℤ) (now : ℕ) (fresh : Key × Secret) (e
   -- another session in the place of the one that is held
   replaced_by : (handed : Option Key) (fate : Fate) (birth : Birth) (held : Key × Session) (s : Session) → Some held ≡ held_of (edit_of handed fate birth)
       → (IsWithinLimits held.1 → IsWithinLimits s) → KeepsEdit (edit_of handed fate birth) (with_held (edit_of handed fate birth) s)
-  unfolding held_of
+  unfolding held_by
   replaced_by handed fate (Alive old) held s is small =
       record {
         context = refl;
@@ -119,7 +119,7 @@ module _ (context : ℕ) (interval : ℤ) (now : ℕ) (fresh : Key × Secret) (e
   -- the end of the one that is held
   ended_by : (handed : Option Key) (fate : Fate) (birth : Birth) (held : Key × Session) → Some held ≡ held_of (edit_of handed fate birth)
       → KeepsEdit (edit_of handed fate birth) (without_held (edit_of handed fate birth))
-  unfolding held_of
+  unfolding held_by
   ended_by handed fate (Alive old) held is =
       record {
         context = refl;
@@ -271,8 +271,8 @@ module _ (e : Edit) where
       value_if_named held false is test = KeepsEdit-refl e
 
       value_if_held : (held : Option (Key × Session)) → held ≡ held_of e
-          → KeepsEdit e (after e (on_session held (λ h. on_name name (cond (nat_lt VALUE_LIMIT (length value)) (Err ValueTooLong)
-          (cond (is_too_large (with_attribute h.1.attributes name value)) (Err SessionTooLarge) (done (value_set e h name value)))))))
+          → KeepsEdit e (after e (on_session held (λ h. cond (is_name name) (cond (nat_lt VALUE_LIMIT (length value)) (Err ValueTooLong)
+          (cond (is_too_large (with_attribute h.1.attributes name value)) (Err SessionTooLarge) (done (value_set e h name value)))) (Err BadName))))
       value_if_held None is = KeepsEdit-refl e
       value_if_held (Some held) is = value_if_named held (is_name name) is refl
 
@@ -289,15 +289,10 @@ module _ (e : Edit) where
         (replaced_keeps e held (record held.1 { attributes = without_attribute held.1.attributes name }) is (removed_within held.1 name was found))
         (tell_keeps new event)
 
-    remove_if_named : (held : Key × Session) (named : Bool) → Some held ≡ held_of e
-        → KeepsEdit e (after e (cond named (done (removed e held name (value_of held.1.attributes name))) (Err BadName)))
-    remove_if_named held true is = removed_keeps held (value_of held.1.attributes name) is refl
-    remove_if_named held false is = KeepsEdit-refl e
-
     remove_if_held : (held : Option (Key × Session)) → held ≡ held_of e
-        → KeepsEdit e (after e (on_session held (λ h. on_name name (done (removed e h name (value_of h.1.attributes name))))))
+        → KeepsEdit e (after e (on_session held (λ h. done (removed e h name (value_of h.1.attributes name)))))
     remove_if_held None is = KeepsEdit-refl e
-    remove_if_held (Some held) is = remove_if_named held (is_name name) is
+    remove_if_held (Some held) is = removed_keeps held (value_of held.1.attributes name) is refl
 
     pub remove_keeps : KeepsEdit e (after e (remove_result e name))
     unfolding remove_result

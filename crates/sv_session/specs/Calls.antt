@@ -1,5 +1,5 @@
 -- The calls of an edit (Jakarta Servlet 6.0, chapter "Sessions"): what is expected of each, from the edit that it is made on.
-use Rattle.std.specs.Prelude.{◌≡◌, ℕ, ◌+◌, ℤ, ◌&&◌, ◌||◌, Bool, true, false, Option, Some, None, Result, Ok, Err, IsOk, IsOkAnd, List, [], ◌∷◌, ◌++◌, length, is_some, nat_lt, nat_le, if◌then◌else◌, MatchResult, option_copied, option_map}
+use Rattle.std.specs.Prelude.{◌≡◌, ℕ, ◌+◌, ℤ, ◌&&◌, ◌||◌, Bool, true, false, Option, Some, None, Result, Ok, Err, IsOk, IsOkAnd, List, [], ◌∷◌, ◌++◌, length, is_some, nat_lt, nat_le, if◌then◌else◌, MatchResult, option_copied}
 use Rattle.std.specs.Borrow.{Bor}
 use Rattle.sv_model.specs.Attributes.{attributes_size, names_of, value_of, with_attribute, without_attribute}
 use Rattle.sv_model.specs.declared.event.Event.{Event}
@@ -62,10 +62,6 @@ on_session (Some held) call = call held
 abbrev pub is_name : List ℕ → Bool
 is_name name = nat_lt 0 (length name) && nat_le (length name) NAME_LIMIT
 
--- a call on an attribute is refused where its name is none
-abbrev pub on_name : {A : Type 0} → List ℕ → Result A SessionFault → Result A SessionFault
-on_name name call = if is_name name then call else Err BadName
-
 -- the edit with one more event, for the listeners of its context
 abbrev pub tell : Edit → Event → Edit
 tell e event = record e { events = e.events ++ record { context = e.context; event = event } ∷ [] }
@@ -91,19 +87,21 @@ value_set e held name value =
 -- a value is set at a name, unless it or the session would be too large
 unfoldable pub value_result : Edit → List ℕ → List ℕ → Expected (Unit {0})
 value_result e name value =
-    on_session (held_of e) (λ held. on_name name (
+    on_session (held_of e) (λ held.
+    if is_name name then (
     if nat_lt VALUE_LIMIT (length value) then Err ValueTooLong
     else if is_too_large (with_attribute held.1.attributes name value) then Err SessionTooLarge
-    else done (value_set e held name value)))
+    else done (value_set e held name value))
+    else Err BadName)
 
 -- the session that is held loses its attribute of a name, if it has one
 abbrev pub removed : Edit → Key × Session → List ℕ → Option (List ℕ) → Edit
 removed e held name None = e
 removed e held name (Some old) = tell (with_attributes e held.1 (without_attribute held.1.attributes name)) (Removed held.0 name old)
 
--- the attribute of a name is removed
+-- the attribute of a name is removed; a name that no attribute can have is that of none
 unfoldable pub remove_result : Edit → List ℕ → Expected (Unit {0})
-remove_result e name = on_session (held_of e) (λ held. on_name name (done (removed e held name (value_of held.1.attributes name))))
+remove_result e name = on_session (held_of e) (λ held. done (removed e held name (value_of held.1.attributes name)))
 
 -- a value is set at a name; none removes what is there
 abbrev pub set_result : Edit → List ℕ → Option (List ℕ) → Expected (Unit {0})
@@ -117,7 +115,7 @@ seen_value (Err fault) = Err fault
 
 -- the value at a name
 unfoldable pub get_result : Edit → List ℕ → Result (Option (List ℕ)) SessionFault
-get_result e name = on_session (held_of e) (λ held. on_name name (Ok (value_of held.1.attributes name)))
+get_result e name = on_session (held_of e) (λ held. Ok (value_of held.1.attributes name))
 
 -- the names of the attributes, in order
 unfoldable pub names_result : Edit → Result (List (List ℕ)) SessionFault
@@ -128,8 +126,8 @@ unfoldable pub new_result : Edit → Result Bool SessionFault
 new_result e = on_session (held_of e) (λ held. Ok held.1.fresh)
 
 -- the key of the session that is held
-unfoldable pub held_key : Edit → Option Key
-held_key e = option_map (λ held. held.0) (held_of e)
+unfoldable pub key_result : Edit → Result Key SessionFault
+key_result e = on_session (held_of e) (λ held. Ok held.0)
 
 -- the session that is held gets another interval
 unfoldable pub interval_result : Edit → ℤ → Expected (Unit {0})

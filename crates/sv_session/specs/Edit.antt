@@ -46,29 +46,36 @@ begun held context interval now fresh =
       events = [];
     }
 
--- the session that is held: the one that was made, or else the one that was handed in
-unfoldable pub held_of : Edit → Option (Key × Session)
-held_of e = held_by e.birth e.fate e.handed e.fresh
-  where
-    kept : Fate → Option Key → Option (Key × Session)
-    kept (Kept s) (Some k) = Some (k, s)
-    kept (Kept s) None = None
-    kept Untouched k = None
-    kept FateEnded k = None
+abbrev pub kept_by : Fate → Option Key → Option (Key × Session)
+kept_by (Kept s) (Some k) = Some (k, s)
+kept_by (Kept s) None = None
+kept_by Untouched k = None
+kept_by FateEnded k = None
 
-    held_by : Birth → Fate → Option Key → Key × Secret → Option (Key × Session)
-    held_by Absent fate handed fresh = kept fate handed
-    held_by (Alive s) fate handed fresh = Some (fresh.0, s)
-    held_by BirthEnded fate handed fresh = kept fate handed
+-- the session that is held: the one that was made, or else the one that was handed in
+unfoldable pub held_by : Birth → Fate → Option Key → Key × Secret → Option (Key × Session)
+held_by Absent fate handed fresh = kept_by fate handed
+held_by (Alive s) fate handed fresh = Some (fresh.0, s)
+held_by BirthEnded fate handed fresh = kept_by fate handed
+
+abbrev pub held_of : Edit → Option (Key × Session)
+held_of e = held_by e.birth e.fate e.handed e.fresh
+
+-- another session in the place of the one that was made
+abbrev pub birth_with : Birth → Session → Birth
+birth_with Absent s = Absent
+birth_with (Alive old) s = Alive s
+birth_with BirthEnded s = BirthEnded
+
+-- and in the place of the one that was handed in, where none was made or that has ended
+abbrev pub fate_with : Birth → Fate → Session → Fate
+fate_with Absent fate s = Kept s
+fate_with (Alive old) fate s = fate
+fate_with BirthEnded fate s = Kept s
 
 -- the edit with this session in the place of the one that is held
 abbrev pub with_held : Edit → Session → Edit
-with_held e s = put e.birth
-  where
-    put : Birth → Edit
-    put Absent = record e { fate = Kept s }
-    put (Alive old) = record e { birth = Alive s }
-    put BirthEnded = record e { fate = Kept s }
+with_held e s = record e { fate = fate_with e.birth e.fate s; birth = birth_with e.birth s }
 
 -- the edit once the session that is held has ended
 abbrev pub without_held : Edit → Edit

@@ -2,3 +2,4 @@ pub mod Edit
 pub mod Fault
 pub mod Calls
 pub mod Expiry
+pub mod Holding

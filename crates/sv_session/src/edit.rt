@@ -1,12 +1,14 @@
 //! The edit of a session, from its beginning to what it leaves.
 
 mod attributes;
+mod holding;
 mod life;
 
-ghost use Rattle.std.specs.Prelude.{◌≡◌, Option, option_map, OnOk, OnErr};
+ghost use Rattle.std.specs.Prelude.{◌≡◌, OnOk, OnErr};
 ghost use Rattle.sv_session.specs.Calls.{tell};
-ghost use Rattle.sv_session.specs.Edit.{begun, key_of, fate_of, held_of};
+ghost use Rattle.sv_session.specs.Edit.{begun, key_of, fate_of};
 
+use holding::Holding;
 use std::alloc::{AllocError, Global};
 use std::marker::Model;
 use sv_model::event::{Event, Told};
@@ -32,10 +34,7 @@ pub struct SessionEdit {
     context: u8,
     interval: i32,
     now: u64,
-    fresh: (Key, Secret),
-    handed: Option<Key>,
-    fate: Fate,
-    birth: Birth,
+    holding: Holding,
     events: Vec<Told>,
     alloc: Global,
 }
@@ -45,7 +44,7 @@ impl Model for SessionEdit {
 
     ghost Value = { Edit };
 
-    ghost view = { λ e. record { context = e.context; interval = e.interval; now = e.now; fresh = e.fresh; handed = e.handed; fate = e.fate; birth = e.birth; events = e.events.items } };
+    ghost view = { λ e. record { context = e.context; interval = e.interval; now = e.now; fresh = e.holding.fresh; handed = e.holding.handed; fate = e.holding.fate; birth = e.holding.birth; events = e.events.items } };
 }
 
 /// The key of the session that is handed in, and its fate as long as nobody ends it.
@@ -79,10 +78,12 @@ impl SessionEdit {
             context,
             interval,
             now,
-            fresh,
-            handed,
-            fate,
-            birth: Birth::Absent,
+            holding: Holding {
+                fresh,
+                handed,
+                fate,
+                birth: Birth::Absent,
+            },
             events: Vec::new(alloc),
             alloc,
         }
@@ -98,29 +99,20 @@ impl SessionEdit {
             context: _,
             interval: _,
             now: _,
+            holding,
+            events,
+            alloc: _,
+        } = self;
+        let Holding {
             fresh: _,
             handed: _,
             fate,
             birth,
-            events,
-            alloc: _,
-        } = self;
+        } = holding;
         Edited {
             fate,
             birth,
             events: Sequence::from_vec(events),
-        }
-    }
-
-    /// The session that is held, with its key.
-    #[tactic(auto, unfolding(crate::specs::Edit::held_of))]
-    fn held(&self) -> Option<(Key, &Session)>
-        ensures { option_map (λ held. (held.0, held.1.now)) result ≡ held_of self.entry.now }
-    {
-        match (&self.birth, &self.fate, self.handed) {
-            (Birth::Alive(session), _, _) => Some((self.fresh.0, session)),
-            (_, Fate::Kept(session), Some(key)) => Some((key, session)),
-            _ => None,
         }
     }
 

@@ -8,11 +8,8 @@ use http::Method;
 use std::alloc::{AllocError, Global};
 use std::test::Fail;
 use sv_model::key::{Key, Secret};
-use sv_servlet::attributes::RequestAttributes;
-use sv_servlet::call::Call;
-use sv_servlet::reply::{BODY_LIMIT, Reply};
-use sv_servlet::servlet::{Next, Servlet};
-use sv_session::edit::SessionEdit;
+use sv_servlet::{BODY_LIMIT, Call, Next, Reply, RequestAttributes, Servlet};
+use sv_session::SessionEdit;
 
 /// An edit of a request that names no session.
 fn of_none(alloc: Global) -> SessionEdit {

@@ -14,7 +14,7 @@ use sv_model::key::{Key, Secret};
 use sv_model::outcome::{Birth, Fate, Outcome};
 use sv_model::request::Request;
 use sv_model::session::Session;
-use sv_servlet::servlet::Servlet;
+use sv_servlet::Servlet;
 
 const KEY: Key = Key { home: 0, serial: 1 };
 

@@ -21,7 +21,7 @@ use sv_model::response::Response;
 use sv_model::sequence::Sequence;
 use sv_model::site::{Site, StepFault};
 use sv_model::text::Text;
-use sv_servlet::servlet::Servlet;
+use sv_servlet::Servlet;
 use sv_target::cookies::cookies;
 
 /// Serial 1, secret 1.

@@ -11,7 +11,6 @@ use std::alloc::{AllocError, Global};
 use sv_model::attributes::Attributes;
 use sv_model::event::{Event, Told};
 use sv_model::key::Key;
-use sv_model::outcome::{Birth, Fate};
 use sv_model::sequence::Sequence;
 use sv_model::session::{ATTRIBUTE_LIMIT, NAME_LIMIT, SESSION_LIMIT, Session, VALUE_LIMIT};
 use sv_model::text::Text;
@@ -77,17 +76,12 @@ fn put(
 }
 
 impl SessionEdit {
-    /// The value of an attribute.
-    ///
-    /// Refused as NoSession without a session, and then as BadName where the name is not of 1 to 128 bytes.
+    /// The value of an attribute, or none where there is no such attribute; NoSession without a session.
     #[tactic(auto, unfolding(crate::specs::Calls::get_result))]
     pub fn get(&self, name: &str) -> Result<Option<&[u8]>, SessionFault>
         ensures { seen_value result ≡ get_result self.entry.now name.now }
     {
-        let (_, session) = self.held().ok_or(SessionFault::NoSession)?;
-        if !is_name(name) {
-            return Err(SessionFault::BadName);
-        }
+        let (_, session) = self.holding.held().ok_or(SessionFault::NoSession)?;
         Ok(session.attributes.get(name))
     }
 
@@ -96,7 +90,7 @@ impl SessionEdit {
     pub fn names(&self) -> Result<Sequence<Text>, SessionFault>
         ensures { Gives (names_result self.entry.now) result }
     {
-        let (_, session) = self.held().ok_or(SessionFault::NoSession)?;
+        let (_, session) = self.holding.held().ok_or(SessionFault::NoSession)?;
         Ok(session.attributes.names(self.alloc)?)
     }
 
@@ -105,7 +99,7 @@ impl SessionEdit {
     fn admits(&self, name: &str, value: &[u8]) -> Result<(), SessionFault>
         ensures { Admits (value_result self.entry.now name.now value.now) result }
     {
-        let (_, session) = self.held().ok_or(SessionFault::NoSession)?;
+        let (_, session) = self.holding.held().ok_or(SessionFault::NoSession)?;
         if !is_name(name) {
             return Err(SessionFault::BadName);
         }
@@ -119,7 +113,7 @@ impl SessionEdit {
     }
 
     /// Sets an attribute to a value.
-    #[tactic(auto, unfolding(crate::specs::Calls::value_result, crate::specs::Edit::held_of))]
+    #[tactic(auto, unfolding(crate::specs::Calls::value_result, crate::specs::Edit::held_by))]
     fn set_value(&mut self, name: &str, value: &[u8]) -> Result<(), SessionFault>
         ensures { Answers self.old (value_result self.old name.now value.now) result self.new }
     {
@@ -127,11 +121,9 @@ impl SessionEdit {
         // The event's place comes first: behind the change nothing may fail.
         self.events.reserve(1)?;
         let alloc = self.alloc;
-        let event = match (&mut self.birth, &mut self.fate, self.handed) {
-            (Birth::Alive(session), _, _) => put(alloc, self.fresh.0, session, name, value)?,
-            (_, Fate::Kept(session), Some(key)) => put(alloc, key, session, name, value)?,
-            _ => return Err(SessionFault::NoSession),
-        };
+        let (key, _) = self.holding.held().ok_or(SessionFault::NoSession)?;
+        let session = self.holding.held_mut().ok_or(SessionFault::NoSession)?;
+        let event = put(alloc, key, session, name, value)?;
         let context = self.context;
         self.events.push(Told { context, event }).unwrap();
         Ok(())
@@ -140,9 +132,9 @@ impl SessionEdit {
     /// Sets an attribute to a value, which is told as Added with the value, or as Replaced with the old one; no value
     /// removes the attribute.
     ///
-    /// Refused as the first of these: NoSession; BadName where the name is not of 1 to 128 bytes; ValueTooLong past
-    /// 4,096 bytes; SessionTooLarge where the session would have more than 64 attributes, or names and values of
-    /// more than 32,768 bytes in all; Memory.
+    /// A value is refused as the first of these: NoSession; BadName where the name is not of 1 to 128 bytes;
+    /// ValueTooLong past 4,096 bytes; SessionTooLarge where the session would have more than 64 attributes, or names
+    /// and values of more than 32,768 bytes in all; Memory. A removal is refused as that of `remove` is.
     pub fn set(&mut self, name: &str, value: Option<&[u8]>) -> Result<(), SessionFault>
         ensures { Answers self.old (set_result self.old name.now (option_copied value.entry)) result self.new }
     {
@@ -153,28 +145,19 @@ impl SessionEdit {
     }
 
     /// Removes an attribute, which is told as Removed with the value that it had; where there is none nothing is
-    /// told, and no memory is taken.
-    ///
-    /// Refused as the first of these: NoSession; BadName where the name is not of 1 to 128 bytes; Memory.
-    #[tactic(auto, unfolding(crate::specs::Calls::remove_result, crate::specs::Edit::held_of))]
+    /// told, and no memory is taken. NoSession without a session.
+    #[tactic(auto, unfolding(crate::specs::Calls::remove_result, crate::specs::Edit::held_by))]
     pub fn remove(&mut self, name: &str) -> Result<(), SessionFault>
         ensures { Answers self.old (remove_result self.old name.now) result self.new }
     {
-        let (key, session) = self.held().ok_or(SessionFault::NoSession)?;
-        if !is_name(name) {
-            return Err(SessionFault::BadName);
-        }
+        let (key, session) = self.holding.held().ok_or(SessionFault::NoSession)?;
         if session.attributes.get(name).is_none() {
             return Ok(());
         }
         let told = Text::from_str(self.alloc, name)?;
         self.events.reserve(1)?;
-        let removed = match (&mut self.birth, &mut self.fate) {
-            (Birth::Alive(session), _) => session.attributes.remove(name),
-            (_, Fate::Kept(session)) => session.attributes.remove(name),
-            _ => None,
-        };
-        if let Some(old) = removed {
+        let session = self.holding.held_mut().ok_or(SessionFault::NoSession)?;
+        if let Some(old) = session.attributes.remove(name) {
             let context = self.context;
             let event = Event::Removed {
                 key,

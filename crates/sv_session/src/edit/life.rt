@@ -2,7 +2,7 @@
 
 ghost use Rattle.std.specs.Prelude.{◌≡◌, ◌≢◌, Err};
 ghost use Rattle.sv_session.specs.Edit.{has_made};
-ghost use Rattle.sv_session.specs.Calls.{Answers, create_result, held_key, interval_result, invalidate_result, new_result};
+ghost use Rattle.sv_session.specs.Calls.{Answers, create_result, key_result, interval_result, invalidate_result, new_result};
 ghost use Rattle.sv_session.specs.declared.fault.SessionFault.TheVariants.{Memory};
 
 use super::SessionEdit;
@@ -14,14 +14,14 @@ use sv_model::outcome::{Birth, Fate};
 use sv_model::session::Session;
 
 impl SessionEdit {
-    /// The key of the session that is held.
-    #[tactic(auto, unfolding(crate::specs::Calls::held_key))]
-    pub fn key(&self) -> Option<Key>
-        ensures { result ≡ held_key self.entry.now }
+    /// The key of the session that is held; NoSession without a session.
+    #[tactic(auto, unfolding(crate::specs::Calls::key_result))]
+    pub fn key(&self) -> Result<Key, SessionFault>
+        ensures { result ≡ key_result self.entry.now }
     {
-        match self.held() {
-            Some((key, _)) => Some(key),
-            None => None,
+        match self.holding.held() {
+            Some((key, _)) => Ok(key),
+            None => Err(SessionFault::NoSession),
         }
     }
 
@@ -30,7 +30,7 @@ impl SessionEdit {
     pub fn is_new(&self) -> Result<bool, SessionFault>
         ensures { result ≡ new_result self.entry.now }
     {
-        match self.held() {
+        match self.holding.held() {
             Some((_, session)) => Ok(session.fresh),
             None => Err(SessionFault::NoSession),
         }
@@ -38,34 +38,26 @@ impl SessionEdit {
 
     /// Sets the seconds without a request after which the session expires, never where they are 0 or less;
     /// NoSession without a session. It is not told.
-    #[tactic(auto, unfolding(crate::specs::Calls::interval_result, crate::specs::Edit::held_of))]
+    #[tactic(auto, unfolding(crate::specs::Calls::interval_result, crate::specs::Edit::held_by))]
     pub fn set_interval(&mut self, seconds: i32) -> Result<(), SessionFault>
         ensures answer { Answers self.old (interval_result self.old seconds) result self.new }
         ensures takes_no_memory { result ≢ Err Memory }
     {
-        match (&mut self.birth, &mut self.fate, self.handed) {
-            (Birth::Alive(session), _, _) => {
-                session.interval = seconds;
-                Ok(())
-            }
-            (_, Fate::Kept(session), Some(_)) => {
-                session.interval = seconds;
-                Ok(())
-            }
-            _ => Err(SessionFault::NoSession),
-        }
+        let session = self.holding.held_mut().ok_or(SessionFault::NoSession)?;
+        session.interval = seconds;
+        Ok(())
     }
 
     /// Ends the session, which is told as Destroyed alone, whatever attributes it has; NoSession without a session.
-    #[tactic(auto, unfolding(crate::specs::Calls::invalidate_result, crate::specs::Edit::held_of))]
+    #[tactic(auto, unfolding(crate::specs::Calls::invalidate_result, crate::specs::Edit::held_by))]
     pub fn invalidate(&mut self) -> Result<(), SessionFault>
         ensures { Answers self.old (invalidate_result self.old) result self.new }
     {
-        let (key, _) = self.held().ok_or(SessionFault::NoSession)?;
+        let (key, _) = self.holding.held().ok_or(SessionFault::NoSession)?;
         self.tell(Event::Destroyed(key))?;
-        match self.birth {
-            Birth::Alive(_) => self.birth = Birth::Ended,
-            Birth::Absent | Birth::Ended => self.fate = Fate::Ended,
+        match self.holding.birth {
+            Birth::Alive(_) => self.holding.birth = Birth::Ended,
+            Birth::Absent | Birth::Ended => self.holding.fate = Fate::Ended,
         }
         Ok(())
     }
@@ -74,7 +66,7 @@ impl SessionEdit {
     fn has_made(&self) -> bool
         ensures { result ≡ has_made self.entry.now }
     {
-        match self.birth {
+        match self.holding.birth {
             Birth::Absent => false,
             Birth::Alive(_) | Birth::Ended => true,
         }
@@ -87,15 +79,15 @@ impl SessionEdit {
     pub fn create(&mut self) -> Result<bool, SessionFault>
         ensures { Answers self.old (create_result self.old) result self.new }
     {
-        if self.held().is_some() {
+        if self.holding.held().is_some() {
             return Ok(false);
         }
         if self.has_made() {
             return Err(SessionFault::SecondCreation);
         }
-        let (key, secret) = self.fresh;
+        let (key, secret) = self.holding.fresh;
         self.tell(Event::Created(key))?;
-        self.birth = Birth::Alive(Session {
+        self.holding.birth = Birth::Alive(Session {
             context: self.context,
             secret,
             created: self.now,

@@ -1,0 +1,83 @@
+use Rattle.std.proofs.Common.{◌≡◌, ℕ, ◌<◌, ◌≤◌, ◌+◌, suc, List, [], ◌∷◌, ◌++◌, length, get_or, drop, arith, sym, ◌∙◌, ap, refl, add-one, drop-cons, append_assoc, append-nil, ◌≢◌, All, Some, subst}
+use Rattle.std.proofs.lemmas.List.Elements.{All-pop}
+use Rattle.std.proofs.lemmas.List.{drop_all}
+use Rattle.sv_servlet.specs.Servlet.{Serves, Lent}
+use Rattle.sv_servlet.specs.Filter.{Filters, verdict}
+use Rattle.sv_dispatch.specs.Rows.{Row, IsReadyAt, before_at, after_at}
+use Rattle.sv_servlet.specs.Call.{Asked}
+use Rattle.sv_servlet.specs.declared.filter.Before.{Before}
+use Rattle.sv_servlet.specs.declared.filter.Before.TheVariants.{Pass, Stop, SendError, Fault}
+use Rattle.sv_dispatch.specs.Dispatching.{Table, Begun, begun, befores, afters}
+
+-- the filters before, and then what follows
+abbrev pub joined : List ℕ → Begun → Begun
+joined ps b = begun (ps ++ b.passed) b.before b.lent
+
+-- the filter at hand passed
+pub befores_pass : (gs fs : List (Row Filters)) (ks : List ℕ) (i k d : ℕ) (call : Asked) (l m : Lent) (b : Before) (ps qs : List ℕ) (total : Begun) →
+    gs ≡ fs → i < length ks → k ≡ get_or ks i d → b ≡ Pass → verdict m b ≡ before_at gs k call l → qs ≡ ps ++ k ∷ [] →
+    joined ps (befores fs (drop i ks) call l) ≡ total → joined qs (befores fs (drop (i + 1) ks) call m) ≡ total
+unfolding befores
+befores_pass gs fs ks i k d call l m b ps qs total g h e p v q t =
+    let v' : verdict m Pass ≡ before_at fs k call l = ap (verdict m) (sym p) ∙ (v ∙ ap (λ (us : List (Row Filters)). before_at us k call l) g) in
+    rw (q, append_assoc, add-one) (rw (drop-cons ks i d h, ← e, ← v') at t)
+
+stopped : (fs : List (Row Filters)) (ks : List ℕ) (k : ℕ) (call : Asked) (l m : Lent) (b : Before) (ps : List ℕ) (total : Begun) →
+    verdict m b ≡ before_at fs k call l → b ≢ Pass → joined ps (befores fs (k ∷ ks) call l) ≡ total → begun ps b m ≡ total
+unfolding befores
+stopped fs ks k call l m Pass ps total v n t = absurd (n refl)
+stopped fs ks k call l m Stop ps total v n t = rw append-nil at (rw (← v) at t)
+stopped fs ks k call l m (SendError code text) ps total v n t = rw append-nil at (rw (← v) at t)
+stopped fs ks k call l m (Fault name) ps total v n t = rw append-nil at (rw (← v) at t)
+
+-- the filter at hand did not
+pub befores_stop : (gs fs : List (Row Filters)) (ks : List ℕ) (i k d : ℕ) (call : Asked) (l m : Lent) (b : Before) (ps : List ℕ) (total : Begun) →
+    gs ≡ fs → i < length ks → k ≡ get_or ks i d → verdict m b ≡ before_at gs k call l → b ≢ Pass →
+    joined ps (befores fs (drop i ks) call l) ≡ total → begun ps b m ≡ total
+befores_stop gs fs ks i k d call l m b ps total g h e v n t =
+    stopped fs (drop (suc i) ks) k call l m b ps total (v ∙ ap (λ (us : List (Row Filters)). before_at us k call l) g) n (rw (drop-cons ks i d h, ← e) at t)
+
+-- no filter is left
+pub befores_end : (fs : List (Row Filters)) (ks : List ℕ) (i : ℕ) (call : Asked) (l : Lent) (ps : List ℕ) (total : Begun) →
+    length ks ≤ i → joined ps (befores fs (drop i ks) call l) ≡ total → begun ps Pass l ≡ total
+unfolding befores
+befores_end fs ks i call l ps total h t = rw append-nil at (rw (drop_all i ks h) at t)
+
+-- one more filter at the end
+pub afters_last : (fs : List (Row Filters)) (ks : List ℕ) (k : ℕ) (call : Asked) (l : Lent) → afters fs (ks ++ k ∷ []) call l ≡ afters fs ks call (after_at fs k call l)
+unfolding afters
+afters_last fs [] k call l = refl
+afters_last fs (j ∷ ks) k call l = ap (after_at fs j call) (afters_last fs ks k call l)
+
+-- the last filter was called
+pub afters_pop : (gs fs : List (Row Filters)) (js ks : List ℕ) (k : ℕ) (call : Asked) (l m total : Lent) →
+    gs ≡ fs → js ≡ ks ++ k ∷ [] → m ≡ after_at gs k call l → afters fs js call l ≡ total → afters fs ks call m ≡ total
+afters_pop gs fs js ks k call l m total g j e t =
+    ap (afters fs ks call) (e ∙ ap (λ (us : List (Row Filters)). after_at us k call l) g) ∙ (sym (afters_last fs ks k call l) ∙ (ap (λ ns. afters fs ns call l) (sym j) ∙ t))
+
+-- the filters are of the same rows, and the servlets stay
+pub filters_kept : (t u : Table) (fs : List (Row Filters)) → t ≡ u → fs ≡ t.filters → (record t { filters = fs }) ≡ u
+filters_kept t u fs h e = ap (λ (gs : List (Row Filters)). let v : Table = record t { filters = gs } in v) e ∙ h
+
+pub servlets_kept : (t u : Table) (rs : List (Row Serves)) → t ≡ u → rs ≡ t.servlets → (record t { servlets = rs }) ≡ u
+servlets_kept t u rs h e = ap (λ (qs : List (Row Serves)). let v : Table = record t { servlets = qs } in v) e ∙ h
+
+-- the last of a list that is ready, and the rest
+pub ready_last : (t u : Table) (js ks : List ℕ) (k : ℕ) → t ≡ u → All (IsReadyAt u.filters) js → js ≡ ks ++ k ∷ [] → IsReadyAt t.filters k
+ready_last t u js ks k e a j = subst (λ (v : Table). IsReadyAt v.filters k) (sym e) (All-pop (IsReadyAt u.filters) js ks (Some k) j a).1
+
+pub ready_front : (fs : List (Row Filters)) (js ks : List ℕ) (k : ℕ) → js ≡ ks ++ k ∷ [] → All (IsReadyAt fs) js → All (IsReadyAt fs) ks
+ready_front fs js ks k j a = (All-pop (IsReadyAt fs) js ks (Some k) j a).0
+
+-- one of a list that is ready
+pub ready_at : (t u : Table) (ks : List ℕ) (i k d : ℕ) → t ≡ u → All (IsReadyAt u.filters) ks → i < length ks → k ≡ get_or ks i d → IsReadyAt t.filters k
+ready_at t u ks i k d e a h n = subst (λ (v : Table). IsReadyAt v.filters k) (sym e) (subst (IsReadyAt u.filters) (sym n) (a i d h))
+
+-- no filter is left to be called
+pub afters_end : (fs : List (Row Filters)) (js : List ℕ) (call : Asked) (l total : Lent) → js ≡ [] → afters fs js call l ≡ total → l ≡ total
+unfolding afters
+afters_end fs js call l total e t = rw e at t
+
+pub no_items : (xs : List ℕ) (n : ℕ) → n ≡ length xs → n ≡ 0 → xs ≡ []
+no_items [] n l z = refl
+no_items (x ∷ xs) n l z = absurd (omega arith)

@@ -1,0 +1,12 @@
+pub mod RowLemmas
+pub mod ChainLemmas
+pub mod ViewLemmas
+pub mod TurnLemmas
+pub mod RunLemmas
+pub mod StepLemmas
+pub mod OpenLemmas
+pub mod PlaceLemmas
+pub mod PageLemmas
+pub mod TargetLemmas
+pub mod SoundLemmas
+pub mod KeepingLemmas

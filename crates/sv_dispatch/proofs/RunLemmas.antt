@@ -1,0 +1,165 @@
+-- One call of a servlet, and one return from a dispatch that was asked for.
+use Rattle.std.proofs.Common.{◌≡◌, ℕ, zero, suc, ◌≤◌, ◌+◌, ◌-◌, true, List, arith, add-one, sym, ◌∙◌, ap, refl, Result, Ok, Err, IfOk, OnOk}
+use Rattle.sv_mapping.specs.declared.dispatcher.Dispatcher.{Dispatcher}
+use Rattle.sv_mapping.specs.declared.dispatcher.Dispatcher.TheVariants.{Forward as ByForward, Include as ByInclude}
+use Rattle.sv_servlet.specs.Call.{Asked}
+use Rattle.sv_servlet.specs.Reply.{cleared, held}
+use Rattle.sv_servlet.specs.ReplyState.{ReplyState}
+use Rattle.sv_servlet.specs.Servlet.{Lent, lent, Answer, answer}
+use Rattle.sv_servlet.specs.declared.servlet.Next.{Next}
+use Rattle.sv_servlet.specs.declared.servlet.Next.TheVariants.{Forward, Include, SendError}
+use Rattle.sv_dispatch.specs.Dispatching.{Table, Outcome, outcome, ask, answered, closed, dispatched, holding, let_go, resumed, sent, serving}
+use Rattle.sv_dispatch.specs.Rows.{served}
+use Rattle.sv_dispatch.specs.Sight.{call_of}
+use Rattle.sv_dispatch.specs.Stack.{current, opened, reentered, closed_open, serving_open, nesting}
+use Rattle.sv_dispatch.proofs.TurnLemmas.{dispatched_left, serving_turns, resumed_same}
+use Rattle.sv_dispatch.specs.declared.mode.Open.{Open}
+use Rattle.sv_dispatch.specs.declared.mode.Then.{Then}
+use Rattle.sv_dispatch.specs.declared.mode.Then.TheVariants.{Return, Resume}
+use Rattle.sv_dispatch.specs.declared.mode.Frame.{Frame}
+use Rattle.sv_dispatch.specs.declared.mode.Mode.{Mode}
+use Rattle.sv_dispatch.specs.declared.mode.Mode.TheVariants.{Leave}
+use Rattle.sv_dispatch.specs.declared.mode.Ending.{Ending}
+use Rattle.sv_dispatch.specs.declared.mode.Ending.TheVariants.{Finished, Failed, Faulted, Abandoned}
+
+pub one_less : (n : ℕ) → (n ≡ 0 → ⊥) → n ≡ (n - 1) + 1
+one_less zero h = absurd (h refl)
+one_less (suc n) h = omega arith
+
+-- no service call is left
+pub serve_none : (t : Table) (e : ℕ) (o : Open) (left : ℕ) (l : Lent) → left ≡ 0 → outcome Abandoned left l ≡ opened t e o left l
+unfolding opened serving closed
+serve_none t e o zero l h = refl
+serve_none t e o (suc n) l h = absurd (omega arith)
+
+-- what the servlet's answer makes of its dispatch
+abbrev pub after_answer : Table → ℕ → Open → ℕ → Lent → Next → Outcome
+after_answer t e o n m next = closed_open t o (answered (dispatched t e) (λ r left' l'. serving_open t e o n r left' l') o.view n m next)
+
+pub serve_one : (t : Table) (e : ℕ) (o : Open) (left n : ℕ) (l m : Lent) (next : Next) (seen : Asked) → left ≡ n + 1 →
+    answer m next ≡ served t.servlets o.servlet seen l → seen ≡ call_of o.view o.resume → after_answer t e o n m next ≡ opened t e o left l
+unfolding opened serving
+serve_one t e o left n l m next seen h a v =
+    rw (h, add-one) (ap (λ (x : Answer). after_answer t e o n x.lent x.next) (a ∙ ap (λ (x : Asked). served t.servlets o.servlet x l) v))
+
+abbrev pub frame : Open → Then → Frame
+frame o then = record { held = o; then = then }
+
+-- an included dispatch is awaited
+nest_include : (t : Table) (e : ℕ) (o : Open) (n : ℕ) (m : Lent) (path : List ℕ) (r : ℕ) →
+    reentered t e (frame o (Resume r)) (dispatched t e (ask ByInclude o.view path) n (holding true m)) ≡ after_answer t e o n m (Include path r)
+unfolding reentered resumed
+nest_include t e o n m path r =
+    let w = dispatched t e (ask ByInclude o.view path) n (holding true m) in
+    let s : w.left ≤ n = dispatched_left t e (ask ByInclude o.view path) n (holding true m) in
+    let z : w.left ≤ w.left = omega arith in
+    ap (closed_open t o)
+    (resumed_same (λ r' left' l'. serving_open t e o left' r' left' l') (λ r' left' l'. serving_open t e o n r' left' l') r (let_go o.view.is_included w) w.ended
+    (serving_turns (dispatched t e) t.servlets (dispatched_left t e) w.left n o.servlet o.view r w.left (holding o.view.is_included w.lent) z s))
+
+nest_forward : (t : Table) (e : ℕ) (o : Open) (n : ℕ) (m : Lent) (path : List ℕ) →
+    reentered t e (frame o Return) (dispatched t e (ask ByForward o.view path) n (lent m.edit (cleared m.reply))) ≡ after_answer t e o n m (Forward path)
+unfolding reentered
+nest_forward t e o n m path = refl
+
+-- a servlet that waits for another dispatch
+pub serve_forward : (t : Table) (e : ℕ) (o : Open) (left n : ℕ) (l m : Lent) (next : Next) (seen : Asked) (path : List ℕ) (reply : ReplyState) → left ≡ n + 1 →
+    answer m next ≡ served t.servlets o.servlet seen l → seen ≡ call_of o.view o.resume → next ≡ Forward path → reply ≡ cleared m.reply →
+    reentered t e (frame o Return) (dispatched t e (ask ByForward o.view path) n (lent m.edit reply)) ≡ opened t e o left l
+serve_forward t e o left n l m next seen path reply h a v f z =
+    ap (λ (x : ReplyState). reentered t e (frame o Return) (dispatched t e (ask ByForward o.view path) n (lent m.edit x))) z
+    ∙ (nest_forward t e o n m path ∙ (ap (after_answer t e o n m) (sym f) ∙ serve_one t e o left n l m next seen h a v))
+
+pub serve_include : (t : Table) (e : ℕ) (o : Open) (left n : ℕ) (l m : Lent) (next : Next) (seen : Asked) (path : List ℕ) (r : ℕ) (reply : ReplyState) → left ≡ n + 1 →
+    answer m next ≡ served t.servlets o.servlet seen l → seen ≡ call_of o.view o.resume → next ≡ Include path r → reply ≡ held m.reply true →
+    reentered t e (frame o (Resume r)) (dispatched t e (ask ByInclude o.view path) n (lent m.edit reply)) ≡ opened t e o left l
+serve_include t e o left n l m next seen path r reply h a v f z =
+    ap (λ (x : ReplyState). reentered t e (frame o (Resume r)) (dispatched t e (ask ByInclude o.view path) n (lent m.edit x))) z
+    ∙ (nest_include t e o n m path r ∙ (ap (after_answer t e o n m) (sym f) ∙ serve_one t e o left n l m next seen h a v))
+
+-- a servlet that ended its dispatch
+pub serve_end : (t u : Table) (e : ℕ) (o : Open) (left n : ℕ) (l m : Lent) (ended : Ending) (next last : Next) (seen : Asked) → u ≡ t → left ≡ n + 1 →
+    answer m next ≡ served t.servlets o.servlet seen l → seen ≡ call_of o.view o.resume → next ≡ last →
+    outcome ended n m ≡ answered (dispatched t e) (λ r left' l'. serving_open t e o n r left' l') o.view n m last →
+    closed_open u o (outcome ended n m) ≡ opened t e o left l
+serve_end t u e o left n l m ended next last seen w h a v f g =
+    ap (λ (x : Table). closed_open x o (outcome ended n m)) w
+    ∙ (ap (closed_open t o) g ∙ (ap (after_answer t e o n m) (sym f) ∙ serve_one t e o left n l m next seen h a v))
+
+pub serve_error : (t u : Table) (e : ℕ) (o : Open) (left n : ℕ) (l m : Lent) (ended : Ending) (next : Next) (seen : Asked) (code : ℕ) (text : List ℕ) → u ≡ t → left ≡ n + 1 →
+    answer m next ≡ served t.servlets o.servlet seen l → seen ≡ call_of o.view o.resume → next ≡ SendError code text → ended ≡ sent o.view code text →
+    closed_open u o (outcome ended n m) ≡ opened t e o left l
+serve_error t u e o left n l m ended next seen code text w h a v f s =
+    serve_end t u e o left n l m ended next (SendError code text) seen w h a v f (ap (λ (x : Ending). outcome x n m) s)
+
+-- what leaves a dispatch is its result
+pub left_at : {E P : Type 0} (r : Result Mode E) (t : Table) (ended : Ending) (left : ℕ) (m : Lent) (target : ℕ → Outcome) →
+    IfOk r (λ mode. mode ≡ Leave ended) → OnOk r P → (P → (e : ℕ) → outcome ended left m ≡ target e) →
+    IfOk r (λ mode. (e : ℕ) → current t (suc e) mode left m ≡ target e)
+left_at (Ok mode) t ended left m target h p f = λ e. ap (λ (x : Mode). current t (suc e) x left m) h ∙ f p e
+left_at (Err x) t ended left m target h p f = tt
+
+-- the same, where the service calls that are left don't matter
+pub left_by : {E P : Type 0} (r : Result Mode E) (t : Table) (ended : Ending) (m : Lent) (target : ℕ → ℕ → Outcome) →
+    IfOk r (λ mode. mode ≡ Leave ended) → OnOk r P → (P → (e left : ℕ) → outcome ended left m ≡ target e left) →
+    IfOk r (λ mode. (e left : ℕ) → current t (suc e) mode left m ≡ target e left)
+left_by (Ok mode) t ended m target h p f = λ e left. ap (λ (x : Mode). current t (suc e) x left m) h ∙ f p e left
+left_by (Err x) t ended m target h p f = tt
+
+-- a dispatch that waits for the one that it asks for
+pub nests : {E : Type 0} (r : Result Mode E) (t : Table) (left : ℕ) (m : Lent) (target : ℕ → Outcome) (o : Open) (then : Then) (d : Dispatcher) (path : List ℕ) →
+    IfOk r (λ mode. mode ≡ nesting o then d path) → ((e : ℕ) → reentered t e (frame o then) (dispatched t e (ask d o.view path) left m) ≡ target e) →
+    IfOk r (λ mode. (e : ℕ) → current t (suc e) mode left m ≡ target e)
+nests (Ok mode) t left m target o then d path h f = λ e. ap (λ (x : Mode). current t (suc e) x left m) h ∙ f e
+nests (Err x) t left m target o then d path h f = tt
+
+-- ---- a dispatch that waited
+
+-- a forward's result is that of the forwarder, closed
+pub leave_return : (t : Table) (e : ℕ) (f : Frame) (ended : Ending) (left : ℕ) (l : Lent) → f.then ≡ Return → closed_open t f.held (outcome ended left l) ≡ reentered t e f (outcome ended left l)
+unfolding reentered
+leave_return t e f ended left l h = rw h
+
+abandoned_return : (t : Table) (e : ℕ) (f : Frame) (left : ℕ) (l : Lent) → f.then ≡ Return → outcome Abandoned left l ≡ reentered t e f (outcome Abandoned left l)
+unfolding reentered closed
+abandoned_return t e f left l h = rw h
+
+abandoned_resume : (t : Table) (e : ℕ) (f : Frame) (left : ℕ) (l : Lent) (r : ℕ) → f.then ≡ Resume r → outcome Abandoned left (holding f.held.view.is_included l) ≡ reentered t e f (outcome Abandoned left l)
+unfolding reentered resumed closed
+abandoned_resume t e f left l r h = rw h
+
+pub abandon_return : (t : Table) (e : ℕ) (f : Frame) (ended : Ending) (left : ℕ) (l : Lent) → f.then ≡ Return → ended ≡ Abandoned → outcome Abandoned left l ≡ reentered t e f (outcome ended left l)
+abandon_return t e f ended left l h q = abandoned_return t e f left l h ∙ ap (λ (x : Ending). reentered t e f (outcome x left l)) (sym q)
+
+pub abandon_resume : (t : Table) (e : ℕ) (f : Frame) (ended : Ending) (left : ℕ) (l : Lent) (reply : ReplyState) (r : ℕ) → f.then ≡ Resume r → reply ≡ held l.reply f.held.view.is_included → ended ≡ Abandoned →
+    outcome Abandoned left (lent l.edit reply) ≡ reentered t e f (outcome ended left l)
+abandon_resume t e f ended left l reply r h p q =
+    ap (λ (x : ReplyState). outcome Abandoned left (lent l.edit x)) p ∙ (abandoned_resume t e f left l r h ∙ ap (λ (x : Ending). reentered t e f (outcome x left l)) (sym q))
+
+pub fault_resume : (t : Table) (e : ℕ) (f : Frame) (ended : Ending) (left : ℕ) (l : Lent) (reply : ReplyState) (r : ℕ) (name : List ℕ) → f.then ≡ Resume r → reply ≡ held l.reply f.held.view.is_included → ended ≡ Faulted name →
+    closed_open t f.held (outcome (Faulted name) left (lent l.edit reply)) ≡ reentered t e f (outcome ended left l)
+unfolding reentered resumed
+fault_resume t e f ended left l reply r name h p q = rw (h, q, p)
+
+finished_resume : (t : Table) (e : ℕ) (f : Frame) (left : ℕ) (l : Lent) (r : ℕ) → f.then ≡ Resume r →
+    opened t e (record f.held { resume = r }) left (holding f.held.view.is_included l) ≡ reentered t e f (outcome Finished left l)
+unfolding reentered resumed opened
+finished_resume t e f left l r h = rw h
+
+failed_resume : (t : Table) (e : ℕ) (f : Frame) (left : ℕ) (l : Lent) (r code : ℕ) (text : List ℕ) → f.then ≡ Resume r →
+    opened t e (record f.held { resume = r }) left (holding f.held.view.is_included l) ≡ reentered t e f (outcome (Failed code text) left l)
+unfolding reentered resumed opened
+failed_resume t e f left l r code text h = rw h
+
+-- the servlet goes on
+pub finish_resume : (t : Table) (e : ℕ) (f : Frame) (o : Open) (ended : Ending) (left : ℕ) (l : Lent) (reply : ReplyState) (r : ℕ) → o ≡ record f.held { resume = r } → f.then ≡ Resume r → reply ≡ held l.reply f.held.view.is_included → ended ≡ Finished →
+    opened t e o left (lent l.edit reply) ≡ reentered t e f (outcome ended left l)
+finish_resume t e f o ended left l reply r w h p q =
+    ap (λ (x : Open). opened t e x left (lent l.edit reply)) w ∙ (ap (λ (x : ReplyState). opened t e (record f.held { resume = r }) left (lent l.edit x)) p
+    ∙ (finished_resume t e f left l r h ∙ ap (λ (x : Ending). reentered t e f (outcome x left l)) (sym q)))
+
+pub fail_resume : (t : Table) (e : ℕ) (f : Frame) (o : Open) (ended : Ending) (left : ℕ) (l : Lent) (reply : ReplyState) (r code : ℕ) (text : List ℕ) → o ≡ record f.held { resume = r } → f.then ≡ Resume r → reply ≡ held l.reply f.held.view.is_included → ended ≡ Failed code text →
+    opened t e o left (lent l.edit reply) ≡ reentered t e f (outcome ended left l)
+fail_resume t e f o ended left l reply r code text w h p q =
+    ap (λ (x : Open). opened t e x left (lent l.edit reply)) w ∙ (ap (λ (x : ReplyState). opened t e (record f.held { resume = r }) left (lent l.edit x)) p
+    ∙ (failed_resume t e f left l r code text h ∙ ap (λ (x : Ending). reentered t e f (outcome x left l)) (sym q)))

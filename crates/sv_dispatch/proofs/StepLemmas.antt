@@ -1,0 +1,83 @@
+-- One step of a run: what all of it gives stays.
+use Rattle.std.proofs.Common.{◌≡◌, ℕ, zero, suc, ◌<◌, ◌≤◌, ◌+◌, ◌-◌, List, [], ◌∷◌, ◌++◌, length, length-append, reverse, arith, sym, ◌∙◌, ap, refl, subst, All, Some, Result, Ok, Err, IfOk}
+use Rattle.std.proofs.lemmas.List.{reverse-append}
+use Rattle.std.proofs.lemmas.List.Elements.{All-nil, All-push, All-pop}
+use Rattle.sv_servlet.specs.Servlet.{Lent}
+use Rattle.sv_dispatch.specs.Dispatching.{Table, Outcome, outcome, dispatched}
+use Rattle.sv_dispatch.specs.Stack.{current, reentered, plugged, whole, IsRunning, IsOpen, IsModeOf, need}
+use Rattle.sv_dispatch.specs.declared.visit.Ask.{Ask}
+use Rattle.sv_dispatch.specs.declared.mode.Frame.{Frame}
+use Rattle.sv_dispatch.specs.declared.mode.Mode.{Mode}
+use Rattle.sv_dispatch.specs.declared.mode.Mode.TheVariants.{Enter, Leave, Nest}
+use Rattle.sv_dispatch.specs.declared.mode.Ending.{Ending}
+use Rattle.sv_dispatch.specs.declared.mode.Ending.TheVariants.{Abandoned}
+
+-- a step within the dispatch at hand
+pub keeps : (t : Table) (fs : List Frame) (m n m' : Mode) (left left' : ℕ) (l l' : Lent) → length fs < 16 → m ≡ n →
+    ((e : ℕ) → current t (suc e) m' left' l' ≡ current t (suc e) n left l) → whole t 16 fs m' left' l' ≡ whole t 16 fs m left l
+unfolding whole
+keeps t fs m n m' left left' l l' h i f =
+    let room : 16 - length fs ≡ suc (15 - length fs) = omega arith in
+    rw (i, room) (ap (plugged t (suc (15 - length fs)) (reverse fs)) (f (15 - length fs)))
+
+-- a dispatch that would be too deep
+pub too_deep : (t : Table) (fs : List Frame) (m : Mode) (a : Ask) (left : ℕ) (l : Lent) → m ≡ Enter a → 16 ≤ length fs → whole t 16 fs (Leave Abandoned) left l ≡ whole t 16 fs m left l
+unfolding whole dispatched
+too_deep t fs m a left l i h =
+    let room : 16 - length fs ≡ zero = omega arith in
+    rw (i, room)
+
+-- a dispatch is put on the stack
+pub pushes : (t : Table) (fs gs : List Frame) (f : Frame) (m : Mode) (a : Ask) (left : ℕ) (l : Lent) → m ≡ Nest f a → gs ≡ fs ++ f ∷ [] → length fs < 16 →
+    whole t 16 gs (Enter a) left l ≡ whole t 16 fs m left l
+unfolding whole plugged
+pushes t fs gs f m a left l i p h =
+    let below : 16 - length gs ≡ 15 - length fs = omega (arith, ap length p, length-append fs (f ∷ [])) in
+    let room : 16 - length fs ≡ suc (15 - length fs) = omega arith in
+    let turned : reverse gs ≡ f ∷ reverse fs = ap reverse p ∙ reverse-append fs (f ∷ []) in
+    rw (i, below, room, turned)
+
+-- a dispatch is taken from the stack
+pub pops : (t : Table) (fs gs : List Frame) (f : Frame) (m m' : Mode) (ended : Ending) (left : ℕ) (l l' : Lent) → m ≡ Leave ended → fs ≡ gs ++ f ∷ [] → length fs ≤ 16 →
+    ((e left : ℕ) → current t (suc e) m' left l' ≡ reentered t e f (outcome ended left l)) → whole t 16 gs m' left l' ≡ whole t 16 fs m left l
+unfolding whole plugged
+pops t fs gs f m m' ended left l l' i p h k =
+    let below : 16 - length fs ≡ 15 - length gs = omega (arith, ap length p, length-append gs (f ∷ [])) in
+    let room : 16 - length gs ≡ suc (15 - length gs) = omega (arith, h, ap length p, length-append gs (f ∷ [])) in
+    let turned : reverse fs ≡ f ∷ reverse gs = ap reverse p ∙ reverse-append gs (f ∷ []) in
+    rw (i, below, room, turned) (ap (plugged t (suc (15 - length gs)) (reverse gs)) (k (15 - length gs) left))
+
+pub pushes_running : (t : Table) (fs gs : List Frame) (f : Frame) (m : Mode) (a : Ask) → m ≡ Nest f a → gs ≡ fs ++ f ∷ [] → IsRunning t fs m → IsRunning t gs (Enter a)
+pushes_running t fs gs f m a i p h =
+    let there : IsOpen t f.held = subst (IsModeOf t) i h.mode in
+    let room : length fs + 1 ≤ 16 = omega (arith, h.room, ap need i) in
+    record {
+      mode = tt;
+      frames = subst (All (λ (x : Frame). IsOpen t x.held)) (sym p) (All-push (λ (x : Frame). IsOpen t x.held) fs f h.frames there);
+      room = omega (arith, room, ap length p, length-append fs (f ∷ []));
+    }
+
+pub pops_running : {E : Type 0} (r : Result Mode E) (t : Table) (fs gs : List Frame) (f : Frame) (m : Mode) → fs ≡ gs ++ f ∷ [] → IsRunning t fs m → IfOk r (IsModeOf t) → IfOk r (λ mode. need mode ≤ 1) → IfOk r (IsRunning t gs)
+pops_running (Ok mode) t fs gs f m p h held small = record {
+  mode = held;
+  frames = (All-pop (λ (x : Frame). IsOpen t x.held) fs gs (Some f) p h.frames).0;
+  room = omega (arith, small, h.room, ap length p, length-append gs (f ∷ []));
+}
+pops_running (Err x) t fs gs f m p h held small = tt
+
+-- at the start the stack is empty
+pub starts : (t : Table) (fs : List Frame) (a : Ask) (left : ℕ) (l : Lent) → fs ≡ [] → whole t 16 fs (Enter a) left l ≡ dispatched t 16 a left l
+unfolding whole plugged
+starts t fs a left l e = rw e
+
+pub starts_running : (t : Table) (fs : List Frame) (a : Ask) → fs ≡ [] → IsRunning t fs (Enter a)
+starts_running t fs a e = rw e (record { mode = tt; frames = All-nil (λ (f : Frame). IsOpen t f.held); room = omega arith })
+
+-- at the end too
+pub ends : (t : Table) (fs : List Frame) (m : Mode) (ended : Ending) (left : ℕ) (l : Lent) (o : Outcome) → fs ≡ [] → m ≡ Leave ended → whole t 16 fs m left l ≡ o → outcome ended left l ≡ o
+unfolding whole plugged
+ends t fs m ended left l o e i h = rw (e, i) at h
+
+pub no_frames : (fs : List Frame) (n : ℕ) → n ≡ length fs → n ≡ 0 → fs ≡ []
+no_frames [] n l z = refl
+no_frames (f ∷ fs) n l z = absurd (omega arith)

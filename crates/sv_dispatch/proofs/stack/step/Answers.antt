@@ -1,0 +1,40 @@
+use Rattle.std.proofs.Common.{ap, arith, ◌≤◌, ◌<◌, length}
+use Rattle.std.proofs.lemmas.Result.{IfOk-weaker}
+use Rattle.sv_dispatch.specs.Stack.{need}
+use Rattle.sv_dispatch.specs.declared.mode.Mode.TheVariants.{Enter, Begin, Serve}
+use Rattle.sv_dispatch.proofs.StepLemmas.{keeps, too_deep, pushes, pushes_running, pops, pops_running}
+use Rattle.sv_dispatch.proofs.stack.step.Goals as goal
+
+pub returns-then-len-ge-DEPTH-clause-whole : goal.returns-then-len-ge-DEPTH-clause-whole
+returns-then-len-ge-DEPTH-clause-whole g c = too_deep _ _ _ c.in-Enter.ask _ _ c.in-Enter.is (omega (arith, c.len.ensures, c.args.frames.now.ok.0))
+
+pub returns-in-Enter-clause-whole : goal.returns-in-Enter-clause-whole
+returns-in-Enter-clause-whole g c =
+    let h : length c.args.frames.now.items < 16 = omega (arith, c.len.ensures, c.args.frames.now.ok.0) in
+    IfOk-weaker c.enter.result _ _ (λ mode k. keeps _ _ _ (Enter c.in-Enter.ask) mode _ _ _ _ h c.in-Enter.is (λ e. k e c.args.left.now)) c.enter.ensures.current
+
+pub returns-in-Begin-clause-whole : goal.returns-in-Begin-clause-whole
+returns-in-Begin-clause-whole g c =
+    let h : length c.args.frames.now.items < 16 = omega (arith, ap need c.in-Begin.is, c.requires.running.room) in
+    IfOk-weaker c.open.result _ _ (λ mode k. keeps _ _ _ (Begin c.in-Begin.visit) mode _ _ _ _ h c.in-Begin.is (λ e. k e c.args.left.now)) c.open.ensures.current
+
+pub returns-in-Serve-clause-whole : goal.returns-in-Serve-clause-whole
+returns-in-Serve-clause-whole g c =
+    let h : length c.args.frames.now.items < 16 = omega (arith, ap need c.in-Serve.is, c.requires.running.room) in
+    IfOk-weaker c.serve.result _ _ (λ mode k. keeps _ _ _ (Serve c.in-Serve.held) mode _ _ _ _ h c.in-Serve.is k) c.serve.ensures.current
+
+pub returns-in-Nest-clause-whole : goal.returns-in-Nest-clause-whole
+returns-in-Nest-clause-whole g c =
+    let h : length c.args.frames.now.items < 16 = omega (arith, ap need c.in-Nest.is, c.requires.running.room) in
+    pushes _ _ _ _ _ _ _ _ c.in-Nest.is c.in_ok-push-in-Nest.ensures.items h
+
+pub returns-clause-whole : goal.returns-clause-whole
+returns-clause-whole g c =
+    let h : length c.args.frames.now.items ≤ 16 = omega (arith, c.requires.running.room) in
+    IfOk-weaker c.leave.result _ _ (λ mode k. pops _ _ _ _ _ mode _ _ _ _ c.in-Leave.is c.in-Some.ensures.items h k) c.leave.ensures.current
+
+pub returns-in-Nest-clause-running : goal.returns-in-Nest-clause-running
+returns-in-Nest-clause-running g c = pushes_running _ _ _ _ _ _ c.in-Nest.is c.in_ok-push-in-Nest.ensures.items c.requires.running
+
+pub returns-clause-running : goal.returns-clause-running
+returns-clause-running g c = pops_running c.leave.result _ _ _ _ _ c.in-Some.ensures.items c.requires.running c.leave.ensures.held c.leave.ensures.need

@@ -1,0 +1,192 @@
+-- What a dispatch gives: a big step, by recursion on what the servlets answer (Jakarta Servlet 6.0, chapters
+-- "Dispatching Requests" and "Filtering").
+use Rattle.std.specs.Prelude.{ℕ, zero, suc, Bool, true, List, [], ◌∷◌, Option, Some, None, codes, if◌then◌else◌}
+use Rattle.sv_mapping.specs.Filter.{chain}
+use Rattle.sv_mapping.specs.Mappings as mappings
+use Rattle.sv_mapping.specs.declared.dispatcher.Dispatcher.{Dispatcher}
+use Rattle.sv_mapping.specs.declared.dispatcher.Dispatcher.TheVariants.{Request, Forward as ByForward, Include as ByInclude, Error}
+use Rattle.sv_mapping.specs.declared.filter.FilterMapping.{FilterMapping}
+use Rattle.sv_servlet.specs.Call.{Asked}
+use Rattle.sv_servlet.specs.Filter.{Filters}
+use Rattle.sv_servlet.specs.Reply.{cleared, held}
+use Rattle.sv_servlet.specs.Servlet.{Serves, Lent, lent}
+use Rattle.sv_servlet.specs.declared.filter.Before.{Before}
+use Rattle.sv_servlet.specs.declared.filter.Before.TheVariants.{Pass, Stop, SendError as RefuseBy, Fault as RefuseFor}
+use Rattle.sv_servlet.specs.declared.servlet.Next.{Next}
+use Rattle.sv_servlet.specs.declared.servlet.Next.TheVariants.{Done, Forward, Include, SendError, Fault}
+use Rattle.sv_dispatch.specs.Place.{place_of}
+use Rattle.sv_dispatch.specs.Rows.{Row, served, before_at, after_at, labels_of_rows, ready_at}
+use Rattle.sv_dispatch.specs.Sight.{Sight, call_of, forwarded, included}
+use Rattle.sv_dispatch.specs.Target.{read_target}
+use Rattle.sv_dispatch.specs.declared.place.Place.{Place}
+use Rattle.sv_dispatch.specs.declared.visit.Ask.{Ask}
+use Rattle.sv_dispatch.specs.declared.mode.Ending.{Ending}
+use Rattle.sv_dispatch.specs.declared.mode.Ending.TheVariants.{Finished, Failed, Faulted, Abandoned}
+use Rattle.sv_dispatch.specs.declared.page.ErrorPage.{ErrorPage}
+use Rattle.sv_dispatch.specs.declared.visit.Visit.{Visit}
+use Rattle.sv_dispatch.specs.declared.target.Target.{Target}
+
+-- the objects of a context, and what leads to them
+pub record Table : Type 0 where
+  pub servlets : List (Row Serves)
+  pub filters : List (Row Filters)
+  pub patterns : mappings.Table
+  pub chains : List FilterMapping
+  pub pages : List ErrorPage
+
+-- how a dispatch ended, the service calls that are left, and what it leaves of what was lent
+pub record Outcome : Type 0 where
+  pub ended : Ending
+  pub left : ℕ
+  pub lent : Lent
+
+abbrev pub outcome : Ending → ℕ → Lent → Outcome
+outcome e n l = record { ended = e; left = n; lent = l }
+
+-- below an include an error that is sent is the end of the dispatch, and nothing more
+unfoldable pub sent : Sight → ℕ → List ℕ → Ending
+sent s code text = if s.is_included then Finished else Failed code text
+
+-- ---- the reply round another dispatch
+
+-- the body is emptied before a forward
+abbrev pub emptied : Lent → Lent
+emptied l = lent l.edit (cleared l.reply)
+
+-- the reply is held before an include, and behind it as it was
+abbrev pub holding : Bool → Lent → Lent
+holding is_held l = lent l.edit (held l.reply is_held)
+
+-- ---- filters
+
+-- the filters that passed, the last word, and what they leave
+pub record Begun : Type 0 where
+  pub passed : List ℕ
+  pub before : Before
+  pub lent : Lent
+
+abbrev pub begun : List ℕ → Before → Lent → Begun
+begun ps b l = record { passed = ps; before = b; lent = l }
+
+abbrev pub begun_after : ℕ → Lent → Begun → Before → Begun
+begun_after k l rest Pass = begun (k ∷ rest.passed) rest.before rest.lent
+begun_after k l rest Stop = begun [] Stop l
+begun_after k l rest (RefuseBy code text) = begun [] (RefuseBy code text) l
+begun_after k l rest (RefuseFor name) = begun [] (RefuseFor name) l
+
+-- `before` along a chain, until one does not pass
+unfoldable pub befores : List (Row Filters) → List ℕ → Asked → Lent → Begun
+befores fs [] call l = begun [] Pass l
+befores fs (k ∷ ks) call l =
+    let v = before_at fs k call l in
+    begun_after k v.lent (befores fs ks call v.lent) v.before
+
+-- `after` of the filters that passed, in reverse
+unfoldable pub afters : List (Row Filters) → List ℕ → Asked → Lent → Lent
+afters fs [] call l = l
+afters fs (k ∷ ks) call l = after_at fs k call (afters fs ks call l)
+
+abbrev pub closed_by : List (Row Filters) → List ℕ → Asked → Outcome → Ending → Outcome
+closed_by fs ps call o Finished = outcome o.ended o.left (afters fs ps call o.lent)
+closed_by fs ps call o (Failed code text) = outcome o.ended o.left (afters fs ps call o.lent)
+closed_by fs ps call o (Faulted name) = outcome o.ended o.left (afters fs ps call o.lent)
+closed_by fs ps call o Abandoned = o
+
+-- the end of a dispatch: `after`, unless it was abandoned
+unfoldable pub closed : List (Row Filters) → List ℕ → Asked → Outcome → Outcome
+closed fs ps call o = closed_by fs ps call o o.ended
+
+-- ---- the servlet
+
+abbrev pub resumed_by : (ℕ → ℕ → Lent → Outcome) → ℕ → Outcome → Ending → Outcome
+resumed_by again r o Finished = again r o.left o.lent
+resumed_by again r o (Failed code text) = again r o.left o.lent
+resumed_by again r o (Faulted name) = o
+resumed_by again r o Abandoned = o
+
+abbrev pub let_go : Bool → Outcome → Outcome
+let_go is_held o = outcome o.ended o.left (holding is_held o.lent)
+
+-- behind an included dispatch the reply is held as before, and the servlet goes on, unless that was abandoned or faulted
+unfoldable pub resumed : (ℕ → ℕ → Lent → Outcome) → Bool → ℕ → Outcome → Outcome
+resumed again is_held r o = resumed_by again r (let_go is_held o) o.ended
+
+abbrev pub ask : Dispatcher → Sight → List ℕ → Ask
+ask dispatcher s path = record { dispatcher = dispatcher; view = s; path = path }
+
+-- what follows a servlet's answer
+abbrev pub answered : (Ask → ℕ → Lent → Outcome) → (ℕ → ℕ → Lent → Outcome) → Sight → ℕ → Lent → Next → Outcome
+answered inner again s left l Done = outcome Finished left l
+answered inner again s left l (SendError code text) = outcome (sent s code text) left l
+answered inner again s left l (Fault name) = outcome (Faulted name) left l
+answered inner again s left l (Forward path) = inner (ask ByForward s path) left (emptied l)
+answered inner again s left l (Include path r) = resumed again s.is_included r (inner (ask ByInclude s path) left (holding true l))
+
+abbrev pub spent_or : ℕ → Lent → (ℕ → Outcome) → Outcome
+spent_or zero l go = outcome Abandoned zero l
+spent_or (suc left) l go = go left
+
+-- a servlet is called, at most `turns` times, with `left` service calls left in all
+unfoldable pub serving : (Ask → ℕ → Lent → Outcome) → List (Row Serves) → ℕ → ℕ → Sight → ℕ → ℕ → Lent → Outcome
+serving inner rs zero k s r left l = outcome Abandoned left l
+serving inner rs (suc turns) k s r left l =
+    spent_or left l (λ rest.
+    let a = served rs k (call_of s r) l in
+    answered inner (λ r' left' l'. serving inner rs turns k s r' left' l') s rest a.lent a.next)
+
+-- the servlet of a dispatch; one that is missing is an error of its own, and no call
+abbrev pub placed : (Ask → ℕ → Lent → Outcome) → List (Row Serves) → Sight → ℕ → Lent → Option ℕ → Outcome
+placed inner rs s left l None = outcome (sent s 404 []) left l
+placed inner rs s left l (Some k) = serving inner rs left k s 0 left l
+
+abbrev pub begun_by : (Ask → ℕ → Lent → Outcome) → List (Row Serves) → Visit → ℕ → Lent → Before → Outcome
+begun_by inner rs v left l Pass = placed inner rs v.view left l (ready_at (labels_of_rows rs) v.servlet)
+begun_by inner rs v left l Stop = outcome Finished left l
+begun_by inner rs v left l (RefuseBy code text) = outcome (sent v.view code text) left l
+begun_by inner rs v left l (RefuseFor name) = outcome (Faulted name) left l
+
+-- ---- the dispatch
+
+abbrev pub chain_of : Table → Visit → List ℕ
+chain_of t v = chain t.chains v.path v.servlet v.dispatcher
+
+-- filters, servlet, filters
+unfoldable pub performed : Table → (Ask → ℕ → Lent → Outcome) → Visit → ℕ → Lent → Outcome
+performed t inner v left l =
+    let b = befores t.filters (chain_of t v) (call_of v.view 0) l in
+    closed t.filters b.passed (call_of v.view 0) (begun_by inner t.servlets v left b.lent b.before)
+
+abbrev pub visit : Dispatcher → Sight → List ℕ → Option ℕ → Visit
+visit dispatcher s path servlet = record { dispatcher = dispatcher; view = s; path = path; servlet = servlet }
+
+abbrev pub visit_at : Ask → Target → Place → Dispatcher → Visit
+visit_at a target p Request = visit Request a.view target.path p.servlet
+visit_at a target p ByForward = visit ByForward (forwarded a.view target p.servlet_path p.path_info) target.path p.servlet
+visit_at a target p ByInclude = visit ByInclude (included a.view target p.servlet_path p.path_info) target.path p.servlet
+visit_at a target p Error = visit Error (forwarded a.view target p.servlet_path p.path_info) target.path p.servlet
+
+abbrev pub visit_to : Table → Ask → Option Target → Option Visit
+visit_to t a None = None
+visit_to t a (Some target) = Some (visit_at a target (place_of t.patterns target.path) a.dispatcher)
+
+abbrev pub visit_by : Table → Ask → Dispatcher → Option Visit
+visit_by t a Request = Some (visit Request a.view a.path (place_of t.patterns a.path).servlet)
+visit_by t a ByForward = visit_to t a (read_target a.view.request.context_path a.path)
+visit_by t a ByInclude = visit_to t a (read_target a.view.request.context_path a.path)
+visit_by t a Error = visit_to t a (read_target a.view.request.context_path a.path)
+
+-- the dispatch that is asked for, or none where its path is refused
+unfoldable pub visit_of : Table → Ask → Option Visit
+visit_of t a = visit_by t a a.dispatcher
+
+abbrev pub bad_path : List ℕ
+bad_path = codes "bad-path"
+
+abbrev pub entered : Table → (Ask → ℕ → Lent → Outcome) → ℕ → Lent → Option Visit → Outcome
+entered t inner left l None = outcome (Faulted bad_path) left l
+entered t inner left l (Some v) = performed t inner v left l
+
+-- a dispatch that is asked for, at most `depth` deep
+unfoldable pub dispatched : Table → ℕ → Ask → ℕ → Lent → Outcome
+dispatched t zero a left l = outcome Abandoned left l
+dispatched t (suc depth) a left l = entered t (dispatched t depth) left l (visit_of t a)

@@ -1,0 +1,11 @@
+pub mod Values
+pub mod Attributes
+pub mod Sight
+pub mod Target
+pub mod Place
+pub mod Rows
+pub mod Dispatching
+pub mod Pages
+pub mod Stages
+pub mod Stack
+pub mod Keeping

@@ -1,0 +1,30 @@
+//! The dispatcher: a call goes through filters to a servlet, and on by forwards and includes to others (Jakarta
+//! Servlet 6.0, chapters "Dispatching Requests" and "Filtering").
+//!
+//! Stands on servlets and the mapping. [`run`] keeps the dispatches that wait on a stack of its own, so a servlet that
+//! asks for another dispatch has returned, also where it asks for itself; its contract is the big step of
+//! `Dispatching`, by recursion on what the servlets answer, and `Pages` above it. Nothing here knows contexts, sessions
+//! beyond the edit, or connections.
+#![tactic(auto)]
+
+mod attributes;
+mod calls;
+mod chain;
+mod changes;
+mod hosted;
+pub mod laws;
+mod mode;
+mod page;
+mod place;
+mod request;
+mod stack;
+mod stage;
+mod steps;
+mod target;
+mod view;
+mod visit;
+
+pub use hosted::Hosted;
+pub use page::{ErrorPage, PageFor};
+pub use request::{Ended, run};
+pub use stage::Stage;

@@ -1,0 +1,74 @@
+//! The dispatches that wait for one another, on a stack of their own.
+
+ghost use Rattle.std.specs.Prelude.{◌≡◌, ◌<◌, IfOk};
+ghost use Rattle.sv_dispatch.specs.Dispatching.{outcome, dispatched};
+ghost use Rattle.sv_dispatch.specs.Stack.{IsRunning, IsOn, whole, work};
+ghost use Rattle.sv_dispatch.specs.Stages.{table_of, lent_of, IsSound};
+
+use crate::mode::{Ending, Frame, Mode};
+use crate::stage::Stage;
+use crate::steps::{enter, leave, open, serve};
+use crate::visit::Ask;
+use std::alloc::{AllocError, Global};
+use sv_servlet::{Filter, Servlet};
+
+/// The dispatches that may be nested.
+const DEPTH: usize = 16;
+
+/// One step of a run that is not over.
+fn step<'a, S: Servlet, F: Filter>(
+    alloc: Global,
+    stage: &mut Stage<S, F>,
+    frames: &mut Vec<Frame<'a>>,
+    left: &mut u32,
+    mode: Mode<'a>,
+) -> Result<Mode<'a>, AllocError>
+    requires sound { IsSound (table_of S.serves S.servlet_phase F.filtering F.filter_phase stage.old) }
+    requires running { IsRunning (table_of S.serves S.servlet_phase F.filtering F.filter_phase stage.old) frames.old.items mode }
+    requires on { IsOn frames.old.items mode }
+    ensures same { table_of S.serves S.servlet_phase F.filtering F.filter_phase stage.new ≡ table_of S.serves S.servlet_phase F.filtering F.filter_phase stage.old }
+    ensures running { IfOk result (IsRunning (table_of S.serves S.servlet_phase F.filtering F.filter_phase stage.old) frames.new.items) }
+    ensures less { IfOk result (λ next. work frames.new.items next left.new < work frames.old.items mode.entry left.old) }
+    ensures whole { IfOk result (λ next. whole (table_of S.serves S.servlet_phase F.filtering F.filter_phase stage.old) 16 frames.new.items next left.new (lent_of stage.new) ≡ whole (table_of S.serves S.servlet_phase F.filtering F.filter_phase stage.old) 16 frames.old.items mode.entry left.old (lent_of stage.old)) }
+{
+    match mode {
+        Mode::Enter(ask) => {
+            if frames.len() >= DEPTH {
+                Ok(Mode::Leave(Ending::Abandoned))
+            } else {
+                enter(alloc, stage, ask)
+            }
+        }
+        Mode::Begin(visit) => open(alloc, stage, visit),
+        Mode::Serve(held) => serve(stage, left, held),
+        Mode::Nest(frame, ask) => {
+            frames.push(frame)?;
+            Ok(Mode::Enter(ask))
+        }
+        Mode::Leave(ended) => match frames.pop() {
+            None => Ok(Mode::Leave(ended)),
+            Some(frame) => leave(stage, frame, ended),
+        },
+    }
+}
+
+/// Runs a dispatch with all that it asks for; `left` service calls are left.
+pub fn dispatch<'a, S: Servlet, F: Filter>(
+    alloc: Global,
+    stage: &mut Stage<S, F>,
+    left: &mut u32,
+    ask: Ask<'a>,
+) -> Result<Ending, AllocError>
+    requires { IsSound (table_of S.serves S.servlet_phase F.filtering F.filter_phase stage.old) }
+    ensures same { table_of S.serves S.servlet_phase F.filtering F.filter_phase stage.new ≡ table_of S.serves S.servlet_phase F.filtering F.filter_phase stage.old }
+    ensures outcome { IfOk result (λ ended. outcome ended left.new (lent_of stage.new) ≡ dispatched (table_of S.serves S.servlet_phase F.filtering F.filter_phase stage.old) 16 ask.entry left.old (lent_of stage.old)) }
+{
+    let mut frames = Vec::new(alloc);
+    let mut mode = Mode::Enter(ask);
+    loop {
+        match mode {
+            Mode::Leave(ended) if frames.is_empty() => return Ok(ended),
+            other => mode = step(alloc, stage, &mut frames, left, other)?,
+        }
+    }
+}

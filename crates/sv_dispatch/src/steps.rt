@@ -1,0 +1,234 @@
+//! The steps of a dispatch that leave the stack alone.
+
+ghost use Rattle.std.specs.Prelude.{◌≡◌, ◌≢◌, ℕ, ◌+◌, ◌*◌, ◌<◌, ◌≤◌, suc, IfOk, All, OnOk};
+ghost use Rattle.sv_dispatch.specs.Dispatching.{outcome, closed, dispatched, performed, sent};
+ghost use Rattle.sv_dispatch.specs.Rows.{IsReadyAt};
+ghost use Rattle.sv_dispatch.specs.Sight.{call_of};
+ghost use Rattle.sv_dispatch.specs.Stack.{current, opened, reentered, closed_open, nesting, IsOpen, IsModeOf, need, weight};
+ghost use Rattle.sv_dispatch.specs.Stages.{table_of, lent_of, IsSound};
+ghost use Rattle.sv_dispatch.specs.declared.mode.Ending.TheVariants.{Abandoned};
+ghost use Rattle.sv_dispatch.specs.declared.mode.Mode.TheVariants.{Leave};
+
+use crate::calls::service_at;
+use crate::chain::{begin, run_afters, servlet_at};
+use crate::mode::{Ending, Frame, Mode, Open, Then};
+use crate::stage::Stage;
+use crate::view::View;
+use crate::visit::{Ask, Visit, visit_of};
+use std::alloc::{AllocError, Global};
+use sv_mapping::dispatcher::Dispatcher;
+use sv_model::text::Text;
+use sv_servlet::{Before, Filter, Next, Servlet};
+
+/// How a dispatch ends where an error is sent; below an include that is its end and nothing more.
+#[tactic(auto, unfolding(crate::specs::Dispatching::sent))]
+fn sent(view: &View<'_>, code: u16, text: Text) -> Ending
+    ensures ending { result ≡ sent view.now code text }
+    ensures kept { result ≢ Abandoned }
+{
+    if view.is_included() {
+        Ending::Finished
+    } else {
+        Ending::Failed { code, text }
+    }
+}
+
+/// Reads and maps the path of a dispatch.
+pub fn enter<'a, S: Servlet, F: Filter>(
+    alloc: Global,
+    stage: &Stage<S, F>,
+    ask: Ask<'a>,
+) -> Result<Mode<'a>, AllocError>
+    ensures held { IfOk result (IsModeOf (table_of S.serves S.servlet_phase F.filtering F.filter_phase stage.now)) }
+    ensures need { IfOk result (λ mode. need mode ≤ 1) }
+    ensures less { IfOk result (λ mode. weight mode < 3) }
+    ensures current { IfOk result (λ mode. (e left : ℕ) → current (table_of S.serves S.servlet_phase F.filtering F.filter_phase stage.now) (suc e) mode left (lent_of stage.now) ≡ dispatched (table_of S.serves S.servlet_phase F.filtering F.filter_phase stage.now) (suc e) ask.entry left (lent_of stage.now)) }
+{
+    let visit = visit_of(alloc, stage, ask)?;
+    match visit {
+        Some(visit) => Ok(Mode::Begin(visit)),
+        None => Ok(Mode::Leave(Ending::Faulted(Text::from_str(alloc, "bad-path")?))),
+    }
+}
+
+/// Ends a dispatch that was not abandoned.
+fn finish<'a, S: Servlet, F: Filter>(
+    stage: &mut Stage<S, F>,
+    view: View<'a>,
+    passed: Vec<usize>,
+    ended: Ending,
+) -> Result<Mode<'a>, AllocError>
+    requires ready { All (IsReadyAt (table_of S.serves S.servlet_phase F.filtering F.filter_phase stage.old).filters) passed.items }
+    requires kept { ended ≢ Abandoned }
+    ensures same { table_of S.serves S.servlet_phase F.filtering F.filter_phase stage.new ≡ table_of S.serves S.servlet_phase F.filtering F.filter_phase stage.old }
+    ensures mode { IfOk result (λ mode. mode ≡ Leave ended) }
+    ensures closed { OnOk result ((left : ℕ) → outcome ended left (lent_of stage.new) ≡ closed (table_of S.serves S.servlet_phase F.filtering F.filter_phase stage.old).filters passed.items (call_of view.entry 0) (outcome ended left (lent_of stage.old))) }
+{
+    run_afters(stage, &view.call(0), passed)?;
+    Ok(Mode::Leave(ended))
+}
+
+/// Calls the filters of a dispatch, up to the one that does not pass.
+pub fn open<'a, S: Servlet, F: Filter>(
+    alloc: Global,
+    stage: &mut Stage<S, F>,
+    visit: Visit<'a>,
+) -> Result<Mode<'a>, AllocError>
+    requires { IsSound (table_of S.serves S.servlet_phase F.filtering F.filter_phase stage.old) }
+    ensures same { table_of S.serves S.servlet_phase F.filtering F.filter_phase stage.new ≡ table_of S.serves S.servlet_phase F.filtering F.filter_phase stage.old }
+    ensures held { IfOk result (IsModeOf (table_of S.serves S.servlet_phase F.filtering F.filter_phase stage.old)) }
+    ensures need { IfOk result (λ mode. need mode ≤ 1) }
+    ensures less { IfOk result (λ mode. weight mode < 2) }
+    ensures current { IfOk result (λ mode. (e left : ℕ) → current (table_of S.serves S.servlet_phase F.filtering F.filter_phase stage.old) (suc e) mode left (lent_of stage.new) ≡ performed (table_of S.serves S.servlet_phase F.filtering F.filter_phase stage.old) (dispatched (table_of S.serves S.servlet_phase F.filtering F.filter_phase stage.old) e) visit.entry left (lent_of stage.old)) }
+{
+    let (passed, before) = begin(alloc, stage, &visit)?;
+    let Visit {
+        dispatcher: _,
+        view,
+        path: _,
+        servlet,
+    } = visit;
+    match before {
+        Before::Pass => match servlet_at(stage, servlet) {
+            Some(servlet) => Ok(Mode::Serve(Open {
+                view,
+                passed,
+                servlet,
+                resume: 0,
+            })),
+            None => {
+                let ended = sent(&view, 404, Text::new(alloc));
+                finish(stage, view, passed, ended)
+            }
+        },
+        Before::Stop => finish(stage, view, passed, Ending::Finished),
+        Before::SendError { code, text } => {
+            let ended = sent(&view, code, text);
+            finish(stage, view, passed, ended)
+        }
+        Before::Fault(name) => finish(stage, view, passed, Ending::Faulted(name)),
+    }
+}
+
+/// Ends an open dispatch that was not abandoned.
+fn close<'a, S: Servlet, F: Filter>(
+    stage: &mut Stage<S, F>,
+    held: Open<'a>,
+    ended: Ending,
+) -> Result<Mode<'a>, AllocError>
+    requires ready { All (IsReadyAt (table_of S.serves S.servlet_phase F.filtering F.filter_phase stage.old).filters) held.passed.items }
+    requires kept { ended ≢ Abandoned }
+    ensures same { table_of S.serves S.servlet_phase F.filtering F.filter_phase stage.new ≡ table_of S.serves S.servlet_phase F.filtering F.filter_phase stage.old }
+    ensures mode { IfOk result (λ mode. mode ≡ Leave ended) }
+    ensures closed { OnOk result ((left : ℕ) → outcome ended left (lent_of stage.new) ≡ closed_open (table_of S.serves S.servlet_phase F.filtering F.filter_phase stage.old) held.entry (outcome ended left (lent_of stage.old))) }
+{
+    let Open {
+        view,
+        passed,
+        servlet: _,
+        resume: _,
+    } = held;
+    finish(stage, view, passed, ended)
+}
+
+/// A dispatch waits for the one that its servlet asks for.
+fn nest<'a>(
+    held: Open<'a>,
+    then: Then,
+    dispatcher: Dispatcher,
+    path: Text,
+) -> Result<Mode<'a>, AllocError>
+    ensures { IfOk result (λ mode. mode ≡ nesting held.entry then dispatcher path) }
+{
+    let view = held.view.again()?;
+    Ok(Mode::Nest(
+        Frame { held, then },
+        Ask {
+            dispatcher,
+            view,
+            path,
+        },
+    ))
+}
+
+/// Calls the servlet of a dispatch.
+pub fn serve<'a, S: Servlet, F: Filter>(
+    stage: &mut Stage<S, F>,
+    left: &mut u32,
+    held: Open<'a>,
+) -> Result<Mode<'a>, AllocError>
+    requires { IsOpen (table_of S.serves S.servlet_phase F.filtering F.filter_phase stage.old) held }
+    ensures same { table_of S.serves S.servlet_phase F.filtering F.filter_phase stage.new ≡ table_of S.serves S.servlet_phase F.filtering F.filter_phase stage.old }
+    ensures held { IfOk result (IsModeOf (table_of S.serves S.servlet_phase F.filtering F.filter_phase stage.old)) }
+    ensures need { IfOk result (λ mode. need mode ≤ 1) }
+    ensures less { IfOk result (λ mode. weight mode + 7 * left.new < 7 * left.old + 1) }
+    ensures current { IfOk result (λ mode. (e : ℕ) → current (table_of S.serves S.servlet_phase F.filtering F.filter_phase stage.old) (suc e) mode left.new (lent_of stage.new) ≡ opened (table_of S.serves S.servlet_phase F.filtering F.filter_phase stage.old) e held.entry left.old (lent_of stage.old)) }
+{
+    if *left == 0 {
+        return Ok(Mode::Leave(Ending::Abandoned));
+    }
+    *left -= 1;
+    let next = service_at(
+        &mut stage.servlets,
+        held.servlet,
+        &held.view.call(held.resume),
+        &mut stage.edit,
+        &mut stage.reply,
+    )?;
+    match next {
+        Next::Done => close(stage, held, Ending::Finished),
+        Next::SendError { code, text } => {
+            let ended = sent(&held.view, code, text);
+            close(stage, held, ended)
+        }
+        Next::Fault(name) => close(stage, held, Ending::Faulted(name)),
+        Next::Forward(path) => {
+            stage.reply.clear_body();
+            nest(held, Then::Return, Dispatcher::Forward, path)
+        }
+        Next::Include { path, resume } => {
+            stage.reply.hold(true);
+            nest(held, Then::Resume(resume), Dispatcher::Include, path)
+        }
+    }
+}
+
+/// The servlet of a dispatch is called once more, with a number.
+fn resume_with<'a>(held: Open<'a>, resume: u16) -> Open<'a>
+    ensures { result ≡ record held.entry { resume = resume } }
+{
+    let mut held = held;
+    held.resume = resume;
+    held
+}
+
+/// Goes on with the dispatch that waited.
+pub fn leave<'a, S: Servlet, F: Filter>(
+    stage: &mut Stage<S, F>,
+    frame: Frame<'a>,
+    ended: Ending,
+) -> Result<Mode<'a>, AllocError>
+    requires { IsOpen (table_of S.serves S.servlet_phase F.filtering F.filter_phase stage.old) frame.held }
+    ensures same { table_of S.serves S.servlet_phase F.filtering F.filter_phase stage.new ≡ table_of S.serves S.servlet_phase F.filtering F.filter_phase stage.old }
+    ensures held { IfOk result (IsModeOf (table_of S.serves S.servlet_phase F.filtering F.filter_phase stage.old)) }
+    ensures need { IfOk result (λ mode. need mode ≤ 1) }
+    ensures less { IfOk result (λ mode. weight mode < 2) }
+    ensures current { IfOk result (λ mode. (e left : ℕ) → current (table_of S.serves S.servlet_phase F.filtering F.filter_phase stage.old) (suc e) mode left (lent_of stage.new) ≡ reentered (table_of S.serves S.servlet_phase F.filtering F.filter_phase stage.old) e frame.entry (outcome ended left (lent_of stage.old))) }
+{
+    let Frame { held, then } = frame;
+    match then {
+        Then::Return => match ended {
+            Ending::Abandoned => Ok(Mode::Leave(Ending::Abandoned)),
+            ended => close(stage, held, ended),
+        },
+        Then::Resume(resume) => {
+            stage.reply.hold(held.view.is_included());
+            match ended {
+                Ending::Abandoned => Ok(Mode::Leave(Ending::Abandoned)),
+                Ending::Faulted(name) => close(stage, held, Ending::Faulted(name)),
+                Ending::Finished => Ok(Mode::Serve(resume_with(held, resume))),
+                Ending::Failed { code: _, text: _ } => Ok(Mode::Serve(resume_with(held, resume))),
+            }
+        }
+    }
+}

@@ -1,0 +1,2 @@
+pub mod ScriptedLemmas
+pub mod StageLemmas

@@ -1,0 +1,78 @@
+//! Forwards and includes, one in another (Jakarta Servlet 6.0, sections 9.3 and 9.4).
+
+use super::{Row, Want, expect, servlet_of};
+use crate::scripted::{Marking, Says, Scripted, Then};
+use crate::staged::{add_servlet, empty_stage};
+use std::test::Fail;
+use sv_dispatch::{Ended, Stage};
+
+const SERVLETS: [Row; 12] = [
+    ("/w", 201, Says::Text("w"), Then::Ends),
+    ("/fw", 200, Says::Text("lost"), Then::Forwards("/w")),
+    ("/iw", 200, Says::Text("["), Then::Includes("/w")),
+    ("/fiw", 200, Says::Text("lost"), Then::Forwards("/iw")),
+    ("/ifw", 202, Says::Text("["), Then::Includes("/fw")),
+    ("/iiw", 202, Says::Text("("), Then::Includes("/iw")),
+    ("/loop", 200, Says::Text("."), Then::Forwards("/loop")),
+    ("/fail", 200, Says::Text("f"), Then::Fails(404)),
+    ("/fault", 200, Says::Text("f"), Then::Faults("x")),
+    ("/ifail", 202, Says::Text("["), Then::Includes("/fail")),
+    ("/ifault", 202, Says::Text("["), Then::Includes("/fault")),
+    ("/query", 202, Says::Text("["), Then::Includes("/w?a=b")),
+];
+
+/// A forward empties the body, also that of the includer, and keeps its target's status. Below an include the status
+/// stands still, and an error that is sent is an end; a fault isn't, and no more is a dispatch that is 17 deep.
+const ROWS: [(&str, Want); 9] = [
+    ("/w", (Ended::Normal, 201, "w")),
+    ("/fw", (Ended::Normal, 201, "w")),
+    ("/iw", (Ended::Normal, 200, "[w7]")),
+    ("/fiw", (Ended::Normal, 200, "[w7]")),
+    ("/ifw", (Ended::Normal, 202, "w7]")),
+    ("/iiw", (Ended::Normal, 202, "([w7]7]")),
+    ("/ifail", (Ended::Normal, 202, "[f7]")),
+    ("/ifault", (Ended::Plain(500), 500, "")),
+    ("/loop", (Ended::Plain(500), 500, "")),
+];
+
+/// A path that no servlet is mapped to, and one that isn't read.
+const MISSING: [(&str, Want); 2] = [
+    ("/none", (Ended::Plain(404), 404, "")),
+    ("/query", (Ended::Plain(500), 500, "")),
+];
+
+#[test]
+fn nested_dispatches(rt: HostRuntime) -> Result<(), Fail> {
+    let alloc = rt.alloc();
+    for (path, want) in ROWS {
+        let mut stage: Stage<Scripted, Marking> = empty_stage(alloc);
+        for (path, status, says, then) in SERVLETS {
+            add_servlet(
+                alloc,
+                &mut stage,
+                path,
+                servlet_of(alloc, status, says, then),
+            )?;
+        }
+        expect(&rt, stage, path, want)?;
+    }
+    Ok(())
+}
+
+#[test]
+fn missing_targets(rt: HostRuntime) -> Result<(), Fail> {
+    let alloc = rt.alloc();
+    for (path, want) in MISSING {
+        let mut stage: Stage<Scripted, Marking> = empty_stage(alloc);
+        for (path, status, says, then) in SERVLETS {
+            add_servlet(
+                alloc,
+                &mut stage,
+                path,
+                servlet_of(alloc, status, says, then),
+            )?;
+        }
+        expect(&rt, stage, path, want)?;
+    }
+    Ok(())
+}

@@ -1,0 +1,59 @@
+//! Error pages (Jakarta Servlet 6.0, section 10.9).
+
+use super::{Row, Want, expect, servlet_of};
+use crate::scripted::{Marking, Says, Scripted, Then};
+use crate::staged::{add_page, add_servlet, empty_stage};
+use std::test::Fail;
+use sv_dispatch::{Ended, PageFor, Stage};
+use sv_model::text::Text;
+
+const STATUS: Says = Says::Attribute("jakarta.servlet.error.status_code");
+
+const MESSAGE: Says = Says::Attribute("jakarta.servlet.error.message");
+
+const NAME: Says = Says::Attribute("jakarta.servlet.error.servlet_name");
+
+const SERVLETS: [Row; 9] = [
+    ("/404", 200, Says::Text("f"), Then::Fails(404)),
+    ("/418", 200, Says::Text("f"), Then::Fails(418)),
+    ("/99", 200, Says::Text("f"), Then::Fails(99)),
+    ("/x", 200, Says::Text("f"), Then::Faults("x")),
+    ("/y", 200, Says::Text("f"), Then::Faults("y")),
+    ("/status", 404, STATUS, Then::Ends),
+    ("/message", 500, MESSAGE, Then::Ends),
+    ("/name", 503, NAME, Then::Ends),
+    ("/again", 200, MESSAGE, Then::Fails(400)),
+];
+
+/// A page by its status or its fault before the default; a code outside 400 to 599 has status 500, and so has a fault;
+/// an error in an error page gives the plain page of 500. A page that sets a status has it.
+const ROWS: [(&str, Want); 5] = [
+    ("/404", (Ended::ErrorPage(404), 404, "404")),
+    ("/x", (Ended::ErrorPage(500), 500, "x")),
+    ("/99", (Ended::ErrorPage(500), 503, "/99")),
+    ("/y", (Ended::ErrorPage(500), 503, "/y")),
+    ("/418", (Ended::Plain(500), 500, "")),
+];
+
+#[test]
+fn error_pages(rt: HostRuntime) -> Result<(), Fail> {
+    let alloc = rt.alloc();
+    for (path, want) in ROWS {
+        let mut stage: Stage<Scripted, Marking> = empty_stage(alloc);
+        for (path, status, says, then) in SERVLETS {
+            add_servlet(
+                alloc,
+                &mut stage,
+                path,
+                servlet_of(alloc, status, says, then),
+            )?;
+        }
+        let fault = PageFor::Fault(Text::from_str(alloc, "x")?);
+        add_page(alloc, &mut stage, PageFor::Default, "/again")?;
+        add_page(alloc, &mut stage, PageFor::Status(404), "/status")?;
+        add_page(alloc, &mut stage, PageFor::Status(500), "/name")?;
+        add_page(alloc, &mut stage, fault, "/message")?;
+        expect(&rt, stage, path, want)?;
+    }
+    Ok(())
+}

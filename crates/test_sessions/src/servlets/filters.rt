@@ -1,0 +1,84 @@
+//! A boxed filter, through its bound.
+
+ghost use Rattle.std.specs.Prelude.{◌≡◌};
+ghost use Rattle.sv_servlet.specs.Filter.{verdict};
+ghost use Rattle.sv_servlet.specs.Reply.{cleared};
+ghost use Rattle.sv_servlet.specs.Servlet.{lent};
+ghost use Rattle.sv_servlet.specs.declared.filter.Before.TheVariants.{Stop};
+ghost use Rattle.sv_servlet.specs.declared.servlet.Phase.TheVariants.{Ready};
+
+use super::{call_of, expect_reply, written};
+use http::Method;
+use std::alloc::AllocError;
+use std::process::Abort;
+use std::test::Fail;
+use sv_model::key::{Key, Secret};
+use sv_servlet::{Before, Call, Filter, InitFault, Phase, Reply, RequestAttributes};
+use sv_session::SessionEdit;
+
+/// Stops each request, and empties the body behind it.
+#[derive(Drop)]
+struct Emptying {
+    phase: Phase,
+}
+
+impl Filter for Emptying {
+    ghost filtering = { λ f. record { before = λ call l. verdict l Stop; after = λ call l. lent l.edit (cleared l.reply) } };
+
+    ghost filter_phase = { λ f. f.phase };
+
+    fn init(&mut self) -> Result<(), InitFault> {
+        self.phase = Phase::Ready;
+        Ok(())
+    }
+
+    fn before(
+        &mut self,
+        _call: &Call<'_>,
+        _edit: &mut SessionEdit,
+        _reply: &mut Reply,
+    ) -> Result<Before, AllocError> {
+        Ok(Before::Stop)
+    }
+
+    fn after(
+        &mut self,
+        _call: &Call<'_>,
+        _edit: &mut SessionEdit,
+        reply: &mut Reply,
+    ) -> Result<(), AllocError> {
+        reply.clear_body();
+        Ok(())
+    }
+
+    fn destroy(&mut self) {
+        self.phase = Phase::Destroyed;
+    }
+}
+
+fn filter_with<F: Filter>(rt: &(impl Abort + AllocGlobal), filter: &mut F) -> Result<(), Fail>
+    requires { F.filter_phase filter.old ≡ Ready }
+    ensures { F.filter_phase filter.new ≡ Ready }
+{
+    let alloc = rt.alloc();
+    let method = Method::GET;
+    let attributes = RequestAttributes::new(alloc);
+    let call = call_of(&method, None, &attributes);
+    let fresh = (Key { home: 0, serial: 1 }, Secret([1; 16]));
+    let mut edit = SessionEdit::begin(alloc, None, 0, 600, 1_000, fresh);
+    let mut reply = written(alloc)?;
+    let before = filter.before(&call, &mut edit, &mut reply)?;
+    assert!(rt; matches!(&before, Before::Stop));
+    filter.after(&call, &mut edit, &mut reply)?;
+    expect_reply(rt, &reply.finish(), 404, "x-a: 1\n", b"")
+}
+
+/// Each call reaches the filter in the box.
+#[test]
+fn a_boxed_filter(rt: HostRuntime) -> Result<(), Fail> {
+    let mut filter: Box<dyn Filter> = Box::new(rt.alloc(), Emptying { phase: Phase::New })?;
+    filter.init()?;
+    filter_with(&rt, &mut filter)?;
+    filter.destroy();
+    Ok(())
+}
