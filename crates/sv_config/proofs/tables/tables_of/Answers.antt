@@ -1,0 +1,12 @@
+use Rattle.std.proofs.Common.{◌++◌, ◌∷◌, [], ◌∙◌, ap, refl}
+use Rattle.std.specs.List.{flat_map}
+use Rattle.toml.specs.View.{table_view}
+use Rattle.sv_config.specs.Tables.{tables_of, context_tables, cluster_tables}
+use Rattle.sv_config.specs.declared.rules.TableKind.TheVariants.{Top}
+use Rattle.sv_config.proofs.tables.tables_of.Goals as goal
+
+pub returns : goal.returns
+unfolding tables_of
+returns c =
+    let t = table_view c.args.document.now in
+    rw (c.in_ok-add_contexts.ensures, c.in_ok-add_cluster.ensures, c.in_ok-tables.ensures.items, c.deref.ensures.value, c.in_ok-contexts.ensures) refl
