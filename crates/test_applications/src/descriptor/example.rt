@@ -1,9 +1,9 @@
-//! The example of `docs/CONFIGURING.md`.
+//! The example of `docs/CONFIGURING.md`, and its smallest descriptor for each fault.
 
 use crate::descriptor::deployments::expect_names;
 use std::process::Abort;
 use std::test::Fail;
-use sv_config::{Context, Deployment};
+use sv_config::{ConfigFault, Context, Deployment};
 
 /// As it stands there.
 const EXAMPLE: &str = "# Two nodes that serve one shop.
@@ -64,4 +64,25 @@ fn reads_the_example_of_the_manual(rt: HostRuntime) -> Result<(), Fail> {
         expect_shop(&rt, context);
     }
     Ok(())
+}
+
+/// The table of faults.
+const SMALLEST: [(&str, ConfigFault); 7] = [
+    ("a = ", ConfigFault::NotToml),
+    ("", ConfigFault::MissingField),
+    ("context = 1", ConfigFault::WrongKind),
+    ("context = [{ path = \"\", x = 1 }]", ConfigFault::UnknownName),
+    ("context = [{ path = \"/\" }]", ConfigFault::BadPattern),
+    ("context = [{ path = \"\" }, { path = \"\" }]", ConfigFault::Duplicate),
+    ("context = [{ path = \"\", interval = 2147483648 }]", ConfigFault::LimitExceeded),
+];
+
+#[test]
+fn has_each_fault_of_the_manual(rt: HostRuntime) {
+    for (text, fault) in SMALLEST {
+        match Deployment::from_toml(rt.alloc(), text) {
+            Ok(_) => panic!(rt; "read: {text}"),
+            Err(found) => assert_eq!(rt; found, fault, "{text}"),
+        }
+    }
 }
