@@ -1,6 +1,6 @@
 //! The nodes that a descriptor names.
 
-ghost use Rattle.std.specs.Prelude.{◌≡◌, ◌≤ℤ◌, ◌≤◌, ◌<ℤ◌, IfOk, pos, map, option_map, string_bytes, IsTrue, unwrap_or, codes};
+ghost use Rattle.std.specs.Prelude.{◌≡◌, IfOk, pos, map, option_map, string_bytes, unwrap_or, codes};
 ghost use Rattle.toml.specs.Data.{no_members};
 ghost use Rattle.toml.specs.View.{table_view};
 ghost use Rattle.sv_config.specs.Document.{table_at, text_at};

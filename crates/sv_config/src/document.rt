@@ -1,6 +1,6 @@
 //! What stands in a table of a document.
 
-ghost use Rattle.std.specs.Prelude.{◌≡◌, map, option_map, IsTrue};
+ghost use Rattle.std.specs.Prelude.{◌≡◌, map, option_map};
 ghost use Rattle.toml.specs.Data.{get_member};
 ghost use Rattle.toml.specs.View.{table_view, view};
 ghost use Rattle.sv_config.specs.Document as spec;

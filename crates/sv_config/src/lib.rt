@@ -19,6 +19,7 @@ mod lists;
 mod mappings;
 mod missing;
 mod pages;
+mod paths;
 mod read;
 mod repeats;
 mod rules;

@@ -1,7 +1,6 @@
 //! Counts and numbers outside their limits.
 
-ghost use Rattle.std.specs.Prelude.{◌≡◌, IfOk, ◌<◌, codes, length, nat_lt};
-ghost use Rattle.std.specs.List.{list_any};
+ghost use Rattle.std.specs.Prelude.{◌≡◌, IfOk, ◌<◌, codes};
 ghost use Rattle.toml.specs.View.{table_view};
 ghost use Rattle.sv_config.specs.Limits as spec;
 

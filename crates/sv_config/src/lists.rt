@@ -1,9 +1,7 @@
 //! Repeats in lists, and what stands in two lists, without looking at each pair.
 
-ghost use Rattle.std.specs.Prelude.{◌≡◌, IfOk, map};
-ghost use Rattle.std.specs.Ordering.{eq_by_cmp, int_eq};
-ghost use Rattle.std.specs.Prelude.{bytes_eq};
-ghost use Rattle.std.specs.Ordering.{nat_cmp};
+ghost use Rattle.std.specs.Prelude.{◌≡◌, IfOk, map, bytes_eq};
+ghost use Rattle.std.specs.Ordering.{eq_by_cmp, int_eq, nat_cmp};
 ghost use Rattle.std.specs.Cmp.Lexicographic.{slice_cmp};
 ghost use Rattle.std.specs.BTreeSet.{contains_by};
 ghost use Rattle.std.specs.List.{list_any};

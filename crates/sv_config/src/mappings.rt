@@ -1,6 +1,6 @@
 //! The mappings of a context: of its servlets and of its filters.
 
-ghost use Rattle.std.specs.Prelude.{◌≡◌, ◌+◌, IfOk, OnOk, map, fold, codes, bytes_eq};
+ghost use Rattle.std.specs.Prelude.{◌≡◌, IfOk, OnOk, map, fold, codes};
 ghost use Rattle.std.specs.FinMap as finite;
 ghost use Rattle.toml.specs.View.{table_view};
 ghost use Rattle.sv_config.specs.Document.{tables_at, texts_at};

@@ -1,6 +1,6 @@
 //! The error pages of a context.
 
-ghost use Rattle.std.specs.Prelude.{◌≡◌, IfOk, map, codes, string_bytes};
+ghost use Rattle.std.specs.Prelude.{◌≡◌, IfOk, map, codes};
 ghost use Rattle.toml.specs.View.{table_view};
 ghost use Rattle.sv_config.specs.Document.{tables_at, text_at};
 ghost use Rattle.sv_config.specs.Values as spec;

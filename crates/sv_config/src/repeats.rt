@@ -1,6 +1,6 @@
 //! What stands twice and may stand once.
 
-ghost use Rattle.std.specs.Prelude.{◌≡◌, ◌<◌, nat_lt, length, filter, IfOk, map, codes, bytes_eq};
+ghost use Rattle.std.specs.Prelude.{◌≡◌, ◌<◌, length, filter, IfOk, map};
 ghost use Rattle.toml.specs.View.{table_view};
 ghost use Rattle.sv_config.specs.Document.{tables_at, patterns_of};
 ghost use Rattle.sv_config.specs.Repeats as spec;

@@ -1,6 +1,6 @@
 //! Dispatchers: how a request came to a servlet (Jakarta Servlet 6.0, section 6.2.5).
 
-ghost use Rattle.std.specs.Prelude.{◌≡◌, ◌↔◌, IsTrue, Contains, [], ◌∷◌, map, bytes_eq};
+ghost use Rattle.std.specs.Prelude.{◌≡◌, ◌↔◌, IsTrue, map, bytes_eq};
 ghost use Rattle.std.specs.List.{list_any};
 ghost use Rattle.std.specs.Result.{result_ok};
 ghost use Rattle.sv_mapping.specs.Dispatcher as spec;

@@ -1,6 +1,6 @@
 //! The servlet patterns of a context, and the servlet of a path (Jakarta Servlet 6.0, section 12.1).
 
-ghost use Rattle.std.specs.Prelude.{◌≡◌, ◌↔◌, ◌<◌, ◌≤◌, ◌++◌, ℕ, false, IsTrue, IsNone, IfSome, OnOk, OnErr, IfErr, MatchOption, None, unwrap_or, option_map, length};
+ghost use Rattle.std.specs.Prelude.{◌≡◌, ◌↔◌, ◌<◌, ◌≤◌, ◌++◌, ℕ, IsTrue, IsNone, IfSome, OnOk, OnErr, IfErr, None, unwrap_or, option_map, length};
 ghost use Rattle.std.specs.FinMap as map;
 ghost use Rattle.std.specs.Coded.{coded_ℕ, coded_list};
 ghost use Rattle.std.specs.Str.{IsCharBoundary};

@@ -58,15 +58,6 @@ fn maps_the_example_of_the_specification(rt: HostRuntime) -> Result<(), Fail> {
     Ok(())
 }
 
-/// The context paths of a deployment, in order.
-fn paths_of(alloc: Global, deployment: &Deployment) -> Result<Vec<String>, Fail> {
-    let mut paths = Vec::new(alloc);
-    for context in &deployment.contexts {
-        paths.push(String::from_str(alloc, &context.path)?)?;
-    }
-    Ok(paths)
-}
-
 // The longest context path that a path equals, or begins with before a `/`.
 #[test]
 fn chooses_the_context_of_a_deployment(rt: HostRuntime) -> Result<(), Fail> {
@@ -74,7 +65,7 @@ fn chooses_the_context_of_a_deployment(rt: HostRuntime) -> Result<(), Fail> {
         rt.alloc(),
         "context = [{ path = \"/a\" }, { path = \"/a/b\" }]",
     )?;
-    let paths = paths_of(rt.alloc(), &deployment)?;
+    let paths = deployment.context_paths(rt.alloc())?;
     for (path, want) in [("/a/bc", Some(0)), ("/a/b", Some(1)), ("/ab", None)] {
         assert_eq!(rt; choose_context(&paths, path), want, "{path}");
     }
