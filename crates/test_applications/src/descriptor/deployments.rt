@@ -2,7 +2,7 @@
 
 use std::process::Abort;
 use std::test::Fail;
-use sv_config::{Context, Deployment, ErrorPage, PageFor};
+use sv_config::{Cluster, Context, Deployment, ErrorPage, PageFor};
 
 /// Asserts the names, in order.
 pub(crate) fn expect_names(rt: &impl Abort, what: &str, names: &[String], want: &[&str]) {
@@ -37,18 +37,21 @@ fn fills_in_what_is_left_out(rt: HostRuntime) -> Result<(), Fail> {
     Ok(())
 }
 
+fn expect_cluster(rt: &impl Abort, cluster: &Cluster) {
+    assert_eq!(rt; cluster.ports.as_slice(), [18080, 65535, 1].as_slice());
+    assert_eq!(rt; cluster.deadline, 5);
+    match &cluster.secrets {
+        Some(secrets) => assert!(rt; secrets.as_str() == "/dev/urandom", "{secrets}"),
+        None => panic!(rt; "no secrets"),
+    }
+}
+
 #[test]
 fn reads_a_cluster(rt: HostRuntime) -> Result<(), Fail> {
     let text =
         "[[context]]\npath = \"\"\n[cluster]\nports = [18080, 65535, 1]\ndeadline = 5\nsecrets = \"/dev/urandom\"\n";
     let deployment = Deployment::from_toml(rt.alloc(), text)?;
-    let cluster = deployment.cluster;
-    assert_eq!(rt; cluster.ports.as_slice(), [18080, 65535, 1].as_slice());
-    assert_eq!(rt; cluster.deadline, 5);
-    match cluster.secrets {
-        Some(secrets) => assert!(rt; secrets.as_str() == "/dev/urandom", "{secrets}"),
-        None => panic!(rt; "no secrets"),
-    }
+    expect_cluster(&rt, &deployment.cluster);
     Ok(())
 }
 

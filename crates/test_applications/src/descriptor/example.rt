@@ -71,10 +71,19 @@ const SMALLEST: [(&str, ConfigFault); 7] = [
     ("a = ", ConfigFault::NotToml),
     ("", ConfigFault::MissingField),
     ("context = 1", ConfigFault::WrongKind),
-    ("context = [{ path = \"\", x = 1 }]", ConfigFault::UnknownName),
+    (
+        "context = [{ path = \"\", x = 1 }]",
+        ConfigFault::UnknownName,
+    ),
     ("context = [{ path = \"/\" }]", ConfigFault::BadPattern),
-    ("context = [{ path = \"\" }, { path = \"\" }]", ConfigFault::Duplicate),
-    ("context = [{ path = \"\", interval = 2147483648 }]", ConfigFault::LimitExceeded),
+    (
+        "context = [{ path = \"\" }, { path = \"\" }]",
+        ConfigFault::Duplicate,
+    ),
+    (
+        "context = [{ path = \"\", interval = 2147483648 }]",
+        ConfigFault::LimitExceeded,
+    ),
 ];
 
 #[test]

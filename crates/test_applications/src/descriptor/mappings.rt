@@ -4,7 +4,7 @@ use std::alloc::Global;
 use std::process::Abort;
 use std::test::Fail;
 use sv_config::{Context, Deployment};
-use sv_mapping::{Dispatcher, choose_context, filters_for, path_in_context};
+use sv_mapping::{Dispatcher, choose_context, filters_for, is_at_or_below, path_in_context};
 
 fn expect_servlet(
     rt: &impl Abort,
@@ -69,8 +69,16 @@ fn chooses_the_context_of_a_deployment(rt: HostRuntime) -> Result<(), Fail> {
     for (path, want) in [("/a/bc", Some(0)), ("/a/b", Some(1)), ("/ab", None)] {
         assert_eq!(rt; choose_context(&paths, path), want, "{path}");
     }
-    assert!(rt; path_in_context("/a", "/a/bc") == "/bc");
-    assert!(rt; path_in_context("/a/b", "/a/b") == "/");
+    for (context, path, want) in [("/a", "/a/bc", "/bc"), ("/a/b", "/a/b", "/")] {
+        assert!(rt;
+            is_at_or_below(context, path),
+            "{path} is not below {context}"
+        );
+        assert!(rt;
+            path_in_context(context, path) == want,
+            "the path in {context} of {path}"
+        );
+    }
     Ok(())
 }
 
