@@ -1,5 +1,5 @@
 -- What stands in a table of a document (TOML 1.1). A member of another kind than the one asked for is not looked at.
-use Rattle.std.specs.Prelude.{ℕ, ℤ, Bool, false, ◌==◌, List, [], ◌∷◌, length, Option, option_and_then, is_some, unwrap_or, codes}
+use Rattle.std.specs.Prelude.{ℤ, Bool, false, ◌==◌, List, [], ◌∷◌, length, Option, option_and_then, is_some, unwrap_or, codes}
 use Rattle.std.specs.Option.{option_map_or}
 use Rattle.std.specs.List.{filter_map, flat_map}
 use Rattle.toml.specs.Data.{Data, Items, no_items, item, Members, get_member, as_str, as_integer, as_array, as_table}

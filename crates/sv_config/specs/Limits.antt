@@ -1,6 +1,6 @@
 -- LimitExceeded: a count past its limit; an empty `ports`; an integer out of its range; a name of no byte or of more
 -- than 64.
-use Rattle.std.specs.Prelude.{ℕ, ℤ, pos, negsuc, Bool, false, ◌&&◌, ◌||◌, not, nat_lt, ◌==◌, List, length, codes}
+use Rattle.std.specs.Prelude.{ℕ, ℤ, pos, negsuc, Bool, false, ◌||◌, nat_lt, ◌==◌, length, codes}
 use Rattle.std.specs.Option.{option_map_or}
 use Rattle.std.specs.List.{list_any}
 use lib.Signed.{lt_z}

@@ -1,6 +1,6 @@
 -- Duplicate: a context path; in one context a servlet, filter or listener name, a servlet pattern, or what an error
 -- page is for; a port; both of two fields of which one is allowed.
-use Rattle.std.specs.Prelude.{ℕ, Bool, false, ◌&&◌, ◌||◌, not, nat_lt, List, [], ◌∷◌, length, filter, codes, bytes_eq}
+use Rattle.std.specs.Prelude.{Bool, false, ◌&&◌, ◌||◌, not, nat_lt, List, [], ◌∷◌, length, filter, codes, bytes_eq}
 use Rattle.std.specs.List.{list_any}
 use Rattle.std.specs.Ordering.{int_eq}
 use Rattle.toml.specs.Data.{Members}

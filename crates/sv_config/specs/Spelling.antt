@@ -1,6 +1,6 @@
 -- BadPattern: a pattern that cannot be read as one; a context path, a name or the path of an error page that is badly
 -- spelled.
-use Rattle.std.specs.Prelude.{ℕ, Bool, false, ◌&&◌, ◌||◌, not, nat_le, nat_eq, ◌==◌, List, [], length, drop, codes, bytes_eq}
+use Rattle.std.specs.Prelude.{ℕ, Bool, false, ◌&&◌, ◌||◌, not, nat_le, nat_eq, ◌==◌, List, length, drop, codes, bytes_eq}
 use Rattle.std.specs.Option.{option_map_or}
 use Rattle.std.specs.List.{list_any, list_all, starts_with, slice_split}
 use Rattle.toml.specs.Data.{Members}

@@ -1,4 +1,4 @@
-use Rattle.std.proofs.Common.{◌≡◌, ◌++◌, map, drop, take}
+use Rattle.std.proofs.Common.{◌≡◌, ◌++◌, map, drop}
 use Rattle.std.specs.Prelude.{filter, pos}
 use Rattle.std.specs.List.{filter_map}
 use Rattle.toml.specs.Data.{as_integer}

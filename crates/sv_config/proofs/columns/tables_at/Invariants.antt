@@ -1,7 +1,7 @@
-use Rattle.std.proofs.Common.{◌≡◌, ◌++◌, map, drop, take}
-use Rattle.std.specs.List.{filter_map, flat_map}
+use Rattle.std.proofs.Common.{◌≡◌, ◌++◌, map, drop}
+use Rattle.std.specs.List.{filter_map}
 use Rattle.toml.specs.View.{table_view, view}
-use Rattle.toml.specs.Data.{as_table, as_str, as_integer}
+use Rattle.toml.specs.Data.{as_table}
 use Rattle.sv_config.specs.Document as spec
 use Rattle.sv_config.proofs.columns.tables_at.Given as goal
 

@@ -1,4 +1,4 @@
-use Rattle.std.proofs.Common.{◌≡◌, ◌+◌, map, drop}
+use Rattle.std.proofs.Common.{◌≡◌, map, drop}
 use Rattle.std.specs.FinMap as finite
 use Rattle.toml.specs.View.{table_view}
 use Rattle.sv_config.specs.Values as spec

@@ -1,7 +1,6 @@
-use Rattle.std.proofs.Common.{◌≡◌, ◌++◌, map, drop, take}
-use Rattle.std.specs.List.{filter_map, flat_map}
-use Rattle.toml.specs.View.{table_view, view}
-use Rattle.toml.specs.Data.{as_table, as_str, as_integer}
+use Rattle.std.proofs.Common.{◌≡◌, ◌++◌, map, take}
+use Rattle.std.specs.List.{flat_map}
+use Rattle.toml.specs.View.{table_view}
 use Rattle.sv_config.specs.Tables as spec
 use Rattle.sv_config.specs.Tables.{seen}
 use Rattle.sv_config.proofs.tables.add_contexts.Given as goal

@@ -1,8 +1,6 @@
-use Rattle.std.proofs.Common.{◌++◌, ◌∷◌, [], ◌∙◌, ap, refl}
-use Rattle.std.specs.List.{flat_map}
+use Rattle.std.proofs.Common.{refl}
 use Rattle.toml.specs.View.{table_view}
-use Rattle.sv_config.specs.Tables.{tables_of, context_tables, cluster_tables}
-use Rattle.sv_config.specs.declared.rules.TableKind.TheVariants.{Top}
+use Rattle.sv_config.specs.Tables.{tables_of}
 use Rattle.sv_config.proofs.tables.tables_of.Goals as goal
 
 pub returns : goal.returns
