@@ -3,6 +3,7 @@ pub mod PathLemmas
 pub mod PatternLemmas
 pub mod EntryLemmas
 pub mod TableLemmas
+pub mod LengthLemmas
 pub mod MatchLemmas
 pub mod PrefixLemmas
 pub mod BestLemmas

@@ -1,6 +1,7 @@
 -- Tests that are joined.
-use Rattle.std.proofs.Common.{◌≡◌, ◌&&◌, Bool, true, false, refl, ap, sym, subst}
-use Rattle.std.specs.Prelude.{T}
+use Rattle.std.proofs.Common.{◌≡◌, ◌&&◌, Bool, true, false, List, [], ◌∷◌, map, refl, ap, sym, subst}
+use Rattle.std.specs.Prelude.{T, ◌||◌}
+use Rattle.std.specs.List.{list_any}
 
 pub both_true : (a b : Bool) → (a && b) ≡ true → (a ≡ true) × (b ≡ true)
 both_true true b e = (refl, e)
@@ -23,3 +24,7 @@ test_true b e = subst T (sym e) tt
 pub false_test : (b : Bool) → (b ≡ true → ⊥) → b ≡ false
 false_test true h = absurd (h refl)
 false_test false h = refl
+
+pub list_any_map : {A B : Type 0} (p : B → Bool) (f : A → B) (xs : List A) → list_any (λ x. p (f x)) xs ≡ list_any p (map f xs)
+list_any_map p f [] = refl
+list_any_map p f (x ∷ xs) = ap (λ b. p (f x) || b) (list_any_map p f xs)

@@ -1,5 +1,6 @@
 -- Where a search in entries that rise by their texts ends.
-use Rattle.std.specs.Prelude.{◌≡◌, ℕ, ◌<◌, ◌≤◌, List, length, slice_index_or}
+use Rattle.std.specs.Prelude.{◌≡◌, ℕ, ◌<◌, ◌≤◌, Bool, nat_le, List, length, slice_index_or}
+use Rattle.std.specs.List.{list_all}
 use Rattle.std.specs.Ordering.{nat_cmp}
 use Rattle.std.specs.Cmp.Lexicographic.{slice_cmp}
 use Rattle.std.specs.declared.cmp.Ordering.{Ordering}
@@ -20,3 +21,7 @@ pub record IsGapFor (entries : List (Text × ℕ)) (text : Text) (place : ℕ) :
   pub within : place ≤ length entries
   pub less : (k : ℕ) (d : Text × ℕ) → k < place → text_cmp (slice_index_or entries k d).0 text ≡ Less
   pub greater : (k : ℕ) (d : Text × ℕ) → place ≤ k → k < length entries → text_cmp (slice_index_or entries k d).0 text ≡ Greater
+
+-- no text is longer than a pattern may be
+abbrev pub are_short : List (Text × ℕ) → Bool
+are_short entries = list_all (λ entry. nat_le (length entry.0) 256) entries

@@ -1,6 +1,7 @@
 //! Dispatchers: how a request came to a servlet (Jakarta Servlet 6.0, section 6.2.5).
 
-ghost use Rattle.std.specs.Prelude.{◌≡◌, ◌↔◌, IsTrue, Contains, [], ◌∷◌};
+ghost use Rattle.std.specs.Prelude.{◌≡◌, ◌↔◌, IsTrue, map, bytes_eq};
+ghost use Rattle.std.specs.List.{list_any};
 ghost use Rattle.std.specs.Result.{result_ok};
 ghost use Rattle.sv_mapping.specs.Dispatcher as spec;
 ghost use Rattle.sv_mapping.specs.declared.dispatcher.Dispatcher.{Dispatcher as Name};
@@ -79,6 +80,19 @@ impl Dispatchers {
         }
     }
 
+    /// The dispatchers of a mapping that lists these words. No word means REQUEST alone; a word that is no
+    /// dispatcher's is passed over.
+    pub fn of_words(words: &[&str]) -> Dispatchers
+        ensures { result ≡ spec.dispatchers_of (map (λ word. word.now) words.now) }
+    {
+        Dispatchers {
+            request: means_request(words),
+            forward: is_among(words, "FORWARD"),
+            include: is_among(words, "INCLUDE"),
+            error: is_among(words, "ERROR"),
+        }
+    }
+
     /// Whether a dispatcher is among them.
     pub fn contains(self, dispatcher: Dispatcher) -> bool
         ensures { result ≡ spec.carries self dispatcher }
@@ -90,6 +104,24 @@ impl Dispatchers {
             Dispatcher::Error => self.error,
         }
     }
+}
+
+fn means_request(words: &[&str]) -> bool
+    ensures { result ≡ spec.means_request (map (λ word. word.now) words.now) }
+{
+    words.is_empty() || is_among(words, "REQUEST")
+}
+
+fn is_among(words: &[&str], word: &str) -> bool
+    ensures { result ≡ spec.is_among (map (λ its. its.now) words.now) word.now }
+{
+    has_equal(words, word)
+}
+
+fn has_equal(words: &[&str], word: &str) -> bool
+    ensures { result ≡ list_any (λ its. bytes_eq its.now word.now) words.now }
+{
+    words.iter().any(|its| *its == word)
 }
 
 /// Whether a mapping that lists these dispatchers is for one.

@@ -8,16 +8,24 @@
 //! decodes a path, calls a filter or a servlet, or knows a servlet by anything but its number.
 #![tactic(auto)]
 
-pub mod chain;
-pub mod context;
-pub mod dispatcher;
-pub mod fault;
-pub mod filter;
+mod chain;
+mod context;
+mod dispatcher;
+mod fault;
+mod filter;
 pub mod laws;
-pub mod mappings;
-pub mod path;
-pub mod pattern;
+mod mappings;
+mod path;
+mod pattern;
 mod search;
-pub mod servlet_match;
-#[cfg(test)]
-mod tests;
+mod servlet_match;
+
+pub use chain::filters_for;
+pub use context::{choose_context, path_in_context};
+pub use dispatcher::{Dispatcher, Dispatchers, UnknownDispatcher};
+pub use fault::MappingFault;
+pub use filter::{FilterMapping, FilterTarget};
+pub use mappings::{MAX_PATTERNS, Mappings};
+pub use path::is_at_or_below;
+pub use pattern::{MAX_PATTERN_BYTES, Pattern, PatternForm};
+pub use servlet_match::Match;

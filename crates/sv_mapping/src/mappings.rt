@@ -1,16 +1,16 @@
 //! The servlet patterns of a context, and the servlet of a path (Jakarta Servlet 6.0, section 12.1).
 
-ghost use Rattle.std.specs.Prelude.{◌≡◌, ◌↔◌, ◌<◌, ◌≤◌, ◌++◌, ℕ, false, IsTrue, IsNone, IfSome, OnOk, OnErr, IfErr, MatchOption, None, unwrap_or, option_map, length};
+ghost use Rattle.std.specs.Prelude.{◌≡◌, ◌↔◌, ◌<◌, ◌≤◌, ◌++◌, ℕ, IsTrue, IsNone, IfSome, OnOk, OnErr, IfErr, None, unwrap_or, option_map, length};
 ghost use Rattle.std.specs.FinMap as map;
 ghost use Rattle.std.specs.Coded.{coded_ℕ, coded_list};
 ghost use Rattle.std.specs.Str.{IsCharBoundary};
-ghost use Rattle.sv_mapping.specs.Search.{text_cmp};
+ghost use Rattle.sv_mapping.specs.Search.{text_cmp, are_short};
 ghost use Rattle.sv_mapping.specs.ServletMatch.{shown};
 ghost use Rattle.sv_mapping.specs.Mappings.{refusal, HasNoMatch, IsBestMatch, AnswersByRule, mapped};
 
 use crate::fault::MappingFault;
 use crate::path::extension_of;
-use crate::pattern::{Pattern, PatternForm, form_of};
+use crate::pattern::{MAX_PATTERN_BYTES, Pattern, PatternForm, form_of};
 use crate::search::search;
 use crate::servlet_match::Match;
 use std::alloc::Global;
@@ -35,7 +35,7 @@ impl Model for Mappings {
 
     ghost view = { λ m. map.from_sorted m.entries.items };
 
-    ghost invariant = { λ m. IsTrue (map.is_sorted text_cmp m.entries.items) × (length m.entries.items ≤ 256) };
+    ghost invariant = { λ m. IsTrue (map.is_sorted text_cmp m.entries.items) × (length m.entries.items ≤ 256) × IsTrue (are_short m.entries.items) };
 }
 
 impl Mappings {
@@ -148,12 +148,17 @@ impl Mappings {
         Some(Match::whole(servlet, path))
     }
 
-    /// The servlet of a pattern that is written as `front` followed by `back`.
+    /// The servlet of a pattern that is written as `front` followed by `back`. What is longer than any pattern is not
+    /// looked for.
     fn servlet_of(&self, front: &str, back: &str) -> Option<usize>
         ensures { result ≡ map.get self.now (front.now ++ back.now) }
     {
-        match search(&self.entries, front, back) {
-            Ok(place) => Some(self.entries[place].1),
+        let entries = &self.entries;
+        if front.len() > MAX_PATTERN_BYTES {
+            return None;
+        }
+        match search(entries, front, back) {
+            Ok(place) => Some(entries[place].1),
             Err(_) => None,
         }
     }

@@ -59,6 +59,13 @@ impl Pattern {
         Ok(Pattern { text })
     }
 
+    /// Whether a text can be read as a pattern.
+    pub fn is_valid(text: &str) -> bool
+        ensures { result ≡ spec.is_pattern text.now }
+    {
+        is_pattern(text)
+    }
+
     /// The text that was read.
     pub fn as_str(&self) -> &str
         ensures text { result.now ≡ self.now }

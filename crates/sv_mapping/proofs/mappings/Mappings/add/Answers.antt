@@ -4,6 +4,7 @@ use Rattle.std.proofs.lemmas.List.Edits.{length-insert}
 use Rattle.std.proofs.lemmas.Result.{err_from_is_err_and}
 use Rattle.sv_mapping.specs.Search.{IsPlaceOf, IsGapFor}
 use Rattle.sv_mapping.proofs.TableLemmas.{insert_sorted, from_sorted-insert, refusal-place, refusal-full, refusal-none}
+use Rattle.sv_mapping.proofs.LengthLemmas.{insert_short}
 use Rattle.sv_mapping.proofs.mappings.Mappings.add.Goals as goal
 
 pub returns-in-Ok-clause-fault : goal.returns-in-Ok-clause-fault
@@ -38,7 +39,7 @@ invariant_of-self-in-Err-2 c =
     let gap : IsGapFor entries c.args.pattern c.in-Err.field-0 = rw (c.deref.ensures.value, text) at c.in-Err.ensures.absent in
     let longer = length-insert entries c.in-Err.field-0 (c.args.pattern, c.args.servlet) gap.within in
     let short : length (insert entries c.in-Err.field-0 (c.args.pattern, c.args.servlet)) ≤ 256 = omega arith in
-    rw c.in_ok-insert-in-Err-2.ensures.items (insert_sorted entries c.self.invariant.0 c.args.pattern c.args.servlet c.in-Err.field-0 gap, short)
+    rw c.in_ok-insert-in-Err-2.ensures.items (insert_sorted entries c.self.invariant.0 c.args.pattern c.args.servlet c.in-Err.field-0 gap, short, insert_short entries c.in-Err.field-0 c.args.pattern c.args.servlet c.self.invariant.2 c.as_str.ensures.good)
 
 pub returns-in_ok-insert-in-Err-2-clause-ok : goal.returns-in_ok-insert-in-Err-2-clause-ok
 returns-in_ok-insert-in-Err-2-clause-ok c =

@@ -1,4 +1,5 @@
-use Rattle.std.proofs.Common.{◌∙◌, ◌++◌, Some, sym, ap}
+use Rattle.std.proofs.Common.{◌∙◌, ◌++◌, ◌<◌, Some, length, sym, ap, arith, length-append}
+use Rattle.sv_mapping.proofs.LengthLemmas.{get_long}
 use Rattle.std.specs.FinMap.{get}
 use Rattle.sv_mapping.specs.Search.{IsPlaceOf, IsGapFor}
 use Rattle.sv_mapping.proofs.TableLemmas.{get-place, get-gap}
@@ -17,3 +18,10 @@ returns-in-Err c =
     let text = c.args.front.now ++ c.args.back.now in
     let gap : IsGapFor entries text c.in-Err.field-0 = rw c.deref.ensures.value at c.in-Err.ensures.absent in
     sym (get-gap entries c.self.invariant.0 text c.in-Err.field-0 gap) ∙ ap (λ t. get t text) c.self.view_is
+
+pub returns-then-front-gt-MAX_PATTERN_BYTES : goal.returns-then-front-gt-MAX_PATTERN_BYTES
+returns-then-front-gt-MAX_PATTERN_BYTES c =
+    let entries = c.self.inside.entries.items in
+    let text = c.args.front.now ++ c.args.back.now in
+    let long : 256 < length text = rw length-append (omega arith) in
+    sym (ap (λ table. get table text) (sym c.self.view_is) ∙ get_long entries c.self.invariant.0 c.self.invariant.2 text long)

@@ -1,0 +1,3 @@
+pub mod DocumentLemmas
+pub mod RepeatLemmas
+pub mod MappingLemmas

@@ -1,0 +1,8 @@
+use Rattle.std.proofs.Common.{◌≡◌, map, take}
+use Rattle.toml.specs.View.{table_view}
+use Rattle.sv_config.specs.Values as spec
+use Rattle.sv_config.proofs.pages.pages_of.Given as goal
+
+abbrev pub invariant-loop-table : goal.invariant-loop-table
+invariant-loop-table l =
+    map spec.page_data l.pages.items ≡ map spec.page_of (map (λ t. table_view t.now) (take l.table-index l.tables))

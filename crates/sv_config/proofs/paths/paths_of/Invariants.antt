@@ -1,0 +1,7 @@
+use Rattle.std.proofs.Common.{◌≡◌, map, take}
+use Rattle.std.specs.Prelude.{string_bytes}
+use Rattle.sv_config.proofs.paths.paths_of.Given as goal
+
+abbrev pub invariant-loop-context : goal.invariant-loop-context
+invariant-loop-context l =
+    map string_bytes l.paths.items ≡ map (λ context. string_bytes context.path) (take l.context-index l.contexts)

@@ -1,0 +1,11 @@
+pub mod Document
+pub mod Rules
+pub mod Tables
+pub mod Missing
+pub mod Kinds
+pub mod Unknown
+pub mod Spelling
+pub mod Repeats
+pub mod Limits
+pub mod Fault
+pub mod Values

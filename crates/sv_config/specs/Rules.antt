@@ -1,0 +1,40 @@
+-- The tables of a descriptor, and the fields that each kind of table may have.
+use Rattle.std.specs.Prelude.{Bool, true, false, List, [], ◌∷◌, codes}
+use Rattle.sv_mapping.specs.Path.{Text}
+use Rattle.sv_config.specs.declared.rules.FieldKind.{FieldKind}
+use Rattle.sv_config.specs.declared.rules.FieldKind.TheVariants.{Text as TextKind, Integer, Texts, Integers, Table, Tables}
+use Rattle.sv_config.specs.declared.rules.FieldRule.{FieldRule}
+use Rattle.sv_config.specs.declared.rules.TableKind.{TableKind}
+use Rattle.sv_config.specs.declared.rules.TableKind.TheVariants.{Top, Cluster, Context, Servlet, Filter, Mapping, Listener, Page}
+
+-- a field that a table may have, its kind, and whether it must be there
+pub record Rule : Type 0 where
+  pub key : Text
+  pub kind : FieldKind
+  pub required : Bool
+
+abbrev pub needed : Text → FieldKind → Rule
+needed key kind = record { key = key; kind = kind; required = true }
+
+abbrev pub optional : Text → FieldKind → Rule
+optional key kind = record { key = key; kind = kind; required = false }
+
+-- the fields of each kind of table
+unfoldable pub rules_of : TableKind → List Rule
+rules_of Top = needed (codes "context") Tables ∷ optional (codes "cluster") Table ∷ []
+rules_of Cluster = optional (codes "ports") Integers ∷ optional (codes "deadline") Integer ∷ optional (codes "secrets") TextKind ∷ []
+rules_of Context =
+    needed (codes "path") TextKind ∷ optional (codes "interval") Integer ∷ optional (codes "servlet") Tables
+    ∷ optional (codes "filter") Tables ∷ optional (codes "filter-mapping") Tables ∷ optional (codes "listener") Tables
+    ∷ optional (codes "error-page") Tables ∷ []
+rules_of Servlet = needed (codes "name") TextKind ∷ needed (codes "patterns") Texts ∷ []
+rules_of Filter = needed (codes "name") TextKind ∷ []
+rules_of Mapping =
+    needed (codes "filter") TextKind ∷ optional (codes "pattern") TextKind ∷ optional (codes "servlet") TextKind
+    ∷ optional (codes "dispatch") Texts ∷ []
+rules_of Listener = needed (codes "name") TextKind ∷ []
+rules_of Page = needed (codes "path") TextKind ∷ optional (codes "status") Integer ∷ optional (codes "fault") TextKind ∷ []
+
+-- a rule of the code
+abbrev pub rule_of : FieldRule → Rule
+rule_of r = record { key = r.key.now; kind = r.kind; required = r.required }

@@ -1,0 +1,50 @@
+-- UnknownName: a key that is not listed; a filter mapping whose filter or servlet is not declared in its context; a
+-- dispatcher other than REQUEST, FORWARD, INCLUDE and ERROR.
+use Rattle.std.specs.Prelude.{Bool, false, ◌||◌, not, List, codes, bytes_eq, is_none}
+use Rattle.std.specs.List.{list_any}
+use Rattle.toml.specs.Data.{Members, no_members, member}
+use Rattle.sv_mapping.specs.Path.{Text}
+use Rattle.sv_mapping.specs.Dispatcher.{dispatcher_of}
+use Rattle.sv_config.specs.Document.{texts_at, column}
+use Rattle.sv_config.specs.Rules.{Rule, rules_of}
+use Rattle.sv_config.specs.declared.rules.TableKind.{TableKind}
+use Rattle.sv_config.specs.declared.rules.TableKind.TheVariants.{Top, Cluster, Context, Servlet, Filter, Mapping, Listener, Page}
+
+-- a rule has the key
+abbrev pub is_listed : List Rule → Text → Bool
+is_listed rules key = list_any (λ rule. bytes_eq rule.key key) rules
+
+-- some key of the table is no rule's
+abbrev pub has_unlisted : List Rule → Members → Bool
+has_unlisted rules no_members = false
+has_unlisted rules (member key d t) = not (is_listed rules key) || has_unlisted rules t
+
+-- some of the texts is not among the names
+abbrev pub has_stranger : List Text → List Text → Bool
+has_stranger names texts = list_any (λ text. not (list_any (λ name. bytes_eq name text) names)) texts
+
+-- some of the words is no dispatcher's
+abbrev pub has_stray_dispatcher : List Text → Bool
+has_stray_dispatcher words = list_any (λ word. is_none (dispatcher_of word)) words
+
+-- filter mappings of a context name at a key what the array at that key does not declare
+abbrev pub has_undeclared_at : Text → Members → Bool
+has_undeclared_at key t = has_stranger (column key (codes "name") t) (column (codes "filter-mapping") key t)
+
+-- they name a filter or a servlet that the context does not declare
+abbrev pub has_undeclared : Members → Bool
+has_undeclared t = has_undeclared_at (codes "filter") t || has_undeclared_at (codes "servlet") t
+
+-- what is unknown beside keys
+abbrev pub names_unknown : TableKind → Members → Bool
+names_unknown Top t = false
+names_unknown Cluster t = false
+names_unknown Context t = has_undeclared t
+names_unknown Servlet t = false
+names_unknown Filter t = false
+names_unknown Mapping t = has_stray_dispatcher (texts_at (codes "dispatch") t)
+names_unknown Listener t = false
+names_unknown Page t = false
+
+unfoldable pub has_unknown : TableKind → Members → Bool
+has_unknown kind t = has_unlisted (rules_of kind) t || names_unknown kind t

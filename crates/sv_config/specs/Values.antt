@@ -1,0 +1,190 @@
+-- What a document says: its deployment, with the defaults filled in. Total: where a document has a fault, something
+-- stands for what is not there, and no deployment is made of it.
+use Rattle.std.specs.Prelude.{ℕ, ◌+◌, ℤ, pos, negsuc, Bool, ◌&&◌, not, List, [], ◌∷◌, map, filter, fold, codes, bytes_eq, string_bytes, Option, Some, None, option_map, unwrap_or, is_none, option_and_then, if◌then◌else◌}
+use Rattle.std.specs.Option.{option_map_or}
+use Rattle.std.specs.List.{position_or_len}
+use Rattle.std.specs.FinMap as finite
+use Rattle.toml.specs.Data.{Members, no_members}
+use Rattle.sv_mapping.specs.Path.{Text}
+use Rattle.sv_mapping.specs.Pattern.{is_pattern}
+use Rattle.sv_mapping.specs.Dispatcher.{dispatchers_of}
+use Rattle.sv_mapping.specs.Mappings.{Table, refusal}
+use Rattle.sv_mapping.specs.declared.filter.FilterMapping.{FilterMapping}
+use Rattle.sv_mapping.specs.declared.dispatcher.Dispatchers.{Dispatchers}
+use Rattle.sv_mapping.specs.declared.filter.FilterTarget.{FilterTarget}
+use Rattle.sv_mapping.specs.declared.filter.FilterTarget.TheVariants.{Pattern, Servlet}
+use Rattle.sv_config.specs.Document.{text_at, text_or_empty, integer_at, table_at, tables_at, texts_at, integers_at, column}
+use Rattle.sv_config.specs.Limits.{is_outside}
+use Rattle.sv_config.specs.declared.deployment.Cluster.{Cluster}
+use Rattle.sv_config.specs.declared.deployment.Context.{Context}
+use Rattle.sv_config.specs.declared.deployment.Deployment.{Deployment}
+use Rattle.sv_config.specs.declared.deployment.ErrorPage.{ErrorPage}
+use Rattle.sv_config.specs.declared.deployment.PageFor.{PageFor}
+use Rattle.sv_config.specs.declared.deployment.PageFor.TheVariants.{Status, Fault, Default}
+
+-- ---- a deployment as plain data
+
+pub record ClusterData : Type 0 where
+  pub ports : List ℤ
+  pub deadline : ℤ
+  pub secrets : Option Text
+
+-- what an error page is for
+pub data Choice : Type 0 where
+  of_status : ℤ → Choice
+  of_fault : Text → Choice
+  of_all : Choice
+
+pub record PageData : Type 0 where
+  pub path : Text
+  pub choice : Choice
+
+pub record ContextData : Type 0 where
+  pub path : Text
+  pub interval : ℤ
+  pub servlets : List Text
+  pub mappings : Table
+  pub filters : List Text
+  pub filter_mappings : List FilterMapping
+  pub listeners : List Text
+  pub error_pages : List PageData
+
+pub record DeploymentData : Type 0 where
+  pub cluster : ClusterData
+  pub contexts : List ContextData
+
+-- ---- what a document says
+
+-- the integer at a key, where it is there and within the range
+abbrev pub integer_within : ℤ → ℤ → ℤ → Text → Members → ℤ
+integer_within least most default key t =
+    option_map_or (λ z. if is_outside least most z then default else z) (integer_at key t) default
+
+abbrev pub is_port : ℤ → Bool
+is_port z = not (is_outside (pos 1) (pos 65535) z)
+
+abbrev pub ports_of : Members → List ℤ
+ports_of t = filter is_port (integers_at (codes "ports") t)
+
+-- 30 seconds
+abbrev pub deadline_of : Members → ℤ
+deadline_of t = integer_within (pos 1) (pos 86400) (pos 30) (codes "deadline") t
+
+unfoldable pub cluster_of : Members → ClusterData
+cluster_of t = record {
+  ports = ports_of t;
+  deadline = deadline_of t;
+  secrets = text_at (codes "secrets") t;
+}
+
+-- the first place of a name
+abbrev pub place_of : Text → List Text → ℕ
+place_of name names = position_or_len (λ its. bytes_eq its name) names
+
+-- the place of the name at a key
+abbrev pub place_at : List Text → Text → Members → ℕ
+place_at names key t = place_of (text_or_empty key t) names
+
+-- a pattern is mapped to a servlet where it is one and the table takes it
+abbrev pub with_pattern : ℕ → Table → Text → Table
+with_pattern servlet table pattern =
+    if is_pattern pattern && is_none (refusal table pattern) then finite.insert table pattern servlet else table
+
+-- the patterns of servlets, each mapped to its servlet by the servlet's place
+abbrev pub mapped_from : ℕ → List Members → Table → Table
+mapped_from place [] table = table
+mapped_from place (s ∷ ss) table = mapped_from (place + 1) ss (fold (with_pattern place) table (texts_at (codes "patterns") s))
+
+unfoldable pub mappings_of : Members → Table
+mappings_of t = mapped_from 0 (tables_at (codes "servlet") t) finite.empty
+
+-- a text as a pattern, where it is one
+abbrev pub pattern_of : Text → Option Text
+pattern_of text = if is_pattern text then Some text else None
+
+-- a filter mapping is for its pattern, or else for the servlet that it names
+abbrev pub target_by : ℕ → Option Text → FilterTarget
+target_by servlet None = Servlet servlet
+target_by servlet (Some pattern) = Pattern pattern
+
+abbrev pub target_of : List Text → Members → FilterTarget
+target_of servlets t = target_by (place_at servlets (codes "servlet") t) (option_and_then pattern_of (text_at (codes "pattern") t))
+
+-- with no word in `dispatch` it is for REQUEST
+abbrev pub dispatchers_at : Members → Dispatchers
+dispatchers_at t = dispatchers_of (texts_at (codes "dispatch") t)
+
+unfoldable pub filter_mapping_of : List Text → List Text → Members → FilterMapping
+filter_mapping_of filters servlets t = record {
+  filter = place_at filters (codes "filter") t;
+  target = target_of servlets t;
+  dispatchers = dispatchers_at t;
+}
+
+-- an error page is for its status, or else for its fault, or else for all that no other page is for
+abbrev pub choice_by_fault : Option Text → Choice
+choice_by_fault None = of_all
+choice_by_fault (Some fault) = of_fault fault
+
+abbrev pub choice_of : Option ℤ → Option Text → Choice
+choice_of None fault = choice_by_fault fault
+choice_of (Some status) fault = if is_outside (pos 400) (pos 599) status then choice_by_fault fault else of_status status
+
+abbrev pub choice_of_table : Members → Choice
+choice_of_table t = choice_of (integer_at (codes "status") t) (text_at (codes "fault") t)
+
+unfoldable pub page_of : Members → PageData
+page_of t = record { path = text_or_empty (codes "path") t; choice = choice_of_table t }
+
+-- 1800 seconds
+abbrev pub interval_of : Members → ℤ
+interval_of t = integer_within (negsuc 2147483647) (pos 2147483647) (pos 1800) (codes "interval") t
+
+unfoldable pub context_of : Members → ContextData
+context_of t =
+    let servlets = column (codes "servlet") (codes "name") t in
+    let filters = column (codes "filter") (codes "name") t in
+    record {
+      path = text_or_empty (codes "path") t;
+      interval = interval_of t;
+      servlets = servlets;
+      mappings = mappings_of t;
+      filters = filters;
+      filter_mappings = map (filter_mapping_of filters servlets) (tables_at (codes "filter-mapping") t);
+      listeners = column (codes "listener") (codes "name") t;
+      error_pages = map page_of (tables_at (codes "error-page") t);
+    }
+
+unfoldable pub deployment_of : Members → DeploymentData
+deployment_of t = record {
+  cluster = cluster_of (unwrap_or (table_at (codes "cluster") t) no_members);
+  contexts = map context_of (tables_at (codes "context") t);
+}
+
+-- ---- a deployment of the code
+
+abbrev pub cluster_data : Cluster → ClusterData
+cluster_data c = record { ports = map pos c.ports.items; deadline = pos c.deadline; secrets = option_map string_bytes c.secrets }
+
+abbrev pub choice_data : PageFor → Choice
+choice_data (Status status) = of_status (pos status)
+choice_data (Fault fault) = of_fault (string_bytes fault)
+choice_data Default = of_all
+
+abbrev pub page_data : ErrorPage → PageData
+page_data p = record { path = string_bytes p.path; choice = choice_data p.choice }
+
+abbrev pub context_data : Context → ContextData
+context_data c = record {
+  path = string_bytes c.path;
+  interval = c.interval;
+  servlets = map string_bytes c.servlets.items;
+  mappings = c.mappings;
+  filters = map string_bytes c.filters.items;
+  filter_mappings = c.filter_mappings.items;
+  listeners = map string_bytes c.listeners.items;
+  error_pages = map page_data c.error_pages.items;
+}
+
+unfoldable pub deployment_data : Deployment → DeploymentData
+deployment_data d = record { cluster = cluster_data d.cluster; contexts = map context_data d.contexts.items }

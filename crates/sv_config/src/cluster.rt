@@ -1,0 +1,85 @@
+//! The nodes that a descriptor names.
+
+ghost use Rattle.std.specs.Prelude.{◌≡◌, IfOk, pos, map, option_map, string_bytes, unwrap_or, codes};
+ghost use Rattle.toml.specs.Data.{no_members};
+ghost use Rattle.toml.specs.View.{table_view};
+ghost use Rattle.sv_config.specs.Document.{table_at, text_at};
+ghost use Rattle.sv_config.specs.Values as spec;
+
+use crate::deployment::Cluster;
+use crate::document::{integer_at, table_at, text_at, values_at};
+use crate::limits::is_outside;
+use std::alloc::{AllocError, Global};
+use toml::Table;
+
+/// For how many seconds a request waits for its session where nothing else is said.
+const DEFAULT_DEADLINE: u32 = 30;
+
+/// The nodes that a document names.
+pub(crate) fn read_cluster(alloc: Global, document: &Table) -> Result<Cluster, AllocError>
+    ensures { IfOk result (λ cluster. spec.cluster_data cluster ≡ spec.cluster_of (unwrap_or (table_at (codes "cluster") (table_view document.now)) no_members)) }
+{
+    match table_at(document, "cluster") {
+        Some(table) => cluster_of(alloc, table),
+        None => Ok(default_cluster(alloc)),
+    }
+}
+
+/// One node, which listens nowhere.
+#[tactic(auto, unfolding(crate::specs::Values::cluster_of, crate::specs::Document::values_at))]
+fn default_cluster(alloc: Global) -> Cluster
+    ensures { spec.cluster_data result ≡ spec.cluster_of no_members }
+{
+    Cluster {
+        ports: Vec::new(alloc),
+        deadline: DEFAULT_DEADLINE,
+        secrets: None,
+    }
+}
+
+#[tactic(auto, unfolding(crate::specs::Values::cluster_of))]
+fn cluster_of(alloc: Global, table: &Table) -> Result<Cluster, AllocError>
+    ensures { IfOk result (λ cluster. spec.cluster_data cluster ≡ spec.cluster_of (table_view table.now)) }
+{
+    Ok(Cluster {
+        ports: ports_of(alloc, table)?,
+        deadline: deadline_of(table),
+        secrets: secrets_of(alloc, table)?,
+    })
+}
+
+fn ports_of(alloc: Global, table: &Table) -> Result<Vec<u16>, AllocError>
+    ensures { IfOk result (λ ports. map pos ports.items ≡ spec.ports_of (table_view table.now)) }
+{
+    let mut ports = Vec::new(alloc);
+    for value in values_at(table, "ports") {
+        if let Some(integer) = value.as_integer() {
+            if !is_outside(integer, 1, 65535) {
+                ports.push(integer as u16)?;
+            }
+        }
+    }
+    Ok(ports)
+}
+
+fn deadline_of(table: &Table) -> u32
+    ensures { pos result ≡ spec.deadline_of (table_view table.now) }
+{
+    match integer_at(table, "deadline") {
+        Some(integer) => if is_outside(integer, 1, 86400) {
+            DEFAULT_DEADLINE
+        } else {
+            integer as u32
+        },
+        None => DEFAULT_DEADLINE,
+    }
+}
+
+fn secrets_of(alloc: Global, table: &Table) -> Result<Option<String>, AllocError>
+    ensures { IfOk result (λ secrets. option_map string_bytes secrets ≡ text_at (codes "secrets") (table_view table.now)) }
+{
+    match text_at(table, "secrets") {
+        Some(path) => Ok(Some(String::from_str(alloc, path)?)),
+        None => Ok(None),
+    }
+}

@@ -1,0 +1,79 @@
+//! The contexts that a descriptor declares.
+
+ghost use Rattle.std.specs.Prelude.{◌≡◌, IfOk, map, codes, string_bytes};
+ghost use Rattle.toml.specs.View.{table_view};
+ghost use Rattle.sv_config.specs.Document.{tables_at};
+ghost use Rattle.sv_config.specs.Values as spec;
+
+use crate::columns::{column, tables_at};
+use crate::deployment::Context;
+use crate::document::{integer_at, text_or_empty};
+use crate::limits::is_outside;
+use crate::mappings::{read_filter_mappings, read_mappings};
+use crate::pages::read_pages;
+use std::alloc::{AllocError, Global};
+use toml::Table;
+
+/// For how many seconds an idle session is kept where nothing else is said.
+const DEFAULT_INTERVAL: i32 = 1800;
+
+/// The contexts of a document.
+pub(crate) fn read_contexts(alloc: Global, document: &Table) -> Result<Vec<Context>, AllocError>
+    ensures { IfOk result (λ contexts. map spec.context_data contexts.items ≡ map spec.context_of (tables_at (codes "context") (table_view document.now))) }
+{
+    let tables = tables_at(alloc, document, "context")?;
+    contexts_of(alloc, &tables)
+}
+
+fn contexts_of(alloc: Global, tables: &[&Table]) -> Result<Vec<Context>, AllocError>
+    ensures { IfOk result (λ contexts. map spec.context_data contexts.items ≡ map spec.context_of (map (λ t. table_view t.now) tables.now)) }
+{
+    let mut contexts = Vec::new(alloc);
+    for table in tables {
+        contexts.push(context_of(alloc, table)?)?;
+    }
+    Ok(contexts)
+}
+
+#[tactic(auto, unfolding(crate::specs::Values::context_of))]
+fn context_of(alloc: Global, table: &Table) -> Result<Context, AllocError>
+    ensures { IfOk result (λ context. spec.context_data context ≡ spec.context_of (table_view table.now)) }
+{
+    let servlets = column(alloc, table, "servlet", "name")?;
+    let filters = column(alloc, table, "filter", "name")?;
+    let listeners = column(alloc, table, "listener", "name")?;
+    Ok(Context {
+        path: String::from_str(alloc, text_or_empty(table, "path"))?,
+        interval: interval_of(table),
+        servlets: owned(alloc, &servlets)?,
+        mappings: read_mappings(alloc, table)?,
+        filters: owned(alloc, &filters)?,
+        filter_mappings: read_filter_mappings(alloc, table, &filters, &servlets)?,
+        listeners: owned(alloc, &listeners)?,
+        error_pages: read_pages(alloc, table)?,
+    })
+}
+
+/// The texts as strings of their own.
+fn owned(alloc: Global, texts: &[&str]) -> Result<Vec<String>, AllocError>
+    ensures { IfOk result (λ strings. map string_bytes strings.items ≡ map (λ text. text.now) texts.now) }
+{
+    let mut strings = Vec::new(alloc);
+    for text in texts {
+        strings.push(String::from_str(alloc, text)?)?;
+    }
+    Ok(strings)
+}
+
+fn interval_of(table: &Table) -> i32
+    ensures { result ≡ spec.interval_of (table_view table.now) }
+{
+    match integer_at(table, "interval") {
+        Some(integer) => if is_outside(integer, -2_147_483_648, 2_147_483_647) {
+            DEFAULT_INTERVAL
+        } else {
+            integer as i32
+        },
+        None => DEFAULT_INTERVAL,
+    }
+}

@@ -1,0 +1,65 @@
+//! A deployment: what a descriptor says.
+
+use sv_mapping::{FilterMapping, Mappings};
+
+/// The web applications that each node serves, and the nodes.
+#[derive(Debug, Drop)]
+pub struct Deployment {
+    /// The nodes.
+    pub cluster: Cluster,
+    /// The contexts in the order of the descriptor; a context's number is its place, from 0.
+    pub contexts: Vec<Context>,
+}
+
+/// The nodes of a deployment.
+#[derive(Debug, Drop)]
+pub struct Cluster {
+    /// The port of each node on the loopback address, by the node's number. Empty where the descriptor gives none:
+    /// then there is one node, which listens nowhere.
+    pub ports: Vec<u16>,
+    /// For how many seconds a request waits for its session.
+    pub deadline: u32,
+    /// The path of the file that secrets are read from.
+    pub secrets: Option<String>,
+}
+
+/// A web application.
+#[derive(Debug, Drop)]
+pub struct Context {
+    /// The context path: empty, or like `/shop`.
+    pub path: String,
+    /// For how many seconds an idle session is kept; 0 or less for ever.
+    pub interval: i32,
+    /// The names of its servlets, in order.
+    pub servlets: Vec<String>,
+    /// The patterns of its servlets, each with the place of its servlet in `servlets`.
+    pub mappings: Mappings,
+    /// The names of its filters, in order.
+    pub filters: Vec<String>,
+    /// Its filter mappings, in order; filters and servlets are given by their places in `filters` and `servlets`.
+    pub filter_mappings: Vec<FilterMapping>,
+    /// The names of its listeners, in order.
+    pub listeners: Vec<String>,
+    /// Its error pages, in order.
+    pub error_pages: Vec<ErrorPage>,
+}
+
+/// An error page of a context.
+#[derive(Debug, Drop)]
+pub struct ErrorPage {
+    /// The path within the context that is dispatched to.
+    pub path: String,
+    /// What the page is for.
+    pub choice: PageFor,
+}
+
+/// What an error page is for.
+#[derive(Debug, Drop)]
+pub enum PageFor {
+    /// A status, from 400 to 599.
+    Status(u16),
+    /// A fault of a servlet or filter, by its name.
+    Fault(String),
+    /// All that no other page of the context is for.
+    Default,
+}

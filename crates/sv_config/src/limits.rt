@@ -1,0 +1,132 @@
+//! Counts and numbers outside their limits.
+
+ghost use Rattle.std.specs.Prelude.{◌≡◌, IfOk, ◌<◌, codes};
+ghost use Rattle.toml.specs.View.{table_view};
+ghost use Rattle.sv_config.specs.Limits as spec;
+
+use crate::columns::{integers_at, patterns_of, tables_at};
+use crate::document::{integer_at, is_empty_at, text_at, values_at};
+use crate::rules::TableKind;
+use std::alloc::{AllocError, Global};
+use sv_mapping::MAX_PATTERNS;
+use toml::Table;
+
+const MAX_NODES: usize = 8;
+
+const MAX_CONTEXTS: usize = 16;
+
+const MAX_SERVLETS: usize = 64;
+
+const MAX_FILTERS: usize = 32;
+
+const MAX_FILTER_MAPPINGS: usize = 64;
+
+const MAX_LISTENERS: usize = 16;
+
+const MAX_ERROR_PAGES: usize = 32;
+
+const MAX_NAME_BYTES: usize = 64;
+
+/// Whether a table of a kind passes a limit.
+#[tactic(auto, unfolding(crate::specs::Limits::is_exceeding))]
+pub(crate) fn is_exceeding(
+    alloc: Global,
+    kind: TableKind,
+    table: &Table,
+) -> Result<bool, AllocError>
+    ensures { IfOk result (λ b. b ≡ spec.is_exceeding kind (table_view table.now)) }
+{
+    match kind {
+        TableKind::Top => Ok(has_over(table, "context", MAX_CONTEXTS)),
+        TableKind::Cluster => exceeds_in_cluster(alloc, table),
+        TableKind::Context => exceeds_in_context(alloc, table),
+        TableKind::Servlet | TableKind::Filter | TableKind::Listener => Ok(has_bad_length(table)),
+        TableKind::Mapping => Ok(false),
+        TableKind::Page => Ok(is_outside_at(table, "status", 400, 599)),
+    }
+}
+
+#[tactic(auto, unfolding(crate::specs::Limits::exceeds_in_cluster))]
+fn exceeds_in_cluster(alloc: Global, cluster: &Table) -> Result<bool, AllocError>
+    ensures { IfOk result (λ b. b ≡ spec.exceeds_in_cluster (table_view cluster.now)) }
+{
+    if is_empty_at(cluster, "ports") || has_over(cluster, "ports", MAX_NODES) {
+        return Ok(true);
+    }
+    if has_no_port(alloc, cluster)? {
+        return Ok(true);
+    }
+    Ok(is_outside_at(cluster, "deadline", 1, 86400))
+}
+
+/// Whether some of the ports is none.
+fn has_no_port(alloc: Global, cluster: &Table) -> Result<bool, AllocError>
+    ensures { IfOk result (λ b. b ≡ spec.has_no_port (table_view cluster.now)) }
+{
+    let ports = integers_at(alloc, cluster, "ports")?;
+    Ok(ports.iter().any(|port| is_outside(*port, 1, 65535)))
+}
+
+#[tactic(auto, unfolding(crate::specs::Limits::exceeds_in_context))]
+fn exceeds_in_context(alloc: Global, context: &Table) -> Result<bool, AllocError>
+    ensures { IfOk result (λ b. b ≡ spec.exceeds_in_context (table_view context.now)) }
+{
+    if is_outside_at(context, "interval", -2_147_483_648, 2_147_483_647) {
+        return Ok(true);
+    }
+    if has_too_many(context) {
+        return Ok(true);
+    }
+    has_too_many_patterns(alloc, context)
+}
+
+fn has_too_many(context: &Table) -> bool
+    ensures { result ≡ spec.has_too_many (table_view context.now) }
+{
+    has_over(context, "servlet", MAX_SERVLETS)
+        || has_over(context, "filter", MAX_FILTERS)
+        || has_over(context, "filter-mapping", MAX_FILTER_MAPPINGS)
+        || has_over(context, "listener", MAX_LISTENERS)
+        || has_over(context, "error-page", MAX_ERROR_PAGES)
+}
+
+fn has_too_many_patterns(alloc: Global, context: &Table) -> Result<bool, AllocError>
+    ensures { IfOk result (λ b. b ≡ spec.has_too_many_patterns (table_view context.now)) }
+{
+    let servlets = tables_at(alloc, context, "servlet")?;
+    let patterns = patterns_of(alloc, &servlets)?;
+    Ok(patterns.len() > MAX_PATTERNS)
+}
+
+/// Whether the array at a key has more members than the limit.
+fn has_over(table: &Table, key: &str, limit: usize) -> bool
+    ensures { result ≡ spec.has_over limit key.now (table_view table.now) }
+{
+    values_at(table, key).len() > limit
+}
+
+/// Whether the integer at a key lies outside the range.
+fn is_outside_at(table: &Table, key: &str, least: i64, most: i64) -> bool
+    ensures { result ≡ spec.is_outside_at least most key.now (table_view table.now) }
+{
+    match integer_at(table, key) {
+        Some(integer) => is_outside(integer, least, most),
+        None => false,
+    }
+}
+
+pub(crate) fn is_outside(integer: i64, least: i64, most: i64) -> bool
+    ensures { result ≡ spec.is_outside least most integer }
+{
+    integer < least || most < integer
+}
+
+/// Whether the name has no byte, or too many.
+fn has_bad_length(table: &Table) -> bool
+    ensures { result ≡ spec.has_bad_length (codes "name") (table_view table.now) }
+{
+    match text_at(table, "name") {
+        Some(name) => name.is_empty() || name.len() > MAX_NAME_BYTES,
+        None => false,
+    }
+}

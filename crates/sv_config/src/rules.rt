@@ -1,0 +1,181 @@
+//! The tables of a descriptor, and the fields that each kind of table may have.
+
+ghost use Rattle.std.specs.Prelude.{◌≡◌, map};
+ghost use Rattle.sv_config.specs.Rules.{rule_of, rules_of};
+
+/// A kind of table.
+#[derive(Clone, Copy, Debug, PartialEq, Eq)]
+pub enum TableKind {
+    Top,
+    Cluster,
+    Context,
+    Servlet,
+    Filter,
+    Mapping,
+    Listener,
+    Page,
+}
+
+/// What a field holds; the plural is an array.
+#[derive(Clone, Copy, Debug, PartialEq, Eq)]
+pub enum FieldKind {
+    Text,
+    Integer,
+    Texts,
+    Integers,
+    Table,
+    Tables,
+}
+
+/// A field that a table may have.
+#[derive(Clone, Copy)]
+pub struct FieldRule {
+    pub key: &'static str,
+    pub kind: FieldKind,
+    pub required: bool,
+}
+
+const TOP: [FieldRule; 2] = [
+    FieldRule {
+        key: "context",
+        kind: FieldKind::Tables,
+        required: true,
+    },
+    FieldRule {
+        key: "cluster",
+        kind: FieldKind::Table,
+        required: false,
+    },
+];
+
+const CLUSTER: [FieldRule; 3] = [
+    FieldRule {
+        key: "ports",
+        kind: FieldKind::Integers,
+        required: false,
+    },
+    FieldRule {
+        key: "deadline",
+        kind: FieldKind::Integer,
+        required: false,
+    },
+    FieldRule {
+        key: "secrets",
+        kind: FieldKind::Text,
+        required: false,
+    },
+];
+
+const CONTEXT: [FieldRule; 7] = [
+    FieldRule {
+        key: "path",
+        kind: FieldKind::Text,
+        required: true,
+    },
+    FieldRule {
+        key: "interval",
+        kind: FieldKind::Integer,
+        required: false,
+    },
+    FieldRule {
+        key: "servlet",
+        kind: FieldKind::Tables,
+        required: false,
+    },
+    FieldRule {
+        key: "filter",
+        kind: FieldKind::Tables,
+        required: false,
+    },
+    FieldRule {
+        key: "filter-mapping",
+        kind: FieldKind::Tables,
+        required: false,
+    },
+    FieldRule {
+        key: "listener",
+        kind: FieldKind::Tables,
+        required: false,
+    },
+    FieldRule {
+        key: "error-page",
+        kind: FieldKind::Tables,
+        required: false,
+    },
+];
+
+const SERVLET: [FieldRule; 2] = [
+    FieldRule {
+        key: "name",
+        kind: FieldKind::Text,
+        required: true,
+    },
+    FieldRule {
+        key: "patterns",
+        kind: FieldKind::Texts,
+        required: true,
+    },
+];
+
+const NAMED: [FieldRule; 1] = [FieldRule {
+    key: "name",
+    kind: FieldKind::Text,
+    required: true,
+}];
+
+const MAPPING: [FieldRule; 4] = [
+    FieldRule {
+        key: "filter",
+        kind: FieldKind::Text,
+        required: true,
+    },
+    FieldRule {
+        key: "pattern",
+        kind: FieldKind::Text,
+        required: false,
+    },
+    FieldRule {
+        key: "servlet",
+        kind: FieldKind::Text,
+        required: false,
+    },
+    FieldRule {
+        key: "dispatch",
+        kind: FieldKind::Texts,
+        required: false,
+    },
+];
+
+const PAGE: [FieldRule; 3] = [
+    FieldRule {
+        key: "path",
+        kind: FieldKind::Text,
+        required: true,
+    },
+    FieldRule {
+        key: "status",
+        kind: FieldKind::Integer,
+        required: false,
+    },
+    FieldRule {
+        key: "fault",
+        kind: FieldKind::Text,
+        required: false,
+    },
+];
+
+/// The fields that a kind of table may have.
+#[tactic(auto, unfolding(crate::specs::Rules::rules_of))]
+pub(crate) fn rules(kind: TableKind) -> &'static [FieldRule]
+    ensures { map rule_of result.now ≡ rules_of kind }
+{
+    match kind {
+        TableKind::Top => &TOP,
+        TableKind::Cluster => &CLUSTER,
+        TableKind::Context => &CONTEXT,
+        TableKind::Servlet => &SERVLET,
+        TableKind::Filter | TableKind::Listener => &NAMED,
+        TableKind::Mapping => &MAPPING,
+        TableKind::Page => &PAGE,
+    }
+}
