@@ -12,7 +12,7 @@ use sv_message::request::RawRequest;
 use sv_model::request::Cookie;
 use sv_model::sequence::Sequence;
 use sv_model::text::Text;
-use sv_target::cookies::cookies;
+use sv_target::cookies;
 use thiserror::Error;
 
 /// Why a request's target isn't served.
