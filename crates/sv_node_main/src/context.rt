@@ -5,7 +5,7 @@ ghost use Rattle.sv_node_main.specs.Context.{is_in_context, mapped_at, named_by}
 
 use sv_model::key::{Key, Secret};
 use sv_model::request::Request;
-use sv_target::session_cookie::session_cookie;
+use sv_target::session_cookie;
 
 /// The number of the context in its sessions, their cookies and its events.
 pub const CONTEXT: u8 = 0;

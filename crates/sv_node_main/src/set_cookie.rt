@@ -10,7 +10,7 @@ use sv_model::field::Field;
 use sv_model::key::{Key, Secret};
 use sv_model::outcome::Birth;
 use sv_model::response::Response;
-use sv_target::session_cookie::{NAME, cookie_text};
+use sv_target::{SESSION_COOKIE as NAME, cookie_text};
 
 /// `JSESSIONID`, the session's 52 digits and the attributes of the cookie.
 fn cookie_value(alloc: Global, named: (Key, Secret)) -> Result<Vec<u8>, AllocError>

@@ -1,5 +1,5 @@
 -- A text that begins with `/`: what it spells, and that it is read as a path within a context is.
-use Rattle.std.proofs.Common.{◌≡◌, ◌≢◌, ℕ, suc, ◌≤◌, ◌==◌, Bool, ◌||◌, ◌&&◌, not, true, false, IsTrue, IfSome, List, [], ◌∷◌, length, get_or, Option, Some, None, refl, sym, ap, ◌∙◌, subst, inl, inr, one-add, take, take_all, ◌++◌, le-leb, leb-true, ne_eqb, arith}
+use Rattle.std.proofs.Common.{◌≡◌, ◌≢◌, ℕ, suc, ◌≤◌, ◌==◌, Bool, ◌||◌, ◌&&◌, not, true, false, IfSome, List, [], ◌∷◌, length, get_or, Option, Some, None, refl, sym, ap, ◌∙◌, subst, inl, inr, one-add, take, take_all, ◌++◌, le-leb, leb-true, ne_eqb, arith}
 use Rattle.std.specs.Prelude.{IsUtf8, nat_le, bytes_eq, codes}
 use Rattle.std.specs.List.{list_any, list_all}
 use Rattle.std.proofs.lemmas.Bool.{cases_Bool}
@@ -7,8 +7,8 @@ use Rattle.std.proofs.lemmas.Slice.Eq.{bytes_eq-Decides}
 use Rattle.std.proofs.lemmas.List.Sums.{AllPass-from_list_all, list_all-from_AllPass}
 use Rattle.http_uri.specs.declared.uri.Uri.{Uri}
 use Rattle.http_uri.specs.ByteClasses.{is_path_byte, is_query_byte, index_of, split_once_front}
-use Rattle.http_uri.specs.Grammar.{AllPass, IsAuthority, IsForm, IsPathAndQuery, path_of, query_of, without_fragment}
-use Rattle.http_uri.specs.Uri.{Spells, SpellsNone, uri_scheme, uri_authority, uri_data}
+use Rattle.http_uri.specs.Grammar.{AllPass, IsForm, IsPathAndQuery, path_of, query_of, without_fragment}
+use Rattle.http_uri.specs.Uri.{Spells, uri_scheme, uri_authority, uri_data}
 use Rattle.http_uri.proofs.UriLemmas.{IsAuthority_first, cut_first}
 use Rattle.http_uri.proofs.Theorems.{Spells_unique}
 use Rattle.std.specs.Prelude.{is_some, if◌then◌else◌}

@@ -1,6 +1,6 @@
 -- One more segment of a path, one that stops it, and a path that has no first slash.
 use Rattle.std.proofs.Common.{refl, sym, ◌∙◌, ap, inl, inr, ◌≡◌, ◌≢◌, ℕ, ◌+◌, ◌<◌, List, [], ◌∷◌, length, take, get_or, Option, Some, None, true, false, ◌++◌, map}
-use Rattle.std.specs.Prelude.{fold, ◌==◌, bytes_eq, codes, option_map}
+use Rattle.std.specs.Prelude.{fold, bytes_eq, codes}
 use Rattle.std.specs.Borrow.{Bor}
 use Rattle.std.specs.List.{slice_split}
 use Rattle.percent_encoding.specs.Percent.{percent_decode}

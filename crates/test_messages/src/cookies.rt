@@ -9,7 +9,7 @@ use std::test::Fail;
 use sv_model::field::Field;
 use sv_model::request::Cookie;
 use sv_model::sequence::Sequence;
-use sv_target::cookies::cookies;
+use sv_target::cookies;
 
 /// The fields of these names and values, in order.
 pub(crate) fn fields_of(alloc: Global, pairs: &[(&str, &str)]) -> Result<Sequence<Field>, Fail> {

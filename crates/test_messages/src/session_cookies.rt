@@ -6,8 +6,7 @@ use std::test::Fail;
 use sv_model::key::{Key, Secret};
 use sv_model::request::Cookie;
 use sv_model::sequence::Sequence;
-use sv_target::cookies::cookies;
-use sv_target::session_cookie::{cookie_text, session_cookie};
+use sv_target::{cookie_text, cookies, session_cookie};
 
 /// The cookies of these names and values, in order.
 fn cookies_of(alloc: Global, pairs: &[(&str, &str)]) -> Result<Sequence<Cookie>, AllocError> {

@@ -2,7 +2,7 @@
 
 use crate::session_cookies::{K1, SECRET_0, SECRET_1, SECRET_F, SECRET_X};
 use sv_model::key::{Key, Secret};
-use sv_target::session_cookie::{NAME, cookie_text};
+use sv_target::{SESSION_COOKIE, cookie_text};
 
 /// What is tried, the context's number, the home, the serial, the secret, and the text of these.
 const TEXTS: [(&str, u8, u8, u64, [u8; 16], &str); 4] = [
@@ -39,5 +39,5 @@ fn texts_of_sessions(rt: HostRuntime) {
         let text = cookie_text(context, Key { home, serial }, Secret(secret));
         assert_eq!(rt; text.as_slice(), want.as_bytes(), "{what}");
     }
-    assert_eq!(rt; NAME, "JSESSIONID");
+    assert_eq!(rt; SESSION_COOKIE, "JSESSIONID");
 }

@@ -22,7 +22,7 @@ use sv_model::sequence::Sequence;
 use sv_model::site::{Site, StepFault};
 use sv_model::text::Text;
 use sv_servlet::Servlet;
-use sv_target::cookies::cookies;
+use sv_target::cookies;
 
 /// Serial 1, secret 1.
 const FIRST: &str = "0000000000000000000100000000000000000000000000000001";

@@ -1,7 +1,7 @@
 use Rattle.std.proofs.Common.{◌≡◌, ◌++◌, map}
 use Rattle.sv_model.specs.Blanks.{trim}
 use Rattle.sv_target.specs.Cookies.{pairs_among}
-use Rattle.sv_target.proofs.cookies.add_pairs.Given as goal
+use Rattle.sv_target.proofs.cookie_fields.add_pairs.Given as goal
 
 abbrev pub invariant-loop-part : goal.invariant-loop-part
 invariant-loop-part l = l.cookies ≡ l.fn.cookies ++ pairs_among (map (λ part. trim part.now) l.yielded)

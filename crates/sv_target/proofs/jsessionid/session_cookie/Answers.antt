@@ -3,7 +3,7 @@ use Rattle.std.specs.Prelude.{slice_get}
 use Rattle.std.specs.List.{cons_option, filter_map}
 use Rattle.std.proofs.lemmas.List.{drop_all, drop_more}
 use Rattle.sv_target.specs.SessionCookie.{session_of_cookie, session_cookie}
-use Rattle.sv_target.proofs.session_cookie.session_cookie.Goals as goal
+use Rattle.sv_target.proofs.jsessionid.session_cookie.Goals as goal
 
 pub returns-in-Some : goal.returns-in-Some
 unfolding session_cookie

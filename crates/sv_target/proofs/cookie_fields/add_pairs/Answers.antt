@@ -4,7 +4,7 @@ use Rattle.std.proofs.lemmas.Iterator.Splits.{YieldsList-from_slice_split}
 use Rattle.sv_model.specs.Blanks.{trim}
 use Rattle.sv_target.specs.Cookies.{is_semicolon, pairs_among, pairs_of}
 use Rattle.sv_target.proofs.CookieLemmas.{map-map}
-use Rattle.sv_target.proofs.cookies.add_pairs.Goals as goal
+use Rattle.sv_target.proofs.cookie_fields.add_pairs.Goals as goal
 
 pub returns : goal.returns
 unfolding pairs_of

@@ -10,7 +10,7 @@ use sv_model::key::{Key, NODE_LIMIT, Secret};
 use sv_model::request::Cookie;
 
 /// The name of the cookie.
-pub const NAME: &str = "JSESSIONID";
+pub const SESSION_COOKIE: &str = "JSESSIONID";
 
 /// The bytes that its value spells, two digits each.
 const BYTES: usize = 26;
@@ -57,7 +57,7 @@ pub fn session_cookie(cookies: &[Cookie], context: u8) -> Option<(Key, Secret)>
 fn session_of_cookie(cookie: &Cookie, context: u8) -> Option<(Key, Secret)>
     ensures { result ≡ spec.session_of_cookie context cookie.now }
 {
-    if cookie.name.as_slice() != NAME.as_bytes() {
+    if cookie.name.as_slice() != SESSION_COOKIE.as_bytes() {
         return None;
     }
     let bytes = spelled_bytes(cookie.value.as_slice())?;

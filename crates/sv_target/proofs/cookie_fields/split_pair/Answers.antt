@@ -3,7 +3,7 @@ use Rattle.std.proofs.lemmas.List.{take_rest}
 use Rattle.std.specs.Prelude.{is_some}
 use Rattle.sv_target.specs.Cookies.{is_equals, is_pair, pair_of}
 use Rattle.sv_target.proofs.CookieLemmas.{is_some-position, position_or_len-position}
-use Rattle.sv_target.proofs.cookies.split_pair.Goals as goal
+use Rattle.sv_target.proofs.cookie_fields.split_pair.Goals as goal
 
 pub returns-in_err-equals-clause-found : goal.returns-in_err-equals-clause-found
 unfolding is_pair
