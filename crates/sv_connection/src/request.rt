@@ -9,8 +9,7 @@ use std::alloc::{AllocError, Global};
 use sv_message::RawRequest;
 use sv_model::request::{Cookie, Param};
 use sv_model::sequence::Sequence;
-use sv_target::cookies::cookies;
-use sv_target::{Target, TargetFault, form, params};
+use sv_target::{Target, TargetFault, cookies, form, params};
 
 /// The parts of a request that are read out of its message.
 #[derive(Drop)]

@@ -11,7 +11,7 @@ use crate::hosted::ready_at;
 use crate::stage::Stage;
 use crate::visit::Visit;
 use std::alloc::{AllocError, Global};
-use sv_mapping::chain::filters_for;
+use sv_mapping::filters_for;
 use sv_servlet::{Before, Call, Filter, Servlet};
 
 /// `before` along a chain, until one does not pass.

@@ -14,7 +14,7 @@ use crate::stage::Stage;
 use crate::view::View;
 use crate::visit::Ask;
 use std::alloc::{AllocError, Global};
-use sv_mapping::dispatcher::Dispatcher;
+use sv_mapping::Dispatcher;
 use sv_model::text::Text;
 use sv_servlet::{Call, Filter, Reply, Servlet};
 

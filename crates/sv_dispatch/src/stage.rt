@@ -2,8 +2,7 @@
 
 use crate::hosted::Hosted;
 use crate::page::ErrorPage;
-use sv_mapping::filter::FilterMapping;
-use sv_mapping::mappings::Mappings;
+use sv_mapping::{FilterMapping, Mappings};
 use sv_servlet::Reply;
 use sv_session::SessionEdit;
 

@@ -16,7 +16,7 @@ use crate::stage::Stage;
 use crate::view::View;
 use crate::visit::{Ask, Visit, visit_of};
 use std::alloc::{AllocError, Global};
-use sv_mapping::dispatcher::Dispatcher;
+use sv_mapping::Dispatcher;
 use sv_model::text::Text;
 use sv_servlet::{Before, Filter, Next, Servlet};
 

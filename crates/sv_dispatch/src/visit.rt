@@ -9,7 +9,7 @@ use crate::stage::Stage;
 use crate::target::{Target, read_target};
 use crate::view::View;
 use std::alloc::{AllocError, Global};
-use sv_mapping::dispatcher::Dispatcher;
+use sv_mapping::Dispatcher;
 use sv_model::text::Text;
 use sv_servlet::{Filter, Servlet};
 

@@ -7,9 +7,7 @@ ghost use Rattle.sv_node_main.specs.Once.{secret_of, ending, calls_of, HasServed
 
 use std::alloc::Global;
 use std::io::{Read, Write};
-use sv_connection::connection::Connection;
-use sv_connection::outcome::Outcome;
-use sv_connection::solo::Solo;
+use sv_connection::{Connection, Outcome, Solo};
 use sv_model::engine::Engine;
 use sv_model::key::{Moment, Secret};
 use thiserror::Error;

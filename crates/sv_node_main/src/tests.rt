@@ -102,8 +102,8 @@ const ROWS: [Row; 14] = [
         BAD_REQUEST,
     ),
     Row(
-        "a body's framing",
-        "GET / HTTP/1.1\r\nHost: a\r\nContent-Length: 0\r\n\r\n",
+        "two lengths of a body",
+        "GET / HTTP/1.1\r\nHost: a\r\nContent-Length: 0\r\nContent-Length: 0\r\n\r\n",
         BAD_REQUEST,
     ),
     Row(

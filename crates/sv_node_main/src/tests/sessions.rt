@@ -11,7 +11,7 @@ use http_header::{HeaderName, HeaderValue};
 use std::alloc::Global;
 use std::process::Abort;
 use std::test::Fail;
-use sv_connection::solo::Solo;
+use sv_connection::Solo;
 use sv_model::field::Field;
 use sv_model::input::Input;
 use sv_model::key::{Moment, Secret};

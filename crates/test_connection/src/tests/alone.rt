@@ -9,7 +9,7 @@ use super::AT;
 use http::{Method, StatusCode};
 use std::alloc::{AllocError, Global};
 use std::test::Fail;
-use sv_connection::solo::Solo;
+use sv_connection::Solo;
 use sv_model::attributes::Attributes;
 use sv_model::engine::{Engine, EngineFault};
 use sv_model::event::Told;

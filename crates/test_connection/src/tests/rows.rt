@@ -3,7 +3,7 @@
 //! The texts are written out from RFC 9112 (sections 3 to 9) and RFC 9110 (sections 6.6.1, 8.6, 9.3.2 and 15); the
 //! date is the example of the latter's section 5.6.7.
 
-use sv_connection::outcome::{Outcome, RequestFault};
+use sv_connection::{Outcome, RequestFault};
 use sv_message::fault::ReadFault;
 use sv_target::TargetFault;
 

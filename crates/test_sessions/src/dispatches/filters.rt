@@ -5,7 +5,7 @@ use crate::scripted::{Marking, Says, Scripted, Then};
 use crate::staged::{add_filter, add_servlet, empty_stage};
 use std::test::Fail;
 use sv_dispatch::{Ended, Stage};
-use sv_mapping::dispatcher::{Dispatcher, Dispatchers};
+use sv_mapping::{Dispatcher, Dispatchers};
 use sv_servlet::Phase;
 
 /// What the second filter says, and what comes of a request for `/w`.
