@@ -3,6 +3,8 @@
 ghost use Rattle.std.specs.Prelude.{◌≡◌, ⊤, refl, [], false, None, IfOk};
 ghost use Rattle.sv_model.specs.declared.outcome.Fate.TheVariants.{Untouched};
 ghost use Rattle.sv_model.specs.declared.outcome.Birth.TheVariants.{Absent};
+ghost use Rattle.sv_model.specs.Keys.{IsKey};
+ghost use Rattle.sv_model.specs.Ranges.{IsInput};
 ghost use Rattle.test_connection.specs.Turns.{made_at};
 
 use super::AT;
@@ -166,7 +168,8 @@ impl Engine for Turner {
 
 /// Steps a site as any caller of one does.
 fn step_at<S: Site>(site: &mut S, now: u64, input: Input) -> Result<Vec<Output>, StepFault>
-    requires { S.site_valid site.old }
+    requires valid { S.site_valid site.old }
+    requires input { IsInput input }
     ensures { S.site_valid site.new }
 {
     let moment = Moment {
@@ -176,29 +179,32 @@ fn step_at<S: Site>(site: &mut S, now: u64, input: Input) -> Result<Vec<Output>,
     site.step(moment, input)
 }
 
-/// The same at one moment.
-fn step_once<S: Site>(site: &mut S, input: Input) -> Result<Vec<Output>, StepFault>
+/// The same at one moment, by a request.
+fn ask_once<S: Site>(site: &mut S, alloc: Global, token: u64) -> Result<Vec<Output>, Fail>
     requires { S.site_valid site.old }
     ensures { S.site_valid site.new }
 {
-    step_at(site, AT.now, input)
+    let request = Request {
+        method: Method::GET,
+        raw_path: Text::from_str(alloc, "/as/sent")?,
+        path: Text::from_str(alloc, "/as/read")?,
+        query: None,
+        fields: Sequence::new(alloc),
+        cookies: Sequence::new(alloc),
+        params: Sequence::new(alloc),
+        body: Sequence::new(alloc),
+        close: true,
+    };
+    Ok(step_at(site, AT.now, Input::Ask { token, request })?)
 }
 
-fn ask(alloc: Global, token: u64) -> Result<Input, AllocError> {
-    Ok(Input::Ask {
-        token,
-        request: Request {
-            method: Method::GET,
-            raw_path: Text::from_str(alloc, "/as/sent")?,
-            path: Text::from_str(alloc, "/as/read")?,
-            query: None,
-            fields: Sequence::new(alloc),
-            cookies: Sequence::new(alloc),
-            params: Sequence::new(alloc),
-            body: Sequence::new(alloc),
-            close: true,
-        },
-    })
+/// By an order to move a session.
+fn move_once<S: Site>(site: &mut S, key: Key) -> Result<Vec<Output>, StepFault>
+    requires valid { S.site_valid site.old }
+    requires key { IsKey key }
+    ensures { S.site_valid site.new }
+{
+    step_at(site, AT.now, Input::Move { key, to: 1 })
 }
 
 #[test]
@@ -206,7 +212,7 @@ fn a_node_alone_answers(rt: HostRuntime) -> Result<(), Fail> {
     let alloc = rt.alloc();
     let mut site = Solo::new(alloc, Greeter { alloc });
     for token in [3, 4] {
-        let outputs = step_once(&mut site, ask(alloc, token)?)?;
+        let outputs = ask_once(&mut site, alloc, token)?;
         assert_eq!(rt; outputs.len(), 1);
         match &outputs[0] {
             Output::Answer {
@@ -225,6 +231,8 @@ fn a_node_alone_answers(rt: HostRuntime) -> Result<(), Fail> {
 
 /// The first session, of the only node.
 const FIRST: (Key, Secret) = (Key { home: 0, serial: 1 }, Secret([7; 16]));
+
+const SECOND: Key = Key { home: 0, serial: 2 };
 
 /// The output is a refusal of a move, for this reason.
 fn is_refusal(outputs: &[Output], reason: MoveRefusal) -> bool {
@@ -253,18 +261,13 @@ fn a_node_alone_keeps_its_sessions(rt: HostRuntime) -> Result<(), Fail> {
         MoveRefusal::NotActive,
     ];
     for reason in reasons {
-        let input = Input::Move {
-            key: FIRST.0,
-            to: 1,
-        };
-        let outputs = step_once(&mut site, input)?;
+        let outputs = move_once(&mut site, FIRST.0)?;
         assert!(rt; is_refusal(outputs.as_slice(), reason), "{reason:?}");
-        let outputs = step_once(&mut site, ask(alloc, 7)?)?;
+        let outputs = ask_once(&mut site, alloc, 7)?;
         assert!(rt; matches!(outputs.as_slice(), [Output::Answer { token: 7, .. }]));
     }
     // The third request made the second session, since the first had ended.
-    let second = Key { home: 0, serial: 2 };
-    let outputs = step_once(&mut site, Input::Move { key: second, to: 0 })?;
+    let outputs = move_once(&mut site, SECOND)?;
     assert!(rt; is_refusal(outputs.as_slice(), MoveRefusal::BadPeer));
     Ok(())
 }
@@ -282,7 +285,7 @@ fn a_node_alone_ends_what_has_expired(rt: HostRuntime) -> Result<(), Fail> {
         },
     );
     for _ in 0..2 {
-        step_once(&mut site, ask(alloc, 7)?)?;
+        ask_once(&mut site, alloc, 7)?;
     }
     // Two sessions were made at the moment of the requests: each tick ends the least key that has expired.
     let end = AT.now.saturating_add(60);
@@ -300,14 +303,13 @@ fn a_node_alone_ends_what_has_expired(rt: HostRuntime) -> Result<(), Fail> {
     for (now, first, second, told) in rows {
         let outputs = step_at(&mut site, now, Input::Tick)?;
         assert_eq!(rt; outputs.len(), 0);
-        for (serial, why) in [(1, first), (2, second)] {
-            let key = Key { home: 0, serial };
-            let outputs = step_once(&mut site, Input::Move { key, to: 1 })?;
-            assert!(rt;
-                is_refusal(outputs.as_slice(), why),
-                "session {serial} at {now}"
-            );
-        }
+        let outputs = move_once(&mut site, FIRST.0)?;
+        assert!(rt; is_refusal(outputs.as_slice(), first), "the first at {now}");
+        let outputs = move_once(&mut site, SECOND)?;
+        assert!(rt;
+            is_refusal(outputs.as_slice(), second),
+            "the second at {now}"
+        );
         assert_eq!(rt; site.engine.told, told, "told at {now}");
     }
     Ok(())
@@ -317,21 +319,17 @@ fn a_node_alone_ends_what_has_expired(rt: HostRuntime) -> Result<(), Fail> {
 fn a_node_alone_has_no_peers(rt: HostRuntime) -> Result<(), Fail> {
     let alloc = rt.alloc();
     let mut site = Solo::new(alloc, Greeter { alloc });
-    let key = Key { home: 0, serial: 1 };
     let no = Packet::No {
         from: 1,
         to: 0,
-        key,
+        key: FIRST.0,
         boot: 1,
         want: 0,
     };
-    for input in [Input::Poke, Input::Tick, Input::Packet(no)] {
-        let outputs = step_once(&mut site, input)?;
-        assert_eq!(rt; outputs.len(), 0);
-    }
-    let outputs = step_once(&mut site, Input::Move { key, to: 1 })?;
-    assert_eq!(rt; outputs.len(), 1);
-    let refused = matches!(&outputs[0], Output::MoveRefused(MoveRefusal::UnknownKey));
-    assert!(rt; refused);
+    assert_eq!(rt; step_at(&mut site, AT.now, Input::Poke)?.len(), 0);
+    assert_eq!(rt; step_at(&mut site, AT.now, Input::Tick)?.len(), 0);
+    assert_eq!(rt; step_at(&mut site, AT.now, Input::Packet(no))?.len(), 0);
+    let outputs = move_once(&mut site, FIRST.0)?;
+    assert!(rt; is_refusal(outputs.as_slice(), MoveRefusal::UnknownKey));
     Ok(())
 }

@@ -4,8 +4,5 @@ use Rattle.test_connection.proofs.tests.alone.a_node_alone_ends_what_has_expired
 abbrev pub invariant-loop : goal.invariant-loop
 invariant-loop g l = IfSome l.site.engine.named (λ n. (n.0.home < 8) × (0 < n.0.serial))
 
-abbrev pub invariant-loop-serial : goal.invariant-loop-serial
-invariant-loop-serial g l = IfSome l.site.engine.named (λ n. (n.0.home < 8) × (0 < n.0.serial))
-
 abbrev pub invariant-loop-now : goal.invariant-loop-now
 invariant-loop-now g l = IfSome l.site.engine.named (λ n. (n.0.home < 8) × (0 < n.0.serial))
