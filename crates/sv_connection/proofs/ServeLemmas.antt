@@ -1,6 +1,6 @@
 -- What a call of a connection leads to, put together.
-use Rattle.std.proofs.Common.{◌≡◌, ℕ, List, subst, Option, Some, None, Result, Ok, Err, inl, inr, [], refl, ◌∙◌}
-use Rattle.std.specs.Prelude.{Bool, true, find}
+use Rattle.std.proofs.Common.{◌≡◌, ℕ, List, subst, Option, Some, None, Result, inl, inr, [], refl, ◌∙◌}
+use Rattle.std.specs.Prelude.{Bool, true}
 use Rattle.sv_model.specs.declared.key.Moment.{Moment}
 use Rattle.sv_model.specs.declared.request.Request.{Request}
 use Rattle.sv_model.specs.declared.input.Input.{Input}
@@ -23,7 +23,6 @@ use Rattle.sv_connection.specs.Arrive.{Arrives}
 use Rattle.sv_connection.specs.Manner.{manner_of}
 use Rattle.sv_connection.specs.Request.{request_of}
 use Rattle.sv_target.specs.declared.target.Target.{Target}
-use Rattle.sv_connection.specs.Reply.{speaks_to}
 use Rattle.sv_connection.specs.Serve.{how, verdict, outputs_of, Follows, IsAnswered, IsStarved, IsSaid, IsPage, StandsAt}
 
 -- the site was stepped, and what follows was said

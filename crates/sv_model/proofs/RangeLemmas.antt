@@ -1,11 +1,10 @@
 -- A node within the ranges, given what is within them, writes and sends nothing past them, and stays within them.
 use Rattle.std.proofs.Common.{◌≡◌, ◌≢◌, ℕ, zero, suc, ◌+◌, ◌<◌, ◌≤◌, Bool, true, false, cond, Option, Some, None, List, [], ◌∷◌, ◌++◌, map, arith, refl, sym, ap, ◌∙◌, subst, inl, inr, ⊎_elim}
-use Rattle.std.specs.Prelude.{not, ◌==◌, ◌||◌, ◌&&◌, is_none, nat_le, length, IfSome, ⊤}
+use Rattle.std.specs.Prelude.{not, ◌==◌, ◌||◌, ◌&&◌, is_none, nat_le, length, IfSome}
 use Rattle.std.specs.Option.{option_map}
 use Rattle.std.specs.List.{AllByRecursion, filter, filter_map, flat_map}
 use Rattle.std.specs.FinMap.{get, insert, len, entries, get-insert}
 use Rattle.std.proofs.lemmas.Bool.{eqb-false, cond_both}
-use Rattle.std.proofs.lemmas.Bool.Decides.{leb_tells}
 use Rattle.std.proofs.lemmas.Option.{same_Some}
 use Rattle.std.proofs.lemmas.List.Elements.{filter_map-append}
 use Rattle.sv_model.specs.declared.key.Key.{Key}
@@ -18,7 +17,6 @@ use Rattle.sv_model.specs.declared.session.Session.{Session}
 use Rattle.sv_model.specs.declared.state.KeyState.{KeyState}
 use Rattle.sv_model.specs.declared.state.KeyState.TheVariants.{Active, Sent, Gone, Ended}
 use Rattle.sv_model.specs.declared.state.TheConstants.{PARK_LIMIT, KEY_LIMIT}
-use Rattle.sv_model.specs.declared.outcome.Outcome.{Outcome}
 use Rattle.sv_model.specs.declared.outcome.Fate.{Fate}
 use Rattle.sv_model.specs.declared.outcome.Fate.TheVariants.{Untouched, Kept, Ended as FateEnded}
 use Rattle.sv_model.specs.declared.outcome.Birth.{Birth}
@@ -32,7 +30,7 @@ use Rattle.sv_model.specs.declared.packet.Packet.TheVariants.{Want, Grant, Ack, 
 use Rattle.sv_model.specs.declared.input.Input.{Input}
 use Rattle.sv_model.specs.declared.input.Input.TheVariants.{Ask, Packet as Incoming, Poke, Tick, Move}
 use Rattle.sv_model.specs.declared.output.Cause.{Cause}
-use Rattle.sv_model.specs.declared.output.Cause.TheVariants.{TableFull, SerialsSpent, ParkFull, WantsSpent, Deadline}
+use Rattle.sv_model.specs.declared.output.Cause.TheVariants.{SerialsSpent, ParkFull, WantsSpent, Deadline}
 use Rattle.sv_model.specs.declared.output.Output.{Output}
 use Rattle.sv_model.specs.declared.output.Output.TheVariants.{Refuse, Send, Moved}
 use Rattle.sv_model.specs.declared.event.Told.{Told}
@@ -43,9 +41,9 @@ use Rattle.sv_model.specs.NodeState.{Keys, Durable, Node, last_number, session_i
 use Rattle.sv_model.specs.Outputs.{packet_in, sends_in}
 use Rattle.sv_model.specs.Membership.{In}
 use Rattle.sv_model.specs.Decision.{Decision, idle, with_record}
-use Rattle.sv_model.specs.Serving.{fresh_of, held_in, no_birth, kept_at, ended_at, fated_keys, born_keys, next_with, named_change, born_change, entry_of, answer_of, answered_unless, refused, served}
+use Rattle.sv_model.specs.Serving.{fresh_of, held_in, no_birth, kept_at, ended_at, fated_keys, born_keys, next_with, named_change, born_change, entry_of, answer_of, answered_unless, served}
 use Rattle.sv_model.specs.Waiting.{numbers, others, wants, on_ask, waits, parks, first_of, without, serve_first, serve_parked}
-use Rattle.sv_model.specs.Migration.{no_if_unmade, says_no, on_want, hands_over, takes_over, on_grant, on_ack, is_wanted, is_ours, on_ours, move_refused, on_move}
+use Rattle.sv_model.specs.Migration.{no_if_unmade, says_no, on_want, hands_over, takes_over, on_grant, on_ack, is_wanted, is_ours, on_ours, on_move}
 use Rattle.sv_model.specs.Time.{first_over, expire, is_late, deadlines, wants_again, grant_again, on_tick}
 use Rattle.sv_model.specs.Node.{decided}
 use Rattle.sv_model.specs.Ranges.{IsSetting, IsChange, IsState, IsRecord, IsPacket, IsInput, IsRanged, IsRangedStep}

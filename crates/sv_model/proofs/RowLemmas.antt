@@ -1,7 +1,6 @@
 -- The worked examples of the table, computed.
-use Rattle.std.proofs.Common.{◌≡◌, ℕ, Bool, true, false, cond, Option, Some, None, List, [], ◌∷◌, refl, sym, ap, ◌∙◌}
-use Rattle.std.specs.FinMap.{empty, insert, get, len, entries, entries-insert, len-empty, get-empty, get-insert}
-use Rattle.sv_model.specs.declared.key.Key.{Key}
+use Rattle.std.proofs.Common.{◌≡◌, ℕ, None, List, [], refl, ap, ◌∙◌}
+use Rattle.std.specs.FinMap.{empty, insert, entries-insert, len-empty, get-empty, get-insert}
 use Rattle.sv_model.specs.declared.key.Secret.{Secret}
 use Rattle.sv_model.specs.declared.key.Moment.{Moment}
 use Rattle.sv_model.specs.declared.node.Setting.{Setting}
@@ -15,8 +14,7 @@ use Rattle.sv_model.specs.declared.outcome.Fate.TheVariants.{Untouched, Kept}
 use Rattle.sv_model.specs.declared.outcome.Birth.TheVariants.{Absent, Alive}
 use Rattle.sv_model.specs.declared.state.KeyState.{KeyState}
 use Rattle.sv_model.specs.declared.state.KeyState.TheVariants.{Active, Sent, Gone}
-use Rattle.sv_model.specs.declared.packet.Packet.TheVariants.{No}
-use Rattle.sv_model.specs.declared.input.Input.TheVariants.{Ask, Packet as Incoming, Poke}
+use Rattle.sv_model.specs.declared.input.Input.TheVariants.{Poke}
 use Rattle.sv_model.specs.Keys.{key_cmp}
 use Rattle.sv_model.specs.Engine.{EngineMeaning}
 use Rattle.sv_model.specs.NodeState.{Keys, Node}

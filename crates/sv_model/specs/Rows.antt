@@ -1,11 +1,10 @@
 -- Worked examples of the table: three nodes, a session that is made at node 0 and asked for at node 1, and what each
 -- step of theirs makes of it, written out.
-use Rattle.std.specs.Prelude.{◌≡◌, ℕ, Bool, true, false, Some, None, List, [], ◌∷◌}
+use Rattle.std.specs.Prelude.{◌≡◌, ℕ, true, false, Some, None, List, [], ◌∷◌}
 use Rattle.std.specs.FinMap.{empty, insert}
 use Rattle.sv_model.specs.declared.key.Key.{Key}
 use Rattle.sv_model.specs.declared.key.Secret.{Secret}
 use Rattle.sv_model.specs.declared.key.Moment.{Moment}
-use Rattle.sv_model.specs.declared.key.Token.{Token}
 use Rattle.sv_model.specs.declared.node.Setting.{Setting}
 use Rattle.sv_model.specs.declared.node.Parked.{Parked}
 use Rattle.sv_model.specs.declared.request.Request.{Request}
@@ -21,12 +20,12 @@ use Rattle.sv_model.specs.declared.record.Record.TheVariants.{Commit as CommitRe
 use Rattle.sv_model.specs.declared.commit.Commit.TheVariants.{Served}
 use Rattle.sv_model.specs.declared.packet.Packet.TheVariants.{Want, Grant, Ack, No}
 use Rattle.sv_model.specs.declared.input.Input.TheVariants.{Ask, Packet as Incoming, Poke, Tick, Move}
-use Rattle.sv_model.specs.declared.output.Output.TheVariants.{Answer, Refuse, Send, Moved, MoveRefused}
+use Rattle.sv_model.specs.declared.output.Output.TheVariants.{Answer, Refuse, Send, MoveRefused}
 use Rattle.sv_model.specs.declared.output.Cause.TheVariants.{Deadline}
 use Rattle.sv_model.specs.declared.output.MoveRefusal.TheVariants.{UnknownKey, NotActive, BadPeer}
 use Rattle.sv_model.specs.Engine.{EngineMeaning}
 use Rattle.sv_model.specs.NodeState.{Keys, Durable, Node}
-use Rattle.sv_model.specs.Decision.{Decision, idle}
+use Rattle.sv_model.specs.Decision.{idle}
 use Rattle.sv_model.specs.Node.{decided}
 
 -- the nodes of the examples: three, and a request waits for 30 seconds

@@ -1,6 +1,5 @@
-use Rattle.std.proofs.Common.{sym, ◌≡◌, List, subst}
-use Rattle.std.specs.Bool.{Decides}
-use Rattle.sv_model.specs.Attributes.{Attribute, entry_of}
+use Rattle.std.proofs.Common.{sym}
+use Rattle.sv_model.specs.Attributes.{entry_of}
 use Rattle.sv_model.proofs.SameLemmas.{decides_map}
 use Rattle.sv_model.proofs.attributes.Attributes.is_same.Goals as goal
 
