@@ -13,7 +13,7 @@ use Rattle.sv_model.specs.declared.outcome.Outcome.{Outcome}
 use Rattle.sv_model.specs.declared.outcome.Fate.TheVariants.{Untouched, Kept}
 use Rattle.sv_model.specs.declared.outcome.Birth.TheVariants.{Absent, Alive}
 use Rattle.sv_model.specs.declared.state.KeyState.{KeyState}
-use Rattle.sv_model.specs.declared.state.KeyState.TheVariants.{Active, Sent, Gone}
+use Rattle.sv_model.specs.declared.state.KeyState.TheVariants.{Active, Sent, Gone, Ended}
 use Rattle.sv_model.specs.declared.input.Input.TheVariants.{Poke}
 use Rattle.sv_model.specs.Keys.{key_cmp}
 use Rattle.sv_model.specs.Engine.{EngineMeaning}
@@ -21,7 +21,7 @@ use Rattle.sv_model.specs.NodeState.{Keys, Node}
 use Rattle.sv_model.specs.Serving.{held_in, served, no_birth, answer_of, answered, answered_unless}
 use Rattle.sv_model.specs.Waiting.{on_ask}
 use Rattle.sv_model.specs.Node.{decided}
-use Rattle.sv_model.specs.Rows.{of_three, first_key, keeps, at_rest, at_second, waiting, IsExample, IsHandedOver, AreLate, IsNeverMade, AreTicks}
+use Rattle.sv_model.specs.Rows.{of_three, first_key, keeps, at_rest, at_second, waiting, IsExample, IsHandedOver, AreLate, IsNeverMade, AreTicks, AreOrders}
 use Rattle.sv_model.proofs.KeyLemmas.{keys_total}
 use Rattle.sv_model.proofs.EntryLemmas.{no_entries}
 
@@ -95,4 +95,14 @@ module _ (m : EngineMeaning) (secret : Secret) (first again : Request) (made kep
     second_before = rw (no_entries, no_entries, get-empty key_cmp (first_key 0)) refl;
     deadline = rw (no_entries, no_entries) refl;
     granted_again = rw (entries-insert keys_total empty (first_key 0) (Sent 2 made 1), no_entries, entries-insert keys_total empty (first_key 0) (Sent 2 made 1), no_entries) refl;
+  }
+
+  abbrev one_held : Keys
+  one_held = insert empty (first_key 0) (Active 1 made)
+
+  pub orders : AreOrders m secret first again made kept one two events more
+  orders = record {
+    ordered = rw (get-insert keys_total empty (first_key 0) (Active 2 kept) (first_key 0)) refl;
+    expired = λ over. rw (entries-insert keys_total empty (first_key 0) (Active 1 made), no_entries, over, entries-insert keys_total one_held (first_key 0) (Ended 1), entries-insert keys_total empty (first_key 0) (Active 1 made), no_entries) refl;
+    park_full = λ parked long. rw (is.names, get-empty key_cmp (first_key 0), long) refl;
   }

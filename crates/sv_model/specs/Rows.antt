@@ -1,6 +1,6 @@
 -- Worked examples of the table: three nodes, a session that is made at node 0 and asked for at node 1, and what each
 -- step of theirs makes of it, written out.
-use Rattle.std.specs.Prelude.{◌≡◌, ℕ, true, false, Some, None, List, [], ◌∷◌}
+use Rattle.std.specs.Prelude.{◌≡◌, ℕ, true, false, Some, None, List, [], ◌∷◌, length}
 use Rattle.std.specs.FinMap.{empty, insert}
 use Rattle.sv_model.specs.declared.key.Key.{Key}
 use Rattle.sv_model.specs.declared.key.Secret.{Secret}
@@ -11,19 +11,20 @@ use Rattle.sv_model.specs.declared.request.Request.{Request}
 use Rattle.sv_model.specs.declared.response.Response.{Response}
 use Rattle.sv_model.specs.declared.session.Session.{Session}
 use Rattle.sv_model.specs.declared.event.Told.{Told}
-use Rattle.sv_model.specs.declared.event.Event.TheVariants.{Passivate, Activate}
+use Rattle.sv_model.specs.declared.event.Event.TheVariants.{Destroyed, Passivate, Activate}
 use Rattle.sv_model.specs.declared.outcome.Fate.TheVariants.{Untouched, Kept}
 use Rattle.sv_model.specs.declared.outcome.Birth.TheVariants.{Absent, Alive}
-use Rattle.sv_model.specs.declared.state.KeyState.TheVariants.{Active, Sent, Gone}
+use Rattle.sv_model.specs.declared.state.KeyState.TheVariants.{Active, Sent, Gone, Ended}
 use Rattle.sv_model.specs.declared.record.Change.TheVariants.{Absent as Unchanged, Alive as ChangeAlive}
-use Rattle.sv_model.specs.declared.record.Record.TheVariants.{Commit as CommitRecord, Sent as SentRecord, Taken as TakenRecord, Gone as GoneRecord}
-use Rattle.sv_model.specs.declared.commit.Commit.TheVariants.{Served}
+use Rattle.sv_model.specs.declared.record.Record.TheVariants.{Commit as CommitRecord, Expired as ExpiredRecord, Sent as SentRecord, Taken as TakenRecord, Gone as GoneRecord}
+use Rattle.sv_model.specs.declared.commit.Commit.TheVariants.{Served, Expired}
 use Rattle.sv_model.specs.declared.packet.Packet.TheVariants.{Want, Grant, Ack, No}
 use Rattle.sv_model.specs.declared.input.Input.TheVariants.{Ask, Packet as Incoming, Poke, Tick, Move}
-use Rattle.sv_model.specs.declared.output.Output.TheVariants.{Answer, Refuse, Send, MoveRefused}
-use Rattle.sv_model.specs.declared.output.Cause.TheVariants.{Deadline}
+use Rattle.sv_model.specs.declared.output.Output.TheVariants.{Answer, Refuse, Send, Moved, MoveRefused}
+use Rattle.sv_model.specs.declared.output.Cause.TheVariants.{ParkFull, Deadline}
 use Rattle.sv_model.specs.declared.output.MoveRefusal.TheVariants.{UnknownKey, NotActive, BadPeer}
 use Rattle.sv_model.specs.Engine.{EngineMeaning}
+use Rattle.sv_model.specs.Session.{is_expired}
 use Rattle.sv_model.specs.NodeState.{Keys, Durable, Node}
 use Rattle.sv_model.specs.Decision.{idle}
 use Rattle.sv_model.specs.Node.{decided}
@@ -171,3 +172,31 @@ module _ (m : EngineMeaning) (secret : Secret) (first again : Request) (made kep
     -- a session that was handed over is handed over again
     pub granted_again : decided m (of_three 0) (at_rest (keeps (insert empty (first_key 0) (Sent 2 made 1)) 2)) (at_second 1_000 secret) Tick
         ≡ idle (at_rest (keeps (insert empty (first_key 0) (Sent 2 made 1)) 2)) (Send (Grant 0 1 (first_key 0) 2 made) ∷ [])
+
+  -- orders that are met, time that has passed, and the limits
+  pub record AreOrders : Type 0 where
+    -- a session is handed to another node because it was ordered
+    pub ordered : decided m (of_three 1) (at_rest (keeps (insert empty (first_key 0) (Active 2 kept)) 1)) (at_second 1_000 secret) (Move (first_key 0) 0) ≡ record {
+      entry = Some (SentRecord (first_key 0) 3 0 kept);
+      commit = None;
+      events = [];
+      mark = Some (record { context = kept.context; event = Passivate (first_key 0) });
+      outputs = Send (Grant 1 0 (first_key 0) 3 kept) ∷ Moved ∷ [];
+      durable = keeps (insert (insert empty (first_key 0) (Active 2 kept)) (first_key 0) (Sent 3 kept 0)) 1;
+      parked = [];
+      next_want = 1;
+    }
+    -- a session that has expired ends at a tick
+    pub expired : is_expired made 1_000 ≡ true → decided m (of_three 0) (at_rest (keeps (insert empty (first_key 0) (Active 1 made)) 2)) (at_second 1_000 secret) Tick ≡ record {
+      entry = Some (ExpiredRecord (first_key 0));
+      commit = Some (Expired (first_key 0) 1_000);
+      events = record { context = made.context; event = Destroyed (first_key 0) } ∷ [];
+      mark = None;
+      outputs = [];
+      durable = keeps (insert (insert empty (first_key 0) (Active 1 made)) (first_key 0) (Ended 1)) 2;
+      parked = [];
+      next_want = 1;
+    }
+    -- behind 64 requests that wait another is refused
+    pub park_full : (parked : List Parked) → length parked ≡ 64 → decided m (of_three 1) (record { durable = keeps empty 1; parked = parked; next_want = 65 }) (at_second 1_000 secret) (Ask 1 again)
+        ≡ idle (record { durable = keeps empty 1; parked = parked; next_want = 65 }) (Refuse 1 ParkFull ∷ [])

@@ -1,4 +1,4 @@
-use Rattle.sv_model.proofs.RowLemmas.{handed_over, late, never_made, ticks}
+use Rattle.sv_model.proofs.RowLemmas.{handed_over, late, never_made, ticks, orders}
 use Rattle.sv_model.proofs.laws.worked.Goals as goal
 
 pub returns-clause-handed_over : goal.returns-clause-handed_over
@@ -12,3 +12,6 @@ returns-clause-never_made c = never_made
 
 pub returns-clause-ticks : goal.returns-clause-ticks
 returns-clause-ticks c = ticks
+
+pub returns-clause-orders : goal.returns-clause-orders
+returns-clause-orders c = orders
