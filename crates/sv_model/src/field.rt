@@ -9,7 +9,10 @@ use crate::sequence::Sequence;
 use http_header::{HeaderName, HeaderValue};
 use std::alloc::{AllocError, Global};
 
-/// A field line: a name, held in lower case, and a value without the white space round it.
+/// A field line: a name, held in lower case, and a value.
+///
+/// A value that was received has no white space round it (RFC 9112, section 5.1); one that an application sets is kept as it
+/// was given.
 #[derive(Drop)]
 pub struct Field {
     pub name: HeaderName,
