@@ -3,6 +3,7 @@ use Rattle.std.specs.Prelude.{ℕ, ℤ, Bool, Ok, ◌==◌, nat_lt, if◌then◌
 use Rattle.std.specs.Int.{w8, w32, w64, to_be_bytes, cast_signed, cast_unsigned}
 use Rattle.std.specs.Int.RustNames.{FitsSigned}
 use Rattle.sv_model.specs.declared.key.Key.{Key}
+use Rattle.sv_model.specs.declared.key.TheConstants.{NODE_LIMIT}
 use Rattle.sv_record.specs.Reading.{◌>>=◌, number_at}
 use Rattle.sv_record.specs.Format.{Format, number, pair, such_that, seen_as}
 
@@ -16,7 +17,7 @@ counting = such_that long (λ n. nat_lt 0 n)
 
 -- the number of a node, below 8
 unfoldable pub node : Format ℕ
-node = such_that (number w8) (λ n. nat_lt n 8)
+node = such_that (number w8) (λ n. nat_lt n NODE_LIMIT)
 
 -- a session's name in the cluster: its home and its serial
 unfoldable pub key : Format Key

@@ -8,6 +8,7 @@ ghost use Rattle.sv_model.specs.Keys.{IsCounting, IsNode};
 
 use crate::fault::RecordFault;
 use std::alloc::AllocError;
+use sv_model::key::NODE_LIMIT;
 
 pub(crate) fn read_byte(bytes: &[u8]) -> Result<(u8, &[u8]), RecordFault>
     ensures { Gives (λ x. (x.0, x.1.now)) result (number_at w8 bytes.now) }
@@ -77,7 +78,7 @@ pub(crate) fn read_node(bytes: &[u8]) -> Result<(u8, &[u8]), RecordFault>
     ensures { Gives (λ x. (x.0, x.1.now)) result (node.read bytes.now) }
 {
     let (node, rest) = read_byte(bytes)?;
-    if node >= 8 {
+    if node >= NODE_LIMIT {
         return Err(RecordFault::BadField);
     }
     Ok((node, rest))
