@@ -1,13 +1,17 @@
 //! Dispatches over small servlets: how they end, and the status and the body that come of them.
 
+ghost use Rattle.std.specs.Prelude.{◌≡◌};
 ghost use Rattle.sv_dispatch.specs.Stages.{IsSound, table_of};
+ghost use Rattle.sv_servlet.specs.declared.servlet.Phase.TheVariants.{Ready};
+ghost use Rattle.test_sessions.specs.Staged.{IsStaged};
 
 mod filters;
 mod nesting;
 mod pages;
 mod shown;
 
-use crate::scripted::{Says, Scripted, Then};
+use crate::scripted::{Marking, Says, Scripted, Then};
+use crate::staged::add_servlet;
 use http::Method;
 use std::alloc::Global;
 use std::process::Abort;
@@ -19,7 +23,9 @@ use sv_servlet::{Call, Filter, Phase, RequestAttributes, Servlet};
 type Row = (&'static str, u16, Says, Then);
 
 /// A servlet that is ready.
-fn servlet_of(alloc: Global, status: u16, says: Says, then: Then) -> Scripted {
+fn servlet_of(alloc: Global, status: u16, says: Says, then: Then) -> Scripted
+    ensures { result.phase ≡ Ready }
+{
     Scripted {
         status,
         says,
@@ -28,6 +34,22 @@ fn servlet_of(alloc: Global, status: u16, says: Says, then: Then) -> Scripted {
         calls: 0,
         alloc,
     }
+}
+
+/// Adds a servlet for each row.
+fn add_servlets(
+    alloc: Global,
+    stage: &mut Stage<Scripted, Marking>,
+    rows: &[Row],
+) -> Result<(), Fail>
+    requires { IsStaged stage.old }
+    ensures { IsStaged stage.new }
+{
+    for row in rows {
+        let (path, status, says, then) = *row;
+        add_servlet(alloc, stage, path, servlet_of(alloc, status, says, then))?;
+    }
+    Ok(())
 }
 
 /// A request for a path of the context `/shop`.

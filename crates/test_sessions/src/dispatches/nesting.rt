@@ -1,8 +1,8 @@
 //! Forwards and includes, one in another (Jakarta Servlet 6.0, sections 9.3 and 9.4).
 
-use super::{Row, Want, expect, servlet_of};
+use super::{Row, Want, add_servlets, expect};
 use crate::scripted::{Marking, Says, Scripted, Then};
-use crate::staged::{add_servlet, empty_stage};
+use crate::staged::empty_stage;
 use std::test::Fail;
 use sv_dispatch::{Ended, Stage};
 
@@ -46,14 +46,7 @@ fn nested_dispatches(rt: HostRuntime) -> Result<(), Fail> {
     let alloc = rt.alloc();
     for (path, want) in ROWS {
         let mut stage: Stage<Scripted, Marking> = empty_stage(alloc);
-        for (path, status, says, then) in SERVLETS {
-            add_servlet(
-                alloc,
-                &mut stage,
-                path,
-                servlet_of(alloc, status, says, then),
-            )?;
-        }
+        add_servlets(alloc, &mut stage, &SERVLETS)?;
         expect(&rt, stage, path, want)?;
     }
     Ok(())
@@ -64,14 +57,7 @@ fn missing_targets(rt: HostRuntime) -> Result<(), Fail> {
     let alloc = rt.alloc();
     for (path, want) in MISSING {
         let mut stage: Stage<Scripted, Marking> = empty_stage(alloc);
-        for (path, status, says, then) in SERVLETS {
-            add_servlet(
-                alloc,
-                &mut stage,
-                path,
-                servlet_of(alloc, status, says, then),
-            )?;
-        }
+        add_servlets(alloc, &mut stage, &SERVLETS)?;
         expect(&rt, stage, path, want)?;
     }
     Ok(())

@@ -1,8 +1,8 @@
 //! Error pages (Jakarta Servlet 6.0, section 10.9).
 
-use super::{Row, Want, expect, servlet_of};
+use super::{Row, Want, add_servlets, expect};
 use crate::scripted::{Marking, Says, Scripted, Then};
-use crate::staged::{add_page, add_servlet, empty_stage};
+use crate::staged::{add_page, empty_stage};
 use std::test::Fail;
 use sv_dispatch::{Ended, PageFor, Stage};
 use sv_model::text::Text;
@@ -40,14 +40,7 @@ fn error_pages(rt: HostRuntime) -> Result<(), Fail> {
     let alloc = rt.alloc();
     for (path, want) in ROWS {
         let mut stage: Stage<Scripted, Marking> = empty_stage(alloc);
-        for (path, status, says, then) in SERVLETS {
-            add_servlet(
-                alloc,
-                &mut stage,
-                path,
-                servlet_of(alloc, status, says, then),
-            )?;
-        }
+        add_servlets(alloc, &mut stage, &SERVLETS)?;
         let fault = PageFor::Fault(Text::from_str(alloc, "x")?);
         add_page(alloc, &mut stage, PageFor::Default, "/again")?;
         add_page(alloc, &mut stage, PageFor::Status(404), "/status")?;

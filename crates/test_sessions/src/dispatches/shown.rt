@@ -1,6 +1,6 @@
 //! What a dispatch shows of the request (Jakarta Servlet 6.0, sections 9.3.1 and 9.4.2).
 
-use super::{Want, expect, servlet_of};
+use super::{Row, Want, add_servlets, expect, servlet_of};
 use crate::scripted::{Marking, Says, Scripted, Then};
 use crate::staged::{add_servlet, empty_stage};
 use std::test::Fail;
@@ -36,13 +36,14 @@ const ROWS: [Shown; 12] = [
     ("/iis", INCLUDE_PATH, "/s7]7]"),
 ];
 
-const OTHERS: [(&str, Then); 6] = [
-    ("/fs", Then::Forwards("/s")),
-    ("/ffs", Then::Forwards("/fs")),
-    ("/is", Then::Includes("/s")),
-    ("/fis", Then::Forwards("/is")),
-    ("/ifs", Then::Includes("/fs")),
-    ("/iis", Then::Includes("/is")),
+/// Each writes nothing itself.
+const OTHERS: [Row; 6] = [
+    ("/fs", 200, Says::Text(""), Then::Forwards("/s")),
+    ("/ffs", 200, Says::Text(""), Then::Forwards("/fs")),
+    ("/is", 200, Says::Text(""), Then::Includes("/s")),
+    ("/fis", 200, Says::Text(""), Then::Forwards("/is")),
+    ("/ifs", 200, Says::Text(""), Then::Includes("/fs")),
+    ("/iis", 200, Says::Text(""), Then::Includes("/is")),
 ];
 
 #[test]
@@ -56,14 +57,7 @@ fn what_is_shown(rt: HostRuntime) -> Result<(), Fail> {
             "/s",
             servlet_of(alloc, 200, says, Then::Ends),
         )?;
-        for (path, then) in OTHERS {
-            add_servlet(
-                alloc,
-                &mut stage,
-                path,
-                servlet_of(alloc, 200, Says::Text(""), then),
-            )?;
-        }
+        add_servlets(alloc, &mut stage, &OTHERS)?;
         let want: Want = (Ended::Normal, 200, body);
         expect(&rt, stage, path, want)?;
     }
