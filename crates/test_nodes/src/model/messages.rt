@@ -131,16 +131,36 @@ fn events_are_copied(rt: HostRuntime) -> Result<(), Fail> {
     Ok(())
 }
 
+/// The kind of the copy of an attribute that was added.
+fn copied_added(alloc: Global) -> Result<u8, Fail> {
+    let name = Text::from_str(alloc, "n")?;
+    let value = bytes(alloc, "v")?;
+    let key = KEY;
+    copied_kind(alloc, Event::Added { key, name, value })
+}
+
+/// The kind of the copy of one that was removed.
+fn copied_removed(alloc: Global) -> Result<u8, Fail> {
+    let name = Text::from_str(alloc, "n")?;
+    let old = bytes(alloc, "v")?;
+    let key = KEY;
+    copied_kind(alloc, Event::Removed { key, name, old })
+}
+
+/// The kind of the copy of one that was replaced.
+fn copied_replaced(alloc: Global) -> Result<u8, Fail> {
+    let name = Text::from_str(alloc, "n")?;
+    let old = bytes(alloc, "v")?;
+    let key = KEY;
+    copied_kind(alloc, Event::Replaced { key, name, old })
+}
+
 #[test]
 fn events_with_values_are_copied(rt: HostRuntime) -> Result<(), Fail> {
     let alloc = rt.alloc();
-    let (key, name) = (KEY, Text::from_str(alloc, "n")?);
-    let value = bytes(alloc, "v")?;
-    assert_eq!(rt; copied_kind(alloc, Event::Added { key, name, value })?, 7);
-    let (name, old) = (Text::from_str(alloc, "n")?, bytes(alloc, "v")?);
-    assert_eq!(rt; copied_kind(alloc, Event::Removed { key, name, old })?, 8);
-    let (name, old) = (Text::from_str(alloc, "n")?, bytes(alloc, "v")?);
-    assert_eq!(rt; copied_kind(alloc, Event::Replaced { key, name, old })?, 9);
+    assert_eq!(rt; copied_added(alloc)?, 7);
+    assert_eq!(rt; copied_removed(alloc)?, 8);
+    assert_eq!(rt; copied_replaced(alloc)?, 9);
     Ok(())
 }
 
@@ -206,31 +226,80 @@ fn packet() -> Packet {
     }
 }
 
-#[test]
-fn what_holds_none_is_copied(rt: HostRuntime) -> Result<(), Fail> {
-    let alloc = rt.alloc();
-    let expired = Commit::Expired { key: KEY, now: 5 }.copy(alloc)?;
-    assert!(rt; matches!(expired, Commit::Expired { now: 5, .. }));
-    let wanted = Input::Packet(packet()).copy(alloc)?;
-    assert!(rt; matches!(wanted, Input::Packet(Packet::Ack { epoch: 4, .. })));
-    let moved = Input::Move { key: KEY, to: 5 }.copy(alloc)?;
-    assert!(rt; matches!(moved, Input::Move { to: 5, .. }));
-    assert!(rt; matches!(Input::Poke.copy(alloc)?, Input::Poke));
-    assert!(rt; matches!(Input::Tick.copy(alloc)?, Input::Tick));
-    Ok(())
+/// The number of an input's kind.
+fn input_kind(input: &Input) -> u8 {
+    match input {
+        Input::Ask { .. } => 1,
+        Input::Packet(_) => 2,
+        Input::Poke => 3,
+        Input::Tick => 4,
+        Input::Move { .. } => 5,
+    }
+}
+
+/// The kind of an input's copy.
+fn copied_input(alloc: Global, input: Input) -> Result<u8, Fail> {
+    Ok(input_kind(&input.copy(alloc)?))
 }
 
 #[test]
-fn other_outputs_are_copied(rt: HostRuntime) -> Result<(), Fail> {
+fn inputs_are_copied(rt: HostRuntime) -> Result<(), Fail> {
+    let alloc = rt.alloc();
+    let rows = [
+        (Input::Packet(packet()), 2),
+        (Input::Poke, 3),
+        (Input::Tick, 4),
+        (Input::Move { key: KEY, to: 5 }, 5),
+    ];
+    for (input, kind) in rows {
+        assert_eq!(rt; copied_input(alloc, input)?, kind);
+    }
+    Ok(())
+}
+
+/// The number of an output's kind.
+fn output_kind(output: &Output) -> u8 {
+    match output {
+        Output::Answer { .. } => 1,
+        Output::Refuse { .. } => 2,
+        Output::Send(_) => 3,
+        Output::Moved => 4,
+        Output::MoveRefused(_) => 5,
+    }
+}
+
+/// The kind of an output's copy.
+fn copied_output(alloc: Global, output: Output) -> Result<u8, Fail> {
+    Ok(output_kind(&output.copy(alloc)?))
+}
+
+#[test]
+fn outputs_are_copied(rt: HostRuntime) -> Result<(), Fail> {
     let alloc = rt.alloc();
     let (token, cause) = (6, Cause::Deadline);
-    let refused = Output::Refuse { token, cause }.copy(alloc)?;
-    assert!(rt; matches!(refused, Output::Refuse { token: 6, .. }));
-    let sent = Output::Send(packet()).copy(alloc)?;
-    assert!(rt; matches!(sent, Output::Send(Packet::Ack { epoch: 4, .. })));
-    let why = MoveRefusal::BadPeer;
-    let not_moved = Output::MoveRefused(why).copy(alloc)?;
-    assert!(rt; matches!(not_moved, Output::MoveRefused(MoveRefusal::BadPeer)));
-    assert!(rt; matches!(Output::Moved.copy(alloc)?, Output::Moved));
+    let rows = [
+        (Output::Refuse { token, cause }, 2),
+        (Output::Send(packet()), 3),
+        (Output::Moved, 4),
+        (Output::MoveRefused(MoveRefusal::BadPeer), 5),
+    ];
+    for (output, kind) in rows {
+        assert_eq!(rt; copied_output(alloc, output)?, kind);
+    }
+    Ok(())
+}
+
+/// The copy of an expiry is of its moment.
+fn is_copied_expiry(alloc: Global) -> Result<bool, Fail> {
+    let expired = Commit::Expired { key: KEY, now: 5 };
+    Ok(match expired.copy(alloc)? {
+        Commit::Expired { now, .. } => now == 5,
+        Commit::Served { .. } => false,
+    })
+}
+
+#[test]
+fn expiries_are_copied(rt: HostRuntime) -> Result<(), Fail> {
+    assert!(rt; is_copied_expiry(rt.alloc())?);
     Ok(())
 }
