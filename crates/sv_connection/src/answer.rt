@@ -16,10 +16,7 @@ use crate::speak::{Said, say, starve};
 use std::alloc::Global;
 use std::io::Write;
 use sv_message::request::RawRequest;
-use sv_model::method::is_head;
-use sv_model::output::{Cause, Output};
-use sv_model::request::Request;
-use sv_model::site::StepFault;
+use sv_model::{Cause, Output, Request, StepFault, is_head};
 
 /// How the response to a request is to be.
 #[derive(Clone, Copy, Debug, PartialEq, Eq)]

@@ -11,10 +11,7 @@ use std::alloc::Global;
 use std::io::{Read, Write};
 use sv_message::reader::RequestReader;
 use sv_message::request::RawRequest;
-use sv_model::input::Input;
-use sv_model::key::Moment;
-use sv_model::method::is_head;
-use sv_model::site::Site;
+use sv_model::{Input, Moment, Site, is_head};
 
 /// One connection of a client (RFC 9112, section 9), with the bytes that were read and not yet served.
 #[derive(Drop)]

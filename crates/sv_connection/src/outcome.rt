@@ -1,7 +1,7 @@
 //! How a call of a connection ends.
 
 use sv_message::fault::ReadFault;
-use sv_model::output::Output;
+use sv_model::Output;
 use sv_target::TargetFault;
 
 /// Why a request was refused by the connection.

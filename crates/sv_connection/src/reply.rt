@@ -6,10 +6,7 @@ ghost use Rattle.sv_connection.specs.Reply.{cause_name, refusal, speaks_to};
 
 use http::StatusCode;
 use std::alloc::{AllocError, Global};
-use sv_model::field::plain_type;
-use sv_model::output::{Cause, Output};
-use sv_model::response::Response;
-use sv_model::sequence::Sequence;
+use sv_model::{Cause, Output, Response, Sequence, plain_type};
 
 /// The name of a cause, as it stands in a refusal's body.
 fn cause_name(cause: Cause) -> &'static str

@@ -7,8 +7,7 @@ ghost use Rattle.sv_connection.specs.Request.{query_bytes, params_in, HasTargetF
 
 use std::alloc::{AllocError, Global};
 use sv_message::RawRequest;
-use sv_model::request::{Cookie, Param};
-use sv_model::sequence::Sequence;
+use sv_model::{Cookie, Param, Sequence};
 use sv_target::{Target, TargetFault, cookies, form, params};
 
 /// The parts of a request that are read out of its message.

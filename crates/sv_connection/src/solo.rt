@@ -12,15 +12,10 @@ use crate::table::{
     add_born, expire, is_birth, make_room, named_place, session_at, settle, state_at,
 };
 use std::alloc::Global;
-use sv_model::engine::Engine;
-use sv_model::input::Input;
-use sv_model::key::{Key, Moment, Secret};
-use sv_model::outcome::{Birth, Outcome};
-use sv_model::output::{Cause, MoveRefusal, Output};
-use sv_model::request::Request;
-use sv_model::session::Session;
-use sv_model::site::{Site, StepFault};
-use sv_model::state::KEY_LIMIT;
+use sv_model::{
+    Birth, Cause, Engine, Input, KEY_LIMIT, Key, Moment, MoveRefusal, Outcome, Output, Request,
+    Secret, Session, Site, StepFault,
+};
 
 /// One node that stands alone and keeps its sessions in memory.
 ///

@@ -11,9 +11,7 @@ use std::alloc::Global;
 use std::io::Write;
 use sv_message::fault::ReadFault;
 use sv_message::response::write_response;
-use sv_model::page::plain_page;
-use sv_model::response::Response;
-use sv_model::sequence::Sequence;
+use sv_model::{Response, Sequence, plain_page};
 use sv_target::TargetFault;
 
 /// How a text was sent, and whether the connection is closed behind it.

@@ -7,10 +7,7 @@ ghost use Rattle.sv_model.specs.Serving.{held_in, is_birth};
 ghost use Rattle.sv_connection.specs.Table.{IsPlace, IsMade, keys_of, state_of, active_in, if_active, fated_at, born_behind, is_past, without_at, end_at};
 
 use std::alloc::AllocError;
-use sv_model::event::{Event, Told};
-use sv_model::key::{Key, Secret};
-use sv_model::outcome::{Birth, Fate};
-use sv_model::session::Session;
+use sv_model::{Birth, Event, Fate, Key, Secret, Session, Told};
 
 /// The place of a key among so many that were made here.
 fn place_of(key: Key, made: usize) -> Option<usize>

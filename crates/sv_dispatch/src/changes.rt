@@ -8,10 +8,7 @@ use crate::target::Target;
 use crate::view::{Shown, View};
 use std::alloc::{AllocError, Global};
 use std::rc::Rc;
-use sv_model::copied::Copied;
-use sv_model::request::Param;
-use sv_model::sequence::Sequence;
-use sv_model::text::Text;
+use sv_model::{Copied, Param, Sequence, Text};
 
 /// A value that may be shared.
 fn shared<T: Drop>(alloc: Global, value: T) -> Result<Rc<T>, AllocError>

@@ -3,7 +3,7 @@
 ghost use Rattle.std.specs.Prelude.{◌≡◌};
 ghost use Rattle.sv_dispatch.specs.Rows.{labels, ready_at, name_at};
 
-use sv_model::text::Text;
+use sv_model::Text;
 
 /// An object of a context.
 #[derive(Drop)]

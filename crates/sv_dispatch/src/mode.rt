@@ -2,7 +2,7 @@
 
 use crate::view::View;
 use crate::visit::{Ask, Visit};
-use sv_model::text::Text;
+use sv_model::Text;
 
 /// How one dispatch ended.
 #[derive(Drop)]

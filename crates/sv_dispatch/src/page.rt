@@ -4,7 +4,7 @@ ghost use Rattle.std.specs.Prelude.{◌≡◌, IfOk, option_map};
 ghost use Rattle.sv_dispatch.specs.Pages as spec;
 
 use std::alloc::{AllocError, Global};
-use sv_model::text::Text;
+use sv_model::Text;
 
 /// What an error page is for.
 #[derive(Drop)]

@@ -15,7 +15,7 @@ use crate::view::View;
 use crate::visit::Ask;
 use std::alloc::{AllocError, Global};
 use sv_mapping::Dispatcher;
-use sv_model::text::Text;
+use sv_model::Text;
 use sv_servlet::{Call, Filter, Reply, Servlet};
 
 /// The service calls of a request.

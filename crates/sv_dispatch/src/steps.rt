@@ -17,7 +17,7 @@ use crate::view::View;
 use crate::visit::{Ask, Visit, visit_of};
 use std::alloc::{AllocError, Global};
 use sv_mapping::Dispatcher;
-use sv_model::text::Text;
+use sv_model::Text;
 use sv_servlet::{Before, Filter, Next, Servlet};
 
 /// How a dispatch ends where an error is sent; below an include that is its end and nothing more.

@@ -7,9 +7,7 @@ ghost use Rattle.std.specs.Prelude.{◌≡◌, IfOk};
 ghost use Rattle.sv_dispatch.specs.Target as spec;
 
 use std::alloc::{AllocError, Global};
-use sv_model::request::Param;
-use sv_model::sequence::Sequence;
-use sv_model::text::Text;
+use sv_model::{Param, Sequence, Text};
 
 /// A dispatch path as it was read.
 #[derive(Drop)]

@@ -10,10 +10,7 @@ use http::Method;
 use std::alloc::AllocError;
 use std::marker::Model;
 use std::rc::Rc;
-use sv_model::field::Field;
-use sv_model::request::Param;
-use sv_model::sequence::Sequence;
-use sv_model::text::Text;
+use sv_model::{Field, Param, Sequence, Text};
 use sv_servlet::{Call, RequestAttributes};
 
 /// The paths that a forward puts in the place of the request's.

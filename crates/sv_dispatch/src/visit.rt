@@ -10,7 +10,7 @@ use crate::target::{Target, read_target};
 use crate::view::View;
 use std::alloc::{AllocError, Global};
 use sv_mapping::Dispatcher;
-use sv_model::text::Text;
+use sv_model::Text;
 use sv_servlet::{Filter, Servlet};
 
 /// A dispatch that is asked for, by a path that nobody has read yet.

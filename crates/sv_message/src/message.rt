@@ -12,7 +12,7 @@ use crate::head::{Head, read_head};
 use crate::persistence::closes;
 use crate::request::RawRequest;
 use std::alloc::Global;
-use sv_model::sequence::Sequence;
+use sv_model::Sequence;
 
 /// A message that was read.
 #[derive(Drop)]

@@ -8,8 +8,7 @@ ghost use Rattle.sv_node_main.specs.declared.admission.Admission.TheVariants.{Jo
 
 use crate::context::CONTEXT;
 use std::alloc::{AllocError, Global};
-use sv_model::key::{Key, Secret};
-use sv_model::session::Session;
+use sv_model::{Key, Secret, Session};
 use sv_session::{expired, join_request};
 
 /// What becomes of the session that is handed in with a request.

@@ -3,8 +3,7 @@
 ghost use Rattle.std.specs.Prelude.{◌≡◌};
 ghost use Rattle.sv_node_main.specs.Context.{is_in_context, mapped_at, named_by};
 
-use sv_model::key::{Key, Secret};
-use sv_model::request::Request;
+use sv_model::{Key, Request, Secret};
 use sv_target::session_cookie;
 
 /// The number of the context in its sessions, their cookies and its events.

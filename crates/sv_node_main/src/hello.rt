@@ -8,7 +8,7 @@ ghost use Rattle.sv_node_main.specs.Refusal.{Ends};
 
 use crate::refusal::{Refusal, next_after};
 use std::alloc::{AllocError, Global};
-use sv_model::field::plain_type;
+use sv_model::plain_type;
 use sv_servlet::{Call, InitFault, Next, Phase, Reply, Servlet};
 use sv_session::SessionEdit;
 

@@ -8,12 +8,7 @@ ghost use Rattle.sv_node_main.specs.Hosted.{IsHosted, answered, answered_by, ans
 
 use http::StatusCode;
 use std::alloc::{AllocError, Global};
-use sv_model::field::Field;
-use sv_model::method::is_head;
-use sv_model::page::plain_page;
-use sv_model::request::Request;
-use sv_model::response::Response;
-use sv_model::sequence::Sequence;
+use sv_model::{Field, Request, Response, Sequence, is_head, plain_page};
 use sv_servlet::{Call, Next, Replied, Reply, RequestAttributes, Servlet};
 use sv_session::SessionEdit;
 

@@ -8,8 +8,7 @@ ghost use Rattle.sv_node_main.specs.Once.{secret_of, ending, calls_of, HasServed
 use std::alloc::Global;
 use std::io::{Read, Write};
 use sv_connection::{Connection, Outcome, Solo};
-use sv_model::engine::Engine;
-use sv_model::key::{Moment, Secret};
+use sv_model::{Engine, Moment, Secret};
 use thiserror::Error;
 
 /// Why a stream was not served to its end.

@@ -5,7 +5,7 @@ ghost use Rattle.sv_node_main.specs.Refusal.{next_after, refusal_label, reply_la
 ghost use Rattle.sv_node_main.specs.declared.refusal.Refusal.TheVariants.{Memory};
 
 use std::alloc::{AllocError, Global};
-use sv_model::text::Text;
+use sv_model::Text;
 use sv_servlet::{Next, ReplyFault};
 use sv_session::SessionFault;
 

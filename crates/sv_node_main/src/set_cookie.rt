@@ -6,10 +6,7 @@ ghost use Rattle.sv_node_main.specs.SetCookie.{cookie_field, cookie_value, with_
 use crate::context::CONTEXT;
 use http_header::{HeaderName, HeaderValue, HeaderValueError};
 use std::alloc::{AllocError, Global};
-use sv_model::field::Field;
-use sv_model::key::{Key, Secret};
-use sv_model::outcome::Birth;
-use sv_model::response::Response;
+use sv_model::{Birth, Field, Key, Response, Secret};
 use sv_target::{SESSION_COOKIE as NAME, cookie_text};
 
 /// `JSESSIONID`, the session's 52 digits and the attributes of the cookie.

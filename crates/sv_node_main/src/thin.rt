@@ -11,14 +11,10 @@ use crate::context::{CONTEXT, Mapped, is_in_context, mapped_at, named_by};
 use crate::hosted::{Hosted, missing_page};
 use crate::set_cookie::with_cookie;
 use std::alloc::{AllocError, Global};
-use sv_model::engine::{Engine, EngineFault};
-use sv_model::event::{Event, Told};
-use sv_model::key::{Key, Secret};
-use sv_model::outcome::{Birth, Fate, Outcome};
-use sv_model::request::Request;
-use sv_model::response::Response;
-use sv_model::sequence::Sequence;
-use sv_model::session::Session;
+use sv_model::{
+    Birth, Engine, EngineFault, Event, Fate, Key, Outcome, Request, Response, Secret, Sequence,
+    Session, Told,
+};
 use sv_servlet::Servlet;
 use sv_session::{Edited, SessionEdit};
 

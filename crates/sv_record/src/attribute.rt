@@ -13,7 +13,7 @@ use crate::fault::RecordFault;
 use crate::number::{read_bytes, read_u16};
 use crate::version::Version;
 use std::alloc::AllocError;
-use sv_model::session::NAME_LIMIT;
+use sv_model::NAME_LIMIT;
 
 /// The text that the bytes are.
 fn text_of(bytes: &[u8]) -> Option<&str>

@@ -15,10 +15,7 @@ use crate::fault::RecordFault;
 use crate::number::read_u16;
 use crate::version::Version;
 use std::alloc::{AllocError, Global};
-use sv_model::attributes::Attributes;
-use sv_model::sequence::Sequence;
-use sv_model::session::ATTRIBUTE_LIMIT;
-use sv_model::text::Text;
+use sv_model::{ATTRIBUTE_LIMIT, Attributes, Sequence, Text};
 
 /// A count, and so many attributes.
 #[tactic(auto, unfolding(crate::specs::Session::attributes))]

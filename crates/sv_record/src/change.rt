@@ -13,7 +13,7 @@ use crate::number::{read_byte, write_byte};
 use crate::session::{read_session, write_session};
 use crate::version::Version;
 use std::alloc::{AllocError, Global};
-use sv_model::record::Change;
+use sv_model::Change;
 
 #[tactic(auto, unfolding(crate::specs::Record::change))]
 pub(crate) fn read_change(

@@ -14,8 +14,7 @@ use crate::key::{read_key, write_key};
 use crate::number::{read_byte, read_node, write_byte, write_node};
 use crate::packet::{read_packet, write_packet};
 use std::alloc::{AllocError, Global};
-use sv_model::key::Key;
-use sv_model::packet::Packet;
+use sv_model::{Key, Packet};
 
 /// The first byte of a frame with a packet.
 pub const PEER: u8 = 0xe1;

@@ -12,8 +12,7 @@ use crate::number::{read_counting, read_node, write_counting, write_node};
 use crate::session::{read_session, write_session};
 use crate::version::Version;
 use std::alloc::{AllocError, Global};
-use sv_model::key::Key;
-use sv_model::session::Session;
+use sv_model::{Key, Session};
 
 /// Its key, its epoch, the other node, and the session.
 pub(crate) fn read_handover(

@@ -8,7 +8,7 @@ ghost use Rattle.sv_model.specs.Keys.{IsKey};
 use crate::fault::RecordFault;
 use crate::number::{read_counting, read_node, write_counting, write_node};
 use std::alloc::AllocError;
-use sv_model::key::Key;
+use sv_model::Key;
 
 #[tactic(auto, unfolding(crate::specs::Field::key))]
 pub(crate) fn read_key(bytes: &[u8]) -> Result<(Key, &[u8]), RecordFault>

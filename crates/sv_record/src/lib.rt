@@ -28,5 +28,4 @@ pub use fault::RecordFault;
 pub use frame::{CONTROL, Frame, PAYLOAD_LIMIT, PEER, read_frame, write_frame};
 pub use packet::{read_packet, write_packet};
 pub use record::{RECORD_LIMIT, read_record, write_record};
-pub use sv_model::packet::Packet;
-pub use sv_model::record::Record;
+pub use sv_model::{Packet, Record};

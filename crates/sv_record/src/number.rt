@@ -8,7 +8,7 @@ ghost use Rattle.sv_model.specs.Keys.{IsCounting, IsNode};
 
 use crate::fault::RecordFault;
 use std::alloc::AllocError;
-use sv_model::key::NODE_LIMIT;
+use sv_model::NODE_LIMIT;
 
 pub(crate) fn read_byte(bytes: &[u8]) -> Result<(u8, &[u8]), RecordFault>
     ensures { Gives (λ x. (x.0, x.1.now)) result (number_at w8 bytes.now) }

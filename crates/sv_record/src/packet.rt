@@ -11,7 +11,7 @@ use crate::number::write_byte;
 use crate::packet_fields::{read_fields, write_fields};
 use crate::version::read_version;
 use std::alloc::{AllocError, Global};
-use sv_model::packet::Packet;
+use sv_model::Packet;
 
 /// Reads a packet, which is all of the bytes.
 ///

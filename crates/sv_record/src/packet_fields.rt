@@ -17,9 +17,7 @@ use crate::number::{
 use crate::session::{read_session, write_session};
 use crate::version::Version;
 use std::alloc::{AllocError, Global};
-use sv_model::key::Key;
-use sv_model::packet::Packet;
-use sv_model::session::Session;
+use sv_model::{Key, Packet, Session};
 
 #[tactic(auto, unfolding(crate::specs::Packet::packet_format))]
 pub(crate) fn read_fields(

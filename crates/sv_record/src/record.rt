@@ -11,7 +11,7 @@ use crate::number::write_byte;
 use crate::record_fields::{read_fields, write_fields};
 use crate::version::read_version;
 use std::alloc::{AllocError, Global};
-use sv_model::record::Record;
+use sv_model::Record;
 
 /// The bytes of a record, at most: no more than an entry of a journal holds.
 pub const RECORD_LIMIT: usize = 131_072;

@@ -15,10 +15,7 @@ use crate::number::{read_byte, read_counting, read_u64, write_byte, write_counti
 use crate::state::{read_state, write_state};
 use crate::version::Version;
 use std::alloc::{AllocError, Global};
-use sv_model::key::Key;
-use sv_model::record::{Change, Record};
-use sv_model::session::Session;
-use sv_model::state::KeyState;
+use sv_model::{Change, Key, KeyState, Record, Session};
 
 #[tactic(auto, unfolding(crate::specs::Record::record_format))]
 pub(crate) fn read_fields(

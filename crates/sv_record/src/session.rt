@@ -15,8 +15,7 @@ use crate::number::{
 };
 use crate::version::Version;
 use std::alloc::{AllocError, Global};
-use sv_model::key::Secret;
-use sv_model::session::{CONTEXT_LIMIT, Session};
+use sv_model::{CONTEXT_LIMIT, Secret, Session};
 
 fn read_secret(bytes: &[u8]) -> Result<(Secret, &[u8]), RecordFault>
     ensures { Gives (λ x. (x.0.0, x.1.now)) result (bytes_at 16 bytes.now) }

@@ -11,7 +11,7 @@ use crate::number::{read_byte, read_counting, read_node, write_byte, write_count
 use crate::session::{read_session, write_session};
 use crate::version::Version;
 use std::alloc::{AllocError, Global};
-use sv_model::state::KeyState;
+use sv_model::KeyState;
 
 #[tactic(auto, unfolding(crate::specs::Record::key_state))]
 pub(crate) fn read_state(

@@ -6,7 +6,7 @@ ghost use Rattle.sv_record.specs.Version as spec;
 
 use crate::fault::RecordFault;
 use crate::number::{read_byte, read_u16};
-use sv_model::session::{SESSION_LIMIT, VALUE_LIMIT};
+use sv_model::{SESSION_LIMIT, VALUE_LIMIT};
 
 /// A version of records and packets, which their first byte names.
 #[derive(Clone, Copy, Debug, PartialEq, Eq)]

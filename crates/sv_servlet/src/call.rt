@@ -3,8 +3,7 @@
 use crate::attributes::RequestAttributes;
 use http::Method;
 use std::marker::Model;
-use sv_model::field::Field;
-use sv_model::request::Param;
+use sv_model::{Field, Param};
 
 /// A request as one servlet sees it (Jakarta Servlet 6.0, chapter "The Request").
 ///

@@ -10,7 +10,7 @@ use crate::call::Call;
 use crate::reply::Reply;
 use crate::servlet::InitFault;
 use std::alloc::AllocError;
-use sv_model::text::Text;
+use sv_model::Text;
 use sv_session::SessionEdit;
 
 /// What a filter says before what stands behind it in the chain is called.

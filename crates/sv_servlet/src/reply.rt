@@ -11,8 +11,7 @@ use http::StatusCode;
 use http_header::{HeaderName, HeaderNameError, HeaderValue, HeaderValueError};
 use std::alloc::{AllocError, Global};
 use std::marker::Model;
-use sv_model::field::{Field, place_of_field, set_field};
-use sv_model::sequence::Sequence;
+use sv_model::{Field, Sequence, place_of_field, set_field};
 use thiserror::Error;
 
 /// The fields of a reply, at most.

@@ -9,7 +9,7 @@ ghost use Rattle.sv_servlet.specs.declared.servlet.Phase.TheVariants.{New, Ready
 use crate::call::Call;
 use crate::reply::Reply;
 use std::alloc::AllocError;
-use sv_model::text::Text;
+use sv_model::Text;
 use sv_session::SessionEdit;
 use thiserror::Error;
 

@@ -11,11 +11,7 @@ ghost use Rattle.sv_session.specs.Edit.{begun, key_of, fate_of};
 use holding::Holding;
 use std::alloc::{AllocError, Global};
 use std::marker::Model;
-use sv_model::event::{Event, Told};
-use sv_model::key::{Key, Secret};
-use sv_model::outcome::{Birth, Fate};
-use sv_model::sequence::Sequence;
-use sv_model::session::Session;
+use sv_model::{Birth, Event, Fate, Key, Secret, Sequence, Session, Told};
 
 /// What an edit leaves.
 #[derive(Drop)]

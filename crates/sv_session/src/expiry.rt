@@ -4,7 +4,7 @@ ghost use Rattle.std.specs.Prelude.{◌≡◌};
 ghost use Rattle.sv_model.specs.Session.{is_expired};
 ghost use Rattle.sv_session.specs.Expiry.{joined};
 
-use sv_model::session::Session;
+use sv_model::Session;
 
 /// Whether no request has named the session for its interval, at `now` in whole seconds; where the interval is 0 or
 /// less it never expires.

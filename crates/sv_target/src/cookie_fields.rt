@@ -4,10 +4,7 @@ ghost use Rattle.std.specs.Prelude.{◌≡◌, ◌++◌, ◌∷◌, [], IfOk, If
 ghost use Rattle.sv_target.specs.Cookies as spec;
 
 use std::alloc::{AllocError, Global};
-use sv_model::blanks::trim;
-use sv_model::field::Field;
-use sv_model::request::Cookie;
-use sv_model::sequence::Sequence;
+use sv_model::{Cookie, Field, Sequence, trim};
 
 /// The pairs of all Cookie fields of a request, in order.
 ///

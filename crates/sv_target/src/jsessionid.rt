@@ -6,8 +6,7 @@ ghost use Rattle.std.specs.List.{list_any};
 ghost use Rattle.sv_target.specs.SessionCookie as spec;
 
 use hex::FromHex;
-use sv_model::key::{Key, NODE_LIMIT, Secret};
-use sv_model::request::Cookie;
+use sv_model::{Cookie, Key, NODE_LIMIT, Secret};
 
 /// The name of the cookie.
 pub const SESSION_COOKIE: &str = "JSESSIONID";

@@ -8,11 +8,7 @@ ghost use Rattle.sv_target.specs.Segment.{is_semicolon};
 use form_urlencoded::{decode, raw_pairs};
 use http::Method;
 use std::alloc::{AllocError, Global};
-use sv_model::blanks::trim;
-use sv_model::field::Field;
-use sv_model::request::Param;
-use sv_model::sequence::Sequence;
-use sv_model::text::Text;
+use sv_model::{Field, Param, Sequence, Text, trim};
 
 /// The text that a name or a value stands for.
 #[tactic(auto, unfolding(crate::specs::Params::text_of))]

@@ -12,7 +12,7 @@ use crate::path::canonical_path;
 use http::Method;
 use http_uri::{Uri, UriError};
 use std::alloc::{AllocError, Global};
-use sv_model::text::Text;
+use sv_model::Text;
 
 /// What a target names.
 #[derive(Drop)]

@@ -14,8 +14,7 @@ use std::test::Fail;
 use streams::{GULP, new_sink, slow_reader};
 use sv_connection::{Connection, Outcome, RequestFault, Served, refusal};
 use sv_message::fault::ReadFault;
-use sv_model::key::{Moment, Secret};
-use sv_model::output::Cause;
+use sv_model::{Cause, Moment, Secret};
 
 /// Sun, 06 Nov 1994 08:49:37 GMT.
 const AT: Moment = Moment {

@@ -6,9 +6,7 @@ ghost use Rattle.http_header.specs.FieldValue.{is_visible_text};
 use http_header::{HeaderName, HeaderValue};
 use std::alloc::{AllocError, Global};
 use std::test::Fail;
-use sv_model::field::Field;
-use sv_model::request::Cookie;
-use sv_model::sequence::Sequence;
+use sv_model::{Cookie, Field, Sequence};
 use sv_target::cookies;
 
 /// The fields of these names and values, in order.

@@ -4,9 +4,7 @@ use http::Method;
 use http_header::{HeaderName, HeaderValue};
 use std::alloc::{AllocError, Global};
 use std::test::Fail;
-use sv_model::field::Field;
-use sv_model::request::Param;
-use sv_model::sequence::Sequence;
+use sv_model::{Field, Param, Sequence};
 use sv_target::{form, params};
 
 /// A text and its parameters: those on which the URL Standard's own tests run its parser.

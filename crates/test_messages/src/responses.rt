@@ -4,9 +4,7 @@ use http::StatusCode;
 use std::alloc::{AllocError, Global};
 use std::test::Fail;
 use sv_message::write_response;
-use sv_model::field::plain_type;
-use sv_model::response::Response;
-use sv_model::sequence::Sequence;
+use sv_model::{Response, Sequence, plain_type};
 
 /// The example of a date in RFC 9110, section 5.6.7.
 const NOW: u64 = 784_111_777;

@@ -3,9 +3,7 @@
 use crate::cookies::fields_of;
 use std::alloc::{AllocError, Global};
 use std::test::Fail;
-use sv_model::key::{Key, Secret};
-use sv_model::request::Cookie;
-use sv_model::sequence::Sequence;
+use sv_model::{Cookie, Key, Secret, Sequence};
 use sv_target::{cookie_text, cookies, session_cookie};
 
 /// The cookies of these names and values, in order.

@@ -1,7 +1,7 @@
 //! The values of session cookies, written out digit by digit.
 
 use crate::session_cookies::{K1, SECRET_0, SECRET_1, SECRET_F, SECRET_X};
-use sv_model::key::{Key, Secret};
+use sv_model::{Key, Secret};
 use sv_target::{SESSION_COOKIE, cookie_text};
 
 /// What is tried, the context's number, the home, the serial, the secret, and the text of these.

@@ -10,13 +10,10 @@ use http::{Method, StatusCode};
 use http_header::{HeaderName, HeaderValue};
 use std::alloc::{AllocError, Global};
 use std::test::Fail;
-use sv_model::engine::EngineFault;
-use sv_model::field::{Field, place_of_field, plain_type, set_field};
-use sv_model::method::is_head;
-use sv_model::page::{phrase, plain_body, plain_page};
-use sv_model::sequence::Sequence;
-use sv_model::site::StepFault;
-use sv_model::text::Text;
+use sv_model::{
+    EngineFault, Field, Sequence, StepFault, Text, is_head, phrase, place_of_field, plain_body,
+    plain_page, plain_type, set_field,
+};
 
 /// A field of a name and a value.
 fn field(alloc: Global, name: &str, value: &str) -> Result<Field, Fail> {

@@ -10,8 +10,7 @@ mod written;
 
 use std::alloc::Global;
 use std::test::Fail;
-use sv_model::packet::Packet;
-use sv_model::record::Record;
+use sv_model::{Packet, Record};
 use sv_record::{
     Frame, RecordFault, read_frame, read_packet, read_record, write_frame, write_packet,
     write_record,

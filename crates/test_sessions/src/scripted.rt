@@ -7,7 +7,7 @@ ghost use Rattle.sv_servlet.specs.Servlet.{answer, lent};
 ghost use Rattle.test_sessions.specs.Scripted as spec;
 
 use std::alloc::{AllocError, Global};
-use sv_model::text::Text;
+use sv_model::Text;
 use sv_servlet::{Before, Call, Filter, InitFault, Next, Phase, Reply, Servlet};
 use sv_session::SessionEdit;
 

@@ -9,7 +9,7 @@ use http::Method;
 use std::alloc::Global;
 use std::process::Abort;
 use std::test::Fail;
-use sv_model::field::Field;
+use sv_model::Field;
 use sv_servlet::{Call, Replied, Reply, ReplyFault, RequestAttributes};
 
 /// The fields as they are written, a line each.

@@ -9,9 +9,7 @@ mod limits;
 mod told;
 
 use std::alloc::Global;
-use sv_model::attributes::Attributes;
-use sv_model::key::{Key, Secret};
-use sv_model::session::Session;
+use sv_model::{Attributes, Key, Secret, Session};
 use sv_session::SessionEdit;
 
 const SECRET: Secret = Secret([7; 16]);

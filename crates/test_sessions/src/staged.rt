@@ -8,8 +8,7 @@ use std::alloc::Global;
 use std::test::Fail;
 use sv_dispatch::{ErrorPage, Hosted, PageFor, Stage};
 use sv_mapping::{Dispatchers, FilterMapping, FilterTarget, Mappings, Pattern};
-use sv_model::key::{Key, Secret};
-use sv_model::text::Text;
+use sv_model::{Key, Secret, Text};
 use sv_servlet::{Filter, Reply, Servlet};
 use sv_session::SessionEdit;
 

@@ -7,7 +7,7 @@ use crate::count::Count;
 use http::Method;
 use std::alloc::{AllocError, Global};
 use std::test::Fail;
-use sv_model::key::{Key, Secret};
+use sv_model::{Key, Secret};
 use sv_servlet::{BODY_LIMIT, Call, Next, Reply, RequestAttributes, Servlet};
 use sv_session::SessionEdit;
 

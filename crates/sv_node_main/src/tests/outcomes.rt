@@ -7,13 +7,10 @@ use crate::thin::Thin;
 use std::alloc::Global;
 use std::process::Abort;
 use std::test::Fail;
-use sv_model::attributes::Attributes;
-use sv_model::engine::{Engine, EngineFault};
-use sv_model::event::{Event, Told};
-use sv_model::key::{Key, Secret};
-use sv_model::outcome::{Birth, Fate, Outcome};
-use sv_model::request::Request;
-use sv_model::session::Session;
+use sv_model::{
+    Attributes, Birth, Engine, EngineFault, Event, Fate, Key, Outcome, Request, Secret, Session,
+    Told,
+};
 use sv_servlet::Servlet;
 
 const KEY: Key = Key { home: 0, serial: 1 };

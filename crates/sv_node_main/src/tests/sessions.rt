@@ -12,15 +12,9 @@ use std::alloc::Global;
 use std::process::Abort;
 use std::test::Fail;
 use sv_connection::Solo;
-use sv_model::field::Field;
-use sv_model::input::Input;
-use sv_model::key::{Moment, Secret};
-use sv_model::output::Output;
-use sv_model::request::Request;
-use sv_model::response::Response;
-use sv_model::sequence::Sequence;
-use sv_model::site::{Site, StepFault};
-use sv_model::text::Text;
+use sv_model::{
+    Field, Input, Moment, Output, Request, Response, Secret, Sequence, Site, StepFault, Text,
+};
 use sv_servlet::Servlet;
 use sv_target::cookies;
 

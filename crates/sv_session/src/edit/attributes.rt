@@ -8,12 +8,10 @@ ghost use Rattle.sv_session.specs.Calls.{Admits, Answers, Gives, is_name, is_too
 use super::SessionEdit;
 use crate::fault::SessionFault;
 use std::alloc::{AllocError, Global};
-use sv_model::attributes::Attributes;
-use sv_model::event::{Event, Told};
-use sv_model::key::Key;
-use sv_model::sequence::Sequence;
-use sv_model::session::{ATTRIBUTE_LIMIT, NAME_LIMIT, SESSION_LIMIT, Session, VALUE_LIMIT};
-use sv_model::text::Text;
+use sv_model::{
+    ATTRIBUTE_LIMIT, Attributes, Event, Key, NAME_LIMIT, SESSION_LIMIT, Sequence, Session, Text,
+    Told, VALUE_LIMIT,
+};
 
 /// The name can be that of an attribute.
 fn is_name(name: &str) -> bool

@@ -5,9 +5,7 @@ ghost use Rattle.std.specs.Prelude.{◌≡◌, option_map};
 ghost use Rattle.sv_session.specs.Edit.{held_by};
 ghost use Rattle.sv_session.specs.Holding.{LendsAlive, LendsHeld, LendsKept, alive_in, kept_in};
 
-use sv_model::key::{Key, Secret};
-use sv_model::outcome::{Birth, Fate};
-use sv_model::session::Session;
+use sv_model::{Birth, Fate, Key, Secret, Session};
 
 /// The session that was handed in, and the one that is made in its place.
 #[derive(Drop)]

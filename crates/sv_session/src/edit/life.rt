@@ -7,11 +7,7 @@ ghost use Rattle.sv_session.specs.declared.fault.SessionFault.TheVariants.{Memor
 
 use super::SessionEdit;
 use crate::fault::SessionFault;
-use sv_model::attributes::Attributes;
-use sv_model::event::Event;
-use sv_model::key::Key;
-use sv_model::outcome::{Birth, Fate};
-use sv_model::session::Session;
+use sv_model::{Attributes, Birth, Event, Fate, Key, Session};
 
 impl SessionEdit {
     /// The key of the session that is held; NoSession without a session.

@@ -12,20 +12,10 @@ use http::{Method, StatusCode};
 use std::alloc::{AllocError, Global};
 use std::test::Fail;
 use sv_connection::Solo;
-use sv_model::attributes::Attributes;
-use sv_model::engine::{Engine, EngineFault};
-use sv_model::event::Told;
-use sv_model::input::Input;
-use sv_model::key::{Key, Moment, Secret};
-use sv_model::outcome::{Birth, Fate, Outcome};
-use sv_model::output::{MoveRefusal, Output};
-use sv_model::packet::Packet;
-use sv_model::request::Request;
-use sv_model::response::Response;
-use sv_model::sequence::Sequence;
-use sv_model::session::Session;
-use sv_model::site::{Site, StepFault};
-use sv_model::text::Text;
+use sv_model::{
+    Attributes, Birth, Engine, EngineFault, Fate, Input, Key, Moment, MoveRefusal, Outcome, Output,
+    Packet, Request, Response, Secret, Sequence, Session, Site, StepFault, Text, Told,
+};
 
 /// The target as it was sent, with status 200 and no fields.
 fn said(alloc: Global, request: &Request) -> Result<Response, AllocError>

@@ -4,13 +4,7 @@ ghost use Rattle.std.specs.Prelude.{⊤};
 
 use http::StatusCode;
 use std::alloc::{AllocError, Global};
-use sv_model::input::Input;
-use sv_model::key::Moment;
-use sv_model::output::{Cause, Output};
-use sv_model::request::Request;
-use sv_model::response::Response;
-use sv_model::sequence::Sequence;
-use sv_model::site::{Site, StepFault};
+use sv_model::{Cause, Input, Moment, Output, Request, Response, Sequence, Site, StepFault};
 
 /// Answers with the path, but at some paths in another way, and keeps what it was asked last.
 #[derive(Drop)]

@@ -2,9 +2,7 @@
 
 use std::alloc::Global;
 use std::test::Fail;
-use sv_model::attributes::Attributes;
-use sv_model::sequence::Sequence;
-use sv_model::text::Text;
+use sv_model::{Attributes, Sequence, Text};
 
 /// Puts a value at a name, and gives the old one.
 fn put(

@@ -1,7 +1,7 @@
 //! Blanks at the ends of a text.
 
 use std::test::Fail;
-use sv_model::blanks::trim;
+use sv_model::trim;
 
 /// Spaces and tabs go, no other white space does, and blanks inside stay (RFC 9110, section 5.6.3).
 #[test]

@@ -3,11 +3,7 @@
 use crate::model::attributes::single;
 use std::alloc::Global;
 use std::test::Fail;
-use sv_model::key::{Key, Secret};
-use sv_model::packet::Packet;
-use sv_model::record::{Change, Record};
-use sv_model::session::Session;
-use sv_model::state::KeyState;
+use sv_model::{Change, Key, KeyState, Packet, Record, Secret, Session};
 
 const KEY: Key = Key { home: 3, serial: 7 };
 

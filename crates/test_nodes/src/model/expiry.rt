@@ -2,9 +2,7 @@
 
 use std::alloc::Global;
 use std::test::Fail;
-use sv_model::attributes::Attributes;
-use sv_model::key::Secret;
-use sv_model::session::Session;
+use sv_model::{Attributes, Secret, Session};
 
 fn session(alloc: Global, last: u64, interval: i32) -> Session {
     Session {

@@ -5,17 +5,10 @@ use crate::model::fields_of;
 use http::{Method, StatusCode};
 use std::alloc::Global;
 use std::test::Fail;
-use sv_model::commit::Commit;
-use sv_model::copied::Copied;
-use sv_model::event::{Event, Told};
-use sv_model::input::Input;
-use sv_model::key::{Key, Secret, Token};
-use sv_model::output::{Cause, MoveRefusal, Output};
-use sv_model::packet::Packet;
-use sv_model::request::{Cookie, Param, Request};
-use sv_model::response::Response;
-use sv_model::sequence::Sequence;
-use sv_model::text::Text;
+use sv_model::{
+    Cause, Commit, Cookie, Copied, Event, Input, Key, MoveRefusal, Output, Packet, Param, Request,
+    Response, Secret, Sequence, Text, Token, Told,
+};
 
 const KEY: Key = Key { home: 3, serial: 7 };
 

@@ -1,11 +1,7 @@
 //! Values as texts, so that a row can say all of them.
 
 use std::alloc::{AllocError, Global};
-use sv_model::key::Key;
-use sv_model::packet::Packet;
-use sv_model::record::{Change, Record};
-use sv_model::session::Session;
-use sv_model::state::KeyState;
+use sv_model::{Change, Key, KeyState, Packet, Record, Session};
 
 fn key_text(alloc: Global, key: Key) -> Result<String, AllocError> {
     format!(in alloc; "{}.{}", key.home, key.serial)

@@ -2,13 +2,7 @@
 
 use crate::record::{KEY, SESSION, bytes_of};
 use std::test::Fail;
-use sv_model::attributes::Attributes;
-use sv_model::key::{Key, Secret};
-use sv_model::packet::Packet;
-use sv_model::record::{Change, Record};
-use sv_model::sequence::Sequence;
-use sv_model::session::Session;
-use sv_model::text::Text;
+use sv_model::{Attributes, Change, Key, Packet, Record, Secret, Sequence, Session, Text};
 use sv_record::{Frame, write_frame, write_packet, write_record};
 
 #[test]

@@ -5,7 +5,7 @@ use crate::scripted::{Marking, Says, Scripted, Then};
 use crate::staged::{add_page, empty_stage};
 use std::test::Fail;
 use sv_dispatch::{Ended, PageFor, Stage};
-use sv_model::text::Text;
+use sv_model::Text;
 
 const STATUS: Says = Says::Attribute("jakarta.servlet.error.status_code");
 

@@ -12,7 +12,7 @@ use http::Method;
 use std::alloc::AllocError;
 use std::process::Abort;
 use std::test::Fail;
-use sv_model::key::{Key, Secret};
+use sv_model::{Key, Secret};
 use sv_servlet::{Before, Call, Filter, InitFault, Phase, Reply, RequestAttributes};
 use sv_session::SessionEdit;
 

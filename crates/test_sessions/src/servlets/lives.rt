@@ -13,7 +13,7 @@ use std::cell::RefCell;
 use std::process::Abort;
 use std::rc::Rc;
 use std::test::Fail;
-use sv_model::key::{Key, Secret};
+use sv_model::{Key, Secret};
 use sv_servlet::{Call, InitFault, Next, Phase, Reply, RequestAttributes, Servlet};
 use sv_session::SessionEdit;
 

@@ -3,7 +3,7 @@
 use super::{expect_reply, lines, written};
 use http_header::{HeaderName, HeaderValue};
 use std::test::Fail;
-use sv_model::field::Field;
+use sv_model::Field;
 use sv_servlet::{BODY_LIMIT, Reply, ReplyFault};
 
 /// A reply begins with 200 (Jakarta Servlet 6.0, `HttpServletResponse.SC_OK` where no status is set).

@@ -2,7 +2,7 @@
 
 use super::{SECRET, of_a_session, of_none};
 use std::test::Fail;
-use sv_model::outcome::{Birth, Fate};
+use sv_model::{Birth, Fate};
 use sv_session::Edited;
 
 /// A session that is handed in and not touched is kept as it was.

@@ -3,7 +3,7 @@
 use super::of_a_session;
 use std::alloc::AllocError;
 use std::test::Fail;
-use sv_model::outcome::{Birth, Fate};
+use sv_model::{Birth, Fate};
 use sv_session::{Edited, SessionEdit, SessionFault};
 
 const FAULTS: [(SessionFault, &str, &str); 6] = [

@@ -3,7 +3,7 @@
 use super::told::{Line, tells};
 use super::{FRESH, KEY, MADE, SECRET, of_a_session, of_none};
 use std::test::Fail;
-use sv_model::outcome::{Birth, Fate};
+use sv_model::{Birth, Fate};
 use sv_session::{Edited, SessionEdit, SessionFault};
 
 /// A session that is made has the context, the interval and the fresh secret of its edit, and can be used at once.

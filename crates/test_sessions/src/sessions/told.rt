@@ -1,7 +1,6 @@
 //! What an edit tells.
 
-use sv_model::event::{Event, Told};
-use sv_model::key::Key;
+use sv_model::{Event, Key, Told};
 
 /// An event: what it is, the key, and a name with its value.
 pub type Line = (&'static str, Key, &'static str, &'static [u8]);
