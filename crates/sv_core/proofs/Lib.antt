@@ -10,3 +10,4 @@ pub mod KeptLemmas
 pub mod SoundLemmas
 pub mod SnapshotLemmas
 pub mod RangeLemmas
+pub mod SearchLemmas

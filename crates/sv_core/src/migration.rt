@@ -30,17 +30,18 @@ impl Kept {
         requires { epoch < last_number }
         ensures { IfOk result (λ d. decision_of self.now.setting (node_of self.now) d ≡ hands_over self.now.setting (node_of self.now) key epoch session.now to outputs.items) }
     {
+        let raised = epoch + 1;
         let grant = Packet::Grant {
             from: self.setting.node,
             to,
             key,
-            epoch: epoch + 1,
+            epoch: raised,
             session: session.copy(self.alloc)?,
         };
         outputs.insert(0, Output::Send(grant))?;
         let entry = Record::Sent {
             key,
-            epoch: epoch + 1,
+            epoch: raised,
             to,
             session: session.copy(self.alloc)?,
         };

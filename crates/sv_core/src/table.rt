@@ -67,12 +67,7 @@ impl Table {
         ensures value { result ≡ below key self.now.entries.items }
         ensures bound { result ≤ vec_len self.now.entries }
     {
-        for (place, entry) in self.entries.iter().enumerate() {
-            if !is_below(entry.0, key) {
-                return place;
-            }
-        }
-        self.entries.len()
+        self.entries.partition_point(|entry| is_below(entry.0, key))
     }
 
     /// The first entry whose key isn't below the key.

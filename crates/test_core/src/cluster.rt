@@ -99,6 +99,17 @@ fn digit(response: &Response) -> char {
     }
 }
 
+/// One output, as a text.
+pub fn output_text(alloc: Global, output: &Output) -> Result<String, AllocError> {
+    match output {
+        Output::Answer { response, .. } => format!(in alloc; "answer {}", digit(response)),
+        Output::Refuse { cause, .. } => format!(in alloc; "refuse {cause:?}"),
+        Output::Moved => format!(in alloc; "moved"),
+        Output::MoveRefused(why) => format!(in alloc; "refused {why:?}"),
+        Output::Send(packet) => packet_text(alloc, packet),
+    }
+}
+
 /// What is known of a key.
 pub fn state_text(alloc: Global, state: Option<&KeyState>) -> Result<String, AllocError> {
     match state {
@@ -185,22 +196,18 @@ impl Cluster {
         self.restart(node)
     }
 
-    /// One output, as a text.
+    /// One output, as a text; a packet has its number in front.
     fn put_out(&mut self, output: Output) -> Result<String, Fail> {
         let alloc = self.alloc;
-        let text = match output {
-            Output::Answer { response, .. } => format!(in alloc; "answer {}", digit(&response))?,
-            Output::Refuse { cause, .. } => format!(in alloc; "refuse {cause:?}")?,
-            Output::Moved => format!(in alloc; "moved")?,
-            Output::MoveRefused(why) => format!(in alloc; "refused {why:?}")?,
+        let text = output_text(alloc, &output)?;
+        match output {
             Output::Send(packet) => {
                 let number = self.packets.len();
-                let text = packet_text(alloc, &packet)?;
                 self.packets.push(packet)?;
-                format!(in alloc; "p{number} {text}")?
+                Ok(format!(in alloc; "p{number} {text}")?)
             }
-        };
-        Ok(text)
+            _ => Ok(text),
+        }
     }
 
     /// A whole step.

@@ -9,6 +9,8 @@ mod cluster;
 #[cfg(test)]
 mod counter;
 #[cfg(test)]
+mod limits;
+#[cfg(test)]
 mod rows;
 #[cfg(test)]
 mod step;
