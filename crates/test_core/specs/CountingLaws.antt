@@ -46,9 +46,9 @@ touches_only_handed secret r now fresh = cond_both r.close _ _ (λ (o : Outcome)
 both : (home serial : ℕ) → (nat_lt home 8 && nat_lt 0 serial) ≡ true → (home < 8) × (0 < serial)
 both home serial is = ⊎_elim
     (λ (a : (nat_lt home 8 ≡ true) × (suc home ≤ 8)). ⊎_elim
-        (λ (b : (nat_lt 0 serial ≡ true) × (1 ≤ serial)). (a.1, b.1))
-        (λ (b : (nat_lt 0 serial ≡ false) × (serial < 1)). absurd (let h = a.0 in let k = b.0 in cc))
-        (leb_tells 1 serial))
+    (λ (b : (nat_lt 0 serial ≡ true) × (1 ≤ serial)). (a.1, b.1))
+    (λ (b : (nat_lt 0 serial ≡ false) × (serial < 1)). absurd (let h = a.0 in let k = b.0 in cc))
+    (leb_tells 1 serial))
     (λ (a : (nat_lt home 8 ≡ false) × (8 < suc home)). absurd (let h = a.0 in cc))
     (leb_tells (suc home) 8)
 

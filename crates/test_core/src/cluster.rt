@@ -26,7 +26,8 @@ pub struct Cluster {
     token: u64,
 }
 
-fn setting(node: u8) -> Setting {
+/// One of three nodes, at which requests wait for 30 seconds.
+pub fn setting(node: u8) -> Setting {
     Setting {
         node,
         nodes: 3,
@@ -82,10 +83,16 @@ fn packet_text(alloc: Global, packet: &Packet) -> Result<String, AllocError> {
     match packet {
         Packet::Want { from, to, .. } => format!(in alloc; "Want {from} to {to}"),
         Packet::Grant {
-            from, to, epoch, ..
+            from,
+            to,
+            epoch,
+            ..
         } => format!(in alloc; "Grant {from} to {to} epoch {epoch}"),
         Packet::Ack {
-            from, to, epoch, ..
+            from,
+            to,
+            epoch,
+            ..
         } => format!(in alloc; "Ack {from} to {to} epoch {epoch}"),
         Packet::No { from, to, .. } => format!(in alloc; "No {from} to {to}"),
     }
@@ -159,10 +166,7 @@ impl Cluster {
     /// A decision's record is kept.
     fn keep(&mut self, node: u8, decision: &Decision) -> Result<(), Fail> {
         let alloc = self.alloc;
-        let records = self
-            .records
-            .get_mut(node as usize)
-            .ok_or("no such node")?;
+        let records = self.records.get_mut(node as usize).ok_or("no such node")?;
         if let Some(entry) = decision.entry() {
             records.push(entry.copy(alloc)?)?;
         }
@@ -188,10 +192,7 @@ impl Cluster {
     /// The node's records make place for a snapshot.
     fn compact(&mut self, node: u8) -> Result<(), Fail> {
         let snapshot = self.core(node)?.snapshot()?;
-        let records = self
-            .records
-            .get_mut(node as usize)
-            .ok_or("no such node")?;
+        let records = self.records.get_mut(node as usize).ok_or("no such node")?;
         *records = snapshot;
         self.restart(node)
     }

@@ -6,8 +6,8 @@ ghost use Rattle.test_core.specs.Counting.{named_by, first_at, counted, again_at
 use http::StatusCode;
 use std::alloc::{AllocError, Global};
 use sv_model::{
-    Attributes, Birth, Engine, EngineFault, Fate, Key, Outcome, Request, Response, Secret, Sequence,
-    Session, Told,
+    Attributes, Birth, Engine, EngineFault, Fate, Key, Outcome, Request, Response, Secret,
+    Sequence, Session, Told,
 };
 
 /// It makes a session where none is handed in, and answers the last digit of the count.

@@ -1,14 +1,12 @@
 //! Numbers at their ends: keys, serials and epochs; and records that don't fit.
 
-use crate::cluster::{NOW, SECRET, key, output_text, recovered, request, state_text};
+use crate::cluster::{NOW, SECRET, key, output_text, recovered, request, setting, state_text};
 use crate::counter::Counter;
 use std::alloc::Global;
 use std::process::Abort;
 use std::test::Fail;
-use sv_core::Core;
-use sv_model::{
-    Attributes, Change, Input, KEY_LIMIT, KeyState, Moment, Packet, Record, Session,
-};
+use sv_core::{ApplyFault, Core};
+use sv_model::{Attributes, Change, Input, KEY_LIMIT, KeyState, Moment, Packet, Record, Session};
 
 fn counters(boot: u64, next: u64) -> Record {
     Record::Counters { boot, next }
@@ -104,8 +102,14 @@ fn expect_full(rt: &impl Abort, core: &mut Core<Counter>, alloc: Global) -> Resu
     assert_eq!(rt; asked(core, alloc, false)?.as_str(), "answer 0;");
     assert_eq!(rt; asked(core, alloc, true)?.as_str(), "refuse TableFull;");
     assert_eq!(rt; granted(core, alloc, 2)?.as_str(), "");
-    assert_eq!(rt; state_text(alloc, core.state(key((0, 65_536))))?.as_str(), "Ended 1");
-    assert_eq!(rt; state_text(alloc, core.state(key((0, 65_537))))?.as_str(), "Nothing");
+    assert_eq!(rt;
+        state_text(alloc, core.state(key((0, 65_536))))?.as_str(),
+        "Ended 1"
+    );
+    assert_eq!(rt;
+        state_text(alloc, core.state(key((0, 65_537))))?.as_str(),
+        "Nothing"
+    );
     Ok(())
 }
 
@@ -125,7 +129,10 @@ fn a_full_table(rt: HostRuntime) -> Result<(), Fail> {
 fn expect_no_serial(rt: &impl Abort, alloc: Global) -> Result<(), Fail> {
     let mut core = recovered(alloc, 0, &[counters(1, u64::MAX)])?;
     assert_eq!(rt; asked(&mut core, alloc, false)?.as_str(), "answer 0;");
-    assert_eq!(rt; asked(&mut core, alloc, true)?.as_str(), "refuse SerialsSpent;");
+    assert_eq!(rt;
+        asked(&mut core, alloc, true)?.as_str(),
+        "refuse SerialsSpent;"
+    );
     Ok(())
 }
 
@@ -139,7 +146,10 @@ fn expect_no_epoch(rt: &impl Abort, alloc: Global) -> Result<(), Fail> {
         key: key((1, 1)),
         to: 1,
     };
-    assert_eq!(rt; taken(&mut core, alloc, to_1)?.as_str(), "refused EpochsSpent;");
+    assert_eq!(rt;
+        taken(&mut core, alloc, to_1)?.as_str(),
+        "refused EpochsSpent;"
+    );
     assert_eq!(rt; wanted(&mut core, alloc)?.as_str(), "");
     Ok(())
 }
@@ -150,14 +160,24 @@ fn expect_no_start(rt: &impl Abort, alloc: Global) -> Result<(), Fail> {
     Ok(())
 }
 
-/// What is recovered from these records, or that they don't fit.
+/// The records are refused, since one of them doesn't fit.
 fn is_refused(alloc: Global, records: &[Record]) -> bool {
-    recovered(alloc, 0, records).is_err()
+    let engine = Counter {
+        alloc,
+        secret: SECRET,
+    };
+    match Core::recover(alloc, engine, setting(0), records) {
+        Ok(_) => false,
+        Err(unrecovered) => unrecovered.fault == ApplyFault::BadRecord,
+    }
 }
 
 /// Each row's last record doesn't fit behind those before it, which fit.
 fn expect_refused(rt: &impl Abort, alloc: Global, records: &[Record], why: &str) {
-    assert!(rt; !is_refused(alloc, &records[..records.len() - 1]), "before: {why}");
+    assert!(rt;
+        !is_refused(alloc, &records[..records.len() - 1]),
+        "before: {why}"
+    );
     assert!(rt; is_refused(alloc, records), "{why}");
 }
 
@@ -172,12 +192,47 @@ fn numbers_at_their_ends(rt: HostRuntime) -> Result<(), Fail> {
 #[test]
 fn records_that_do_not_fit(rt: HostRuntime) -> Result<(), Fail> {
     let alloc = rt.alloc();
-    expect_refused(&rt, alloc, &[Record::Boot(1), Record::Boot(3)], "a boot is skipped");
-    expect_refused(&rt, alloc, &[counters(1, 2), counters(1, 2)], "a second head");
-    expect_refused(&rt, alloc, &[born(alloc, 1), ended(1, 1)], "a state behind a commit");
-    expect_refused(&rt, alloc, &[counters(1, 2), ended(0, 2)], "a key that is not yet made");
-    expect_refused(&rt, alloc, &[counters(1, 2), ended(0, 1), ended(0, 1)], "a key twice");
-    expect_refused(&rt, alloc, &[born(alloc, 1), born(alloc, 3)], "a serial is skipped");
-    expect_refused(&rt, alloc, &[born(alloc, 1), Record::Expired(key((0, 2)))], "an unknown key");
+    expect_refused(
+        &rt,
+        alloc,
+        &[Record::Boot(1), Record::Boot(3)],
+        "a boot is skipped",
+    );
+    expect_refused(
+        &rt,
+        alloc,
+        &[counters(1, 2), counters(1, 2)],
+        "a second head",
+    );
+    expect_refused(
+        &rt,
+        alloc,
+        &[born(alloc, 1), ended(1, 1)],
+        "a state behind a commit",
+    );
+    expect_refused(
+        &rt,
+        alloc,
+        &[counters(1, 2), ended(0, 2)],
+        "a key that is not yet made",
+    );
+    expect_refused(
+        &rt,
+        alloc,
+        &[counters(1, 2), ended(0, 1), ended(0, 1)],
+        "a key twice",
+    );
+    expect_refused(
+        &rt,
+        alloc,
+        &[born(alloc, 1), born(alloc, 3)],
+        "a serial is skipped",
+    );
+    expect_refused(
+        &rt,
+        alloc,
+        &[born(alloc, 1), Record::Expired(key((0, 2)))],
+        "an unknown key",
+    );
     Ok(())
 }
