@@ -10,9 +10,12 @@ use Rattle.sv_model.specs.declared.record.Change.TheVariants.{Absent as Unchange
 use Rattle.sv_model.specs.declared.record.Record.{Record}
 use Rattle.sv_model.specs.declared.record.Record.TheVariants.{Boot, Commit, Expired, Sent as SentRecord, Taken, Gone as GoneRecord, State, Counters}
 use Rattle.sv_model.specs.Keys.{key_cmp, IsKey}
-use Rattle.sv_model.specs.NodeState.{Keys, Durable, last_number}
+use Rattle.sv_model.specs.NodeState.{Keys, Durable, Node, last_number}
 use Rattle.sv_model.specs.Replay.{blank, with_named, with_born, next_by, keys_behind, next_behind, applied, replayed}
-use Rattle.sv_model.specs.Ranges.{IsChange, IsState, IsRecord, IsRanged}
+use Rattle.sv_model.specs.declared.node.Setting.{Setting}
+use Rattle.sv_model.specs.Journaled.{IsJournaled}
+use Rattle.sv_core.specs.Core.{starts}
+use Rattle.sv_model.specs.Ranges.{IsRangedStep, IsChange, IsState, IsRecord, IsRanged}
 use Rattle.sv_core.proofs.KeptLemmas.{AreAll, all_with, all_kept, all_ended}
 
 abbrev pub IsEntry : Key → KeyState → Type 0
@@ -75,4 +78,16 @@ ranged_recovered rs are within = record {
   waiting = tt;
   next_within = within;
   want_within = omega arith;
+}
+
+-- ---- a start
+
+pub starts_journaled : (set : Setting) (n : Node) → IsJournaled set n (starts n)
+starts_journaled set n = record { fits = λ stage. refl; gives = refl; marks = refl }
+
+pub starts_ranged : (n : Node) → IsRanged n → IsRangedStep (starts n)
+starts_ranged n is = record {
+  entry = omega arith;
+  packets = tt;
+  left_is = record { known = is.known; next = is.next; waiting = is.waiting; next_within = is.next_within; want_within = is.want_within };
 }

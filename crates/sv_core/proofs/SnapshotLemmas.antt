@@ -20,7 +20,7 @@ use Rattle.sv_model.proofs.KeyLemmas.{keys_total}
 use Rattle.sv_model.proofs.EntryLemmas.{no_entries, known}
 use Rattle.sv_core.specs.Entries.{Entry, Rises}
 use Rattle.sv_core.specs.Snapshot.{staged, state_record, snapshot_of}
-use Rattle.sv_core.specs.Sound.{IsSound}
+use Rattle.sv_core.proofs.SoundLemmas.{IsSound}
 use Rattle.sv_core.proofs.TableLemmas.{first, second, less, reversed}
 use Rattle.sv_core.proofs.KeptLemmas.{lower_is}
 

@@ -1,7 +1,7 @@
 -- What records leave is sound.
 use Rattle.std.proofs.Common.{◌≡◌, ℕ, ◌+◌, ◌<◌, ◌≤◌, Bool, true, false, Option, Some, None, List, [], ◌∷◌, arith, refl, sym, ap, ◌∙◌, subst, ⊎_elim}
 use Rattle.std.specs.Prelude.{not, ◌==◌, ◌&&◌, is_none, nat_le, nat_lt}
-use Rattle.std.specs.FinMap.{get, insert, len, get-empty, len-empty}
+use Rattle.std.specs.FinMap.{empty, get, insert, len, get-empty, len-empty}
 use Rattle.std.proofs.lemmas.Bool.{eqb-true, leb-false}
 use Rattle.std.proofs.lemmas.Bool.Decides.{leb_tells}
 use Rattle.sv_model.specs.declared.key.Key.{Key}
@@ -20,8 +20,13 @@ use Rattle.sv_model.specs.Keys.{key_cmp}
 use Rattle.sv_model.specs.NodeState.{Keys, Durable, last_number, is_unmade}
 use Rattle.sv_model.specs.Replay.{blank, with_named, with_born, next_by, applied, replayed, stage_behind, fits_named, is_next, fits_born, FitsSent, fits_taken, fits_gone, fits_state, Fits, AllFit}
 use Rattle.sv_core.specs.Snapshot.{staged}
-use Rattle.sv_core.specs.Sound.{IsSound}
 use Rattle.sv_core.proofs.KeptLemmas.{left, right, is_lower, AreAll, all_with, all_kept, all_ended, as_many, one_more, kept_many, ended_many}
+
+-- no more keys than a node may know, none of its own that it has yet to hand out, and none at all before the first record
+pub record IsSound (set : Setting) (stage : Stage) (d : Durable) : Type 0 where
+  pub few : len d.keys ≤ KEY_LIMIT
+  pub made : (k : Key) (st : KeyState) → get d.keys k ≡ Some st → is_unmade set d k ≡ false
+  pub first : stage ≡ Blank → d.keys ≡ empty
 
 module _ (set : Setting) where
   abbrev IsMade : ℕ → Key → Type 0

@@ -73,6 +73,7 @@ impl<E> Core<E> {
         let mut core = Core::new(alloc, engine, setting);
         match core.kept.replay(records) {
             Ok(()) => {
+                // what the records give are numbers
                 let _numbers = core.kept.numbers();
                 Ok(core)
             }
@@ -155,6 +156,7 @@ impl<E: Engine> Core<E> {
         ensures ranged { IsSetting (setting_of self.old) → IsRanged (node_at self.old) → IsInput input → IfOk result (λ d. IsRangedStep (decision_at self.new d)) }
     {
         self.kept.reserve()?;
+        // the numbers behind the decision are numbers, since those before it are
         let _numbers = self.kept.numbers();
         row::decide(&mut self.engine, &self.kept, moment, input)
     }
@@ -169,8 +171,11 @@ impl<E: Engine> Core<E> {
         ensures none { IfOk result (λ o. is_none o ≡ ((durable_at self.old).boot == last_number)) }
         ensures decision { IfOk result (λ o. IfSome o (λ d. decision_at self.new d ≡ starts (node_at self.old))) }
         ensures decided { IfOk result (λ o. IfSome o (λ d. WasDecided E.meaning self.new d)) }
+        ensures journaled { IfOk result (λ o. IfSome o (λ d. IsJournaled (setting_of self.old) (node_at self.old) (decision_at self.new d))) }
+        ensures ranged { IsRanged (node_at self.old) → IfOk result (λ o. IfSome o (λ d. IsRangedStep (decision_at self.new d))) }
     {
         self.kept.reserve()?;
+        // the numbers behind the decision are numbers, since those before it are
         let _numbers = self.kept.numbers();
         Ok(self.kept.start())
     }
