@@ -17,11 +17,18 @@ pub const SECRET: Secret = Secret([1; 16]);
 /// The second in which all but ticks happen.
 pub const NOW: u64 = 1000;
 
+/// One node, and the records that it has kept.
+#[derive(Drop)]
+struct Member {
+    core: Core<Counter>,
+    records: Vec<Record>,
+}
+
+/// All nodes, and all packets in order of sending.
 #[derive(Drop)]
 pub struct Cluster {
     alloc: Global,
-    cores: Vec<Core<Counter>>,
-    records: Vec<Vec<Record>>,
+    members: Vec<Member>,
     packets: Vec<Packet>,
     token: u64,
 }
@@ -36,7 +43,10 @@ pub fn setting(node: u8) -> Setting {
 }
 
 pub fn key((home, serial): KeyName) -> Key {
-    Key { home, serial }
+    Key {
+        home,
+        serial: serial as u64,
+    }
 }
 
 /// A request with this body.
@@ -106,6 +116,13 @@ fn digit(response: &Response) -> char {
     }
 }
 
+/// The text of a packet behind its number.
+fn numbered(alloc: Global, number: usize, text: &str) -> Result<String, AllocError> {
+    let mut line = format!(in alloc; "p{number} ")?;
+    line.push_str(text)?;
+    Ok(line)
+}
+
 /// One output, as a text.
 pub fn output_text(alloc: Global, output: &Output) -> Result<String, AllocError> {
     match output {
@@ -132,26 +149,85 @@ pub fn state_text(alloc: Global, state: Option<&KeyState>) -> Result<String, All
     }
 }
 
+/// A decision's record is kept.
+fn keep(records: &mut Vec<Record>, alloc: Global, decision: &Decision) -> Result<(), AllocError> {
+    if let Some(entry) = decision.entry() {
+        records.push(entry.copy(alloc)?)?;
+    }
+    Ok(())
+}
+
+impl Member {
+    /// A node in its first start.
+    fn new(alloc: Global, node: u8) -> Result<Member, Fail> {
+        let mut member = Member {
+            core: recovered(alloc, node, &[])?,
+            records: Vec::new(alloc),
+        };
+        member.start(alloc)?;
+        Ok(member)
+    }
+
+    /// It starts once more.
+    fn start(&mut self, alloc: Global) -> Result<(), Fail> {
+        let Some(decision) = self.core.decide_start()? else {
+            return Err("no boot is left".into());
+        };
+        keep(&mut self.records, alloc, &decision)?;
+        self.core.accept(decision);
+        Ok(())
+    }
+
+    /// It is made anew from its records, and starts.
+    fn restart(&mut self, alloc: Global, node: u8) -> Result<(), Fail> {
+        self.core = recovered(alloc, node, &self.records)?;
+        self.start(alloc)
+    }
+
+    /// Its records make place for a snapshot, and it starts anew.
+    fn compact(&mut self, alloc: Global, node: u8) -> Result<(), Fail> {
+        self.records = self.core.snapshot()?;
+        self.restart(alloc, node)
+    }
+
+    /// A whole step.
+    fn step(&mut self, alloc: Global, now: u64, input: Input) -> Result<Vec<Output>, Fail> {
+        let moment = Moment {
+            now,
+            secret: SECRET,
+        };
+        let decision = self.core.decide(moment, input)?;
+        keep(&mut self.records, alloc, &decision)?;
+        Ok(self.core.accept(decision))
+    }
+
+    /// A step in which the node stops: its record is there or not, and nothing is told or put out.
+    fn torn(&mut self, alloc: Global, node: u8, input: Input, kept: bool) -> Result<(), Fail> {
+        let moment = Moment {
+            now: NOW,
+            secret: SECRET,
+        };
+        let decision = self.core.decide(moment, input)?;
+        if kept {
+            keep(&mut self.records, alloc, &decision)?;
+        }
+        self.restart(alloc, node)
+    }
+}
+
 impl Cluster {
     /// Three nodes, each in its first start.
     pub fn new(alloc: Global) -> Result<Cluster, Fail> {
-        let mut cluster = Cluster {
+        let mut members = Vec::new(alloc);
+        for node in 0..3 {
+            members.push(Member::new(alloc, node)?)?;
+        }
+        Ok(Cluster {
             alloc,
-            cores: Vec::new(alloc),
-            records: Vec::new(alloc),
+            members,
             packets: Vec::new(alloc),
             token: 0,
-        };
-        for node in 0..3 {
-            cluster.add(node)?;
-        }
-        Ok(cluster)
-    }
-
-    fn add(&mut self, node: u8) -> Result<(), Fail> {
-        self.cores.push(recovered(self.alloc, node, &[])?)?;
-        self.records.push(Vec::new(self.alloc))?;
-        self.start(node)
+        })
     }
 
     /// How many packets were sent.
@@ -159,68 +235,26 @@ impl Cluster {
         self.packets.len()
     }
 
-    fn core(&mut self, node: u8) -> Result<&mut Core<Counter>, Fail> {
-        Ok(self.cores.get_mut(node as usize).ok_or("no such node")?)
-    }
-
-    /// A decision's record is kept.
-    fn keep(&mut self, node: u8, decision: &Decision) -> Result<(), Fail> {
-        let alloc = self.alloc;
-        let records = self.records.get_mut(node as usize).ok_or("no such node")?;
-        if let Some(entry) = decision.entry() {
-            records.push(entry.copy(alloc)?)?;
-        }
-        Ok(())
-    }
-
-    /// The node starts once more.
-    fn start(&mut self, node: u8) -> Result<(), Fail> {
-        let decision = self.core(node)?.decide_start()?.ok_or("no boot is left")?;
-        self.keep(node, &decision)?;
-        self.core(node)?.accept(decision);
-        Ok(())
-    }
-
-    /// The node is made anew from its records, and starts.
-    fn restart(&mut self, node: u8) -> Result<(), Fail> {
-        let records = self.records.get(node as usize).ok_or("no such node")?;
-        let core = recovered(self.alloc, node, records)?;
-        *self.core(node)? = core;
-        self.start(node)
-    }
-
-    /// The node's records make place for a snapshot.
-    fn compact(&mut self, node: u8) -> Result<(), Fail> {
-        let snapshot = self.core(node)?.snapshot()?;
-        let records = self.records.get_mut(node as usize).ok_or("no such node")?;
-        *records = snapshot;
-        self.restart(node)
+    fn member(&mut self, node: u8) -> Result<&mut Member, Fail> {
+        Ok(self.members.get_mut(node as usize).ok_or("no such node")?)
     }
 
     /// One output, as a text; a packet has its number in front.
     fn put_out(&mut self, output: Output) -> Result<String, Fail> {
-        let alloc = self.alloc;
-        let text = output_text(alloc, &output)?;
-        match output {
-            Output::Send(packet) => {
-                let number = self.packets.len();
-                self.packets.push(packet)?;
-                Ok(format!(in alloc; "p{number} {text}")?)
-            }
-            _ => Ok(text),
-        }
+        let text = output_text(self.alloc, &output)?;
+        let Output::Send(packet) = output else {
+            return Ok(text);
+        };
+        let line = numbered(self.alloc, self.packets.len(), text.as_str())?;
+        self.packets.push(packet)?;
+        Ok(line)
     }
 
-    /// A whole step.
-    pub fn step(&mut self, node: u8, now: u64, input: Input) -> Result<String, Fail> {
-        let moment = Moment {
-            now,
-            secret: SECRET,
-        };
-        let decision = self.core(node)?.decide(moment, input)?;
-        self.keep(node, &decision)?;
-        let outputs = self.core(node)?.accept(decision);
-        let mut text = String::new(self.alloc);
+    /// A whole step, and what it puts out.
+    fn step(&mut self, node: u8, now: u64, input: Input) -> Result<String, Fail> {
+        let alloc = self.alloc;
+        let outputs = self.member(node)?.step(alloc, now, input)?;
+        let mut text = String::new(alloc);
         for output in outputs {
             if !text.is_empty() {
                 text.push_str(", ")?;
@@ -230,22 +264,9 @@ impl Cluster {
         Ok(text)
     }
 
-    /// A step in which the node stops: its record is there or not, and nothing is told or put out.
-    fn torn(&mut self, node: u8, input: Input, kept: bool) -> Result<(), Fail> {
-        let moment = Moment {
-            now: NOW,
-            secret: SECRET,
-        };
-        let decision = self.core(node)?.decide(moment, input)?;
-        if kept {
-            self.keep(node, &decision)?;
-        }
-        self.restart(node)
-    }
-
     /// A request under the next token.
     fn ask(&mut self, body: &[u8], close: bool) -> Result<Input, Fail> {
-        self.token += 1;
+        self.token = self.token.saturating_add(1);
         Ok(Input::Ask {
             token: self.token,
             request: request(self.alloc, body, close)?,
@@ -253,13 +274,28 @@ impl Cluster {
     }
 
     fn again(&mut self, named: KeyName) -> Result<Input, Fail> {
-        self.ask(&[named.0, named.1 as u8], false)
+        self.ask(&[named.0, named.1], false)
     }
 
     fn deliver(&mut self, place: usize) -> Result<String, Fail> {
         let packet = self.packets.get(place).ok_or("no such packet")?;
         let copy = packet.copy(self.alloc)?;
         self.step(addressee(&copy), NOW, Input::Packet(copy))
+    }
+
+    fn torn_move(&mut self, node: u8, named: KeyName, to: u8, kept: bool) -> Result<(), Fail> {
+        let alloc = self.alloc;
+        let input = Input::Move {
+            key: key(named),
+            to,
+        };
+        self.member(node)?.torn(alloc, node, input, kept)
+    }
+
+    fn torn_again(&mut self, node: u8, named: KeyName, kept: bool) -> Result<(), Fail> {
+        let alloc = self.alloc;
+        let input = self.again(named)?;
+        self.member(node)?.torn(alloc, node, input, kept)
     }
 
     fn requested(&mut self, step: Step) -> Result<String, Fail> {
@@ -281,23 +317,34 @@ impl Cluster {
     }
 
     fn stopped(&mut self, step: Step) -> Result<String, Fail> {
+        let alloc = self.alloc;
         match step {
-            Step::Restart(node) => self.restart(node)?,
-            Step::Compact(node) => self.compact(node)?,
-            Step::TornMove(node, named, to, kept) => {
-                let input = Input::Move {
-                    key: key(named),
-                    to,
-                };
-                self.torn(node, input, kept)?;
-            }
-            Step::TornAgain(node, named, kept) => {
-                let input = self.again(named)?;
-                self.torn(node, input, kept)?;
-            }
+            Step::Restart(node) => self.member(node)?.restart(alloc, node)?,
+            Step::Compact(node) => self.member(node)?.compact(alloc, node)?,
+            Step::TornMove(node, named, to, kept) => self.torn_move(node, named, to, kept)?,
+            Step::TornAgain(node, named, kept) => self.torn_again(node, named, kept)?,
             _ => return Err("no stop".into()),
         }
-        Ok(String::new(self.alloc))
+        Ok(String::new(alloc))
+    }
+
+    fn moved(&mut self, node: u8, named: KeyName, to: u8) -> Result<String, Fail> {
+        let input = Input::Move {
+            key: key(named),
+            to,
+        };
+        self.step(node, NOW, input)
+    }
+
+    fn seen(&mut self, node: u8, named: KeyName) -> Result<String, Fail> {
+        let alloc = self.alloc;
+        Ok(state_text(alloc, self.member(node)?.core.state(key(named)))?)
+    }
+
+    fn boot(&mut self, node: u8) -> Result<String, Fail> {
+        let alloc = self.alloc;
+        let boot = self.member(node)?.core.boot();
+        Ok(format!(in alloc; "{boot}")?)
     }
 
     /// Takes a step, and says what is put out or seen.
@@ -310,22 +357,9 @@ impl Cluster {
             Step::Deliver(place) => self.deliver(place),
             Step::Poke(node) => self.step(node, NOW, Input::Poke),
             Step::Tick(node, now) => self.step(node, now, Input::Tick),
-            Step::Move(node, named, to) => {
-                let input = Input::Move {
-                    key: key(named),
-                    to,
-                };
-                self.step(node, NOW, input)
-            }
-            Step::State(node, named) => {
-                let alloc = self.alloc;
-                Ok(state_text(alloc, self.core(node)?.state(key(named)))?)
-            }
-            Step::Boot(node) => {
-                let alloc = self.alloc;
-                let boot = self.core(node)?.boot();
-                Ok(format!(in alloc; "{boot}")?)
-            }
+            Step::Move(node, named, to) => self.moved(node, named, to),
+            Step::State(node, named) => self.seen(node, named),
+            Step::Boot(node) => self.boot(node),
         }
     }
 }

@@ -1,12 +1,18 @@
 //! Numbers at their ends: keys, serials and epochs; and records that don't fit.
 
-use crate::cluster::{NOW, SECRET, key, output_text, recovered, request, setting, state_text};
+use crate::cluster::{NOW, SECRET, output_text, recovered, request, setting, state_text};
 use crate::counter::Counter;
 use std::alloc::Global;
 use std::process::Abort;
 use std::test::Fail;
 use sv_core::{ApplyFault, Core};
-use sv_model::{Attributes, Change, Input, KEY_LIMIT, KeyState, Moment, Packet, Record, Session};
+use sv_model::{
+    Attributes, Change, Input, KEY_LIMIT, Key, KeyState, Moment, Packet, Record, Session,
+};
+
+fn key((home, serial): (u8, u64)) -> Key {
+    Key { home, serial }
+}
 
 fn counters(boot: u64, next: u64) -> Record {
     Record::Counters { boot, next }
@@ -172,13 +178,17 @@ fn is_refused(alloc: Global, records: &[Record]) -> bool {
     }
 }
 
-/// Each row's last record doesn't fit behind those before it, which fit.
-fn expect_refused(rt: &impl Abort, alloc: Global, records: &[Record], why: &str) {
-    assert!(rt;
-        !is_refused(alloc, &records[..records.len() - 1]),
-        "before: {why}"
-    );
+/// The last record doesn't fit behind those before it, which fit.
+fn expect_refused(
+    rt: &impl Abort,
+    alloc: Global,
+    records: &[Record],
+    why: &str,
+) -> Result<(), Fail> {
+    let (_, before) = records.split_last().ok_or("no records")?;
+    assert!(rt; !is_refused(alloc, before), "before: {why}");
     assert!(rt; is_refused(alloc, records), "{why}");
+    Ok(())
 }
 
 #[test]
@@ -189,50 +199,55 @@ fn numbers_at_their_ends(rt: HostRuntime) -> Result<(), Fail> {
     expect_no_start(&rt, alloc)
 }
 
-#[test]
-fn records_that_do_not_fit(rt: HostRuntime) -> Result<(), Fail> {
-    let alloc = rt.alloc();
+/// Heads, boots and states out of place.
+fn expect_no_head(rt: &impl Abort, alloc: Global) -> Result<(), Fail> {
     expect_refused(
-        &rt,
+        rt,
         alloc,
         &[Record::Boot(1), Record::Boot(3)],
         "a boot is skipped",
-    );
+    )?;
     expect_refused(
-        &rt,
+        rt,
         alloc,
         &[counters(1, 2), counters(1, 2)],
         "a second head",
-    );
+    )?;
     expect_refused(
-        &rt,
+        rt,
         alloc,
         &[born(alloc, 1), ended(1, 1)],
         "a state behind a commit",
-    );
+    )
+}
+
+/// Keys out of place.
+fn expect_no_key(rt: &impl Abort, alloc: Global) -> Result<(), Fail> {
     expect_refused(
-        &rt,
+        rt,
         alloc,
         &[counters(1, 2), ended(0, 2)],
         "a key that is not yet made",
-    );
+    )?;
     expect_refused(
-        &rt,
+        rt,
         alloc,
         &[counters(1, 2), ended(0, 1), ended(0, 1)],
         "a key twice",
-    );
+    )?;
     expect_refused(
-        &rt,
+        rt,
         alloc,
         &[born(alloc, 1), born(alloc, 3)],
         "a serial is skipped",
-    );
-    expect_refused(
-        &rt,
-        alloc,
-        &[born(alloc, 1), Record::Expired(key((0, 2)))],
-        "an unknown key",
-    );
-    Ok(())
+    )?;
+    let unknown = Record::Expired(key((0, 2)));
+    expect_refused(rt, alloc, &[born(alloc, 1), unknown], "an unknown key")
+}
+
+#[test]
+fn records_that_do_not_fit(rt: HostRuntime) -> Result<(), Fail> {
+    let alloc = rt.alloc();
+    expect_no_head(&rt, alloc)?;
+    expect_no_key(&rt, alloc)
 }

@@ -1,14 +1,14 @@
 //! What is done to a cluster, and what is looked at, a step each.
 
-/// A key, by its home and its serial.
-pub type KeyName = (u8, u64);
+/// A key, by its home and its serial, of one byte each.
+pub type KeyName = (u8, u8);
 
 /// One step.
 #[derive(Clone, Copy)]
 pub enum Step {
     /// A request that counts, at a node, with no session.
     First(u8),
-    /// One that names a session; home and serial in a byte each.
+    /// One that names a session.
     Again(u8, KeyName),
     /// A request that touches nothing.
     Hello(u8),
