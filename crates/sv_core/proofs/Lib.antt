@@ -1,0 +1,13 @@
+pub mod TableLemmas
+pub mod WaitingLemmas
+pub mod TimeLemmas
+pub mod ServingLemmas
+pub mod CoreLemmas
+pub mod EffectLemmas
+pub mod ReplayLemmas
+pub mod WithinLemmas
+pub mod KeptLemmas
+pub mod SoundLemmas
+pub mod SnapshotLemmas
+pub mod RangeLemmas
+pub mod SearchLemmas

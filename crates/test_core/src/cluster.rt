@@ -1,0 +1,365 @@
+//! Cores of three nodes, the records that each has kept, and all packets in order of sending.
+
+use crate::counter::Counter;
+use crate::step::{KeyName, Step};
+use http::Method;
+use std::alloc::{AllocError, Global};
+use std::test::Fail;
+use sv_core::{Core, Decision};
+use sv_model::{
+    Input, Key, KeyState, Moment, Output, Packet, Record, Request, Response, Secret, Sequence,
+    Setting, Text,
+};
+
+/// The secret of each session.
+pub const SECRET: Secret = Secret([1; 16]);
+
+/// The second in which all but ticks happen.
+pub const NOW: u64 = 1000;
+
+/// One node, and the records that it has kept.
+#[derive(Drop)]
+struct Member {
+    core: Core<Counter>,
+    records: Vec<Record>,
+}
+
+/// All nodes, and all packets in order of sending.
+#[derive(Drop)]
+pub struct Cluster {
+    alloc: Global,
+    members: Vec<Member>,
+    packets: Vec<Packet>,
+    token: u64,
+}
+
+/// One of three nodes, at which requests wait for 30 seconds.
+pub fn setting(node: u8) -> Setting {
+    Setting {
+        node,
+        nodes: 3,
+        deadline: 30,
+    }
+}
+
+pub fn key((home, serial): KeyName) -> Key {
+    Key {
+        home,
+        serial: serial as u64,
+    }
+}
+
+/// A request with this body.
+pub fn request(alloc: Global, body: &[u8], close: bool) -> Result<Request, AllocError> {
+    let mut bytes = Sequence::new(alloc);
+    bytes.extend_from_slice(body)?;
+    Ok(Request {
+        method: Method::GET,
+        raw_path: Text::from_str(alloc, "/count")?,
+        path: Text::from_str(alloc, "/count")?,
+        query: None,
+        fields: Sequence::new(alloc),
+        cookies: Sequence::new(alloc),
+        params: Sequence::new(alloc),
+        body: bytes,
+        close,
+    })
+}
+
+/// A core of these records.
+pub fn recovered(alloc: Global, node: u8, records: &[Record]) -> Result<Core<Counter>, Fail> {
+    let engine = Counter {
+        alloc,
+        secret: SECRET,
+    };
+    match Core::recover(alloc, engine, setting(node), records) {
+        Ok(core) => Ok(core),
+        Err(_) => Err("the records don't fit".into()),
+    }
+}
+
+/// The node that a packet is for.
+fn addressee(packet: &Packet) -> u8 {
+    match packet {
+        Packet::Want { to, .. } => *to,
+        Packet::Grant { to, .. } => *to,
+        Packet::Ack { to, .. } => *to,
+        Packet::No { to, .. } => *to,
+    }
+}
+
+/// A packet's kind, sender and addressee, and the epoch of a Grant or an Ack.
+fn packet_text(alloc: Global, packet: &Packet) -> Result<String, AllocError> {
+    match packet {
+        Packet::Want { from, to, .. } => format!(in alloc; "Want {from} to {to}"),
+        Packet::Grant {
+            from,
+            to,
+            epoch,
+            ..
+        } => format!(in alloc; "Grant {from} to {to} epoch {epoch}"),
+        Packet::Ack {
+            from,
+            to,
+            epoch,
+            ..
+        } => format!(in alloc; "Ack {from} to {to} epoch {epoch}"),
+        Packet::No { from, to, .. } => format!(in alloc; "No {from} to {to}"),
+    }
+}
+
+/// The one byte of a counter's answer.
+fn digit(response: &Response) -> char {
+    match response.body.as_slice() {
+        [digit] => *digit as char,
+        _ => '?',
+    }
+}
+
+/// The text of a packet behind its number.
+fn numbered(alloc: Global, number: usize, text: &str) -> Result<String, AllocError> {
+    let mut line = format!(in alloc; "p{number} ")?;
+    line.push_str(text)?;
+    Ok(line)
+}
+
+/// One output, as a text.
+pub fn output_text(alloc: Global, output: &Output) -> Result<String, AllocError> {
+    match output {
+        Output::Answer { response, .. } => format!(in alloc; "answer {}", digit(response)),
+        Output::Refuse { cause, .. } => format!(in alloc; "refuse {cause:?}"),
+        Output::Moved => format!(in alloc; "moved"),
+        Output::MoveRefused(why) => format!(in alloc; "refused {why:?}"),
+        Output::Send(packet) => packet_text(alloc, packet),
+    }
+}
+
+/// What is known of a key.
+pub fn state_text(alloc: Global, state: Option<&KeyState>) -> Result<String, AllocError> {
+    match state {
+        None => format!(in alloc; "Nothing"),
+        Some(KeyState::Active { epoch, session }) => {
+            format!(in alloc; "Active {epoch} count {}", session.created)
+        }
+        Some(KeyState::Sent { epoch, to, session }) => {
+            format!(in alloc; "Sent {epoch} to {to} count {}", session.created)
+        }
+        Some(KeyState::Gone { epoch }) => format!(in alloc; "Gone {epoch}"),
+        Some(KeyState::Ended { epoch }) => format!(in alloc; "Ended {epoch}"),
+    }
+}
+
+/// A decision's record is kept.
+fn keep(records: &mut Vec<Record>, alloc: Global, decision: &Decision) -> Result<(), AllocError> {
+    if let Some(entry) = decision.entry() {
+        records.push(entry.copy(alloc)?)?;
+    }
+    Ok(())
+}
+
+impl Member {
+    /// A node in its first start.
+    fn new(alloc: Global, node: u8) -> Result<Member, Fail> {
+        let mut member = Member {
+            core: recovered(alloc, node, &[])?,
+            records: Vec::new(alloc),
+        };
+        member.start(alloc)?;
+        Ok(member)
+    }
+
+    /// It starts once more.
+    fn start(&mut self, alloc: Global) -> Result<(), Fail> {
+        let Some(decision) = self.core.decide_start()? else {
+            return Err("no boot is left".into());
+        };
+        keep(&mut self.records, alloc, &decision)?;
+        self.core.accept(decision);
+        Ok(())
+    }
+
+    /// It is made anew from its records, and starts.
+    fn restart(&mut self, alloc: Global, node: u8) -> Result<(), Fail> {
+        self.core = recovered(alloc, node, &self.records)?;
+        self.start(alloc)
+    }
+
+    /// Its records make place for a snapshot, and it starts anew.
+    fn compact(&mut self, alloc: Global, node: u8) -> Result<(), Fail> {
+        self.records = self.core.snapshot()?;
+        self.restart(alloc, node)
+    }
+
+    /// A whole step.
+    fn step(&mut self, alloc: Global, now: u64, input: Input) -> Result<Vec<Output>, Fail> {
+        let moment = Moment {
+            now,
+            secret: SECRET,
+        };
+        let decision = self.core.decide(moment, input)?;
+        keep(&mut self.records, alloc, &decision)?;
+        Ok(self.core.accept(decision))
+    }
+
+    /// A step in which the node stops: its record is there or not, and nothing is told or put out.
+    fn torn(&mut self, alloc: Global, node: u8, input: Input, kept: bool) -> Result<(), Fail> {
+        let moment = Moment {
+            now: NOW,
+            secret: SECRET,
+        };
+        let decision = self.core.decide(moment, input)?;
+        if kept {
+            keep(&mut self.records, alloc, &decision)?;
+        }
+        self.restart(alloc, node)
+    }
+}
+
+impl Cluster {
+    /// Three nodes, each in its first start.
+    pub fn new(alloc: Global) -> Result<Cluster, Fail> {
+        let mut members = Vec::new(alloc);
+        for node in 0..3 {
+            members.push(Member::new(alloc, node)?)?;
+        }
+        Ok(Cluster {
+            alloc,
+            members,
+            packets: Vec::new(alloc),
+            token: 0,
+        })
+    }
+
+    /// How many packets were sent.
+    pub fn sent(&self) -> usize {
+        self.packets.len()
+    }
+
+    fn member(&mut self, node: u8) -> Result<&mut Member, Fail> {
+        Ok(self.members.get_mut(node as usize).ok_or("no such node")?)
+    }
+
+    /// One output, as a text; a packet has its number in front.
+    fn put_out(&mut self, output: Output) -> Result<String, Fail> {
+        let text = output_text(self.alloc, &output)?;
+        let Output::Send(packet) = output else {
+            return Ok(text);
+        };
+        let line = numbered(self.alloc, self.packets.len(), text.as_str())?;
+        self.packets.push(packet)?;
+        Ok(line)
+    }
+
+    /// A whole step, and what it puts out.
+    fn step(&mut self, node: u8, now: u64, input: Input) -> Result<String, Fail> {
+        let alloc = self.alloc;
+        let outputs = self.member(node)?.step(alloc, now, input)?;
+        let mut text = String::new(alloc);
+        for output in outputs {
+            if !text.is_empty() {
+                text.push_str(", ")?;
+            }
+            text.push_str(self.put_out(output)?.as_str())?;
+        }
+        Ok(text)
+    }
+
+    /// A request under the next token.
+    fn ask(&mut self, body: &[u8], close: bool) -> Result<Input, Fail> {
+        self.token = self.token.saturating_add(1);
+        Ok(Input::Ask {
+            token: self.token,
+            request: request(self.alloc, body, close)?,
+        })
+    }
+
+    fn again(&mut self, named: KeyName) -> Result<Input, Fail> {
+        self.ask(&[named.0, named.1], false)
+    }
+
+    fn deliver(&mut self, place: usize) -> Result<String, Fail> {
+        let packet = self.packets.get(place).ok_or("no such packet")?;
+        let copy = packet.copy(self.alloc)?;
+        self.step(addressee(&copy), NOW, Input::Packet(copy))
+    }
+
+    fn torn_move(&mut self, node: u8, named: KeyName, to: u8, kept: bool) -> Result<(), Fail> {
+        let alloc = self.alloc;
+        let input = Input::Move {
+            key: key(named),
+            to,
+        };
+        self.member(node)?.torn(alloc, node, input, kept)
+    }
+
+    fn torn_again(&mut self, node: u8, named: KeyName, kept: bool) -> Result<(), Fail> {
+        let alloc = self.alloc;
+        let input = self.again(named)?;
+        self.member(node)?.torn(alloc, node, input, kept)
+    }
+
+    fn requested(&mut self, step: Step) -> Result<String, Fail> {
+        match step {
+            Step::First(node) => {
+                let input = self.ask(&[], false)?;
+                self.step(node, NOW, input)
+            }
+            Step::Hello(node) => {
+                let input = self.ask(&[], true)?;
+                self.step(node, NOW, input)
+            }
+            Step::Again(node, named) => {
+                let input = self.again(named)?;
+                self.step(node, NOW, input)
+            }
+            _ => Err("no request".into()),
+        }
+    }
+
+    fn stopped(&mut self, step: Step) -> Result<String, Fail> {
+        let alloc = self.alloc;
+        match step {
+            Step::Restart(node) => self.member(node)?.restart(alloc, node)?,
+            Step::Compact(node) => self.member(node)?.compact(alloc, node)?,
+            Step::TornMove(node, named, to, kept) => self.torn_move(node, named, to, kept)?,
+            Step::TornAgain(node, named, kept) => self.torn_again(node, named, kept)?,
+            _ => return Err("no stop".into()),
+        }
+        Ok(String::new(alloc))
+    }
+
+    fn moved(&mut self, node: u8, named: KeyName, to: u8) -> Result<String, Fail> {
+        let input = Input::Move {
+            key: key(named),
+            to,
+        };
+        self.step(node, NOW, input)
+    }
+
+    fn seen(&mut self, node: u8, named: KeyName) -> Result<String, Fail> {
+        let alloc = self.alloc;
+        Ok(state_text(alloc, self.member(node)?.core.state(key(named)))?)
+    }
+
+    fn boot(&mut self, node: u8) -> Result<String, Fail> {
+        let alloc = self.alloc;
+        let boot = self.member(node)?.core.boot();
+        Ok(format!(in alloc; "{boot}")?)
+    }
+
+    /// Takes a step, and says what is put out or seen.
+    pub fn take(&mut self, step: Step) -> Result<String, Fail> {
+        match step {
+            Step::First(_) | Step::Hello(_) | Step::Again(..) => self.requested(step),
+            Step::Restart(_) | Step::Compact(_) | Step::TornMove(..) | Step::TornAgain(..) => {
+                self.stopped(step)
+            }
+            Step::Deliver(place) => self.deliver(place),
+            Step::Poke(node) => self.step(node, NOW, Input::Poke),
+            Step::Tick(node, now) => self.step(node, now, Input::Tick),
+            Step::Move(node, named, to) => self.moved(node, named, to),
+            Step::State(node, named) => self.seen(node, named),
+            Step::Boot(node) => self.boot(node),
+        }
+    }
+}
