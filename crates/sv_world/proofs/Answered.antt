@@ -15,7 +15,8 @@ use Rattle.sv_model.specs.Container.{Store, nothing_stored, after, reply_of, May
 use Rattle.sv_model.specs.OneContainer.{store_with, replies_with}
 use Rattle.sv_model.specs.Trace.{Item, commits_of, served_of, served_by, same_token, times, arrival_behind}
 use Rattle.sv_model.specs.Membership.{In}
-use Rattle.sv_world.specs.World.{Line, World, items, commits_in}
+use Rattle.sv_world.specs.declared.line.Line.{Line}
+use Rattle.sv_world.specs.World.{World, items, commits_in, item_at}
 use Rattle.sv_world.specs.Headline.{IsSilent, IsWhole, IsFitLine, AreFitLines, IsAnswer, AreAnswers}
 use Rattle.sv_world.proofs.Arrivals.{one_if, token_self, times_more}
 use Rattle.sv_world.proofs.Told.{after_one}
@@ -23,16 +24,16 @@ use Rattle.sv_world.proofs.Told.{after_one}
 -- a line of a trace
 line_at : (m : EngineMeaning) (st : Store) (before behind : List Line) (l : Line) → AreFitLines m st (before ++ l ∷ behind) → IsFitLine m (after m st (commits_of (items before))) l
 line_at m st [] behind l h = h.0
-line_at m st (x ∷ before) behind l h = subst (λ s. IsFitLine m s l) (after_one m st x.done.commit (commits_of (items before))) (line_at m (store_with m st x.done.commit) before behind l h.1)
+line_at m st (x ∷ before) behind l h = subst (λ s. IsFitLine m s l) (after_one m st x.commit (commits_of (items before))) (line_at m (store_with m st x.commit) before behind l h.1)
 
 -- a commit of a list
 commit_at : (m : EngineMeaning) (arr : Token → ℕ) (first before behind : List Commit) (c : Commit) → AllMayStand m arr first (before ++ c ∷ behind) → MayStand m arr (first ++ before) c
 commit_at m arr first [] behind c h = subst (λ cs. MayStand m arr cs c) (sym (append-nil first)) h.0
 commit_at m arr first (x ∷ before) behind c h = subst (λ cs. MayStand m arr cs c) (append_assoc first (x ∷ []) before) (commit_at m arr (first ++ x ∷ []) before behind c h.1)
 
-commits_at : (before behind : List Line) (l : Line) (c : Commit) → l.done.commit ≡ Some c → commits_of (items (before ++ l ∷ behind)) ≡ commits_of (items before) ++ c ∷ commits_of (items behind)
+commits_at : (before behind : List Line) (l : Line) (c : Commit) → l.commit ≡ Some c → commits_of (items (before ++ l ∷ behind)) ≡ commits_of (items before) ++ c ∷ commits_of (items behind)
 commits_at before behind l c is =
-    ap commits_of (map-append (λ (x : Line). x.done) before (l ∷ behind)) ∙ flat_map-append (λ (i : Item). option_to_list i.commit) (items before) (l.done ∷ items behind)
+    ap commits_of (map-append item_at before (l ∷ behind)) ∙ flat_map-append (λ (i : Item). option_to_list i.commit) (items before) (item_at l ∷ items behind)
     ∙ ap (λ o. commits_of (items before) ++ (option_to_list o ++ commits_of (items behind))) is
 
 abbrev token_or : Token → Option (Token × Response) → Token
@@ -40,7 +41,7 @@ token_or u None = u
 token_or u (Some p) = p.0
 
 module _ (m : EngineMeaning) (w : World) (stands : AllMayStand m (arrival_behind 0 (items w.trace)) [] (commits_in w)) (once : (t : Token) → times t (served_of (commits_in w)) ≤ 1) (before behind : List Line) (l : Line) (here : w.trace ≡ before ++ l ∷ behind) (t : Token) (response : Response) where
-  served_answer : (token : Token) (r : Request) (now : ℕ) (handed : Bool) (fresh : Key × Secret) → l.done.commit ≡ Some (Served token r now handed fresh)
+  served_answer : (token : Token) (r : Request) (now : ℕ) (handed : Bool) (fresh : Key × Secret) → l.commit ≡ Some (Served token r now handed fresh)
       → reply_of m (after m nothing_stored (commits_of (items before))) (Served token r now handed fresh) ≡ Some (t, response) → IsAnswer m w before l t response
   served_answer token r now handed fresh is same =
       let c = Served token r now handed fresh in
@@ -55,13 +56,13 @@ module _ (m : EngineMeaning) (w : World) (stands : AllMayStand m (arrival_behind
         once = omega (arith, once t, ap (λ cs. times t (served_of cs)) at, ap (times t) (flat_map-append served_by (commits_of (items before)) (c ∷ commits_of (items behind))), times_more t (served_of (commits_of (items before))) (token ∷ served_of (commits_of (items behind))), ap one_if (ap (same_token t) mine ∙ token_self t));
       }
 
-  by_commit : (o : Option Commit) → l.done.commit ≡ o → In (t, response) (replies_with m (after m nothing_stored (commits_of (items before))) o) → IsAnswer m w before l t response
+  by_commit : (o : Option Commit) → l.commit ≡ o → In (t, response) (replies_with m (after m nothing_stored (commits_of (items before))) o) → IsAnswer m w before l t response
   by_commit None is i = absurd i
   by_commit (Some (Served token r now handed fresh)) is i = ⊎_elim (λ e. served_answer token r now handed fresh is (ap (λ (p : Token × Response). Some p) e)) (λ (x : ⊥). absurd x) i
   by_commit (Some (Expired k now)) is i = absurd i
 
-  by_line : (b : Bool) → cond b (IsWhole m (after m nothing_stored (commits_of (items before))) l) (IsSilent l) → In (t, response) l.done.replies → IsAnswer m w before l t response
-  by_line true h i = by_commit l.done.commit refl (subst (In (t, response)) h.fit.replies i)
+  by_line : (b : Bool) → cond b (IsWhole m (after m nothing_stored (commits_of (items before))) l) (IsSilent l) → In (t, response) (item_at l).replies → IsAnswer m w before l t response
+  by_line true h i = by_commit l.commit refl (subst (In (t, response)) h.fit.replies i)
   by_line false h i = absurd (subst (In (t, response)) h.replies i)
 
 pub are_answers : (m : EngineMeaning) (w : World) → AreFitLines m nothing_stored w.trace → AllMayStand m (arrival_behind 0 (items w.trace)) [] (commits_in w) → ((t : Token) → times t (served_of (commits_in w)) ≤ 1) → AreAnswers m w

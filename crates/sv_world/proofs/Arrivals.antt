@@ -5,7 +5,8 @@ use Rattle.std.proofs.lemmas.Bool.{eqb-true, and_parts, and_from}
 use Rattle.std.proofs.lemmas.List.{map-append}
 use Rattle.sv_model.specs.declared.key.Token.{Token}
 use Rattle.sv_model.specs.Trace.{Item, commits_of, asked_of, same_token, times, is_of, arrival_behind}
-use Rattle.sv_world.specs.World.{Line, items}
+use Rattle.sv_world.specs.declared.line.Line.{Line}
+use Rattle.sv_world.specs.World.{items, item_at}
 
 abbrev pub one_if : Bool → ℕ
 one_if b = cond b 1 0
@@ -54,5 +55,5 @@ arrival_new before (x ∷ is) i t h new = split (λ at k. arrival_new at is i t 
     split rest true e = absurd (omega (arith, h, times_more t (option_to_list x.asked) (asked_of is), times_one t x.asked, ap one_if e))
     split rest false e = omega (arith, rest (before + length (option_to_list x.commit)) (omega (arith, h, times_more t (option_to_list x.asked) (asked_of is))), length-append (option_to_list x.commit) (commits_of is))
 
-pub items_snoc : (trace : List Line) (l : Line) → items (trace ++ l ∷ []) ≡ items trace ++ l.done ∷ []
-items_snoc trace l = map-append (λ (x : Line). x.done) trace (l ∷ [])
+pub items_snoc : (trace : List Line) (l : Line) → items (trace ++ l ∷ []) ≡ items trace ++ (item_at l) ∷ []
+items_snoc trace l = map-append item_at trace (l ∷ [])

@@ -15,7 +15,9 @@ use Rattle.sv_model.specs.declared.state.KeyState.{KeyState}
 use Rattle.sv_model.specs.declared.state.KeyState.TheVariants.{Active}
 use Rattle.sv_model.specs.Engine.{EngineMeaning}
 use Rattle.sv_model.specs.Trace.{replies_of}
-use Rattle.sv_world.specs.World.{Cluster, Asks, Moves, Whole, Torn, Restart, World, nothing_happened, run, items, records_at}
+use Rattle.sv_model.specs.declared.input.Input.TheVariants as input
+use Rattle.sv_world.specs.declared.event.WorldEvent.TheVariants.{Ask, Torn, Restart}
+use Rattle.sv_world.specs.World.{Cluster, World, nothing_happened, run, items, records_at}
 
 -- it makes a session for each request
 abbrev makes : Response → Session → EngineMeaning
@@ -26,7 +28,7 @@ two = record { nodes = 2; deadline = 30 }
 
 module _ (response : Response) (s : Session) (r : Request) (moment : Moment) where
   abbrev asked : World
-  asked = run (makes response s) two nothing_happened (Restart 0 ∷ Whole moment (Asks 0 7 r) ∷ [])
+  asked = run (makes response s) two nothing_happened (Restart 0 ∷ Ask 0 moment 7 r ∷ [])
 
   replies : replies_of (items asked.trace) ≡ (record { number = 7; node = 0; boot = 1 }, response) ∷ []
   replies = rw (len-empty key_cmp KeyState) refl
@@ -36,7 +38,7 @@ module _ (response : Response) (s : Session) (r : Request) (moment : Moment) whe
 
   -- the session goes to the other node, cut behind its record; then it is sent there again
   abbrev moved : World
-  moved = run (makes response s) two nothing_happened (Restart 0 ∷ Restart 1 ∷ Whole moment (Asks 0 7 r) ∷ Torn moment (Moves 0 (record { home = 0; serial = 1 }) 1) true ∷ [])
+  moved = run (makes response s) two nothing_happened (Restart 0 ∷ Restart 1 ∷ Ask 0 moment 7 r ∷ Torn 0 moment (input.Move (record { home = 0; serial = 1 }) 1) true ∷ [])
 
   sent : records_at 0 moved.trace ≡ Boot 1 ∷ CommitRecord Unchanged (ChangeAlive (record { home = 0; serial = 1 }) s) ∷ SentRecord (record { home = 0; serial = 1 }) 2 1 s ∷ []
   sent = rw (len-empty key_cmp KeyState, get-insert keys_total empty (record { home = 0; serial = 1 }) (Active 1 s) (record { home = 0; serial = 1 })) refl

@@ -1,26 +1,35 @@
 -- An event with a fault changes nothing; any other adds its line.
-use Rattle.std.proofs.Common.{◌≡◌, ◌==◌, ◌&&◌, Bool, true, false, cond, Option, Some, None, [], ◌∷◌, ◌++◌, refl, sym, ap, subst}
-use Rattle.std.specs.Prelude.{nat_lt, not, is_some}
-use Rattle.sv_model.specs.declared.key.Moment.{Moment}
+use Rattle.std.proofs.Common.{◌≡◌, ◌&&◌, Bool, true, false, cond, Option, Some, None, [], ◌∷◌, ◌++◌, refl, sym, ap, subst}
+use Rattle.std.specs.Prelude.{not, is_some}
 use Rattle.sv_model.specs.Engine.{EngineMeaning}
-use Rattle.sv_model.specs.NodeState.{last_number}
-use Rattle.sv_model.specs.Trace.{asked_of, asked_by}
-use Rattle.sv_world.specs.World.{Cluster, Event, Whole, Torn, Crash, Restart, TornRestart, Line, World, durable_at, stopped, started, items, whole, cut, halt, Call, call_of, token_in, is_unused, is_ready, is_down, decision, steps, tears, boots, happens}
-use Rattle.sv_world.specs.Faults.{Fault, NoNode, Running, NotRunning, NoPacket, TokenUsed, step_fault, call_fault, start_fault, stop_fault, fault_of, IsFaulty}
+use Rattle.sv_model.specs.Trace.{asked_of}
+use Rattle.sv_world.specs.declared.event.WorldEvent.{WorldEvent}
+use Rattle.sv_world.specs.declared.event.WorldEvent.TheVariants.{Ask, Deliver, Poke, Tick, Move, Crash, Torn, Restart, TornRestart}
+use Rattle.sv_world.specs.declared.line.Line.{Line}
+use Rattle.sv_world.specs.World.{Cluster, World, stopped, started, items, whole, cut, halt, Call, call_of, is_unused, is_ready, decision, steps, tears, boots, happens, token_of_call, is_there, is_spent, starts}
+use Rattle.sv_world.specs.declared.fault.WorldFault.{WorldFault}
+use Rattle.sv_world.specs.declared.fault.WorldFault.TheVariants.{NoNode, Running, NotRunning, NoPacket, TokenUsed}
+use Rattle.sv_world.specs.Sent.{may_come}
+use Rattle.sv_model.specs.NodeState.{Durable}
+use Rattle.sv_world.specs.World.{Place}
+use Rattle.std.proofs.Common.{ℕ}
+use Rattle.sv_world.specs.Faults.{step_fault, call_fault, start_fault, stop_fault, fault_of, IsFaulty}
 
-step_none : (a b u : Bool) (f : Fault) → step_fault a b u ≡ Some f → (a && (b && u)) ≡ false
-step_none false b u f h = refl
-step_none true false u f h = refl
-step_none true true false f h = refl
-step_none true true true f h = absurd (let no : None ≡ Some f = h in cc)
+step_none : (a b s u : Bool) (f : WorldFault) → step_fault a b s u ≡ Some f → (a && (b && (s && u))) ≡ false
+step_none false b s u f h = refl
+step_none true false s u f h = refl
+step_none true true false u f h = refl
+step_none true true true false f h = refl
+step_none true true true true f h = absurd (let no : None ≡ Some f = h in cc)
 
-step_goes : (a b u : Bool) → step_fault a b u ≡ None → (a && (b && u)) ≡ true
-step_goes false b u h = absurd (let no : Some NoNode ≡ None = h in cc)
-step_goes true false u h = absurd (let no : Some NotRunning ≡ None = h in cc)
-step_goes true true false h = absurd (let no : Some TokenUsed ≡ None = h in cc)
-step_goes true true true h = refl
+step_goes : (a b s u : Bool) → step_fault a b s u ≡ None → (a && (b && (s && u))) ≡ true
+step_goes false b s u h = absurd (let no : Some NoNode ≡ None = h in cc)
+step_goes true false s u h = absurd (let no : Some NotRunning ≡ None = h in cc)
+step_goes true true false u h = absurd (let no : Some NoPacket ≡ None = h in cc)
+step_goes true true true false h = absurd (let no : Some TokenUsed ≡ None = h in cc)
+step_goes true true true true h = refl
 
-start_none : (a b : Bool) (f : Fault) → start_fault a b ≡ Some f → (a && not b) ≡ false
+start_none : (a b : Bool) (f : WorldFault) → start_fault a b ≡ Some f → (a && not b) ≡ false
 start_none false b f h = refl
 start_none true true f h = refl
 start_none true false f h = absurd (let no : None ≡ Some f = h in cc)
@@ -30,7 +39,7 @@ start_goes false b h = absurd (let no : Some NoNode ≡ None = h in cc)
 start_goes true true h = absurd (let no : Some Running ≡ None = h in cc)
 start_goes true false h = refl
 
-stop_none : (a b : Bool) (f : Fault) → stop_fault a b ≡ Some f → (a && b) ≡ false
+stop_none : (a b : Bool) (f : WorldFault) → stop_fault a b ≡ Some f → (a && b) ≡ false
 stop_none false b f h = refl
 stop_none true false f h = refl
 stop_none true true f h = absurd (let no : None ≡ Some f = h in cc)
@@ -41,56 +50,81 @@ stop_goes true false h = absurd (let no : Some NotRunning ≡ None = h in cc)
 stop_goes true true h = refl
 
 -- a world with one more line, of the event
-pub record Adds (w v : World) (e : Event) : Type 0 where
+pub record Adds (w v : World) (e : WorldEvent) : Type 0 where
   pub line : Line
   pub event : line.event ≡ e
   pub trace : v.trace ≡ w.trace ++ line ∷ []
 
-if_so : (b : Bool) (x y w : World) (e : Event) → b ≡ true → Adds w x e → Adds w (cond b x y) e
+if_so : (b : Bool) (x y w : World) (e : WorldEvent) → b ≡ true → Adds w x e → Adds w (cond b x y) e
 if_so b x y w e is h = subst (λ t. Adds w (cond t x y) e) (sym is) h
 
-either : (b : Bool) (x y w : World) (e : Event) → Adds w x e → Adds w y e → Adds w (cond b x y) e
+either : (b : Bool) (x y w : World) (e : WorldEvent) → Adds w x e → Adds w y e → Adds w (cond b x y) e
 either true x y w e g h = g
 either false x y w e g h = h
 
 module _ (m : EngineMeaning) (c : Cluster) (w : World) where
-  steps_still : (e : Event) (moment : Moment) (call : Option Call) (f : Fault) → call_fault c w call ≡ Some f → steps m c w e moment call ≡ w
-  steps_still e moment None f h = refl
-  steps_still e moment (Some call) f h = ap (λ t. cond t (whole c w e call.node call.input (decision m c w moment call.node call.input)) w) (step_none (nat_lt call.node c.nodes) (w.places call.node).up (is_unused (asked_of (items w.trace)) (asked_by (token_in c w call.node) call.input)) f h)
+  -- the four tests of a step
+  abbrev up : Call → Bool
+  up call = (w.places call.node).up
 
-  tears_still : (e : Event) (moment : Moment) (kept : Bool) (call : Option Call) (f : Fault) → call_fault c w call ≡ Some f → tears m c w e moment kept call ≡ w
-  tears_still e moment kept None f h = refl
-  tears_still e moment kept (Some call) f h =
-      let d = decision m c w moment call.node call.input in
-      ap (λ t. cond t (cond (kept && is_some d.entry) (cut c w e call.node call.input d) (halt w e call.node (asked_by (token_in c w call.node) call.input))) w) (step_none (nat_lt call.node c.nodes) (w.places call.node).up (is_unused (asked_of (items w.trace)) (asked_by (token_in c w call.node) call.input)) f h)
+  abbrev sent : Call → Bool
+  sent call = may_come w.packets call.input
 
-  still : (e : Event) (f : Fault) → fault_of c w e ≡ Some f → happens m c w e ≡ w
-  still (Whole moment action) f h = steps_still (Whole moment action) moment (call_of w action) f h
-  still (Torn moment action kept) f h = tears_still (Torn moment action kept) moment kept (call_of w action) f h
-  still (Crash n) f h = ap (λ t. cond t (halt w (Crash n) n None) w) (stop_none (nat_lt n c.nodes) (w.places n).up f h)
-  still (Restart n) f h = ap (λ t. cond t (cond ((durable_at w n).boot == last_number) (halt w (Restart n) n None) (boots w (Restart n) n started)) w) (start_none (nat_lt n c.nodes) (w.places n).up f h)
-  still (TornRestart n kept) f h = ap (λ t. cond t (cond (kept && not ((durable_at w n).boot == last_number)) (boots w (TornRestart n kept) n stopped) (halt w (TornRestart n kept) n None)) w) (start_none (nat_lt n c.nodes) (w.places n).up f h)
+  abbrev unused : Call → Bool
+  unused call = is_unused (asked_of (items w.trace)) (token_of_call c w call)
 
-  steps_add : (e : Event) (moment : Moment) (call : Option Call) → call_fault c w call ≡ None → Adds w (steps m c w e moment call) e
-  steps_add e moment None h = absurd (let no : Some NoPacket ≡ None = h in cc)
-  steps_add e moment (Some call) h = if_so (is_ready c w call.node call.input) (whole c w e call.node call.input (decision m c w moment call.node call.input)) w w e (step_goes (nat_lt call.node c.nodes) (w.places call.node).up (is_unused (asked_of (items w.trace)) (asked_by (token_in c w call.node) call.input)) h) (record { line = _; event = refl; trace = refl })
+  steps_still : (e : WorldEvent) (call : Option Call) (f : WorldFault) → call_fault c w call ≡ Some f → steps m c w e call ≡ w
+  steps_still e None f h = refl
+  steps_still e (Some call) f h = ap (λ t. cond t (whole c w e call (decision m c w call)) w) (step_none (is_there c call.node) (up call) (sent call) (unused call) f h)
 
-  tears_add : (e : Event) (moment : Moment) (kept : Bool) (call : Option Call) → call_fault c w call ≡ None → Adds w (tears m c w e moment kept call) e
-  tears_add e moment kept None h = absurd (let no : Some NoPacket ≡ None = h in cc)
-  tears_add e moment kept (Some call) h =
-      let d = decision m c w moment call.node call.input in
-      let asked = asked_by (token_in c w call.node) call.input in
-      if_so (is_ready c w call.node call.input) (cond (kept && is_some d.entry) (cut c w e call.node call.input d) (halt w e call.node asked)) w w e (step_goes (nat_lt call.node c.nodes) (w.places call.node).up (is_unused (asked_of (items w.trace)) (asked_by (token_in c w call.node) call.input)) h)
-      (either (kept && is_some d.entry) (cut c w e call.node call.input d) (halt w e call.node asked) w e (record { line = _; event = refl; trace = refl }) (record { line = _; event = refl; trace = refl }))
+  tears_still : (e : WorldEvent) (kept : Bool) (call : Option Call) (f : WorldFault) → call_fault c w call ≡ Some f → tears m c w e kept call ≡ w
+  tears_still e kept None f h = refl
+  tears_still e kept (Some call) f h =
+      let d = decision m c w call in
+      ap (λ t. cond t (cond (kept && is_some d.entry) (cut c w e call d) (halt w e call.node (token_of_call c w call))) w) (step_none (is_there c call.node) (up call) (sent call) (unused call) f h)
 
-  added : (e : Event) → fault_of c w e ≡ None → Adds w (happens m c w e) e
-  added (Whole moment action) h = steps_add (Whole moment action) moment (call_of w action) h
-  added (Torn moment action kept) h = tears_add (Torn moment action kept) moment kept (call_of w action) h
-  added (Crash n) h = if_so (nat_lt n c.nodes && (w.places n).up) (halt w (Crash n) n None) w w (Crash n) (stop_goes (nat_lt n c.nodes) (w.places n).up h) (record { line = _; event = refl; trace = refl })
-  added (Restart n) h = if_so (is_down c w n) (cond ((durable_at w n).boot == last_number) (halt w (Restart n) n None) (boots w (Restart n) n started)) w w (Restart n) (start_goes (nat_lt n c.nodes) (w.places n).up h)
-      (either ((durable_at w n).boot == last_number) (halt w (Restart n) n None) (boots w (Restart n) n started) w (Restart n) (record { line = _; event = refl; trace = refl }) (record { line = _; event = refl; trace = refl }))
-  added (TornRestart n kept) h = if_so (is_down c w n) (cond (kept && not ((durable_at w n).boot == last_number)) (boots w (TornRestart n kept) n stopped) (halt w (TornRestart n kept) n None)) w w (TornRestart n kept) (start_goes (nat_lt n c.nodes) (w.places n).up h)
-      (either (kept && not ((durable_at w n).boot == last_number)) (boots w (TornRestart n kept) n stopped) (halt w (TornRestart n kept) n None) w (TornRestart n kept) (record { line = _; event = refl; trace = refl }) (record { line = _; event = refl; trace = refl }))
+  starts_still : (e : WorldEvent) (n : ℕ) (kept : Bool) (place : Durable → Place) (f : WorldFault) → start_fault (is_there c n) (w.places n).up ≡ Some f → starts c w e n kept place ≡ w
+  starts_still e n kept place f h = ap (λ t. cond t (cond (kept && not (is_spent w n)) (boots w e n place) (halt w e n None)) w) (start_none (is_there c n) (w.places n).up f h)
 
-  pub faulty : (e : Event) → IsFaulty m c w e
+  still : (e : WorldEvent) (f : WorldFault) → fault_of c w e ≡ Some f → happens m c w e ≡ w
+  still (Ask n moment token r) f h = steps_still (Ask n moment token r) (call_of w.packets (Ask n moment token r)) f h
+  still (Deliver moment place) f h = steps_still (Deliver moment place) (call_of w.packets (Deliver moment place)) f h
+  still (Poke n moment) f h = steps_still (Poke n moment) (call_of w.packets (Poke n moment)) f h
+  still (Tick n moment) f h = steps_still (Tick n moment) (call_of w.packets (Tick n moment)) f h
+  still (Move n moment k to) f h = steps_still (Move n moment k to) (call_of w.packets (Move n moment k to)) f h
+  still (Torn n moment given kept) f h = tears_still (Torn n moment given kept) kept (call_of w.packets (Torn n moment given kept)) f h
+  still (Crash n) f h = ap (λ t. cond t (halt w (Crash n) n None) w) (stop_none (is_there c n) (w.places n).up f h)
+  still (Restart n) f h = starts_still (Restart n) n true started f h
+  still (TornRestart n kept) f h = starts_still (TornRestart n kept) n kept stopped f h
+
+  steps_add : (e : WorldEvent) (call : Option Call) → call_fault c w call ≡ None → Adds w (steps m c w e call) e
+  steps_add e None h = absurd (let no : Some NoPacket ≡ None = h in cc)
+  steps_add e (Some call) h = if_so (is_ready c w call) (whole c w e call (decision m c w call)) w w e (step_goes (is_there c call.node) (up call) (sent call) (unused call) h) (record { line = _; event = refl; trace = refl })
+
+  tears_add : (e : WorldEvent) (kept : Bool) (call : Option Call) → call_fault c w call ≡ None → Adds w (tears m c w e kept call) e
+  tears_add e kept None h = absurd (let no : Some NoPacket ≡ None = h in cc)
+  tears_add e kept (Some call) h =
+      let d = decision m c w call in
+      let cuts = cut c w e call d in
+      let halts = halt w e call.node (token_of_call c w call) in
+      if_so (is_ready c w call) (cond (kept && is_some d.entry) cuts halts) w w e (step_goes (is_there c call.node) (up call) (sent call) (unused call) h)
+      (either (kept && is_some d.entry) cuts halts w e (record { line = _; event = refl; trace = refl }) (record { line = _; event = refl; trace = refl }))
+
+  starts_add : (e : WorldEvent) (n : ℕ) (kept : Bool) (place : Durable → Place) → start_fault (is_there c n) (w.places n).up ≡ None → Adds w (starts c w e n kept place) e
+  starts_add e n kept place h =
+      if_so (is_there c n && not (w.places n).up) (cond (kept && not (is_spent w n)) (boots w e n place) (halt w e n None)) w w e (start_goes (is_there c n) (w.places n).up h)
+      (either (kept && not (is_spent w n)) (boots w e n place) (halt w e n None) w e (record { line = _; event = refl; trace = refl }) (record { line = _; event = refl; trace = refl }))
+
+  added : (e : WorldEvent) → fault_of c w e ≡ None → Adds w (happens m c w e) e
+  added (Ask n moment token r) h = steps_add (Ask n moment token r) (call_of w.packets (Ask n moment token r)) h
+  added (Deliver moment place) h = steps_add (Deliver moment place) (call_of w.packets (Deliver moment place)) h
+  added (Poke n moment) h = steps_add (Poke n moment) (call_of w.packets (Poke n moment)) h
+  added (Tick n moment) h = steps_add (Tick n moment) (call_of w.packets (Tick n moment)) h
+  added (Move n moment k to) h = steps_add (Move n moment k to) (call_of w.packets (Move n moment k to)) h
+  added (Torn n moment given kept) h = tears_add (Torn n moment given kept) kept (call_of w.packets (Torn n moment given kept)) h
+  added (Crash n) h = if_so (is_there c n && (w.places n).up) (halt w (Crash n) n None) w w (Crash n) (stop_goes (is_there c n) (w.places n).up h) (record { line = _; event = refl; trace = refl })
+  added (Restart n) h = starts_add (Restart n) n true started h
+  added (TornRestart n kept) h = starts_add (TornRestart n kept) n kept stopped h
+
+  pub faulty : (e : WorldEvent) → IsFaulty m c w e
   faulty e = record { still = still e; adds = λ h. let a = added e h in (a.line, a.event, a.trace) }

@@ -1,3 +1,5 @@
+pub mod SentLemmas
+pub mod Events
 pub mod OneKey
 pub mod Keys
 pub mod Rows

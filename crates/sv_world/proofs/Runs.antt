@@ -1,9 +1,8 @@
 -- Every list of events keeps the invariant.
-use Rattle.std.proofs.Common.{◌≡◌, ◌≢◌, ℕ, ◌+◌, ◌<◌, ◌≤◌, ◌==◌, ◌&&◌, Bool, true, cond, Option, Some, None, List, [], ◌∷◌, ◌++◌, arith, refl, sym, ap, ◌∙◌, subst, inl, inr, ⊎_elim, eq-eqb, append-nil}
-use Rattle.std.specs.Prelude.{nat_lt, not, is_some, slice_get}
-use Rattle.std.specs.Option.{option_map, option_to_list}
+use Rattle.std.proofs.Common.{◌≡◌, ◌≢◌, ℕ, ◌<◌, ◌≤◌, ◌==◌, true, Option, Some, None, List, [], ◌∷◌, ◌++◌, arith, refl, sym, ap, ◌∙◌, subst, inl, inr, ⊎_elim, eq-eqb, append-nil}
+use Rattle.std.specs.Option.{option_to_list}
 use Rattle.std.specs.FinMap.{get, get-empty}
-use Rattle.std.proofs.lemmas.Bool.{cases_eq, ne_eqb, cond-true, cond-false, cond_both, and_parts, ltb-true}
+use Rattle.std.proofs.lemmas.Bool.{cases_eq, ne_eqb, cond-true, cond-false}
 use Rattle.std.proofs.lemmas.List.{map-append}
 use Rattle.std.proofs.lemmas.List.Concat.{flat_map-append}
 use Rattle.sv_model.specs.declared.key.Key.{Key}
@@ -16,22 +15,24 @@ use Rattle.sv_model.specs.declared.packet.Packet.{Packet}
 use Rattle.sv_model.specs.declared.input.Input.{Input}
 use Rattle.sv_model.specs.declared.input.Input.TheVariants.{Ask, Packet as Incoming, Poke, Tick, Move}
 use Rattle.sv_model.specs.declared.record.Record.{Record}
-use Rattle.sv_model.specs.declared.record.Record.TheVariants.{Boot}
 use Rattle.sv_model.specs.Keys.{key_cmp}
 use Rattle.sv_model.specs.Engine.{EngineMeaning, TouchesOnlyHanded}
-use Rattle.sv_model.specs.NodeState.{Durable, last_number}
+use Rattle.sv_model.specs.NodeState.{Durable}
 use Rattle.sv_model.specs.Decision.{Decision}
-use Rattle.sv_model.specs.Migration.{addressee}
 use Rattle.sv_model.specs.Step.{left}
-use Rattle.sv_model.specs.Trace.{Item, commits_of, asked_of, asked_by}
-use Rattle.sv_model.specs.Membership.{In, with_last}
+use Rattle.sv_model.specs.Trace.{Item, commits_of}
+use Rattle.sv_model.specs.Membership.{with_last}
 use Rattle.sv_model.specs.Outputs.{sends_in}
 use Rattle.sv_model.specs.Opening.{opening_of}
 use Rattle.sv_world.specs.Life.{IsLive, Life, Unborn}
-use Rattle.sv_world.specs.World.{Cluster, Event, Action, Asks, Delivers, Pokes, Ticks, Moves, Whole, Torn, Crash, Restart, TornRestart, Place, Line, World, set_place, durable_at, stopped, started, nothing_happened, items, commits_in, openings_of, whole, cut, becomes, halt, booted, Call, call_of, token_in, is_unused, is_ready, is_down, decision, steps, tears, boots, happens, run}
+use Rattle.sv_world.specs.declared.event.WorldEvent.{WorldEvent}
+use Rattle.sv_world.specs.declared.line.Line.{Line}
+use Rattle.sv_world.specs.World.{Cluster, Place, World, set_place, durable_at, stopped, nothing_happened, items, commits_in, openings_of, whole, cut, becomes, Call, decision, happens, run, item_at, boot_record}
 use Rattle.sv_world.specs.Sane.{Sane, granted, acked, opened, store_of}
 use Rattle.sv_world.specs.Headline.{states, IsLiveAt, IsOpening}
-use Rattle.sv_world.proofs.Keys.{got}
+use Rattle.sv_model.specs.Node.{decided}
+use Rattle.sv_world.specs.World.{setting_of}
+use Rattle.sv_world.proofs.Events.{IsSentIn, IsReady, behind, behind_all}
 use Rattle.sv_world.proofs.Sending.{lives_packets}
 use Rattle.sv_world.proofs.OneKey.{lives_once, map_has_live, live_of_map}
 use Rattle.sv_world.proofs.Steps.{Redisk, keys_of, Sound, decide_sound}
@@ -52,11 +53,11 @@ last_is xs (Some x) = refl
 pub openings_snoc : (trace : List Line) (l : Line) → openings_of (trace ++ l ∷ []) ≡ with_last (openings_of trace) (opening_of l.entry)
 openings_snoc trace l = flat_map-append (λ (x : Line). option_to_list (opening_of x.entry)) trace (l ∷ []) ∙ last_is (openings_of trace) (opening_of l.entry)
 
-pub commits_snoc : (trace : List Line) (l : Line) → commits_of (items (trace ++ l ∷ [])) ≡ with_last (commits_of (items trace)) l.done.commit
-commits_snoc trace l = ap commits_of (map-append (λ (x : Line). x.done) trace (l ∷ [])) ∙ flat_map-append (λ (i : Item). option_to_list i.commit) (items trace) (l.done ∷ []) ∙ last_is (commits_of (items trace)) l.done.commit
+pub commits_snoc : (trace : List Line) (l : Line) → commits_of (items (trace ++ l ∷ [])) ≡ with_last (commits_of (items trace)) l.commit
+commits_snoc trace l = ap commits_of (map-append item_at trace (l ∷ [])) ∙ flat_map-append (λ (i : Item). option_to_list i.commit) (items trace) (item_at l ∷ []) ∙ last_is (commits_of (items trace)) l.commit
 
 -- the invariant of a world, from that of its lists
-pub inv_by : (m : EngineMeaning) (c : Cluster) (places : ℕ → Place) (packets : List Packet) (trace : List Line) (l : Line) → Sane m c (disks_of places) packets (with_last (openings_of trace) (opening_of l.entry)) (with_last (commits_of (items trace)) l.done.commit)
+pub inv_by : (m : EngineMeaning) (c : Cluster) (places : ℕ → Place) (packets : List Packet) (trace : List Line) (l : Line) → Sane m c (disks_of places) packets (with_last (openings_of trace) (opening_of l.entry)) (with_last (commits_of (items trace)) l.commit)
     → Inv m c (record { places = places; packets = packets; trace = trace ++ l ∷ [] })
 inv_by m c places packets trace l s = record { sane = subst (λ os. Sane m c (disks_of places) packets os (commits_of (items (trace ++ l ∷ [])))) (sym (openings_snoc trace l)) (subst (λ cs. Sane m c (disks_of places) packets (with_last (openings_of trace) (opening_of l.entry)) cs) (sym (commits_snoc trace l)) s) }
 
@@ -68,19 +69,20 @@ redisk places n p = record { mine = ap (λ (z : Place). z.node.durable) (cond-tr
 abbrev pub SoundAt : EngineMeaning → Cluster → World → ℕ → Decision → Type 0
 SoundAt m c w n d = Sound m c (disks_of w.places) w.packets (openings_of w.trace) (commits_in w) n (durable_at w n) d
 
-whole_keeps : (m : EngineMeaning) (c : Cluster) (w : World) (e : Event) (n : ℕ) (i : Input) (d : Decision) → SoundAt m c w n d → Inv m c (whole c w e n i d)
-whole_keeps m c w e n i d s =
+whole_keeps : (m : EngineMeaning) (c : Cluster) (w : World) (e : WorldEvent) (call : Call) (d : Decision) → SoundAt m c w call.node d → Inv m c (whole c w e call d)
+whole_keeps m c w e call d s =
+    let n = call.node in
     let p : Place = record { up = true; node = left d } in
     let r = redisk w.places n p in
     let a = s.durable _ r in
     let l = lives_packets (keys_of (disks_of (set_place w.places n p))) w.packets _ _ (sends_in d.outputs) (s.just _ r) (record { each = a.lives }) in
     inv_by m c (set_place w.places n p) (w.packets ++ sends_in d.outputs) w.trace _ (record { lives = l.each; unmade = a.unmade; made = a.made; lawful = a.lawful })
 
-cut_keeps : (m : EngineMeaning) (c : Cluster) (w : World) (e : Event) (n : ℕ) (i : Input) (d : Decision) → SoundAt m c w n d → Inv m c (cut c w e n i d)
-cut_keeps m c w e n i d s = inv_by m c (set_place w.places n (stopped d.durable)) w.packets w.trace _ (s.durable _ (redisk w.places n (stopped d.durable)))
+cut_keeps : (m : EngineMeaning) (c : Cluster) (w : World) (e : WorldEvent) (call : Call) (d : Decision) → SoundAt m c w call.node d → Inv m c (cut c w e call d)
+cut_keeps m c w e call d s = inv_by m c (set_place w.places call.node (stopped d.durable)) w.packets w.trace _ (s.durable _ (redisk w.places call.node (stopped d.durable)))
 
 -- a node with the same keys and the same next serial
-alike_keeps : (m : EngineMeaning) (c : Cluster) (w : World) (e : Event) (n : ℕ) (p : Place) (entry : Option Record) (asked : Option Token) → opening_of entry ≡ None → p.node.durable.keys ≡ (durable_at w n).keys → p.node.durable.next ≡ (durable_at w n).next → Inv m c w → Inv m c (becomes w e n p entry asked)
+alike_keeps : (m : EngineMeaning) (c : Cluster) (w : World) (e : WorldEvent) (n : ℕ) (p : Place) (entry : Option Record) (asked : Option Token) → opening_of entry ≡ None → p.node.durable.keys ≡ (durable_at w n).keys → p.node.durable.next ≡ (durable_at w n).next → Inv m c w → Inv m c (becomes w e n p entry asked)
 alike_keeps m c w e n p entry asked none keys next inv =
     let j = inv.sane in
     let r = redisk w.places n p in
@@ -96,70 +98,28 @@ alike_keeps m c w e n p entry asked none keys next inv =
 
 -- ---- an event
 
-abbrev pub IsSentIn : World → Input → Type 0
-IsSentIn w (Ask token r) = Unit {0}
-IsSentIn w (Incoming p) = In p w.packets
-IsSentIn w Poke = Unit {0}
-IsSentIn w Tick = Unit {0}
-IsSentIn w (Move k to) = Unit {0}
-
--- a packet that is given was sent
-delivered : (w : World) (o : Option Packet) (place : ℕ) (call : Call) → slice_get w.packets place ≡ o → option_map {U = Call} (λ p. record { node = addressee p; input = Incoming p }) o ≡ Some call → IsSentIn w call.input
-delivered w None place call at is = absurd (let no : None ≡ Some call = is in cc)
-delivered w (Some p) place call at is = let same : record { node = addressee p; input = Incoming p } ≡ call = cc in subst (λ (x : Call). IsSentIn w x.input) same (got w.packets place p at)
-
-pub call_sent : (w : World) (a : Action) (call : Call) → call_of w a ≡ Some call → IsSentIn w call.input
-call_sent w (Asks n token r) call is = let same : record { node = n; input = Ask token r } ≡ call = cc in subst (λ (x : Call). IsSentIn w x.input) same tt
-call_sent w (Delivers place) call is = delivered w (slice_get w.packets place) place call refl is
-call_sent w (Pokes n) call is = let same : record { node = n; input = Poke } ≡ call = cc in subst (λ (x : Call). IsSentIn w x.input) same tt
-call_sent w (Ticks n) call is = let same : record { node = n; input = Tick } ≡ call = cc in subst (λ (x : Call). IsSentIn w x.input) same tt
-call_sent w (Moves n k to) call is = let same : record { node = n; input = Move k to } ≡ call = cc in subst (λ (x : Call). IsSentIn w x.input) same tt
-
--- such a node is there
-pub ready_inside : (c : Cluster) (w : World) (n : ℕ) (i : Input) → is_ready c w n i ≡ true → n < c.nodes
-ready_inside c w n i t = ltb-true n c.nodes (and_parts (nat_lt n c.nodes) ((w.places n).up && is_unused (asked_of (items w.trace)) (asked_by (token_in c w n) i)) t).0
-
 module _ (m : EngineMeaning) (touches : TouchesOnlyHanded m) (c : Cluster) where
-  pub sound_at : (w : World) (n : ℕ) (moment : Moment) (i : Input) → Inv m c w → n < c.nodes → IsSentIn w i → SoundAt m c w n (decision m c w moment n i)
-  sound_at w n moment (Ask token r) j inside sent = decide_sound m touches c (disks_of w.places) w.packets (openings_of w.trace) (commits_in w) j.sane n inside (w.places n).node refl moment (Ask token r) sent
-  sound_at w n moment (Incoming p) j inside sent = decide_sound m touches c (disks_of w.places) w.packets (openings_of w.trace) (commits_in w) j.sane n inside (w.places n).node refl moment (Incoming p) sent
-  sound_at w n moment Poke j inside sent = decide_sound m touches c (disks_of w.places) w.packets (openings_of w.trace) (commits_in w) j.sane n inside (w.places n).node refl moment Poke sent
-  sound_at w n moment Tick j inside sent = decide_sound m touches c (disks_of w.places) w.packets (openings_of w.trace) (commits_in w) j.sane n inside (w.places n).node refl moment Tick sent
-  sound_at w n moment (Move k to) j inside sent = decide_sound m touches c (disks_of w.places) w.packets (openings_of w.trace) (commits_in w) j.sane n inside (w.places n).node refl moment (Move k to) sent
+  sound_by : (w : World) (n : ℕ) (moment : Moment) (i : Input) → Inv m c w → n < c.nodes → IsSentIn w.packets i → SoundAt m c w n (decided m (setting_of c n) (w.places n).node moment i)
+  sound_by w n moment (Ask token r) j inside sent = decide_sound m touches c (disks_of w.places) w.packets (openings_of w.trace) (commits_in w) j.sane n inside (w.places n).node refl moment (Ask token r) sent
+  sound_by w n moment (Incoming p) j inside sent = decide_sound m touches c (disks_of w.places) w.packets (openings_of w.trace) (commits_in w) j.sane n inside (w.places n).node refl moment (Incoming p) sent
+  sound_by w n moment Poke j inside sent = decide_sound m touches c (disks_of w.places) w.packets (openings_of w.trace) (commits_in w) j.sane n inside (w.places n).node refl moment Poke sent
+  sound_by w n moment Tick j inside sent = decide_sound m touches c (disks_of w.places) w.packets (openings_of w.trace) (commits_in w) j.sane n inside (w.places n).node refl moment Tick sent
+  sound_by w n moment (Move k to) j inside sent = decide_sound m touches c (disks_of w.places) w.packets (openings_of w.trace) (commits_in w) j.sane n inside (w.places n).node refl moment (Move k to) sent
 
-  halt_keeps : (w : World) (e : Event) (n : ℕ) (asked : Option Token) → Inv m c w → Inv m c (halt w e n asked)
-  halt_keeps w e n asked j = alike_keeps m c w e n (stopped (durable_at w n)) None asked refl refl refl j
+  pub sound_at : (w : World) (call : Call) → Inv m c w → IsReady c w call → SoundAt m c w call.node (decision m c w call)
+  sound_at w call j r = sound_by w call.node call.moment call.input j r.inside r.sent
 
-  steps_keeps : (w : World) (e : Event) (moment : Moment) (call : Option Call) → ((x : Call) → call ≡ Some x → IsSentIn w x.input) → Inv m c w → Inv m c (steps m c w e moment call)
-  steps_keeps w e moment None sent j = j
-  steps_keeps w e moment (Some call) sent j = cond_both (is_ready c w call.node call.input) (whole c w e call.node call.input (decision m c w moment call.node call.input)) w (Inv m c)
-      (λ t. whole_keeps m c w e call.node call.input (decision m c w moment call.node call.input) (sound_at w call.node moment call.input j (ready_inside c w call.node call.input t) (sent call refl)))
-      (λ t. j)
+  pub happens_keeps : (w : World) (e : WorldEvent) → Inv m c w → Inv m c (happens m c w e)
+  happens_keeps w e j = behind m c w (Inv m c) e (record {
+    still = j;
+    whole_by = λ call r. whole_keeps m c w e call (decision m c w call) (sound_at w call j r);
+    cut_by = λ call r. cut_keeps m c w e call (decision m c w call) (sound_at w call j r);
+    halt_by = λ n asked _. alike_keeps m c w e n (stopped (durable_at w n)) None asked refl refl refl j;
+    boots_by = λ n p none same. alike_keeps m c w e n p (Some (boot_record w n)) None refl (ap (λ (d : Durable). d.keys) same) (ap (λ (d : Durable). d.next) same) j;
+  })
 
-  tears_keeps : (w : World) (e : Event) (moment : Moment) (kept : Bool) (call : Option Call) → ((x : Call) → call ≡ Some x → IsSentIn w x.input) → Inv m c w → Inv m c (tears m c w e moment kept call)
-  tears_keeps w e moment kept None sent j = j
-  tears_keeps w e moment kept (Some call) sent j =
-      let d = decision m c w moment call.node call.input in
-      cond_both (is_ready c w call.node call.input) (cond (kept && is_some d.entry) (cut c w e call.node call.input d) (halt w e call.node (asked_by (token_in c w call.node) call.input))) w (Inv m c)
-      (λ t. cond_both (kept && is_some d.entry) (cut c w e call.node call.input d) (halt w e call.node (asked_by (token_in c w call.node) call.input)) (Inv m c)
-      (λ u. cut_keeps m c w e call.node call.input d (sound_at w call.node moment call.input j (ready_inside c w call.node call.input t) (sent call refl)))
-      (λ u. halt_keeps w e call.node (asked_by (token_in c w call.node) call.input) j))
-      (λ t. j)
-
-  pub happens_keeps : (w : World) (e : Event) → Inv m c w → Inv m c (happens m c w e)
-  happens_keeps w (Whole moment action) j = steps_keeps w (Whole moment action) moment (call_of w action) (call_sent w action) j
-  happens_keeps w (Torn moment action kept) j = tears_keeps w (Torn moment action kept) moment kept (call_of w action) (call_sent w action) j
-  happens_keeps w (Crash n) j = cond_both (nat_lt n c.nodes && (w.places n).up) (halt w (Crash n) n None) w (Inv m c) (λ t. halt_keeps w (Crash n) n None j) (λ t. j)
-  happens_keeps w (Restart n) j = cond_both (is_down c w n) (cond ((durable_at w n).boot == last_number) (halt w (Restart n) n None) (boots w (Restart n) n started)) w (Inv m c)
-      (λ t. cond_both ((durable_at w n).boot == last_number) (halt w (Restart n) n None) (boots w (Restart n) n started) (Inv m c) (λ u. halt_keeps w (Restart n) n None j) (λ u. alike_keeps m c w (Restart n) n (started (booted (durable_at w n))) (Some (Boot ((durable_at w n).boot + 1))) None refl refl refl j))
-      (λ t. j)
-  happens_keeps w (TornRestart n kept) j = cond_both (is_down c w n) (cond (kept && not ((durable_at w n).boot == last_number)) (boots w (TornRestart n kept) n stopped) (halt w (TornRestart n kept) n None)) w (Inv m c)
-      (λ t. cond_both (kept && not ((durable_at w n).boot == last_number)) (boots w (TornRestart n kept) n stopped) (halt w (TornRestart n kept) n None) (Inv m c) (λ u. alike_keeps m c w (TornRestart n kept) n (stopped (booted (durable_at w n))) (Some (Boot ((durable_at w n).boot + 1))) None refl refl refl j) (λ u. halt_keeps w (TornRestart n kept) n None j))
-      (λ t. j)
-
-  pub run_keeps : (w : World) (es : List Event) → Inv m c w → Inv m c (run m c w es)
-  run_keeps w [] j = j
-  run_keeps w (e ∷ es) j = run_keeps (happens m c w e) es (happens_keeps w e j)
+  pub run_keeps : (w : World) (es : List WorldEvent) → Inv m c w → Inv m c (run m c w es)
+  run_keeps w es j = behind_all m c (Inv m c) (Inv m c) happens_keeps (λ v e i _. happens_keeps v e i) w es j j
 
 pub at_first : (m : EngineMeaning) (c : Cluster) → Inv m c nothing_happened
 at_first m c = record {

@@ -1,39 +1,45 @@
--- The events that can't happen in a world.
-use Rattle.std.specs.Prelude.{nat_lt, Bool, cond, Option, Some, None, ◌≡◌, [], ◌∷◌, ◌++◌}
+-- The events that can't happen in a world, and why.
+use Rattle.std.specs.Prelude.{Bool, cond, Option, Some, None, ◌≡◌, [], ◌∷◌, ◌++◌}
 use Rattle.sv_model.specs.Engine.{EngineMeaning}
-use Rattle.sv_model.specs.Trace.{asked_of, asked_by}
-use Rattle.sv_world.specs.World.{Cluster, Event, Whole, Torn, Crash, Restart, TornRestart, Line, World, items, Call, call_of, token_in, is_unused, happens}
+use Rattle.sv_model.specs.Trace.{asked_of}
+use Rattle.sv_world.specs.declared.event.WorldEvent.{WorldEvent}
+use Rattle.sv_world.specs.declared.event.WorldEvent.TheVariants.{Ask, Deliver, Poke, Tick, Move, Crash, Torn, Restart, TornRestart}
+use Rattle.sv_world.specs.declared.fault.WorldFault.{WorldFault}
+use Rattle.sv_world.specs.declared.fault.WorldFault.TheVariants.{NoNode, Running, NotRunning, NoPacket, TokenUsed}
+use Rattle.sv_world.specs.declared.line.Line.{Line}
+use Rattle.sv_world.specs.Sent.{may_come}
+use Rattle.sv_world.specs.World.{Cluster, World, items, Call, call_of, token_of_call, is_unused, is_there, happens}
 
-pub data Fault : Type 0 where
-  NoNode : Fault
-  Running : Fault
-  NotRunning : Fault
-  NoPacket : Fault
-  TokenUsed : Fault
+-- of a step: whether its node is there, whether it runs, whether a packet was sent, whether a token is new
+abbrev pub step_fault : Bool → Bool → Bool → Bool → Option WorldFault
+step_fault there up sent unused =
+    cond there (cond up (cond sent (cond unused None (Some TokenUsed)) (Some NoPacket)) (Some NotRunning)) (Some NoNode)
 
--- of a node that is there, runs, and is given a token that is new
-abbrev pub step_fault : Bool → Bool → Bool → Option Fault
-step_fault there up unused = cond there (cond up (cond unused None (Some TokenUsed)) (Some NotRunning)) (Some NoNode)
-
-abbrev pub call_fault : Cluster → World → Option Call → Option Fault
+abbrev pub call_fault : Cluster → World → Option Call → Option WorldFault
 call_fault c w None = Some NoPacket
-call_fault c w (Some call) = step_fault (nat_lt call.node c.nodes) (w.places call.node).up (is_unused (asked_of (items w.trace)) (asked_by (token_in c w call.node) call.input))
+call_fault c w (Some call) =
+    step_fault (is_there c call.node) (w.places call.node).up (may_come w.packets call.input)
+    (is_unused (asked_of (items w.trace)) (token_of_call c w call))
 
-abbrev pub start_fault : Bool → Bool → Option Fault
+abbrev pub start_fault : Bool → Bool → Option WorldFault
 start_fault there up = cond there (cond up (Some Running) None) (Some NoNode)
 
-abbrev pub stop_fault : Bool → Bool → Option Fault
+abbrev pub stop_fault : Bool → Bool → Option WorldFault
 stop_fault there up = cond there (cond up None (Some NotRunning)) (Some NoNode)
 
--- the first that holds
-abbrev pub fault_of : Cluster → World → Event → Option Fault
-fault_of c w (Whole moment action) = call_fault c w (call_of w action)
-fault_of c w (Torn moment action kept) = call_fault c w (call_of w action)
-fault_of c w (Crash n) = stop_fault (nat_lt n c.nodes) (w.places n).up
-fault_of c w (Restart n) = start_fault (nat_lt n c.nodes) (w.places n).up
-fault_of c w (TornRestart n kept) = start_fault (nat_lt n c.nodes) (w.places n).up
+-- the first that holds, in the order of their numbers
+abbrev pub fault_of : Cluster → World → WorldEvent → Option WorldFault
+fault_of c w (Ask n moment token r) = call_fault c w (call_of w.packets (Ask n moment token r))
+fault_of c w (Deliver moment place) = call_fault c w (call_of w.packets (Deliver moment place))
+fault_of c w (Poke n moment) = call_fault c w (call_of w.packets (Poke n moment))
+fault_of c w (Tick n moment) = call_fault c w (call_of w.packets (Tick n moment))
+fault_of c w (Move n moment k to) = call_fault c w (call_of w.packets (Move n moment k to))
+fault_of c w (Torn n moment given kept) = call_fault c w (call_of w.packets (Torn n moment given kept))
+fault_of c w (Crash n) = stop_fault (is_there c n) (w.places n).up
+fault_of c w (Restart n) = start_fault (is_there c n) (w.places n).up
+fault_of c w (TornRestart n kept) = start_fault (is_there c n) (w.places n).up
 
--- an event with a fault changes nothing; any other adds its line
-pub record IsFaulty (m : EngineMeaning) (c : Cluster) (w : World) (e : Event) : Type 0 where
-  pub still : (f : Fault) → fault_of c w e ≡ Some f → happens m c w e ≡ w
+-- an event with a fault changes nothing; any other adds one line, its own
+pub record IsFaulty (m : EngineMeaning) (c : Cluster) (w : World) (e : WorldEvent) : Type 0 where
+  pub still : (f : WorldFault) → fault_of c w e ≡ Some f → happens m c w e ≡ w
   pub adds : fault_of c w e ≡ None → (l : Line) × (l.event ≡ e) × ((happens m c w e).trace ≡ w.trace ++ l ∷ [])

@@ -19,7 +19,8 @@ use Rattle.sv_model.specs.declared.node.Stage.TheVariants.{Blank}
 use Rattle.sv_model.specs.Membership.{In}
 use Rattle.sv_model.specs.Opening.{mark_of}
 use Rattle.sv_world.specs.Life.{IsLive}
-use Rattle.sv_world.specs.World.{Cluster, setting_of, Line, World, durable_at, items, commits_in, records_at, openings_of}
+use Rattle.sv_world.specs.declared.line.Line.{Line}
+use Rattle.sv_world.specs.World.{Cluster, setting_of, World, durable_at, items, commits_in, records_at, openings_of, item_at}
 use Rattle.sv_world.specs.Sane.{granted, opened}
 
 -- what each node keeps durably of a key
@@ -55,15 +56,15 @@ pub record IsOneContainer (m : EngineMeaning) (w : World) : Type 0 where
 
 -- a step that a stop has cut tells nothing, and answers and refuses nobody
 pub record IsSilent (l : Line) : Type 0 where
-  pub events : l.done.events ≡ []
+  pub events : l.events ≡ []
   pub mark : l.mark ≡ None
-  pub replies : l.done.replies ≡ []
-  pub refused : l.done.refused ≡ []
+  pub replies : (item_at l).replies ≡ []
+  pub refused : (item_at l).refused ≡ []
 
 -- a whole step tells the events of its own commit, at its place in the order, and puts out that commit's reply; without
 -- a commit it tells none and answers nobody. It tells beside them that a session has come or gone, where its record says so
 pub record IsWhole (m : EngineMeaning) (store : Store) (l : Line) : Type 0 where
-  pub fit : IsFit m store l.done
+  pub fit : IsFit m store (item_at l)
   pub mark : l.mark ≡ mark_of l.entry
 
 abbrev pub IsFitLine : EngineMeaning → Store → Line → Type 0
@@ -71,7 +72,7 @@ IsFitLine m store l = cond l.whole (IsWhole m store l) (IsSilent l)
 
 abbrev pub AreFitLines : EngineMeaning → Store → List Line → Type 0
 AreFitLines m store [] = ⊤
-AreFitLines m store (l ∷ ls) = IsFitLine m store l × AreFitLines m (store_with m store l.done.commit) ls
+AreFitLines m store (l ∷ ls) = IsFitLine m store l × AreFitLines m (store_with m store l.commit) ls
 
 -- the steps that no stop has cut
 abbrev pub wholes : List Line → List Item
@@ -81,13 +82,13 @@ wholes trace = items (filter (λ l. l.whole) trace)
 -- number of commits at the request's arrival; and the response is that commit's reply there
 pub record IsAnswer (m : EngineMeaning) (w : World) (before : List Line) (l : Line) (t : Token) (response : Response) : Type 0 where
   pub commit : Commit
-  pub stands : l.done.commit ≡ Some commit
+  pub stands : l.commit ≡ Some commit
   pub reply : reply_of m (after m nothing_stored (commits_of (items before))) commit ≡ Some (t, response)
   pub arrived : arrival_behind 0 (items w.trace) t ≤ length (commits_of (items before))
   pub once : times t (served_of (commits_in w)) ≡ 1
 
 abbrev pub AreAnswers : EngineMeaning → World → Type 0
-AreAnswers m w = (before : List Line) (l : Line) (behind : List Line) (t : Token) (response : Response) → w.trace ≡ before ++ l ∷ behind → In (t, response) l.done.replies → IsAnswer m w before l t response
+AreAnswers m w = (before : List Line) (l : Line) (behind : List Line) (t : Token) (response : Response) → w.trace ≡ before ++ l ∷ behind → In (t, response) (item_at l).replies → IsAnswer m w before l t response
 
 -- each answer is the reply of its step's own commit; a request comes under a token of its own; one that is answered is
 -- served, and one that was served in a whole step is answered; no token is served twice or refused twice, and one that
@@ -105,7 +106,7 @@ pub record IsAcknowledged (m : EngineMeaning) (w : World) : Type 0 where
 -- the events of the commits of whole steps, in the order of all commits
 abbrev pub whole_events : EngineMeaning → Store → List Line → List Told
 whole_events m store [] = []
-whole_events m store (l ∷ ls) = cond l.whole (events_with m store l.done.commit) [] ++ whole_events m (store_with m store l.done.commit) ls
+whole_events m store (l ∷ ls) = cond l.whole (events_with m store l.commit) [] ++ whole_events m (store_with m store l.commit) ls
 
 -- each whole step tells its commit's events and its mark, a torn one nothing; and what was told without the marks is
 -- the events of the commits of whole steps, in their order
