@@ -1,0 +1,61 @@
+-- A record that may stand behind others has its serial.
+use Rattle.std.proofs.Common.{◌≡◌, ◌≢◌, ℕ, ◌+◌, ◌≤◌, Bool, true, false, arith, refl}
+use Rattle.std.specs.Prelude.{not, ◌==◌, ◌&&◌, nat_lt}
+use Rattle.std.specs.FinMap.{len}
+use Rattle.std.proofs.lemmas.Bool.{eqb-false}
+use Rattle.sv_model.specs.declared.key.Key.{Key}
+use Rattle.sv_model.specs.declared.node.Setting.{Setting}
+use Rattle.sv_model.specs.declared.node.Stage.{Stage}
+use Rattle.sv_model.specs.declared.record.Change.{Change}
+use Rattle.sv_model.specs.declared.record.Change.TheVariants.{Absent as Unchanged, Alive as ChangeAlive, Ended as ChangeEnded}
+use Rattle.sv_model.specs.declared.record.Record.{Record}
+use Rattle.sv_model.specs.declared.record.Record.TheVariants.{Boot, Commit, Expired, Sent, Taken, Gone, State, Counters}
+use Rattle.sv_model.specs.declared.state.TheConstants.{KEY_LIMIT}
+use Rattle.sv_model.specs.NodeState.{Durable, last_number}
+use Rattle.sv_model.specs.Replay.{applied, fits_named, fits_born, is_next, Fits}
+use Rattle.sv_core.specs.Effect.{LeavesSerial, HasSerial}
+
+third : (a b c d : Bool) → (a && (b && (not c && d))) ≡ true → c ≡ false
+third true true false d is = refl
+third true true true d is = absurd cc
+third true false c d is = absurd cc
+third false b c d is = absurd cc
+
+right : (a b : Bool) → (a && b) ≡ true → b ≡ true
+right true b is = is
+right false b is = absurd cc
+
+not_last : (set : Setting) (d : Durable) (k : Key) → is_next set d k ≡ true → d.next ≢ last_number
+not_last set d k is same =
+    let apart : (d.next == last_number) ≡ false = third (k.home == set.node) (k.serial == d.next) (d.next == last_number) (nat_lt (len d.keys) KEY_LIMIT) is in
+    eqb-false d.next last_number apart same
+
+born_left : (set : Setting) (d : Durable) (b : Change) → fits_born set d b ≡ true → LeavesSerial b d.next
+born_left set d Unchanged is = tt
+born_left set d (ChangeAlive k s) is = not_last set d k is
+born_left set d (ChangeEnded k) is = not_last set d k is
+
+pub fits_left : (set : Setting) (stage : Stage) (d : Durable) (r : Record) → Fits set stage d r → HasSerial r d.next
+fits_left set stage d (Boot boot) is = tt
+fits_left set stage d (Commit named b) is = born_left set d b (right (fits_named d.keys named) (fits_born set d b) is)
+fits_left set stage d (Expired k) is = tt
+fits_left set stage d (Sent k e to s) is = tt
+fits_left set stage d (Taken k e from s) is = tt
+fits_left set stage d (Gone k e) is = tt
+fits_left set stage d (State k st) is = tt
+fits_left set stage d (Counters boot next) is = tt
+
+behind_left : (next : ℕ) → next + 1 ≤ last_number → next ≢ last_number
+behind_left next less same = omega (arith, less, same)
+
+pub within_left : (d : Durable) (r : Record) → (applied r d).next ≤ last_number → HasSerial r d.next
+within_left d (Boot boot) is = tt
+within_left d (Commit named Unchanged) is = tt
+within_left d (Commit named (ChangeAlive k s)) is = behind_left d.next is
+within_left d (Commit named (ChangeEnded k)) is = behind_left d.next is
+within_left d (Expired k) is = tt
+within_left d (Sent k e to s) is = tt
+within_left d (Taken k e from s) is = tt
+within_left d (Gone k e) is = tt
+within_left d (State k st) is = tt
+within_left d (Counters boot next) is = tt

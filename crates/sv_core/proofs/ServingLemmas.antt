@@ -1,0 +1,75 @@
+-- A request that is answered.
+use Rattle.std.proofs.Common.{◌≡◌, ℕ, Bool, Option, Some, None, List, [], ◌∷◌, refl, ap, ◌∙◌}
+use Rattle.std.specs.Prelude.{is_some}
+use Rattle.sv_model.specs.declared.key.Key.{Key}
+use Rattle.sv_model.specs.declared.key.Secret.{Secret}
+use Rattle.sv_model.specs.declared.key.Moment.{Moment}
+use Rattle.sv_model.specs.declared.node.Setting.{Setting}
+use Rattle.sv_model.specs.declared.node.Parked.{Parked}
+use Rattle.sv_model.specs.declared.request.Request.{Request}
+use Rattle.sv_model.specs.declared.commit.Commit.TheVariants.{Served}
+use Rattle.sv_model.specs.declared.outcome.Outcome.{Outcome}
+use Rattle.sv_model.specs.declared.outcome.Fate.{Fate}
+use Rattle.sv_model.specs.declared.outcome.Fate.TheVariants.{Untouched, Kept, Ended as FateEnded}
+use Rattle.sv_model.specs.declared.outcome.Birth.{Birth}
+use Rattle.sv_model.specs.declared.outcome.Birth.TheVariants.{Absent, Alive, Ended as BirthEnded}
+use Rattle.sv_model.specs.declared.output.Output.TheVariants.{Answer}
+use Rattle.sv_model.specs.Engine.{EngineMeaning}
+use Rattle.sv_model.specs.NodeState.{Durable, Node}
+use Rattle.sv_model.specs.Replay.{applied_if}
+use Rattle.sv_model.specs.Serving.{fresh_of, held_in, token_of, named_change, born_change, entry_of, fated_keys, born_keys, next_with, answered}
+use Rattle.sv_core.specs.declared.decision.Decision.{Decision}
+use Rattle.sv_core.specs.Decision.{decision_of, parked_by, want_by}
+use Rattle.sv_core.specs.Waiting.{waiting_without, parked_without}
+
+abbrev pub behind : Option (Key × Secret) → Key → Fate → Birth → Durable → Durable
+behind named k fate birth d = record d { keys = born_keys k birth (fated_keys named fate d.keys); next = next_with birth d.next }
+
+-- what a record of a request makes of what a node keeps
+pub entry_applies : (named : Option (Key × Secret)) (k : Key) (fate : Fate) (birth : Birth) (d : Durable) → applied_if (entry_of (named_change named fate) (born_change k birth)) d ≡ behind named k fate birth d
+entry_applies None k fate Absent d = refl
+entry_applies None k fate (Alive s) d = refl
+entry_applies None k fate BirthEnded d = refl
+entry_applies (Some named) k Untouched Absent d = refl
+entry_applies (Some named) k Untouched (Alive s) d = refl
+entry_applies (Some named) k Untouched BirthEnded d = refl
+entry_applies (Some named) k (Kept u) Absent d = refl
+entry_applies (Some named) k (Kept u) (Alive s) d = refl
+entry_applies (Some named) k (Kept u) BirthEnded d = refl
+entry_applies (Some named) k FateEnded Absent d = refl
+entry_applies (Some named) k FateEnded (Alive s) d = refl
+entry_applies (Some named) k FateEnded BirthEnded d = refl
+
+parks : (set : Setting) (leaving : Option ℕ) (parked : List Parked) → parked_by set (waiting_without leaving) parked ≡ parked_without leaving parked
+parks set None parked = refl
+parks set (Some place) parked = refl
+
+wants : (leaving : Option ℕ) (want : ℕ) → want_by (waiting_without leaving) want ≡ want
+wants None want = refl
+wants (Some place) want = refl
+
+module _ (m : EngineMeaning) (set : Setting) (n : Node) (moment : Moment) (token : ℕ) (r : Request) (out : Outcome) (leaving : Option ℕ) where
+  -- the decision as it is made
+  abbrev pub made : Option (Key × Secret) → Bool → Decision
+  made named handed = record {
+    entry = entry_of (named_change named out.fate) (born_change (fresh_of set n.durable moment).0 out.birth);
+    commit = Some (Served (token_of set n.durable token) r moment.now handed (fresh_of set n.durable moment));
+    told = out.events;
+    outputs = Answer token out.response ∷ [];
+    waiting = waiting_without leaving;
+  }
+
+  made_answers : decision_of set n (made (m.names r) (is_some (held_in n.durable.keys (m.names r)))) ≡ answered m set n moment token r out (parked_without leaving n.parked)
+  made_answers = λ i. record (answered m set n moment token r out (parked_without leaving n.parked)) {
+    durable = entry_applies (m.names r) (fresh_of set n.durable moment).0 out.fate out.birth n.durable i;
+    parked = parks set leaving n.parked i;
+    next_want = wants leaving n.next_want i;
+  }
+
+  pub answers : (named : Option (Key × Secret)) (handed : Bool) (d : Decision) → d ≡ made named handed → named ≡ m.names r → handed ≡ is_some (held_in n.durable.keys named)
+      → decision_of set n d ≡ answered m set n moment token r out (parked_without leaving n.parked)
+  answers named handed d is names held =
+      ap (decision_of set n) is
+      ∙ ap (λ h. decision_of set n (made named h)) held
+      ∙ ap (λ w. decision_of set n (made w (is_some (held_in n.durable.keys w)))) names
+      ∙ made_answers

@@ -1,0 +1,144 @@
+-- What a tick does.
+use Rattle.std.specs.Option.{unwrap_or}
+use Rattle.std.specs.Ordering.{is_eq}
+use Rattle.std.specs.declared.cmp.Ordering.{Ordering}
+use Rattle.std.specs.declared.cmp.Ordering.TheVariants.{Less, Equal, Greater}
+use Rattle.std.specs.Cmp.{eq_by_cmp_equiv}
+use Rattle.std.specs.FinMap.{insert, entries, find, put, get-insert, get-from_entries, entries-insert}
+use Rattle.std.specs.FinMap.Entries.{below_all, by_order}
+use Rattle.sv_model.specs.declared.key.Key.{Key}
+use Rattle.sv_model.specs.declared.session.Session.{Session}
+use Rattle.sv_model.specs.declared.state.KeyState.{KeyState}
+use Rattle.sv_model.specs.declared.state.KeyState.TheVariants.{Active, Sent, Gone, Ended}
+use Rattle.sv_model.specs.Keys.{key_cmp, same_key}
+use Rattle.sv_model.specs.Decision.{Decision}
+use Rattle.sv_model.specs.Serving.{ended_at}
+use Rattle.sv_model.proofs.KeyLemmas.{keys_total}
+use Rattle.sv_core.specs.Entries.{Entry, Rises}
+use Rattle.sv_core.specs.Plain.{expiring, ticked}
+use Rattle.sv_core.specs.Decision.{decision_of}
+use Rattle.sv_core.proofs.TableLemmas.{first, second, less, reversed, find_low, one_key, map_of, entries_are}
+use Rattle.std.proofs.Common.{◌≡◌, ℕ, Bool, true, false, cond, Option, Some, None, List, [], ◌∷◌, ◌++◌, refl, sym, ap, ◌∙◌, subst}
+use Rattle.std.specs.Prelude.{not, T}
+use Rattle.std.specs.List.{filter, filter_map, flat_map}
+use Rattle.std.proofs.lemmas.List.Concat.{flat_map-append}
+use Rattle.std.proofs.lemmas.List.Elements.{filter-append, filter_map-append}
+use Rattle.sv_model.specs.declared.node.Setting.{Setting}
+use Rattle.sv_model.specs.declared.node.Parked.{Parked}
+use Rattle.sv_model.specs.declared.output.Output.{Output}
+use Rattle.sv_model.specs.NodeState.{Keys, Durable, Node, is_settled}
+use Rattle.sv_model.specs.Waiting.{wants}
+use Rattle.sv_model.specs.Time.{is_late, is_over, first_over, expire, deadlines, wants_again, grant_again, on_tick}
+use Rattle.std.specs.FinMap.{get}
+use Rattle.sv_core.specs.Time.{wants_of}
+
+-- one more request
+pub wants_of_more : (set : Setting) (d : Durable) (now : ℕ) (ps : List Parked) (p : Parked) → wants_of set d now (ps ++ p ∷ []) ≡ wants_of set d now ps ++ wants_of set d now (p ∷ [])
+wants_of_more set d now ps p =
+    ap (λ l. wants_again set d l) (filter-append (λ q. not (is_late set now q)) ps (p ∷ []))
+    ∙ ap (flat_map (λ q. wants set d q.key q.want)) (filter-append (λ q. not (is_settled (get d.keys q.key))) (filter (λ q. not (is_late set now q)) ps) (filter (λ q. not (is_late set now q)) (p ∷ [])))
+    ∙ flat_map-append (λ q. wants set d q.key q.want) (filter (λ q. not (is_settled (get d.keys q.key))) (filter (λ q. not (is_late set now q)) ps)) (filter (λ q. not (is_settled (get d.keys q.key))) (filter (λ q. not (is_late set now q)) (p ∷ [])))
+
+-- ---- the session that expires
+
+-- what is found among keys above another is above it
+over_above_by : (now : ℕ) (x : Key) (e : Entry) (es : List Entry) (k : Key) (st : KeyState) (b : Bool) → key_cmp x e.0 ≡ Less → (first_over now es ≡ Some (k, st) → key_cmp x k ≡ Less)
+    → cond b (Some e) (first_over now es) ≡ Some (k, st) → key_cmp x k ≡ Less
+over_above_by now x e es k st true low rest found = subst (λ (q : Key). key_cmp x q ≡ Less) (ap (λ (o : Option Entry). (unwrap_or o e).0) found) low
+over_above_by now x e es k st false low rest found = rest found
+
+over_above : (now : ℕ) (x : Key) (es : List Entry) (k : Key) (st : KeyState) → T (below_all key_cmp x es) → first_over now es ≡ Some (k, st) → key_cmp x k ≡ Less
+over_above now x [] k st above found = absurd (let no : None ≡ Some (k, st) = found in cc)
+over_above now x (e ∷ es) k st above found =
+    over_above_by now x e es k st (is_over now e.1) (less _ (first _ _ above)) (over_above now x es k st (second _ _ above)) found
+
+found_by : (now : ℕ) (e : Entry) (es : List Entry) (k : Key) (st : KeyState) (b : Bool) → T (below_all key_cmp e.0 es) → (first_over now es ≡ Some (k, st) → find key_cmp k es ≡ Some st)
+    → cond b (Some e) (first_over now es) ≡ Some (k, st) → find key_cmp k (e ∷ es) ≡ Some st
+found_by now e es k st true above rest found =
+    let same : e ≡ (k, st) = ap (λ (o : Option Entry). unwrap_or o e) found in
+    ap (λ (d : Entry). find key_cmp k (d ∷ es)) same ∙ ap (λ b. cond b (Some st) (find key_cmp k es)) ((eq_by_cmp_equiv keys_total).refl k)
+found_by now e es k st false above rest found =
+    ap (λ o. cond (is_eq o) (Some e.1) (find key_cmp k es)) (reversed e.0 k Less (over_above now e.0 es k st above found)) ∙ rest found
+
+-- the node knows the session that expires
+pub found_over : (now : ℕ) (es : List Entry) (k : Key) (st : KeyState) → Rises es → first_over now es ≡ Some (k, st) → find key_cmp k es ≡ Some st
+found_over now [] k st rises found = absurd (let no : None ≡ Some (k, st) = found in cc)
+found_over now (e ∷ es) k st rises found = found_by now e es k st (is_over now e.1) (first _ _ rises) (found_over now es k st (second _ _ rises)) found
+
+-- ---- what is put out is the same before and after it
+
+settled_by : (b : Bool) (e : ℕ) (s : Session) (old : Option KeyState) → (b ≡ true → old ≡ Some (Active e s)) → is_settled (cond b (Some (Ended e)) old) ≡ is_settled old
+settled_by true e s old is = sym (ap is_settled (is refl))
+settled_by false e s old is = refl
+
+settled_still : (keys : Keys) (k : Key) (e : ℕ) (s : Session) (q : Key) → get keys k ≡ Some (Active e s) → is_settled (get (insert keys k (Ended e)) q) ≡ is_settled (get keys q)
+settled_still keys k e s q is =
+    ap is_settled (get-insert keys_total keys k (Ended e) q)
+    ∙ settled_by (same_key q k) e s (get keys q) (λ t. ap (get keys) (one_key q k t) ∙ is)
+
+granted_by : (set : Setting) (k : Key) (n : ℕ) (s : Session) (e : Entry) (es : List Entry) (o : Ordering) → key_cmp k e.0 ≡ o → T (below_all key_cmp e.0 es)
+    → (find key_cmp k es ≡ Some (Active n s) → filter_map (grant_again set) (put key_cmp k (Ended n) es) ≡ filter_map (grant_again set) es)
+    → find key_cmp k (e ∷ es) ≡ Some (Active n s) → filter_map (grant_again set) (put key_cmp k (Ended n) (e ∷ es)) ≡ filter_map (grant_again set) (e ∷ es)
+granted_by set k n s e es Less is above rest found =
+    let missing : find key_cmp k (e ∷ es) ≡ None = ap (λ o. cond (is_eq o) (Some e.1) (find key_cmp k es)) is ∙ find_low k e.0 es is above in
+    absurd (let no : None ≡ Some (Active n s) = sym missing ∙ found in cc)
+granted_by set k n s e es Equal is above rest found =
+    let there : e.1 ≡ Active n s = ap (λ (o : Option KeyState). unwrap_or o e.1) (sym (ap (λ o. cond (is_eq o) (Some e.1) (find key_cmp k es)) is) ∙ found) in
+    ap (λ o. filter_map (grant_again set) (by_order o ((k, Ended n) ∷ e ∷ es) ((e.0, Ended n) ∷ es) (e ∷ put key_cmp k (Ended n) es))) is
+    ∙ ap (λ (st : KeyState). filter_map (grant_again set) ((e.0, st) ∷ es)) (sym there)
+granted_by set k n s e es Greater is above rest found =
+    ap (λ o. filter_map (grant_again set) (by_order o ((k, Ended n) ∷ e ∷ es) ((e.0, Ended n) ∷ es) (e ∷ put key_cmp k (Ended n) es))) is
+    ∙ filter_map-append (grant_again set) (e ∷ []) (put key_cmp k (Ended n) es)
+    ∙ ap (λ l. filter_map (grant_again set) (e ∷ []) ++ l) (rest (sym (ap (λ o. cond (is_eq o) (Some e.1) (find key_cmp k es)) is) ∙ found))
+    ∙ sym (filter_map-append (grant_again set) (e ∷ []) es)
+
+granted_still : (set : Setting) (k : Key) (n : ℕ) (s : Session) (es : List Entry) → Rises es → find key_cmp k es ≡ Some (Active n s)
+    → filter_map (grant_again set) (put key_cmp k (Ended n) es) ≡ filter_map (grant_again set) es
+granted_still set k n s [] rises found = absurd (let no : None ≡ Some (Active n s) = found in cc)
+granted_still set k n s (e ∷ es) rises found = granted_by set k n s e es (key_cmp k e.0) refl (first _ _ rises) (granted_still set k n s es (second _ _ rises)) found
+
+-- ---- the tick
+
+module _ (set : Setting) (es : List Entry) (rises : Rises es) (boot next : ℕ) (parked : List Parked) (want now : ℕ) where
+  abbrev pub there : Node
+  there = record { durable = record { keys = map_of es; boot = boot; next = next }; parked = parked; next_want = want }
+
+  abbrev pub put_out : List Output
+  put_out = deadlines set now parked ++ wants_of set there.durable now parked ++ filter_map (grant_again set) es
+
+  abbrev pub tick_by : Option Entry → Decision
+  tick_by f =
+      let waiting = filter (λ p. not (is_late set now p)) parked in
+      record (expire there now f []) {
+        outputs = deadlines set now parked ++ wants_again set (expire there now f []).durable waiting ++ filter_map (grant_again set) (entries (expire there now f []).durable.keys);
+        parked = waiting;
+      }
+
+  tick_idle : tick_by None ≡ record (tick_by None) { outputs = put_out }
+  tick_idle = λ i. record (tick_by None) { outputs = deadlines set now parked ++ wants_of set there.durable now parked ++ filter_map (grant_again set) (entries_are es rises i) }
+
+  known : (k : Key) (st : KeyState) → first_over now es ≡ Some (k, st) → get (map_of es) k ≡ Some st
+  known k st found = get-from_entries keys_total es k ∙ found_over now es k st rises found
+
+  tick_ended : (k : Key) (e : ℕ) (s : Session) → first_over now es ≡ Some (k, Active e s)
+      → decision_of set there (ticked now (Some (k, s.context)) put_out) ≡ tick_by (Some (k, Active e s))
+  tick_ended k e s found = λ i. record (tick_by (Some (k, Active e s))) {
+    durable = record { keys = ended_at k (known k (Active e s) found i) (map_of es); boot = boot; next = next };
+    outputs = deadlines set now parked
+        ++ flat_map (λ p. wants set there.durable p.key p.want) (filter (λ p. not (sym (settled_still (map_of es) k e s p.key (known k (Active e s) found)) i)) (filter (λ p. not (is_late set now p)) parked))
+        ++ sym (ap (filter_map (grant_again set)) (entries-insert keys_total (map_of es) k (Ended e) ∙ ap (put key_cmp k (Ended e)) (entries_are es rises)) ∙ granted_still set k e s es rises (found_over now es k (Active e s) rises found)) i;
+  }
+
+  by_found : (f : Option Entry) → first_over now es ≡ f → decision_of set there (ticked now (expiring f) put_out) ≡ tick_by f
+  by_found None found = sym tick_idle
+  by_found (Some (k, Active e s)) found = tick_ended k e s found
+  by_found (Some (k, Sent e s to)) found = sym tick_idle
+  by_found (Some (k, Gone e)) found = sym tick_idle
+  by_found (Some (k, Ended e)) found = sym tick_idle
+
+  pub ticks : (outs : List Output) → outs ≡ put_out → decision_of set there (ticked now (expiring (first_over now es)) outs) ≡ on_tick set there now
+  ticks outs is = ap (λ l. decision_of set there (ticked now (expiring (first_over now es)) l)) is ∙ by_found (first_over now es) refl ∙ ap tick_by (ap (first_over now) (sym (entries_are es rises)))
+
+-- three lists, one behind the other
+pub put_three : (a b c d x y z : List Output) → a ≡ [] → b ≡ a ++ x → c ≡ b ++ y → d ≡ c ++ z → d ≡ x ++ y ++ z
+put_three a b c d x y z one two three four = four ∙ ap (λ l. l ++ z) (three ∙ ap (λ l. l ++ y) (two ∙ ap (λ l. l ++ x) one))

@@ -1,0 +1,12 @@
+use Rattle.std.proofs.Common.{refl}
+use Rattle.sv_core.proofs.CoreLemmas.{knows_nothing}
+use Rattle.sv_core.proofs.node.Core.new.Goals as goal
+
+pub returns : goal.returns
+returns g c =
+    record {
+      over = refl;
+      setting = refl;
+      stage = refl;
+      node = λ i. record { durable = record { keys = knows_nothing c.new.result.entries.items c.new.ensures i; boot = 0; next = 1 }; parked = c.new-2.ensures.items i; next_want = 1 };
+    }

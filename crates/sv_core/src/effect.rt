@@ -1,0 +1,154 @@
+//! What a decision does to what is kept.
+
+ghost use Rattle.std.specs.Prelude.{◌≡◌, ◌<◌, ◌≤◌, vec_len, vec_capacity};
+ghost use Rattle.sv_model.specs.NodeState.{last_number};
+ghost use Rattle.sv_model.specs.Replay.{with_named, with_born, keys_behind, applied, applied_if, stage_behind, stage_behind_if};
+ghost use Rattle.sv_core.specs.Decision.{parked_by, want_by, behind};
+ghost use Rattle.sv_core.specs.Table.{keys_of, HasRoom};
+ghost use Rattle.sv_core.specs.Effect.{HasSerial};
+
+use crate::decision::Waiting;
+use crate::kept::Kept;
+use crate::table::Table;
+use crate::time::is_late;
+use sv_model::{Change, KeyState, Parked, Record, Setting, Stage};
+
+impl Table {
+    /// What became of the session that a request names.
+    fn take_named(&mut self, named: Change)
+        requires { HasRoom self.old }
+        ensures keys { keys_of self.new ≡ with_named named (keys_of self.old) }
+        ensures room { HasRoom self.new }
+    {
+        match named {
+            Change::Absent => {}
+            Change::Alive { key, session } => self.keep(key, session),
+            Change::Ended(key) => self.end(key),
+        }
+    }
+
+    /// What became of a session that was made.
+    fn take_born(&mut self, born: Change)
+        requires { HasRoom self.old }
+        ensures { keys_of self.new ≡ with_born born (keys_of self.old) }
+    {
+        match born {
+            Change::Absent => {}
+            Change::Alive { key, session } => {
+                self.put(key, KeyState::Active { epoch: 1, session });
+            }
+            Change::Ended(key) => self.put(key, KeyState::Ended { epoch: 1 }),
+        }
+    }
+
+    /// What a record says of one key.
+    fn take_record(&mut self, entry: Record)
+        requires { HasRoom self.old }
+        ensures { keys_of self.new ≡ keys_behind entry (keys_of self.old) }
+    {
+        match entry {
+            Record::Boot(_) | Record::Counters { .. } => {}
+            Record::Commit { named, born } => {
+                self.take_named(named);
+                self.take_born(born);
+            }
+            Record::Expired(key) => self.end(key),
+            Record::Sent {
+                key,
+                epoch,
+                to,
+                session,
+            } => self.put(key, KeyState::Sent { epoch, session, to }),
+            Record::Taken {
+                key,
+                epoch,
+                from: _,
+                session,
+            } => self.put(key, KeyState::Active { epoch, session }),
+            Record::Gone { key, epoch } => self.put(key, KeyState::Gone { epoch }),
+            Record::State { key, state } => self.put(key, state),
+        }
+    }
+}
+
+/// How far the records have come, behind this one.
+fn stage_behind(entry: &Record, stage: Stage) -> Stage
+    ensures { result ≡ stage_behind entry.now stage }
+{
+    match entry {
+        Record::State { .. } => stage,
+        Record::Counters { .. } => Stage::Snapshot,
+        Record::Boot(_)
+        | Record::Commit { .. }
+        | Record::Expired(_)
+        | Record::Sent { .. }
+        | Record::Taken { .. }
+        | Record::Gone { .. } => Stage::Past,
+    }
+}
+
+/// The requests that wait, behind what becomes of them.
+fn rearrange(all: &mut Vec<Parked>, setting: Setting, waiting: Waiting)
+    requires { vec_len all.old < vec_capacity all.old }
+    ensures { all.new.items ≡ parked_by setting waiting all.old.items }
+{
+    match waiting {
+        Waiting::Stays => {}
+        Waiting::Joins(parked) => all.push_reserved(parked),
+        Waiting::Leaves(place) => {
+            if place < all.len() {
+                all.remove(place);
+            }
+        }
+        Waiting::Late(now) => all.retain(|parked| !is_late(setting, parked, now)),
+    }
+}
+
+impl Kept {
+    ghost use Rattle.sv_core.specs.Kept.{node_of, IsReady};
+
+    /// What the records give, behind one more.
+    pub fn take(&mut self, entry: Record)
+        requires room { HasRoom self.old.keys }
+        requires serial { HasSerial entry self.old.next }
+        ensures durable { (node_of self.new).durable ≡ applied entry (node_of self.old).durable }
+        ensures stage { self.new.stage ≡ stage_behind entry self.old.stage }
+        ensures setting { self.new.setting ≡ self.old.setting }
+        ensures parked { self.new.parked ≡ self.old.parked }
+        ensures want { self.new.want ≡ self.old.want }
+    {
+        match &entry {
+            Record::Boot(boot) => self.boot = *boot,
+            Record::Counters { boot, next } => {
+                self.boot = *boot;
+                self.next = *next;
+            }
+            Record::Commit {
+                named: _,
+                born: Change::Alive { .. } | Change::Ended(_),
+            } => self.next += 1,
+            _ => {}
+        }
+        self.stage = stage_behind(&entry, self.stage);
+        self.keys.take_record(entry);
+    }
+
+    /// What is kept behind a decision.
+    #[tactic(auto, using(crate::proofs::EffectLemmas::within_left))]
+    pub fn follow(&mut self, entry: Option<Record>, waiting: Waiting)
+        requires ready { IsReady self.old }
+        requires next { (applied_if entry (node_of self.old).durable).next ≤ last_number }
+        requires want { want_by waiting self.old.want ≤ last_number }
+        ensures node { node_of self.new ≡ behind self.old.setting entry waiting (node_of self.old) }
+        ensures stage { self.new.stage ≡ stage_behind_if entry self.old.stage }
+        ensures setting { self.new.setting ≡ self.old.setting }
+    {
+        if let Waiting::Joins(_) = &waiting {
+            self.want += 1;
+        }
+        rearrange(&mut self.parked, self.setting, waiting);
+        if let Some(entry) = entry {
+            self.take(entry);
+        }
+    }
+}

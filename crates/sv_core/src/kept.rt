@@ -1,0 +1,72 @@
+//! What a core keeps beside its engine.
+
+ghost use Rattle.std.specs.Prelude.{◌≡◌, ◌==◌, ◌≤◌, OnOk, IfOk};
+ghost use Rattle.sv_model.specs.NodeState.{is_unmade, is_dead, last_number};
+
+use crate::table::Table;
+use std::alloc::{AllocError, Global};
+use sv_model::{Key, Parked, Setting, Stage};
+
+/// What a node keeps: what its records give, and what it forgets when it stops.
+#[derive(Drop)]
+pub struct Kept {
+    pub setting: Setting,
+    pub keys: Table,
+    /// The number of its last start.
+    pub boot: u64,
+    /// The serial of the next session that is made here.
+    pub next: u64,
+    /// How far its records have come.
+    pub stage: Stage,
+    /// The requests that wait, in order of arrival.
+    pub parked: Vec<Parked>,
+    /// The number of the next want.
+    pub want: u64,
+    pub alloc: Global,
+}
+
+/// A number is at most the last one.
+fn number(value: u64) -> u64
+    ensures value { result ≡ value }
+    ensures bound { value ≤ last_number }
+{
+    value
+}
+
+impl Kept {
+    ghost use Rattle.sv_core.specs.Kept.{node_of, IsReady};
+
+    /// The key is of this node, and the node has not yet handed it out.
+    pub fn is_unmade(&self, key: Key) -> bool
+        ensures { result ≡ is_unmade self.now.setting (node_of self.now).durable key }
+    {
+        key.home == self.setting.node && key.serial >= self.next
+    }
+
+    /// No session will ever come under the key.
+    pub fn is_dead(&self, key: Key) -> bool
+        ensures { result ≡ is_dead self.now.setting (node_of self.now).durable key }
+    {
+        key.home >= self.setting.nodes || self.is_unmade(key)
+    }
+
+    /// The numbers of the next want and of the next session.
+    pub fn numbers(&self) -> (u64, u64)
+        ensures value { result ≡ (self.now.want, self.now.next) }
+        ensures want { self.now.want ≤ last_number }
+        ensures next { self.now.next ≤ last_number }
+    {
+        (number(self.want), number(self.next))
+    }
+
+    /// Makes room for what a decision adds.
+    pub fn reserve(&mut self) -> Result<(), AllocError>
+        ensures node { node_of self.new ≡ node_of self.old }
+        ensures setting { self.new.setting ≡ self.old.setting }
+        ensures stage { self.new.stage ≡ self.old.stage }
+        ensures room { OnOk result (IsReady self.new) }
+    {
+        self.keys.reserve()?;
+        self.parked.try_reserve(1)
+    }
+}
