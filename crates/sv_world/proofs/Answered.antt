@@ -17,14 +17,14 @@ use Rattle.sv_model.specs.Trace.{Item, commits_of, served_of, served_by, same_to
 use Rattle.sv_model.specs.Membership.{In}
 use Rattle.sv_world.specs.declared.line.Line.{Line}
 use Rattle.sv_world.specs.World.{World, items, commits_in, item_at}
-use Rattle.sv_world.specs.Headline.{IsSilent, IsWhole, IsFitLine, AreFitLines, IsAnswer, AreAnswers}
+use Rattle.sv_world.specs.Headline.{AreLines, IsUnanswered, IsAnswered, IsAnswer, AreAnswers}
 use Rattle.sv_world.proofs.Arrivals.{one_if, token_self, times_more}
 use Rattle.sv_world.proofs.Told.{after_one}
 
 -- a line of a trace
-line_at : (m : EngineMeaning) (st : Store) (before behind : List Line) (l : Line) → AreFitLines m st (before ++ l ∷ behind) → IsFitLine m (after m st (commits_of (items before))) l
+line_at : (m : EngineMeaning) (st : Store) (before behind : List Line) (l : Line) → AreLines (IsAnswered m) m st (before ++ l ∷ behind) → IsAnswered m (after m st (commits_of (items before))) l
 line_at m st [] behind l h = h.0
-line_at m st (x ∷ before) behind l h = subst (λ s. IsFitLine m s l) (after_one m st x.commit (commits_of (items before))) (line_at m (store_with m st x.commit) before behind l h.1)
+line_at m st (x ∷ before) behind l h = subst (λ s. IsAnswered m s l) (after_one m st x.commit (commits_of (items before))) (line_at m (store_with m st x.commit) before behind l h.1)
 
 -- a commit of a list
 commit_at : (m : EngineMeaning) (arr : Token → ℕ) (first before behind : List Commit) (c : Commit) → AllMayStand m arr first (before ++ c ∷ behind) → MayStand m arr (first ++ before) c
@@ -61,9 +61,9 @@ module _ (m : EngineMeaning) (w : World) (stands : AllMayStand m (arrival_behind
   by_commit (Some (Served token r now handed fresh)) is i = ⊎_elim (λ e. served_answer token r now handed fresh is (ap (λ (p : Token × Response). Some p) e)) (λ (x : ⊥). absurd x) i
   by_commit (Some (Expired k now)) is i = absurd i
 
-  by_line : (b : Bool) → cond b (IsWhole m (after m nothing_stored (commits_of (items before))) l) (IsSilent l) → In (t, response) (item_at l).replies → IsAnswer m w before l t response
-  by_line true h i = by_commit l.commit refl (subst (In (t, response)) h.fit.replies i)
+  by_line : (b : Bool) → cond b ((item_at l).replies ≡ replies_with m (after m nothing_stored (commits_of (items before))) l.commit) (IsUnanswered l) → In (t, response) (item_at l).replies → IsAnswer m w before l t response
+  by_line true h i = by_commit l.commit refl (subst (In (t, response)) h i)
   by_line false h i = absurd (subst (In (t, response)) h.replies i)
 
-pub are_answers : (m : EngineMeaning) (w : World) → AreFitLines m nothing_stored w.trace → AllMayStand m (arrival_behind 0 (items w.trace)) [] (commits_in w) → ((t : Token) → times t (served_of (commits_in w)) ≤ 1) → AreAnswers m w
-are_answers m w fit stands once before l behind t response here i = by_line m w stands once before behind l here t response l.whole (line_at m nothing_stored before behind l (subst (AreFitLines m nothing_stored) here fit)) i
+pub are_answers : (m : EngineMeaning) (w : World) → AreLines (IsAnswered m) m nothing_stored w.trace → AllMayStand m (arrival_behind 0 (items w.trace)) [] (commits_in w) → ((t : Token) → times t (served_of (commits_in w)) ≤ 1) → AreAnswers m w
+are_answers m w fit stands once before l behind t response here i = by_line m w stands once before behind l here t response l.whole (line_at m nothing_stored before behind l (subst (AreLines (IsAnswered m) m nothing_stored) here fit)) i

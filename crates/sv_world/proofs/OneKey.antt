@@ -5,7 +5,8 @@ use Rattle.sv_model.specs.declared.session.Session.{Session}
 use Rattle.sv_model.specs.declared.state.KeyState.{KeyState}
 use Rattle.sv_model.specs.declared.state.KeyState.TheVariants.{Active, Sent, Gone, Ended}
 use Rattle.sv_model.specs.NodeState.{epoch_in}
-use Rattle.sv_world.specs.Life.{IsLive, IsBelow, IsBehind, Stands, Phase, Unborn, Here, Away, Over, session_of, top, Life, Changes}
+use Rattle.sv_world.specs.Life.{IsBelow, IsBehind, Stands, Phase, Unborn, Here, Away, Over, session_of, top, Life, Changes}
+use Rattle.sv_world.specs.Headline.{IsLive}
 
 -- epochs don't fall
 abbrev Rises : (at new : ℕ → Option KeyState) → Type 0

@@ -13,11 +13,12 @@ use Rattle.sv_model.specs.declared.key.Secret.{Secret}
 use Rattle.std.specs.FinMap.{get}
 use Rattle.sv_model.specs.Keys.{set_key}
 use Rattle.sv_world.specs.Life.{Life, Changes, session_of}
-use Rattle.sv_world.specs.Sane.{granted, acked, opened}
+use Rattle.sv_world.specs.Sane.{acked}
 use Rattle.sv_model.proofs.KeyLemmas.{keys_tell}
 use Rattle.sv_model.specs.Opening.{Opening}
 use Rattle.sv_world.proofs.Keys.{set_here, set_there, in_left, in_right, in_last}
 use Rattle.sv_world.proofs.OneKey.{Opens, keeps, ends, sends, takes, forgets, born as is_born, born_ended, is_unborn}
+use Rattle.sv_world.specs.Headline.{granted, opened}
 
 -- the same life, seen through other words
 pub same : (at new : ℕ → Option KeyState) (G H : ℕ → Session → ℕ → ℕ → Type 0) (A B : ℕ → ℕ → Type 0) (O P : ℕ → Session → Type 0) (m l : Option Session) → Life at G A O m → ((x : ℕ) → new x ≡ at x) → ((e : ℕ) (s : Session) (f t : ℕ) → H e s f t → G e s f t) → ((e y : ℕ) → B e y → A e y) → ((e : ℕ) (s : Session) → O e s → P e s) → ((e : ℕ) (s : Session) → P e s → O e s) → l ≡ m → Life new H B P l

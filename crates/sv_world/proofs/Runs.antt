@@ -24,12 +24,12 @@ use Rattle.sv_model.specs.Trace.{Item, commits_of}
 use Rattle.sv_model.specs.Membership.{with_last}
 use Rattle.sv_model.specs.Outputs.{sends_in}
 use Rattle.sv_model.specs.Opening.{opening_of}
-use Rattle.sv_world.specs.Life.{IsLive, Life, Unborn}
+use Rattle.sv_world.specs.Life.{Life, Unborn}
 use Rattle.sv_world.specs.declared.event.WorldEvent.{WorldEvent}
 use Rattle.sv_world.specs.declared.line.Line.{Line}
 use Rattle.sv_world.specs.World.{Cluster, Place, World, set_place, durable_at, stopped, nothing_happened, items, commits_in, openings_of, whole, cut, becomes, Call, decision, happens, run, item_at, boot_record}
-use Rattle.sv_world.specs.Sane.{Sane, granted, acked, opened, store_of}
-use Rattle.sv_world.specs.Headline.{states, IsLiveAt, IsOpening}
+use Rattle.sv_world.specs.Sane.{Sane, acked, store_of}
+use Rattle.sv_world.specs.Headline.{states, IsLiveAt, IsOpening, IsLive, granted, opened}
 use Rattle.sv_model.specs.Node.{decided}
 use Rattle.sv_world.specs.World.{setting_of}
 use Rattle.sv_world.proofs.Events.{IsSentIn, IsReady, behind, behind_all}

@@ -50,14 +50,15 @@ use Rattle.sv_model.proofs.EntryLemmas.{Entry, known, over_in}
 use Rattle.sv_model.specs.Membership.{In, with_last}
 use Rattle.sv_model.specs.Outputs.{sends_in}
 use Rattle.sv_model.specs.Opening.{Opening, born_opening, opening_of, mark_of}
-use Rattle.sv_world.specs.Life.{IsLive, Life, Stands, Away}
+use Rattle.sv_world.specs.Life.{Life, Stands, Away}
 use Rattle.sv_world.specs.World.{Cluster, setting_of}
-use Rattle.sv_world.specs.Sane.{Sane, IsUnmade, granted, acked, opened, store_of}
+use Rattle.sv_world.specs.Sane.{Sane, IsUnmade, acked, store_of}
 use Rattle.sv_world.proofs.Keys.{set_here, set_there, get_there}
 use Rattle.sv_world.proofs.OneKey.{map_has_live}
 use Rattle.sv_world.proofs.Rows.{LivesOf, RowChanges, FateFits, lives_same, lives_sends, lives_takes, lives_forgets, lives_keeps, lives_ends, lives_born, lives_spent}
 use Rattle.sv_world.proofs.Sending.{AllJustified}
 use Rattle.sv_world.proofs.Outputs.{IsPlain, plain_both, plain_wants, plain_deadlines, plain_again, plain_grants}
+use Rattle.sv_world.specs.Headline.{IsLive, granted, opened}
 
 abbrev pub keys_of : (ℕ → Durable) → ℕ → Key → Option KeyState
 keys_of disks x q = get (disks x).keys q

@@ -14,9 +14,9 @@ use Rattle.sv_model.specs.OneContainer.{store_with, events_with, replies_with, t
 use Rattle.sv_model.specs.Trace.{commits_of, told_of, replies_of, served_of, times}
 use Rattle.sv_world.specs.declared.event.WorldEvent.{WorldEvent}
 use Rattle.sv_world.specs.declared.line.Line.{Line}
-use Rattle.sv_world.specs.World.{Cluster, World, nothing_happened, items, commits_in, whole, Call, decision, happens, run, item_at}
+use Rattle.sv_world.specs.World.{Cluster, Place, World, nothing_happened, items, commits_in, whole, Call, decision, happens, run, item_at}
 use Rattle.sv_world.specs.Sane.{store_of}
-use Rattle.sv_world.specs.Headline.{IsSilent, IsWhole, IsFitLine, AreFitLines, wholes, whole_events}
+use Rattle.sv_world.specs.Headline.{AreLines, IsUnanswered, IsAnswered, IsUnheard, IsHeard, IsToldLine, wholes, whole_events}
 use Rattle.sv_world.proofs.Arrivals.{times_more}
 use Rattle.sv_world.proofs.Events.{behind, behind_all}
 use Rattle.sv_world.proofs.Runs.{Inv, SoundAt, sound_at, happens_keeps}
@@ -36,41 +36,49 @@ unfolding stores
 stores_are m st [] = refl
 stores_are m st (l ∷ ls) = stores_are m (store_with m st l.commit) ls ∙ after_one m st l.commit (commits_of (items ls))
 
-fit_snoc : (m : EngineMeaning) (st : Store) (ls : List Line) (l : Line) → AreFitLines m st ls → IsFitLine m (stores m st ls) l → AreFitLines m st (ls ++ l ∷ [])
+lines_snoc : (P : Store → Line → Type 0) (m : EngineMeaning) (st : Store) (ls : List Line) (l : Line) → AreLines P m st ls → P (stores m st ls) l → AreLines P m st (ls ++ l ∷ [])
 unfolding stores
-fit_snoc m st [] l h f = (f, tt)
-fit_snoc m st (x ∷ ls) l h f = (h.0, fit_snoc m (store_with m st x.commit) ls l h.1 f)
+lines_snoc P m st [] l h p = (p, tt)
+lines_snoc P m st (x ∷ ls) l h p = (h.0, lines_snoc P m (store_with m st x.commit) ls l h.1 p)
 
 pub record Heard (m : EngineMeaning) (w : World) : Type 0 where
-  pub fit : AreFitLines m nothing_stored w.trace
+  pub answers : AreLines (IsAnswered m) m nothing_stored w.trace
+  pub tells : AreLines (IsToldLine m) m nothing_stored w.trace
 
-more : (m : EngineMeaning) (w : World) (l : Line) → Heard m w → IsFitLine m (store_of m (commits_in w)) l → AreFitLines m nothing_stored (w.trace ++ l ∷ [])
-more m w l h f = fit_snoc m nothing_stored w.trace l h.fit (subst (λ st. IsFitLine m st l) (sym (stores_are m nothing_stored w.trace)) f)
+more : (P : Store → Line → Type 0) (m : EngineMeaning) (w : World) (l : Line) → AreLines P m nothing_stored w.trace → P (store_of m (commits_in w)) l → AreLines P m nothing_stored (w.trace ++ l ∷ [])
+more P m w l h p = lines_snoc P m nothing_stored w.trace l h (subst (λ st. P st l) (sym (stores_are m nothing_stored w.trace)) p)
 
 -- the line of what a stop has cut, or of what isn't a step, tells nothing and answers nobody
-quiet_heard : (m : EngineMeaning) (w : World) (e : WorldEvent) (n : ℕ) (asked : Option Token) (entry : Option Record) (o : Option Commit) → Heard m w → AreFitLines m nothing_stored (w.trace ++ quiet_line w e n asked entry o ∷ [])
-quiet_heard m w e n asked entry o h = more m w _ h (record { events = refl; mark = refl; replies = refl; refused = refl })
+quiet_heard : (m : EngineMeaning) (w : World) (e : WorldEvent) (n : ℕ) (asked : Option Token) (entry : Option Record) (o : Option Commit) (places : ℕ → Place) → Heard m w
+    → Heard m (record { places = places; packets = w.packets; trace = w.trace ++ quiet_line w e n asked entry o ∷ [] })
+quiet_heard m w e n asked entry o places h = record {
+  answers = more (IsAnswered m) m w _ h.answers (record { replies = refl; refused = refl });
+  tells = more (IsToldLine m) m w _ h.tells (record { events = refl; mark = refl });
+}
 
 module _ (m : EngineMeaning) (touches : TouchesOnlyHanded m) (c : Cluster) where
   whole_heard : (w : World) (e : WorldEvent) (call : Call) → SoundAt m c w call.node (decision m c w call) → Heard m w → Heard m (whole c w e call (decision m c w call))
-  whole_heard w e call s h = record { fit = more m w _ h (record { fit = record { events = s.events; replies = s.replies }; mark = s.mark }) }
+  whole_heard w e call s h = record {
+    answers = more (IsAnswered m) m w _ h.answers s.replies;
+    tells = more (IsToldLine m) m w _ h.tells (record { events = s.events; mark = s.mark });
+  }
 
   happens_heard : (w : World) (e : WorldEvent) → Inv m c w → Heard m w → Heard m (happens m c w e)
   happens_heard w e inv h = behind m c w (Heard m) e (record {
     still = h;
     whole_by = λ call r. whole_heard w e call (sound_at m touches c w call inv r) h;
-    cut_by = λ call r. record { fit = quiet_heard m w e call.node _ _ _ h };
-    halt_by = λ n asked _. record { fit = quiet_heard m w e n _ _ _ h };
-    boots_by = λ n p none same. record { fit = quiet_heard m w e n _ _ _ h };
+    cut_by = λ call r. quiet_heard m w e call.node _ _ _ _ h;
+    halt_by = λ n asked _. quiet_heard m w e n _ _ _ _ h;
+    boots_by = λ n p none same. quiet_heard m w e n _ _ _ _ h;
   })
 
   pub run_heard : (w : World) (es : List WorldEvent) → Inv m c w → Heard m w → Heard m (run m c w es)
   run_heard w es inv h = behind_all m c (Inv m c) (Heard m) (happens_keeps m touches c) happens_heard w es inv h
 
 pub first_heard : (m : EngineMeaning) → Heard m nothing_happened
-first_heard m = record { fit = tt }
+first_heard m = record { answers = tt; tells = tt }
 
--- ---- what fit lines say of the whole trace
+-- ---- what the lines say of the whole trace
 
 replied : (m : EngineMeaning) (st : Store) (o : Option Commit) → tokens_in (replies_with m st o) ≡ served_of (option_to_list o)
 replied m st None = refl
@@ -86,12 +94,12 @@ served_more t (Some (Served token r now handed fresh)) cs = omega arith
 served_more t (Some (Expired k now)) cs = omega arith
 
 -- each answer is of a request that was served in a whole step
-answered_by : (m : EngineMeaning) (st : Store) (t : Token) (l : Line) (ls rest : List Line) (b : Bool) → cond b (IsWhole m st l) (IsSilent l) → times t (tokens_in (replies_of (items ls))) ≡ times t (served_of (commits_of (items rest)))
+answered_by : (m : EngineMeaning) (st : Store) (t : Token) (l : Line) (ls rest : List Line) (b : Bool) → cond b ((item_at l).replies ≡ replies_with m st l.commit) (IsUnanswered l) → times t (tokens_in (replies_of (items ls))) ≡ times t (served_of (commits_of (items rest)))
     → times t (tokens_in (replies_of (items (l ∷ ls)))) ≡ times t (served_of (commits_of (items (cond b (l ∷ rest) rest))))
-answered_by m st t l ls rest true h same = omega (arith, same, tokens_more t (item_at l).replies (replies_of (items ls)), served_more t l.commit (commits_of (items rest)), ap (λ rs. times t (tokens_in rs)) h.fit.replies, ap (times t) (replied m st l.commit))
+answered_by m st t l ls rest true h same = omega (arith, same, tokens_more t (item_at l).replies (replies_of (items ls)), served_more t l.commit (commits_of (items rest)), ap (λ rs. times t (tokens_in rs)) h, ap (times t) (replied m st l.commit))
 answered_by m st t l ls rest false h same = omega (arith, same, tokens_more t (item_at l).replies (replies_of (items ls)), ap (λ rs. times t (tokens_in rs)) h.replies)
 
-pub answered : (m : EngineMeaning) (st : Store) (t : Token) (ls : List Line) → AreFitLines m st ls → times t (tokens_in (replies_of (items ls))) ≡ times t (served_of (commits_of (wholes ls)))
+pub answered : (m : EngineMeaning) (st : Store) (t : Token) (ls : List Line) → AreLines (IsAnswered m) m st ls → times t (tokens_in (replies_of (items ls))) ≡ times t (served_of (commits_of (wholes ls)))
 answered m st t [] h = refl
 answered m st t (l ∷ ls) h = answered_by m st t l ls (filter (λ x. x.whole) ls) l.whole h.0 (answered m (store_with m st l.commit) t ls h.1)
 
@@ -103,10 +111,10 @@ pub fewer : (t : Token) (ls : List Line) → times t (served_of (commits_of (who
 fewer t [] = omega arith
 fewer t (l ∷ ls) = fewer_by t l ls (filter (λ x. x.whole) ls) l.whole (fewer t ls)
 
-told_by : (m : EngineMeaning) (st : Store) (l : Line) (b : Bool) → cond b (IsWhole m st l) (IsSilent l) → l.events ≡ cond b (events_with m st l.commit) []
-told_by m st l true h = h.fit.events
+told_by : (m : EngineMeaning) (st : Store) (l : Line) (b : Bool) → cond b (IsHeard m st l) (IsUnheard l) → l.events ≡ cond b (events_with m st l.commit) []
+told_by m st l true h = h.events
 told_by m st l false h = h.events
 
-pub told : (m : EngineMeaning) (st : Store) (ls : List Line) → AreFitLines m st ls → told_of (items ls) ≡ whole_events m st ls
+pub told : (m : EngineMeaning) (st : Store) (ls : List Line) → AreLines (IsToldLine m) m st ls → told_of (items ls) ≡ whole_events m st ls
 told m st [] h = refl
 told m st (l ∷ ls) h = λ i. told_by m st l l.whole h.0 i ++ told m (store_with m st l.commit) ls h.1 i

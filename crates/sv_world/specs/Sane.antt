@@ -2,9 +2,8 @@
 use Rattle.std.specs.Prelude.{◌≡◌, ◌⊎◌, ℕ, ◌<◌, ◌≤◌, true, None, List}
 use Rattle.std.specs.FinMap.{get}
 use Rattle.sv_model.specs.declared.key.Key.{Key}
-use Rattle.sv_model.specs.declared.session.Session.{Session}
 use Rattle.sv_model.specs.declared.packet.Packet.{Packet}
-use Rattle.sv_model.specs.declared.packet.Packet.TheVariants.{Grant, Ack}
+use Rattle.sv_model.specs.declared.packet.Packet.TheVariants.{Ack}
 use Rattle.sv_model.specs.declared.commit.Commit.{Commit}
 use Rattle.sv_model.specs.Engine.{EngineMeaning}
 use Rattle.sv_model.specs.Container.{Store, nothing_stored, after, AreLawful}
@@ -13,16 +12,11 @@ use Rattle.sv_model.specs.Membership.{In}
 use Rattle.sv_model.specs.Opening.{Opening}
 use Rattle.sv_world.specs.Life.{Life}
 use Rattle.sv_world.specs.World.{Cluster}
+use Rattle.sv_world.specs.Headline.{granted, opened}
 
--- what was ever sent or opened for a key
-abbrev pub granted : List Packet → Key → ℕ → Session → ℕ → ℕ → Type 0
-granted ps q e s from to = In (Grant from to q e s) ps
-
+-- an Ack of the epoch of the key was sent
 abbrev pub acked : List Packet → Key → ℕ → ℕ → Type 0
-acked ps q e to = (from : ℕ) × In (Ack from to q e) ps
-
-abbrev pub opened : List Opening → Key → ℕ → Session → Type 0
-opened os q e s = In (record { key = q; epoch = e; session = s }) os
+acked packets k e to = (from : ℕ) × In (Ack from to k e) packets
 
 abbrev pub store_of : EngineMeaning → List Commit → Store
 store_of m cs = after m nothing_stored cs

@@ -5,7 +5,7 @@ ghost use Rattle.sv_model.specs.Engine.{EngineMeaning, TouchesOnlyHanded};
 ghost use Rattle.sv_world.specs.declared.event.WorldEvent.{WorldEvent};
 ghost use Rattle.sv_world.specs.World.{Cluster, World, run, nothing_happened};
 ghost use Rattle.sv_world.specs.Faults.{IsFaulty};
-ghost use Rattle.sv_world.specs.Headline.{AtMostOne, Agree, IsOneContainer, IsAcknowledged, AsTold, IsReplay, IsHeadline};
+ghost use Rattle.sv_world.specs.Headline.{AtMostOne, Agree, IsOneContainer, IsAcknowledged, IsTold, IsReplay, IsHeadline};
 
 /// Over every list of events one copy of each session lives at most, and opening values agree.
 pub fn lives()
@@ -26,7 +26,7 @@ pub fn answers()
 
 /// Over every list of events each whole step tells what its commit and its record say, and one that was cut nothing.
 pub fn heard()
-    ensures { (m : EngineMeaning) → TouchesOnlyHanded m → (c : Cluster) (events : List WorldEvent) → AsTold m (run m c nothing_happened events) }
+    ensures { (m : EngineMeaning) → TouchesOnlyHanded m → (c : Cluster) (events : List WorldEvent) → IsTold m (run m c nothing_happened events) }
 {}
 
 /// Over every list of events what is durable at a node is its records, one behind the other.

@@ -15,10 +15,10 @@ returns k m touches c es =
     let s = run_spent m c nothing_happened es (first_spent m c) in
     let o = run_waits m c touches nothing_happened es (at_first m c) (first_waits m c) in
     record {
-      fit = h.fit;
-      answers = are_answers m w h.fit o.waits.excused (λ t. omega (arith, served_once m c w s t));
+      lines = h.answers;
+      answers = are_answers m w h.answers o.waits.excused (λ t. omega (arith, served_once m c w s t));
       distinct = s.once;
-      answered = λ t. answered m nothing_stored t w.trace h.fit;
-      served = λ t. omega (arith, answered m nothing_stored t w.trace h.fit, fewer t w.trace);
+      answered = λ t. answered m nothing_stored t w.trace h.answers;
+      served = λ t. omega (arith, answered m nothing_stored t w.trace h.answers, fewer t w.trace);
       once = served_once m c w s;
     }

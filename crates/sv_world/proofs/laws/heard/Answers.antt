@@ -8,4 +8,4 @@ pub returns : goal.returns
 returns k m touches c es =
     let w = run m c nothing_happened es in
     let h = run_heard m touches c nothing_happened es (at_first m c) (first_heard m) in
-    record { fit = h.fit; told = told m nothing_stored w.trace h.fit }
+    record { lines = h.tells; told = told m nothing_stored w.trace h.tells }
