@@ -14,7 +14,8 @@ use Rattle.sv_model.specs.Trace.{asked_of}
 use Rattle.sv_world.specs.declared.event.WorldEvent.{WorldEvent}
 use Rattle.sv_world.specs.declared.event.WorldEvent.TheVariants.{Ask, Deliver, Poke, Tick, Move, Crash, Torn, Restart, TornRestart}
 use Rattle.sv_world.specs.Sent.{may_come}
-use Rattle.sv_world.specs.World.{Cluster, Place, World, durable_at, stopped, started, items, Call, call_of, decision, token_of_call, is_unused, is_there, is_ready, whole, cut, becomes, halt, boot_record, boots, is_spent, steps, tears, starts, happens, run}
+use Rattle.sv_world.specs.declared.call.Call.{Call}
+use Rattle.sv_world.specs.World.{Cluster, Place, World, durable_at, stopped, started, items, call_of, decision, token_of_call, is_unused, is_there, is_ready, whole, cut, becomes, halt, boot_record, boots, is_spent, steps, tears, starts, happens, run}
 use Rattle.sv_world.proofs.SentLemmas.{sent_in}
 
 -- a packet that is given was sent

@@ -6,7 +6,8 @@ use Rattle.sv_model.specs.Trace.{asked_of}
 use Rattle.sv_world.specs.declared.event.WorldEvent.{WorldEvent}
 use Rattle.sv_world.specs.declared.event.WorldEvent.TheVariants.{Ask, Deliver, Poke, Tick, Move, Crash, Torn, Restart, TornRestart}
 use Rattle.sv_world.specs.declared.line.Line.{Line}
-use Rattle.sv_world.specs.World.{Cluster, World, stopped, started, items, whole, cut, halt, Call, call_of, is_unused, is_ready, decision, steps, tears, boots, happens, token_of_call, is_there, is_spent, starts}
+use Rattle.sv_world.specs.declared.call.Call.{Call}
+use Rattle.sv_world.specs.World.{Cluster, World, stopped, started, items, whole, cut, halt, call_of, is_unused, is_ready, decision, steps, tears, boots, happens, token_of_call, is_there, is_spent, starts}
 use Rattle.sv_world.specs.declared.fault.WorldFault.{WorldFault}
 use Rattle.sv_world.specs.declared.fault.WorldFault.TheVariants.{NoNode, Running, NotRunning, NoPacket, TokenUsed}
 use Rattle.sv_world.specs.Sent.{may_come}

@@ -4,7 +4,7 @@ pub mod OneKey
 pub mod Keys
 pub mod Rows
 pub mod Sending
-pub mod Outputs
+pub mod Plain
 pub mod Steps
 pub mod Runs
 pub mod Waiting

@@ -13,7 +13,8 @@ use Rattle.sv_model.specs.Membership.{with_last}
 use Rattle.sv_model.specs.Outputs.{sends_in}
 use Rattle.sv_world.specs.declared.event.WorldEvent.{WorldEvent}
 use Rattle.sv_world.specs.declared.line.Line.{Line}
-use Rattle.sv_world.specs.World.{Cluster, Place, World, set_place, durable_at, stopped, nothing_happened, items, commits_in, whole, cut, Call, is_unused, decision, happens, run, item_at, token_of_call}
+use Rattle.sv_world.specs.declared.call.Call.{Call}
+use Rattle.sv_world.specs.World.{Cluster, Place, World, set_place, durable_at, stopped, nothing_happened, items, commits_in, whole, cut, is_unused, decision, happens, run, item_at, token_of_call}
 use Rattle.sv_world.specs.Waits.{Waits}
 use Rattle.sv_world.proofs.Arrivals.{one_if, token_self, asked_snoc, arrival_snoc, arrival_new, items_snoc}
 use Rattle.sv_world.proofs.Waiting.{Patient, waits_still, whole_waits, stop_waits, boot_waits}

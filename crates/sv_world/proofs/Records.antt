@@ -16,7 +16,8 @@ use Rattle.sv_model.proofs.JournalLemmas.{journaled}
 use Rattle.sv_model.specs.Step.{left}
 use Rattle.sv_world.specs.declared.event.WorldEvent.{WorldEvent}
 use Rattle.sv_world.specs.declared.line.Line.{Line}
-use Rattle.sv_world.specs.World.{Cluster, setting_of, Place, World, set_place, durable_at, stopped, nothing_happened, records_at, Call, decision, happens, run}
+use Rattle.sv_world.specs.declared.call.Call.{Call}
+use Rattle.sv_world.specs.World.{Cluster, setting_of, Place, World, set_place, durable_at, stopped, nothing_happened, records_at, decision, happens, run}
 use Rattle.sv_world.proofs.Waiting.{by_node}
 use Rattle.sv_world.proofs.Events.{behind, behind_all}
 use Rattle.sv_world.proofs.Runs.{Inv, sound_at, happens_keeps}

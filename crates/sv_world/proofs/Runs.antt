@@ -27,7 +27,8 @@ use Rattle.sv_model.specs.Opening.{opening_of}
 use Rattle.sv_world.specs.Life.{Life, Unborn}
 use Rattle.sv_world.specs.declared.event.WorldEvent.{WorldEvent}
 use Rattle.sv_world.specs.declared.line.Line.{Line}
-use Rattle.sv_world.specs.World.{Cluster, Place, World, set_place, durable_at, stopped, nothing_happened, items, commits_in, openings_of, whole, cut, becomes, Call, decision, happens, run, item_at, boot_record}
+use Rattle.sv_world.specs.declared.call.Call.{Call}
+use Rattle.sv_world.specs.World.{Cluster, Place, World, set_place, durable_at, stopped, nothing_happened, items, commits_in, openings_of, whole, cut, becomes, decision, happens, run, item_at, boot_record}
 use Rattle.sv_world.specs.Sane.{Sane, acked, store_of}
 use Rattle.sv_world.specs.Headline.{states, IsLiveAt, IsOpening, IsLive, granted, opened}
 use Rattle.sv_model.specs.Node.{decided}

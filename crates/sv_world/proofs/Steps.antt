@@ -57,7 +57,7 @@ use Rattle.sv_world.proofs.Keys.{set_here, set_there, get_there}
 use Rattle.sv_world.proofs.OneKey.{map_has_live}
 use Rattle.sv_world.proofs.Rows.{LivesOf, RowChanges, FateFits, lives_same, lives_sends, lives_takes, lives_forgets, lives_keeps, lives_ends, lives_born, lives_spent}
 use Rattle.sv_world.proofs.Sending.{AllJustified}
-use Rattle.sv_world.proofs.Outputs.{IsPlain, plain_both, plain_wants, plain_deadlines, plain_again, plain_grants}
+use Rattle.sv_world.proofs.Plain.{IsPlain, plain_both, plain_wants, plain_deadlines, plain_again, plain_grants}
 use Rattle.sv_world.specs.Headline.{IsLive, granted, opened}
 
 abbrev pub keys_of : (ℕ → Durable) → ℕ → Key → Option KeyState

@@ -16,7 +16,8 @@ use Rattle.sv_model.specs.Trace.{Item, commits_of, asked_of, refused_of, served_
 use Rattle.sv_model.specs.Membership.{with_last}
 use Rattle.sv_world.specs.declared.event.WorldEvent.{WorldEvent}
 use Rattle.sv_world.specs.declared.line.Line.{Line}
-use Rattle.sv_world.specs.World.{Cluster, Place, World, set_place, durable_at, stopped, nothing_happened, items, commits_in, whole, cut, becomes, Call, is_unused, decision, happens, run, item_at, token_of_call, boot_record}
+use Rattle.sv_world.specs.declared.call.Call.{Call}
+use Rattle.sv_world.specs.World.{Cluster, Place, World, set_place, durable_at, stopped, nothing_happened, items, commits_in, whole, cut, becomes, is_unused, decision, happens, run, item_at, token_of_call, boot_record}
 use Rattle.sv_world.specs.Waits.{boot_of}
 use Rattle.sv_world.proofs.Arrivals.{one_if, token_same, times_more, times_one, asked_snoc, items_snoc}
 use Rattle.sv_world.proofs.Waiting.{by_node}

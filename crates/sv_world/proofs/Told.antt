@@ -14,7 +14,8 @@ use Rattle.sv_model.specs.OneContainer.{store_with, events_with, replies_with, t
 use Rattle.sv_model.specs.Trace.{commits_of, told_of, replies_of, served_of, times}
 use Rattle.sv_world.specs.declared.event.WorldEvent.{WorldEvent}
 use Rattle.sv_world.specs.declared.line.Line.{Line}
-use Rattle.sv_world.specs.World.{Cluster, Place, World, nothing_happened, items, commits_in, whole, Call, decision, happens, run, item_at}
+use Rattle.sv_world.specs.declared.call.Call.{Call}
+use Rattle.sv_world.specs.World.{Cluster, Place, World, nothing_happened, items, commits_in, whole, decision, happens, run, item_at}
 use Rattle.sv_world.specs.Sane.{store_of}
 use Rattle.sv_world.specs.Headline.{AreLines, IsUnanswered, IsAnswered, IsUnheard, IsHeard, IsToldLine, wholes, whole_events}
 use Rattle.sv_world.proofs.Arrivals.{times_more}

@@ -8,7 +8,8 @@ use Rattle.sv_world.specs.declared.fault.WorldFault.{WorldFault}
 use Rattle.sv_world.specs.declared.fault.WorldFault.TheVariants.{NoNode, Running, NotRunning, NoPacket, TokenUsed}
 use Rattle.sv_world.specs.declared.line.Line.{Line}
 use Rattle.sv_world.specs.Sent.{may_come}
-use Rattle.sv_world.specs.World.{Cluster, World, items, Call, call_of, token_of_call, is_unused, is_there, happens}
+use Rattle.sv_world.specs.declared.call.Call.{Call}
+use Rattle.sv_world.specs.World.{Cluster, World, items, call_of, token_of_call, is_unused, is_there, happens}
 
 -- of a step: whether its node is there, whether it runs, whether a packet was sent, whether a token is new
 abbrev pub step_fault : Bool → Bool → Bool → Bool → Option WorldFault

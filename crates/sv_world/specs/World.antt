@@ -10,11 +10,9 @@
 use Rattle.std.specs.Option.{option_map, option_to_list}
 use Rattle.std.specs.Prelude.{ℕ, ◌+◌, ◌==◌, ◌&&◌, nat_lt, not, is_some, Bool, true, false, cond, Option, Some, None, List, [], ◌∷◌, ◌++◌, map, slice_get}
 use Rattle.std.specs.List.{filter_map, flat_map}
-use Rattle.sv_model.specs.declared.key.Moment.{Moment}
 use Rattle.sv_model.specs.declared.key.Token.{Token}
 use Rattle.sv_model.specs.declared.node.Setting.{Setting}
 use Rattle.sv_model.specs.declared.packet.Packet.{Packet}
-use Rattle.sv_model.specs.declared.input.Input.{Input}
 use Rattle.sv_model.specs.declared.input.Input.TheVariants as input
 use Rattle.sv_model.specs.declared.record.Record.{Record}
 use Rattle.sv_model.specs.declared.record.Record.TheVariants.{Boot}
@@ -33,6 +31,7 @@ use Rattle.sv_model.specs.Trace.{Item, asked_by, reply_in, refusal_in, commits_o
 use Rattle.sv_world.specs.declared.event.WorldEvent.{WorldEvent}
 use Rattle.sv_world.specs.declared.event.WorldEvent.TheVariants.{Ask, Deliver, Poke, Tick, Move, Crash, Torn, Restart, TornRestart}
 use Rattle.sv_world.specs.declared.line.Line.{Line}
+use Rattle.sv_world.specs.declared.call.Call.{Call}
 use Rattle.sv_world.specs.Sent.{may_come}
 
 -- how many nodes there are, and the seconds for which a request waits
@@ -107,12 +106,6 @@ abbrev pub openings_of : List Line → List Opening
 openings_of trace = flat_map (λ l. option_to_list (opening_of l.entry)) trace
 
 -- ---- a step of a node
-
--- which node, when, and what it is given
-pub record Call : Type 0 where
-  pub node : ℕ
-  pub moment : Moment
-  pub input : Input
 
 -- the step that an event asks for; none where it asks for none, or delivers a packet that was never sent
 abbrev pub call_of : List Packet → WorldEvent → Option Call
