@@ -6,3 +6,7 @@ pub mod CoreLemmas
 pub mod EffectLemmas
 pub mod ReplayLemmas
 pub mod WithinLemmas
+pub mod KeptLemmas
+pub mod SoundLemmas
+pub mod SnapshotLemmas
+pub mod RangeLemmas

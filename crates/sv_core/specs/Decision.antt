@@ -4,6 +4,7 @@ use Rattle.std.specs.List.{filter}
 use Rattle.sv_model.specs.declared.commit.Commit.{Commit}
 use Rattle.sv_model.specs.declared.record.Record.{Record}
 use Rattle.sv_model.specs.declared.event.Told.{Told}
+use Rattle.sv_model.specs.declared.output.Output.{Output}
 use Rattle.sv_model.specs.declared.node.Setting.{Setting}
 use Rattle.sv_model.specs.declared.node.Parked.{Parked}
 use Rattle.sv_model.specs.NodeState.{Node}
@@ -63,3 +64,16 @@ decision_of set n d =
 -- the node behind a record and what becomes of the requests that wait
 abbrev pub behind : Setting → Option Record → Waiting → Node → Node
 behind set entry waiting n = record { durable = applied_if entry n.durable; parked = parked_by set waiting n.parked; next_want = want_by waiting n.next_want }
+
+-- what others may read of it
+abbrev pub entry_in : Decision → Option Record
+entry_in d = d.entry
+
+abbrev pub commit_in : Decision → Option Commit
+commit_in d = d.commit
+
+abbrev pub told_in : Decision → List Told
+told_in d = d.told
+
+abbrev pub outputs_in : Decision → List Output
+outputs_in d = d.outputs

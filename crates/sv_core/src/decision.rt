@@ -1,6 +1,9 @@
 //! What a step does, as plain data, before anything of it is done.
 
 ghost use Rattle.std.specs.Prelude.{◌≡◌, ◌∷◌, [], IfOk, Some, None, option_copied};
+ghost use Rattle.sv_model.specs.declared.node.Setting.{Setting};
+ghost use Rattle.sv_model.specs.NodeState.{Node};
+ghost use Rattle.sv_model.specs.Step.{told};
 
 use std::alloc::{AllocError, Global};
 use sv_model::{Commit, Output, Parked, Record, Sequence, Told};
@@ -21,11 +24,47 @@ pub enum Waiting {
 /// What a step does.
 #[derive(Drop)]
 pub struct Decision {
-    pub entry: Option<Record>,
-    pub commit: Option<Commit>,
-    pub told: Sequence<Told>,
-    pub outputs: Sequence<Output>,
-    pub waiting: Waiting,
+    pub(crate) entry: Option<Record>,
+    pub(crate) commit: Option<Commit>,
+    pub(crate) told: Sequence<Told>,
+    pub(crate) outputs: Sequence<Output>,
+    pub(crate) waiting: Waiting,
+}
+
+/// What others may read of it.
+impl Decision {
+    ghost use Rattle.sv_core.specs.Decision.{decision_of, entry_in, commit_in, told_in, outputs_in};
+
+    /// The record that has to be durable before the decision is accepted, if there is one.
+    pub fn entry(&self) -> Option<&Record>
+        ensures { option_copied result ≡ entry_in self.now }
+    {
+        self.entry.as_ref()
+    }
+
+    /// The commit that the step is, if it is one.
+    pub fn commit(&self) -> Option<&Commit>
+        ensures { option_copied result ≡ commit_in self.now }
+    {
+        self.commit.as_ref()
+    }
+
+    /// What listeners are told once the decision is accepted, in order: the commit's events, or that a session has come or
+    /// gone.
+    #[tactic(auto, using(crate::proofs::CoreLemmas::tells))]
+    pub fn told(&self) -> &[Told]
+        ensures list { result.now ≡ told_in self.now }
+        ensures told { (set : Setting) (n : Node) → told (decision_of set n self.now) ≡ told_in self.now }
+    {
+        self.told.as_slice()
+    }
+
+    /// What is put out once the decision is accepted, in order.
+    pub fn outputs(&self) -> &[Output]
+        ensures { result.now ≡ outputs_in self.now }
+    {
+        self.outputs.as_slice()
+    }
 }
 
 /// A list of one output.

@@ -115,7 +115,7 @@ impl Kept {
         ensures stage { self.new.stage ≡ stage_behind entry self.old.stage }
         ensures setting { self.new.setting ≡ self.old.setting }
         ensures parked { self.new.parked ≡ self.old.parked }
-        ensures want { self.new.want ≡ self.old.want }
+        ensures want { self.new.next_want ≡ self.old.next_want }
     {
         match &entry {
             Record::Boot(boot) => self.boot = *boot,
@@ -138,13 +138,13 @@ impl Kept {
     pub fn follow(&mut self, entry: Option<Record>, waiting: Waiting)
         requires ready { IsReady self.old }
         requires next { (applied_if entry (node_of self.old).durable).next ≤ last_number }
-        requires want { want_by waiting self.old.want ≤ last_number }
+        requires want { want_by waiting self.old.next_want ≤ last_number }
         ensures node { node_of self.new ≡ behind self.old.setting entry waiting (node_of self.old) }
         ensures stage { self.new.stage ≡ stage_behind_if entry self.old.stage }
         ensures setting { self.new.setting ≡ self.old.setting }
     {
         if let Waiting::Joins(_) = &waiting {
-            self.want += 1;
+            self.next_want += 1;
         }
         rearrange(&mut self.parked, self.setting, waiting);
         if let Some(entry) = entry {

@@ -1,11 +1,14 @@
 //! What a core keeps beside its engine.
 
-ghost use Rattle.std.specs.Prelude.{◌≡◌, ◌==◌, ◌≤◌, OnOk, IfOk};
+ghost use Rattle.std.specs.Prelude.{◌≡◌, ◌==◌, ◌+◌, ◌≤◌, [], None, is_none, IfSome, OnOk, IfOk};
+ghost use Rattle.sv_model.specs.declared.record.Record.TheVariants.{Boot};
+ghost use Rattle.sv_core.specs.Plain.{recorded};
 ghost use Rattle.sv_model.specs.NodeState.{is_unmade, is_dead, last_number};
 
+use crate::decision::Decision;
 use crate::table::Table;
 use std::alloc::{AllocError, Global};
-use sv_model::{Key, Parked, Setting, Stage};
+use sv_model::{Key, Parked, Record, Setting, Stage};
 
 /// What a node keeps: what its records give, and what it forgets when it stops.
 #[derive(Drop)]
@@ -21,7 +24,7 @@ pub struct Kept {
     /// The requests that wait, in order of arrival.
     pub parked: Vec<Parked>,
     /// The number of the next want.
-    pub want: u64,
+    pub next_want: u64,
     pub alloc: Global,
 }
 
@@ -52,11 +55,20 @@ impl Kept {
 
     /// The numbers of the next want and of the next session.
     pub fn numbers(&self) -> (u64, u64)
-        ensures value { result ≡ (self.now.want, self.now.next) }
-        ensures want { self.now.want ≤ last_number }
+        ensures value { result ≡ (self.now.next_want, self.now.next) }
+        ensures want { self.now.next_want ≤ last_number }
         ensures next { self.now.next ≤ last_number }
     {
-        (number(self.want), number(self.next))
+        (number(self.next_want), number(self.next))
+    }
+
+    /// The node starts once more, where a number is left for it.
+    pub fn start(&self) -> Option<Decision>
+        ensures none { is_none result ≡ (self.now.boot == last_number) }
+        ensures start { IfSome result (λ d. d ≡ recorded (Boot (self.now.boot + 1)) None []) }
+    {
+        let boot = self.boot.checked_add(1)?;
+        Some(Decision::noted(self.alloc, Record::Boot(boot)))
     }
 
     /// Makes room for what a decision adds.

@@ -1,14 +1,19 @@
 //! A node among others: an engine, and what the node keeps.
 
-ghost use Rattle.std.specs.Prelude.{◌≡◌, IfOk, OnOk, OnErr, IfErr, option_copied};
+ghost use Rattle.std.specs.Prelude.{◌≡◌, ◌==◌, is_none, IfOk, IfSome, OnOk, OnErr, IfErr, option_copied};
 ghost use Rattle.std.specs.FinMap.{get};
+ghost use Rattle.std.specs.List.{AllByRecursion};
 ghost use Rattle.sv_model.specs.Engine.{heard_all};
-ghost use Rattle.sv_model.specs.Replay.{blank, AllFit, stage_behind_if};
+ghost use Rattle.sv_model.specs.NodeState.{last_number};
+ghost use Rattle.sv_model.specs.Replay.{blank, applied, Fits, AllFit, stage_behind, stage_behind_if};
 ghost use Rattle.sv_model.specs.Journaled.{IsJournaled};
+ghost use Rattle.sv_model.specs.Ranges.{IsSetting, IsInput, IsRecord, IsRanged, IsRangedStep};
 ghost use Rattle.sv_model.specs.Node.{decided};
 ghost use Rattle.sv_model.specs.declared.node.Stage.TheVariants.{Blank};
 ghost use Rattle.sv_core.specs.declared.fault.ApplyFault.TheVariants.{BadRecord};
-ghost use Rattle.sv_model.specs.Step.{IsStep, left, told};
+ghost use Rattle.sv_model.specs.Step.{left, told};
+ghost use Rattle.sv_core.specs.Decision.{outputs_in, entry_in};
+ghost use Rattle.sv_core.specs.Snapshot.{snapshot_of};
 
 use crate::decision::Decision;
 use crate::fault::{ApplyFault, Memory};
@@ -18,11 +23,11 @@ use crate::table::Table;
 use std::alloc::Global;
 use sv_model::{Engine, Input, Key, KeyState, Moment, Output, Record, Setting, Stage};
 
-/// One node of a cluster.
+/// One node of a cluster: what its records give, the requests that wait at it, and its engine.
 #[derive(Drop)]
 pub struct Core<E> {
-    pub engine: E,
-    pub kept: Kept,
+    engine: E,
+    kept: Kept,
 }
 
 /// An engine whose node was not recovered, and why.
@@ -33,8 +38,7 @@ pub struct Unrecovered<E> {
 }
 
 impl<E> Core<E> {
-    ghost use Rattle.sv_core.specs.Kept.{node_of, IsReady};
-    ghost use Rattle.sv_core.specs.Core.{IsNew, IsRecovered};
+    ghost use Rattle.sv_core.specs.Core.{IsNew, IsRecovered, node_at, durable_at, setting_of, stage_of, engine_of};
 
     /// A node that has no records yet.
     pub fn new(alloc: Global, engine: E, setting: Setting) -> Self
@@ -47,13 +51,14 @@ impl<E> Core<E> {
             next: 1,
             stage: Stage::Blank,
             parked: Vec::new(alloc),
-            want: 1,
+            next_want: 1,
             alloc,
         };
         Core { engine, kept }
     }
 
-    /// A node that has these records.
+    /// A node that has these records. Where one of them doesn't fit behind those before it, or memory is refused, the engine
+    /// comes back.
     pub fn recover(
         alloc: Global,
         engine: E,
@@ -63,10 +68,14 @@ impl<E> Core<E> {
         ensures ok { IfOk result (λ c. IsRecovered c engine setting records.now) }
         ensures err { IfErr result (λ u. u.engine ≡ engine) }
         ensures bad { IfErr result (λ u. u.fault ≡ BadRecord → ¬ (AllFit setting Blank blank records.now)) }
+        ensures ranged { AllByRecursion IsRecord records.now → IfOk result (λ c. IsRanged (node_at c)) }
     {
         let mut core = Core::new(alloc, engine, setting);
         match core.kept.replay(records) {
-            Ok(()) => Ok(core),
+            Ok(()) => {
+                let _numbers = core.kept.numbers();
+                Ok(core)
+            }
             Err(fault) => Err(Unrecovered {
                 engine: core.engine,
                 fault,
@@ -74,61 +83,109 @@ impl<E> Core<E> {
         }
     }
 
-    /// The number of its last start.
+    /// Adds a record, where it may stand behind those before it. The requests that wait stay as they are.
+    pub fn apply(&mut self, entry: Record) -> Result<(), ApplyFault>
+        ensures fits { OnOk result (Fits (setting_of self.old) (stage_of self.old) (durable_at self.old) entry) }
+        ensures durable { OnOk result (durable_at self.new ≡ applied entry (durable_at self.old)) }
+        ensures stage { OnOk result (stage_of self.new ≡ stage_behind entry (stage_of self.old)) }
+        ensures bad { IfErr result (λ e. e ≡ BadRecord → ¬ (Fits (setting_of self.old) (stage_of self.old) (durable_at self.old) entry)) }
+        ensures err { OnErr result (node_at self.new ≡ node_at self.old) }
+        ensures err_stage { OnErr result (stage_of self.new ≡ stage_of self.old) }
+        ensures waiting { (node_at self.new).parked ≡ (node_at self.old).parked }
+        ensures wants { (node_at self.new).next_want ≡ (node_at self.old).next_want }
+        ensures setting { setting_of self.new ≡ setting_of self.old }
+        ensures engine { engine_of self.new ≡ engine_of self.old }
+    {
+        self.kept.apply(entry)
+    }
+
+    /// All that the node keeps durably, as records that give it again: the counters, then what is known of each key, in
+    /// order of the keys.
+    pub fn snapshot(&self) -> Result<Vec<Record>, Memory>
+        ensures { IfOk result (λ records. records.items ≡ snapshot_of (durable_at self.now)) }
+    {
+        Ok(self.kept.snapshot()?)
+    }
+
+    /// The number of its last start; 0 before the first.
     pub fn boot(&self) -> u64
-        ensures { result ≡ (node_of self.now.kept).durable.boot }
+        ensures { result ≡ (durable_at self.now).boot }
     {
         self.kept.boot
     }
 
-    /// What it knows of a key.
+    /// What it knows of a key; none where it has never heard of it.
     pub fn state(&self, key: Key) -> Option<&KeyState>
-        ensures { option_copied result ≡ get (node_of self.now.kept).durable.keys key }
+        ensures { option_copied result ≡ get (durable_at self.now).keys key }
     {
         self.kept.keys.get(key)
     }
 
+    /// Which node it is.
+    pub fn setting(&self) -> Setting
+        ensures { result ≡ setting_of self.now }
+    {
+        self.kept.setting
+    }
+
     /// The engine.
     pub fn into_engine(self) -> E
-        ensures { result ≡ self.engine }
+        ensures { result ≡ engine_of self }
     {
         self.engine
     }
 }
 
 impl<E: Engine> Core<E> {
-    ghost use Rattle.sv_core.specs.Kept.{node_of, IsReady};
-    ghost use Rattle.sv_core.specs.Core.{view_of, decision_at, IsWithin};
+    ghost use Rattle.sv_core.specs.Core.{view_of, node_at, durable_at, setting_of, stage_of, engine_of, decision_at, starts, IsRow, WasDecided};
 
     /// What the node does at an input, before anything of it is done.
+    ///
+    /// The record of the decision may stand behind those of the node, and is one that may be written where what the node
+    /// keeps and is given may be. After want of memory the node is as it was.
     pub fn decide(&mut self, moment: Moment, input: Input) -> Result<Decision, Memory>
-        requires { E.valid self.old.engine }
-        ensures valid { E.valid self.new.engine }
+        requires { E.valid (engine_of self.old) }
+        ensures valid { E.valid (engine_of self.new) }
         ensures view { view_of E.meaning E.heard self.new ≡ view_of E.meaning E.heard self.old }
-        ensures setting { self.new.kept.setting ≡ self.old.kept.setting }
-        ensures stage { self.new.kept.stage ≡ self.old.kept.stage }
-        ensures decision { IfOk result (λ d. decision_at self.new d ≡ decided (E.meaning self.old.engine) self.old.kept.setting (node_of self.old.kept) moment input) }
-        ensures within { IfOk result (λ d. IsWithin (decision_at self.new d)) }
-        ensures journaled { IfOk result (λ d. IsJournaled self.old.kept.setting (node_of self.old.kept) (decision_at self.new d)) }
-        ensures ready { OnOk result (IsReady self.new.kept) }
+        ensures setting { setting_of self.new ≡ setting_of self.old }
+        ensures stage { stage_of self.new ≡ stage_of self.old }
+        ensures decision { IfOk result (λ d. decision_at self.new d ≡ decided (E.meaning (engine_of self.old)) (setting_of self.old) (node_at self.old) moment input) }
+        ensures decided { IfOk result (λ d. WasDecided E.meaning self.new d) }
+        ensures journaled { IfOk result (λ d. IsJournaled (setting_of self.old) (node_at self.old) (decision_at self.new d)) }
+        ensures ranged { IsSetting (setting_of self.old) → IsRanged (node_at self.old) → IsInput input → IfOk result (λ d. IsRangedStep (decision_at self.new d)) }
     {
         self.kept.reserve()?;
         let _numbers = self.kept.numbers();
         row::decide(&mut self.engine, &self.kept, moment, input)
     }
 
-    /// Does what was decided, once its record is durable.
+    /// What the node does when it starts, before anything of it is done: its boot number rises. There is none where that is
+    /// the last number.
+    pub fn decide_start(&mut self) -> Result<Option<Decision>, Memory>
+        ensures engine { engine_of self.new ≡ engine_of self.old }
+        ensures node { node_at self.new ≡ node_at self.old }
+        ensures setting { setting_of self.new ≡ setting_of self.old }
+        ensures stage { stage_of self.new ≡ stage_of self.old }
+        ensures none { IfOk result (λ o. is_none o ≡ ((durable_at self.old).boot == last_number)) }
+        ensures decision { IfOk result (λ o. IfSome o (λ d. decision_at self.new d ≡ starts (node_at self.old))) }
+        ensures decided { IfOk result (λ o. IfSome o (λ d. WasDecided E.meaning self.new d)) }
+    {
+        self.kept.reserve()?;
+        let _numbers = self.kept.numbers();
+        Ok(self.kept.start())
+    }
+
+    /// Does what was decided, once its record is durable. It takes no memory.
     pub fn accept(&mut self, decision: Decision) -> Vec<Output>
-        requires valid { E.valid self.old.engine }
-        requires ready { IsReady self.old.kept }
-        requires within { IsWithin (decision_at self.old decision) }
-        ensures valid { E.valid self.new.engine }
-        ensures meaning { E.meaning self.new.engine ≡ E.meaning self.old.engine }
-        ensures node { node_of self.new.kept ≡ left (decision_at self.old decision) }
-        ensures heard { E.heard self.new.engine ≡ heard_all (E.meaning self.old.engine) (E.heard self.old.engine) (told (decision_at self.old decision)) }
-        ensures outputs { result.items ≡ decision.outputs }
-        ensures stage { self.new.kept.stage ≡ stage_behind_if decision.entry self.old.kept.stage }
-        ensures setting { self.new.kept.setting ≡ self.old.kept.setting }
+        requires valid { E.valid (engine_of self.old) }
+        requires decided { WasDecided E.meaning self.old decision }
+        ensures valid { E.valid (engine_of self.new) }
+        ensures meaning { E.meaning (engine_of self.new) ≡ E.meaning (engine_of self.old) }
+        ensures node { node_at self.new ≡ left (decision_at self.old decision) }
+        ensures heard { E.heard (engine_of self.new) ≡ heard_all (E.meaning (engine_of self.old)) (E.heard (engine_of self.old)) (told (decision_at self.old decision)) }
+        ensures outputs { result.items ≡ outputs_in decision }
+        ensures stage { stage_of self.new ≡ stage_behind_if (entry_in decision) (stage_of self.old) }
+        ensures setting { setting_of self.new ≡ setting_of self.old }
     {
         let Decision {
             entry,
@@ -140,17 +197,5 @@ impl<E: Engine> Core<E> {
         self.kept.follow(entry, waiting);
         self.engine.tell(told.as_slice());
         outputs.into_vec()
-    }
-
-    /// Takes one input, where nothing has to be made durable.
-    pub fn step(&mut self, moment: Moment, input: Input) -> Result<Vec<Output>, Memory>
-        requires { E.valid self.old.engine }
-        ensures valid { E.valid self.new.engine }
-        ensures step { IfOk result (λ outputs. IsStep (view_of E.meaning E.heard self.old) (decided (E.meaning self.old.engine) self.old.kept.setting (node_of self.old.kept) moment input) outputs.items (view_of E.meaning E.heard self.new)) }
-        ensures err { OnErr result (view_of E.meaning E.heard self.new ≡ view_of E.meaning E.heard self.old) }
-        ensures setting { self.new.kept.setting ≡ self.old.kept.setting }
-    {
-        let decision = self.decide(moment, input)?;
-        Ok(self.accept(decision))
     }
 }

@@ -4,6 +4,7 @@ ghost use Rattle.std.specs.Prelude.{◌≡◌, List, IfErr, OnOk, OnErr, IfOk, o
 ghost use Rattle.std.specs.Bool.{Decides};
 ghost use Rattle.std.specs.FinMap.{get};
 ghost use Rattle.sv_model.specs.Replay.{is_active, fits_named, is_next, fits_born, FitsSent, fits_taken, fits_gone, fits_state, fits_counters, Fits, AllFit, applied, replayed, stage_behind};
+ghost use Rattle.sv_core.specs.Snapshot.{staged};
 ghost use Rattle.sv_core.specs.Kept.{node_of};
 ghost use Rattle.sv_core.specs.Table.{keys_of};
 ghost use Rattle.sv_core.specs.declared.fault.ApplyFault.TheVariants.{BadRecord};
@@ -127,7 +128,7 @@ impl Kept {
         ensures bad { IfErr result (λ e. e ≡ BadRecord → ¬ (Fits self.old.setting self.old.stage (node_of self.old).durable entry)) }
         ensures setting { self.new.setting ≡ self.old.setting }
         ensures parked { self.new.parked ≡ self.old.parked }
-        ensures want { self.new.want ≡ self.old.want }
+        ensures want { self.new.next_want ≡ self.old.next_want }
     {
         if !self.fits(&entry) {
             return Err(ApplyFault::BadRecord);
@@ -141,10 +142,11 @@ impl Kept {
     pub fn replay(&mut self, records: &[Record]) -> Result<(), ApplyFault>
         ensures fit { OnOk result (AllFit self.old.setting self.old.stage (node_of self.old).durable records.now) }
         ensures durable { OnOk result ((node_of self.new).durable ≡ replayed (node_of self.old).durable records.now) }
+        ensures stage { OnOk result (self.new.stage ≡ staged self.old.stage records.now) }
         ensures bad { IfErr result (λ e. e ≡ BadRecord → ¬ (AllFit self.old.setting self.old.stage (node_of self.old).durable records.now)) }
         ensures setting { self.new.setting ≡ self.old.setting }
         ensures parked { self.new.parked ≡ self.old.parked }
-        ensures want { self.new.want ≡ self.old.want }
+        ensures want { self.new.next_want ≡ self.old.next_want }
     {
         for entry in records {
             self.apply(entry.copy(self.alloc)?)?;

@@ -85,13 +85,13 @@ impl Kept {
         ensures { IfOk result (λ d. decision_of self.now.setting (node_of self.now) d ≡ parks self.now.setting (node_of self.now) moment token request key) }
     {
         let mut outputs = Vec::new(self.alloc);
-        self.add_wants(&mut outputs, key, self.want)?;
+        self.add_wants(&mut outputs, key, self.next_want)?;
         let parked = Parked {
             token,
             request,
             key,
             since: moment.now,
-            want: self.want,
+            want: self.next_want,
         };
         Ok(Decision {
             entry: None,
@@ -115,7 +115,7 @@ impl Kept {
         if self.parked.len() >= PARK_LIMIT {
             return self.refuse(token, Cause::ParkFull, None);
         }
-        if self.want == u64::MAX {
+        if self.next_want == u64::MAX {
             return self.refuse(token, Cause::WantsSpent, None);
         }
         self.park(moment, token, request, key)

@@ -1,0 +1,88 @@
+-- What holds of each key that is known goes on holding behind records.
+use Rattle.std.proofs.Common.{◌≡◌, ◌≢◌, ℕ, suc, ◌+◌, ◌<◌, ◌≤◌, Bool, true, false, cond, Option, Some, None, arith, refl, sym, ap, ◌∙◌, subst, ⊎_elim}
+use Rattle.std.specs.Prelude.{is_some, ◌&&◌, nat_lt}
+use Rattle.std.specs.FinMap.{get, insert, len, get-insert, len-insert}
+use Rattle.std.proofs.lemmas.Bool.{cond_both}
+use Rattle.std.proofs.lemmas.Bool.Decides.{leb_tells}
+use Rattle.std.proofs.lemmas.Option.{same_Some}
+use Rattle.sv_model.specs.declared.key.Key.{Key}
+use Rattle.sv_model.specs.declared.session.Session.{Session}
+use Rattle.sv_model.specs.declared.state.KeyState.{KeyState}
+use Rattle.sv_model.specs.declared.state.KeyState.TheVariants.{Active, Sent, Gone, Ended}
+use Rattle.sv_model.specs.declared.state.TheConstants.{KEY_LIMIT}
+use Rattle.sv_model.specs.Keys.{same_key}
+use Rattle.sv_model.specs.NodeState.{Keys}
+use Rattle.sv_model.specs.Serving.{kept_at, ended_at}
+use Rattle.sv_model.proofs.KeyLemmas.{keys_total, keys_tell}
+
+pub left : (a b : Bool) → (a && b) ≡ true → a ≡ true
+left true b is = refl
+left false b is = absurd cc
+
+pub right : (a b : Bool) → (a && b) ≡ true → b ≡ true
+right true b is = is
+right false b is = absurd cc
+
+pub is_lower : (a b : ℕ) → nat_lt a b ≡ true → a < b
+is_lower a b is = ⊎_elim
+    (λ (t : (nat_lt a b ≡ true) × (suc a ≤ b)). t.1)
+    (λ (t : (nat_lt a b ≡ false) × (b < suc a)). absurd (let no : true ≡ false = sym is ∙ t.0 in cc))
+    (leb_tells (suc a) b)
+
+pub lower_is : (a b : ℕ) → a < b → nat_lt a b ≡ true
+lower_is a b is = ⊎_elim
+    (λ (t : (nat_lt a b ≡ true) × (suc a ≤ b)). t.0)
+    (λ (t : (nat_lt a b ≡ false) × (b < suc a)). absurd (omega (arith, t.1, is)))
+    (leb_tells (suc a) b)
+
+-- ---- what holds of each key that is known
+
+abbrev pub AreAll : (Key → KeyState → Type 0) → Keys → Type 0
+AreAll P keys = (k : Key) (st : KeyState) → get keys k ≡ Some st → P k st
+
+pub all_with : (P : Key → KeyState → Type 0) (keys : Keys) (k : Key) (st : KeyState) → AreAll P keys → P k st → AreAll P (insert keys k st)
+all_with P keys k st h new q u there = ⊎_elim
+    (λ (t : (q ≡ k) × (same_key q k ≡ true)).
+    let same : st ≡ u = same_Some st u (ap (λ b. cond b (Some st) (get keys q)) (sym t.1) ∙ sym (get-insert keys_total keys k st q) ∙ there) in
+    subst (λ (p : Key). P p u) (sym t.0) (subst (λ (v : KeyState). P k v) same new))
+    (λ (t : (q ≢ k) × (same_key q k ≡ false)). h q u (ap (λ b. cond b (Some st) (get keys q)) (sym t.1) ∙ sym (get-insert keys_total keys k st q) ∙ there))
+    (keys_tell q k)
+
+pub all_kept : (P : Key → KeyState → Type 0) (keys : Keys) (k : Key) (s : Session) (st : Option KeyState) → AreAll P keys → get keys k ≡ st
+    → ((e : ℕ) (old : Session) → P k (Active e old) → P k (Active e s)) → AreAll P (kept_at k s st keys)
+all_kept P keys k s None h there keeps = h
+all_kept P keys k s (Some (Active e old)) h there keeps = all_with P keys k (Active e s) h (keeps e old (h k (Active e old) there))
+all_kept P keys k s (Some (Sent e old to)) h there keeps = h
+all_kept P keys k s (Some (Gone e)) h there keeps = h
+all_kept P keys k s (Some (Ended e)) h there keeps = h
+
+pub all_ended : (P : Key → KeyState → Type 0) (keys : Keys) (k : Key) (st : Option KeyState) → AreAll P keys → get keys k ≡ st
+    → ((e : ℕ) (old : Session) → P k (Active e old) → P k (Ended e)) → AreAll P (ended_at k st keys)
+all_ended P keys k None h there ends = h
+all_ended P keys k (Some (Active e old)) h there ends = all_with P keys k (Ended e) h (ends e old (h k (Active e old) there))
+all_ended P keys k (Some (Sent e old to)) h there ends = h
+all_ended P keys k (Some (Gone e)) h there ends = h
+all_ended P keys k (Some (Ended e)) h there ends = h
+
+-- ---- how many there are
+
+pub as_many : (keys : Keys) (k : Key) (st old : KeyState) → get keys k ≡ Some old → len (insert keys k st) ≡ len keys
+as_many keys k st old there = len-insert keys_total keys k st ∙ ap (λ o. cond (is_some o) (len keys) (len keys + 1)) there
+
+pub one_more : (keys : Keys) (k : Key) (st : KeyState) → len keys < KEY_LIMIT → len (insert keys k st) ≤ KEY_LIMIT
+one_more keys k st room = subst (λ n. n ≤ KEY_LIMIT) (sym (len-insert keys_total keys k st))
+    (cond_both (is_some (get keys k)) (len keys) (len keys + 1) (λ n. n ≤ KEY_LIMIT) (λ _. omega (arith, room)) (λ _. omega (arith, room)))
+
+pub kept_many : (keys : Keys) (k : Key) (s : Session) (st : Option KeyState) → get keys k ≡ st → len (kept_at k s st keys) ≡ len keys
+kept_many keys k s None there = refl
+kept_many keys k s (Some (Active e old)) there = as_many keys k (Active e s) (Active e old) there
+kept_many keys k s (Some (Sent e old to)) there = refl
+kept_many keys k s (Some (Gone e)) there = refl
+kept_many keys k s (Some (Ended e)) there = refl
+
+pub ended_many : (keys : Keys) (k : Key) (st : Option KeyState) → get keys k ≡ st → len (ended_at k st keys) ≡ len keys
+ended_many keys k None there = refl
+ended_many keys k (Some (Active e old)) there = as_many keys k (Ended e) (Active e old) there
+ended_many keys k (Some (Sent e old to)) there = refl
+ended_many keys k (Some (Gone e)) there = refl
+ended_many keys k (Some (Ended e)) there = refl

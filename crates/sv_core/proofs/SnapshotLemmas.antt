@@ -1,0 +1,102 @@
+-- The records of a snapshot may stand behind one another, and give what the node keeps.
+use Rattle.std.proofs.Common.{◌≡◌, ℕ, suc, ◌+◌, ◌<◌, ◌≤◌, false, cond, Some, None, List, [], ◌∷◌, ◌++◌, map, length, arith, refl, sym, ap, ◌∙◌, subst, inl, inr}
+use Rattle.std.specs.Prelude.{T, not, ◌&&◌, is_none, nat_lt}
+use Rattle.std.specs.Ordering.{is_eq}
+use Rattle.std.specs.declared.cmp.Ordering.TheVariants.{Less}
+use Rattle.std.specs.FinMap.{empty, insert, len, entries, find, put, same_entries_map, get-entries, len-entries, entries-insert, entries_sorted}
+use Rattle.std.specs.FinMap.Entries.{below_all, by_order}
+use Rattle.std.proofs.lemmas.List.{append-nil, append_assoc, length-append}
+use Rattle.sv_model.specs.declared.key.Key.{Key}
+use Rattle.sv_model.specs.declared.state.KeyState.{KeyState}
+use Rattle.sv_model.specs.declared.state.TheConstants.{KEY_LIMIT}
+use Rattle.sv_model.specs.declared.node.Setting.{Setting}
+use Rattle.sv_model.specs.declared.node.Stage.{Stage}
+use Rattle.sv_model.specs.declared.node.Stage.TheVariants.{Blank, Snapshot}
+use Rattle.sv_model.specs.Keys.{key_cmp}
+use Rattle.sv_model.specs.Membership.{In}
+use Rattle.sv_model.specs.NodeState.{Keys, Durable, is_unmade}
+use Rattle.sv_model.specs.Replay.{blank, replayed, AllFit}
+use Rattle.sv_model.proofs.KeyLemmas.{keys_total}
+use Rattle.sv_model.proofs.EntryLemmas.{no_entries, known}
+use Rattle.sv_core.specs.Entries.{Entry, Rises}
+use Rattle.sv_core.specs.Snapshot.{staged, state_record, snapshot_of}
+use Rattle.sv_core.specs.Sound.{IsSound}
+use Rattle.sv_core.proofs.TableLemmas.{first, second, less, reversed}
+use Rattle.sv_core.proofs.KeptLemmas.{lower_is}
+
+-- ---- an entry above all others
+
+below_in : (x : Key) (ds : List Entry) (e : Entry) (rest : List Entry) → T (below_all key_cmp x (ds ++ e ∷ rest)) → key_cmp x e.0 ≡ Less
+below_in x [] e rest above = less _ (first _ _ above)
+below_in x (d ∷ ds) e rest above = below_in x ds e rest (second _ _ above)
+
+put_last : (e : Entry) (done rest : List Entry) → Rises (done ++ e ∷ rest) → put key_cmp e.0 e.1 done ≡ done ++ e ∷ []
+put_last e [] rest rises = refl
+put_last e (d ∷ ds) rest rises =
+    ap (λ o. by_order o ((e.0, e.1) ∷ d ∷ ds) ((d.0, e.1) ∷ ds) (d ∷ put key_cmp e.0 e.1 ds)) (reversed d.0 e.0 Less (below_in d.0 ds e rest (first _ _ rises)))
+    ∙ ap (λ l. d ∷ l) (put_last e ds rest (second _ _ rises))
+
+find_last : (e : Entry) (done rest : List Entry) → Rises (done ++ e ∷ rest) → find key_cmp e.0 done ≡ None
+find_last e [] rest rises = refl
+find_last e (d ∷ ds) rest rises =
+    ap (λ o. cond (is_eq o) (Some d.1) (find key_cmp e.0 ds)) (reversed d.0 e.0 Less (below_in d.0 ds e rest (first _ _ rises)))
+    ∙ find_last e ds rest (second _ _ rises)
+
+with_last : (keys : Keys) (e : Entry) (es : List Entry) → Rises (entries keys ++ e ∷ es) → entries (insert keys e.0 e.1) ≡ entries keys ++ e ∷ []
+with_last keys e es rises = entries-insert keys_total keys e.0 e.1 ∙ put_last e (entries keys) es rises
+
+with_rest : (keys : Keys) (e : Entry) (es : List Entry) → Rises (entries keys ++ e ∷ es) → entries (insert keys e.0 e.1) ++ es ≡ entries keys ++ e ∷ es
+with_rest keys e es rises = ap (λ l. l ++ es) (with_last keys e es rises) ∙ append_assoc (entries keys) (e ∷ []) es
+
+-- ---- all entries, one behind the other
+
+abbrev added : List Entry → Keys → Keys
+added [] keys = keys
+added (e ∷ es) keys = added es (insert keys e.0 e.1)
+
+added_entries : (es : List Entry) (keys : Keys) → Rises (entries keys ++ es) → entries (added es keys) ≡ entries keys ++ es
+added_entries [] keys rises = sym (append-nil (entries keys))
+added_entries (e ∷ es) keys rises = added_entries es (insert keys e.0 e.1) (subst Rises (sym (with_rest keys e es rises)) rises) ∙ with_rest keys e es rises
+
+module _ (boot next : ℕ) where
+  abbrev at : Keys → Durable
+  at keys = record { keys = keys; boot = boot; next = next }
+
+  replays : (es : List Entry) (keys : Keys) → replayed (at keys) (map state_record es) ≡ at (added es keys)
+  replays [] keys = refl
+  replays (e ∷ es) keys = replays es (insert keys e.0 e.1)
+
+  module _ (set : Setting) where
+    fit : (es : List Entry) (keys : Keys) → Rises (entries keys ++ es) → length (entries keys ++ es) ≤ KEY_LIMIT → ((e : Entry) → In e es → is_unmade set (at keys) e.0 ≡ false)
+        → AllFit set Snapshot (at keys) (map state_record es)
+    fit [] keys rises few made = tt
+    fit (e ∷ es) keys rises few made =
+        let room : len keys < KEY_LIMIT = let many : length (entries keys ++ e ∷ es) ≡ length (entries keys) + suc (length es) = length-append (entries keys) (e ∷ es) in let these : len keys ≡ length (entries keys) = len-entries keys in omega (arith, few, many, these) in (
+          ap (λ o. is_none o && (not (is_unmade set (at keys) e.0) && nat_lt (len keys) KEY_LIMIT)) (get-entries keys e.0 ∙ find_last e (entries keys) es rises)
+              ∙ ap (λ b. not b && nat_lt (len keys) KEY_LIMIT) (made e (inl refl))
+              ∙ lower_is (len keys) KEY_LIMIT room,
+          fit es (insert keys e.0 e.1) (subst Rises (sym (with_rest keys e es rises)) rises) (subst (λ l. length l ≤ KEY_LIMIT) (sym (with_rest keys e es rises)) few) (λ f i. made f (inr i)),
+        )
+
+stays : (es : List Entry) → staged Snapshot (map state_record es) ≡ Snapshot
+stays [] = refl
+stays (e ∷ es) = stays es
+
+nothing_before : (d : Durable) → entries (empty {X = KeyState} {R = key_cmp}) ++ entries d.keys ≡ entries d.keys
+nothing_before d = ap (λ l. l ++ entries d.keys) no_entries
+
+pub snapshot_gives : (d : Durable) → replayed blank (snapshot_of d) ≡ d
+snapshot_gives d =
+    replays d.boot d.next (entries d.keys) empty
+    ∙ ap (at d.boot d.next) (same_entries_map _ _ (added_entries (entries d.keys) empty (subst Rises (sym (nothing_before d)) (entries_sorted d.keys)) ∙ nothing_before d))
+
+pub snapshot_fits : (set : Setting) (stage : Stage) (d : Durable) → IsSound set stage d → AllFit set Blank blank (snapshot_of d)
+snapshot_fits set stage d s = (
+  refl,
+  fit d.boot d.next set (entries d.keys) empty (subst Rises (sym (nothing_before d)) (entries_sorted d.keys))
+      (subst (λ l. length l ≤ KEY_LIMIT) (sym (nothing_before d)) (subst (λ n. n ≤ KEY_LIMIT) (len-entries d.keys) s.few))
+      (λ e i. s.made e.0 e.1 (known d.keys e i)),
+)
+
+pub snapshot_stage : (d : Durable) → staged Blank (snapshot_of d) ≡ Snapshot
+snapshot_stage d = stays (entries d.keys)

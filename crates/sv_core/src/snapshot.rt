@@ -1,0 +1,37 @@
+//! All that a node keeps durably, as records that give it again.
+
+ghost use Rattle.std.specs.Prelude.{◌≡◌, ◌++◌, IfOk, OnOk, map};
+ghost use Rattle.sv_core.specs.Kept.{node_of};
+ghost use Rattle.sv_core.specs.Snapshot.{state_record, snapshot_of};
+
+use crate::kept::Kept;
+use std::alloc::AllocError;
+use sv_model::Record;
+
+impl Kept {
+    /// A record of what is known of each key, in order of the keys.
+    fn add_states(&self, records: &mut Vec<Record>) -> Result<(), AllocError>
+        ensures { OnOk result (records.new.items ≡ records.old.items ++ map state_record self.now.keys.entries.items) }
+    {
+        for entry in self.keys.entries() {
+            records.push(Record::State {
+                key: entry.0,
+                state: entry.1.copy(self.alloc)?,
+            })?;
+        }
+        Ok(())
+    }
+
+    /// The counters, then what is known of each key.
+    pub fn snapshot(&self) -> Result<Vec<Record>, AllocError>
+        ensures { IfOk result (λ records. records.items ≡ snapshot_of (node_of self.now).durable) }
+    {
+        let mut records = Vec::new(self.alloc);
+        records.push(Record::Counters {
+            boot: self.boot,
+            next: self.next,
+        })?;
+        self.add_states(&mut records)?;
+        Ok(records)
+    }
+}
