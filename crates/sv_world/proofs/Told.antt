@@ -42,42 +42,62 @@ unfolding stores
 lines_snoc P m st [] l h p = (p, tt)
 lines_snoc P m st (x ∷ ls) l h p = (h.0, lines_snoc P m (store_with m st x.commit) ls l h.1 p)
 
-pub record Heard (m : EngineMeaning) (w : World) : Type 0 where
-  pub answers : AreLines (IsAnswered m) m nothing_stored w.trace
-  pub tells : AreLines (IsToldLine m) m nothing_stored w.trace
+-- each line answers what its commit replies, and refuses nobody where it was cut
+pub record Answering (m : EngineMeaning) (w : World) : Type 0 where
+  pub lines : AreLines (IsAnswered m) m nothing_stored w.trace
+
+-- each line tells what its commit and its record say
+pub record Telling (m : EngineMeaning) (w : World) : Type 0 where
+  pub lines : AreLines (IsToldLine m) m nothing_stored w.trace
 
 more : (P : Store → Line → Type 0) (m : EngineMeaning) (w : World) (l : Line) → AreLines P m nothing_stored w.trace → P (store_of m (commits_in w)) l → AreLines P m nothing_stored (w.trace ++ l ∷ [])
 more P m w l h p = lines_snoc P m nothing_stored w.trace l h (subst (λ st. P st l) (sym (stores_are m nothing_stored w.trace)) p)
 
--- the line of what a stop has cut, or of what isn't a step, tells nothing and answers nobody
-quiet_heard : (m : EngineMeaning) (w : World) (e : WorldEvent) (n : ℕ) (asked : Option Token) (entry : Option Record) (o : Option Commit) (places : ℕ → Place) → Heard m w
-    → Heard m (record { places = places; packets = w.packets; trace = w.trace ++ quiet_line w e n asked entry o ∷ [] })
-quiet_heard m w e n asked entry o places h = record {
-  answers = more (IsAnswered m) m w _ h.answers (record { replies = refl; refused = refl });
-  tells = more (IsToldLine m) m w _ h.tells (record { events = refl; mark = refl });
-}
+-- the line of what a stop has cut, or of what isn't a step
+quiet_answers : (m : EngineMeaning) (w : World) (e : WorldEvent) (n : ℕ) (asked : Option Token) (entry : Option Record) (o : Option Commit) (places : ℕ → Place) → Answering m w
+    → Answering m (record { places = places; packets = w.packets; trace = w.trace ++ quiet_line w e n asked entry o ∷ [] })
+quiet_answers m w e n asked entry o places h = record { lines = more (IsAnswered m) m w _ h.lines (record { replies = refl; refused = refl }) }
+
+quiet_tells : (m : EngineMeaning) (w : World) (e : WorldEvent) (n : ℕ) (asked : Option Token) (entry : Option Record) (o : Option Commit) (places : ℕ → Place) → Telling m w
+    → Telling m (record { places = places; packets = w.packets; trace = w.trace ++ quiet_line w e n asked entry o ∷ [] })
+quiet_tells m w e n asked entry o places h = record { lines = more (IsToldLine m) m w _ h.lines (record { events = refl; mark = refl }) }
 
 module _ (m : EngineMeaning) (touches : TouchesOnlyHanded m) (c : Cluster) where
-  whole_heard : (w : World) (e : WorldEvent) (call : Call) → SoundAt m c w call.node (decision m c w call) → Heard m w → Heard m (whole c w e call (decision m c w call))
-  whole_heard w e call s h = record {
-    answers = more (IsAnswered m) m w _ h.answers s.replies;
-    tells = more (IsToldLine m) m w _ h.tells (record { events = s.events; mark = s.mark });
-  }
+  whole_answers : (w : World) (e : WorldEvent) (call : Call) → SoundAt m c w call.node (decision m c w call) → Answering m w → Answering m (whole c w e call (decision m c w call))
+  whole_answers w e call s h = record { lines = more (IsAnswered m) m w _ h.lines s.replies }
 
-  happens_heard : (w : World) (e : WorldEvent) → Inv m c w → Heard m w → Heard m (happens m c w e)
-  happens_heard w e inv h = behind m c w (Heard m) e (record {
+  whole_tells : (w : World) (e : WorldEvent) (call : Call) → SoundAt m c w call.node (decision m c w call) → Telling m w → Telling m (whole c w e call (decision m c w call))
+  whole_tells w e call s h = record { lines = more (IsToldLine m) m w _ h.lines (record { events = s.events; mark = s.mark }) }
+
+  happens_answers : (w : World) (e : WorldEvent) → Inv m c w → Answering m w → Answering m (happens m c w e)
+  happens_answers w e inv h = behind m c w (Answering m) e (record {
     still = h;
-    whole_by = λ call r. whole_heard w e call (sound_at m touches c w call inv r) h;
-    cut_by = λ call r. quiet_heard m w e call.node _ _ _ _ h;
-    halt_by = λ n asked _. quiet_heard m w e n _ _ _ _ h;
-    boots_by = λ n p none same. quiet_heard m w e n _ _ _ _ h;
+    whole_by = λ call r. whole_answers w e call (sound_at m touches c w call inv r) h;
+    cut_by = λ call r. quiet_answers m w e call.node _ _ _ _ h;
+    halt_by = λ n asked _. quiet_answers m w e n _ _ _ _ h;
+    boots_by = λ n p none same. quiet_answers m w e n _ _ _ _ h;
   })
 
-  pub run_heard : (w : World) (es : List WorldEvent) → Inv m c w → Heard m w → Heard m (run m c w es)
-  run_heard w es inv h = behind_all m c (Inv m c) (Heard m) (happens_keeps m touches c) happens_heard w es inv h
+  happens_tells : (w : World) (e : WorldEvent) → Inv m c w → Telling m w → Telling m (happens m c w e)
+  happens_tells w e inv h = behind m c w (Telling m) e (record {
+    still = h;
+    whole_by = λ call r. whole_tells w e call (sound_at m touches c w call inv r) h;
+    cut_by = λ call r. quiet_tells m w e call.node _ _ _ _ h;
+    halt_by = λ n asked _. quiet_tells m w e n _ _ _ _ h;
+    boots_by = λ n p none same. quiet_tells m w e n _ _ _ _ h;
+  })
 
-pub first_heard : (m : EngineMeaning) → Heard m nothing_happened
-first_heard m = record { answers = tt; tells = tt }
+  pub run_answers : (w : World) (es : List WorldEvent) → Inv m c w → Answering m w → Answering m (run m c w es)
+  run_answers w es inv h = behind_all m c (Inv m c) (Answering m) (happens_keeps m touches c) happens_answers w es inv h
+
+  pub run_tells : (w : World) (es : List WorldEvent) → Inv m c w → Telling m w → Telling m (run m c w es)
+  run_tells w es inv h = behind_all m c (Inv m c) (Telling m) (happens_keeps m touches c) happens_tells w es inv h
+
+pub first_answers : (m : EngineMeaning) → Answering m nothing_happened
+first_answers m = record { lines = tt }
+
+pub first_tells : (m : EngineMeaning) → Telling m nothing_happened
+first_tells m = record { lines = tt }
 
 -- ---- what the lines say of the whole trace
 
