@@ -1,0 +1,97 @@
+-- What an event does, one case at a time: a fact that holds behind each of these holds behind every event.
+use Rattle.std.proofs.Common.{◌≡◌, ◌<◌, ℕ, ◌&&◌, Bool, true, cond, Option, Some, None, List, [], ◌∷◌, refl}
+use Rattle.std.specs.Prelude.{not, is_some}
+use Rattle.std.proofs.lemmas.Bool.{cond_both, and_parts, ltb-true}
+use Rattle.sv_model.specs.declared.key.Token.{Token}
+use Rattle.sv_model.specs.declared.packet.Packet.{Packet}
+use Rattle.sv_model.specs.declared.input.Input.{Input}
+use Rattle.sv_model.specs.declared.input.Input.TheVariants as input
+use Rattle.sv_model.specs.Engine.{EngineMeaning}
+use Rattle.sv_model.specs.NodeState.{Durable}
+use Rattle.sv_model.specs.Membership.{In}
+use Rattle.sv_model.specs.Replay.{applied}
+use Rattle.sv_model.specs.Trace.{asked_of}
+use Rattle.sv_world.specs.declared.event.WorldEvent.{WorldEvent}
+use Rattle.sv_world.specs.declared.event.WorldEvent.TheVariants.{Ask, Deliver, Poke, Tick, Move, Crash, Torn, Restart, TornRestart}
+use Rattle.sv_world.specs.Sent.{may_come}
+use Rattle.sv_world.specs.declared.call.Call.{Call}
+use Rattle.sv_world.specs.World.{Cluster, Place, World, durable_at, stopped, started, items, call_of, decision, token_of_call, is_unused, is_there, is_ready, whole, cut, becomes, halt, boot_record, boots, is_spent, steps, tears, starts, happens, run}
+use Rattle.sv_world.proofs.SentLemmas.{sent_in}
+
+-- a packet that is given was sent
+abbrev pub IsSentIn : List Packet → Input → Type 0
+IsSentIn ps (input.Ask token r) = Unit {0}
+IsSentIn ps (input.Packet p) = In p ps
+IsSentIn ps input.Poke = Unit {0}
+IsSentIn ps input.Tick = Unit {0}
+IsSentIn ps (input.Move k to) = Unit {0}
+
+came : (ps : List Packet) (i : Input) → may_come ps i ≡ true → IsSentIn ps i
+came ps (input.Ask token r) h = tt
+came ps (input.Packet p) h = sent_in p ps h
+came ps input.Poke h = tt
+came ps input.Tick h = tt
+came ps (input.Move k to) h = tt
+
+-- a step that can be taken
+pub record IsReady (c : Cluster) (w : World) (call : Call) : Type 0 where
+  pub inside : call.node < c.nodes
+  pub up : (w.places call.node).up ≡ true
+  pub sent : IsSentIn w.packets call.input
+  pub unused : is_unused (asked_of (items w.trace)) (token_of_call c w call) ≡ true
+
+readies : (c : Cluster) (w : World) (call : Call) → is_ready c w call ≡ true → IsReady c w call
+readies c w call h =
+    let up = (w.places call.node).up in
+    let sent = may_come w.packets call.input in
+    let unused = is_unused (asked_of (items w.trace)) (token_of_call c w call) in
+    let first = and_parts (is_there c call.node) (up && (sent && unused)) h in
+    let second = and_parts up (sent && unused) first.1 in
+    let third = and_parts sent unused second.1 in
+    record { inside = ltb-true call.node c.nodes first.0; up = second.0; sent = came w.packets call.input third.0; unused = third.1 }
+
+-- behind an event of this world
+pub record Behind (m : EngineMeaning) (c : Cluster) (w : World) (e : WorldEvent) (P : World → Type 0) : Type 0 where
+  pub still : P w
+  pub whole_by : (call : Call) → IsReady c w call → P (whole c w e call (decision m c w call))
+  pub cut_by : (call : Call) → IsReady c w call → P (cut c w e call (decision m c w call))
+  pub halt_by : (n : ℕ) (asked : Option Token) → is_unused (asked_of (items w.trace)) asked ≡ true → P (halt w e n asked)
+  pub boots_by : (n : ℕ) (p : Place) → p.node.parked ≡ [] → p.node.durable ≡ applied (boot_record w n) (durable_at w n) → P (becomes w e n p (Some (boot_record w n)) None)
+
+module _ (m : EngineMeaning) (c : Cluster) (w : World) (P : World → Type 0) where
+  stepped : (e : WorldEvent) (call : Option Call) → Behind m c w e P → P (steps m c w e call)
+  stepped e None h = h.still
+  stepped e (Some call) h = cond_both (is_ready c w call) (whole c w e call (decision m c w call)) w P (λ t. h.whole_by call (readies c w call t)) (λ _. h.still)
+
+  torn : (e : WorldEvent) (kept : Bool) (call : Option Call) → Behind m c w e P → P (tears m c w e kept call)
+  torn e kept None h = h.still
+  torn e kept (Some call) h =
+      let d = decision m c w call in
+      let cuts = cut c w e call d in
+      let halts = halt w e call.node (token_of_call c w call) in
+      cond_both (is_ready c w call) (cond (kept && is_some d.entry) cuts halts) w P
+      (λ t. let r = readies c w call t in cond_both (kept && is_some d.entry) cuts halts P (λ _. h.cut_by call r) (λ _. h.halt_by call.node (token_of_call c w call) r.unused))
+      (λ _. h.still)
+
+  start : (e : WorldEvent) (n : ℕ) (kept : Bool) (place : Durable → Place) → ((d : Durable) → (place d).node.parked ≡ []) → ((d : Durable) → (place d).node.durable ≡ d) → Behind m c w e P → P (starts c w e n kept place)
+  start e n kept place none same h =
+      cond_both (is_there c n && not (w.places n).up) (cond (kept && not (is_spent w n)) (boots w e n place) (halt w e n None)) w P
+      (λ _. cond_both (kept && not (is_spent w n)) (boots w e n place) (halt w e n None) P (λ _. let d = applied (boot_record w n) (durable_at w n) in h.boots_by n (place d) (none d) (same d)) (λ _. h.halt_by n None refl))
+      (λ _. h.still)
+
+  pub behind : (e : WorldEvent) → Behind m c w e P → P (happens m c w e)
+  behind (Ask n moment token r) h = stepped (Ask n moment token r) (call_of w.packets (Ask n moment token r)) h
+  behind (Deliver moment place) h = stepped (Deliver moment place) (call_of w.packets (Deliver moment place)) h
+  behind (Poke n moment) h = stepped (Poke n moment) (call_of w.packets (Poke n moment)) h
+  behind (Tick n moment) h = stepped (Tick n moment) (call_of w.packets (Tick n moment)) h
+  behind (Move n moment k to) h = stepped (Move n moment k to) (call_of w.packets (Move n moment k to)) h
+  behind (Torn n moment given kept) h = torn (Torn n moment given kept) kept (call_of w.packets (Torn n moment given kept)) h
+  behind (Crash n) h = cond_both (is_there c n && (w.places n).up) (halt w (Crash n) n None) w P (λ _. h.halt_by n None refl) (λ _. h.still)
+  behind (Restart n) h = start (Restart n) n true started (λ d. refl) (λ d. refl) h
+  behind (TornRestart n kept) h = start (TornRestart n kept) n kept stopped (λ d. refl) (λ d. refl) h
+
+-- a fact that every event keeps, beside another, holds behind every list of events
+pub behind_all : (m : EngineMeaning) (c : Cluster) (P Q : World → Type 0) → ((w : World) (e : WorldEvent) → P w → P (happens m c w e)) → ((w : World) (e : WorldEvent) → P w → Q w → Q (happens m c w e))
+    → (w : World) (es : List WorldEvent) → P w → Q w → Q (run m c w es)
+behind_all m c P Q p q w [] a b = b
+behind_all m c P Q p q w (e ∷ es) a b = behind_all m c P Q p q (happens m c w e) es (p w e a) (q w e a b)

@@ -1,0 +1,44 @@
+-- A run that does something: a node starts and answers a request.
+use Rattle.std.proofs.Common.{◌≡◌, true, None, [], ◌∷◌, refl}
+use Rattle.sv_model.specs.declared.key.Moment.{Moment}
+use Rattle.sv_model.specs.declared.request.Request.{Request}
+use Rattle.sv_model.specs.declared.response.Response.{Response}
+use Rattle.sv_model.specs.declared.session.Session.{Session}
+use Rattle.sv_model.specs.declared.outcome.Fate.TheVariants.{Untouched}
+use Rattle.sv_model.specs.declared.outcome.Birth.TheVariants.{Alive}
+use Rattle.sv_model.specs.declared.record.Change.TheVariants.{Absent as Unchanged, Alive as ChangeAlive}
+use Rattle.sv_model.specs.declared.record.Record.TheVariants.{Boot, Commit as CommitRecord, Sent as SentRecord}
+use Rattle.std.specs.FinMap.{empty, len-empty, get-insert}
+use Rattle.sv_model.specs.Keys.{key_cmp}
+use Rattle.sv_model.proofs.KeyLemmas.{keys_total}
+use Rattle.sv_model.specs.declared.state.KeyState.{KeyState}
+use Rattle.sv_model.specs.declared.state.KeyState.TheVariants.{Active}
+use Rattle.sv_model.specs.Engine.{EngineMeaning}
+use Rattle.sv_model.specs.Trace.{replies_of}
+use Rattle.sv_model.specs.declared.input.Input.TheVariants as input
+use Rattle.sv_world.specs.declared.event.WorldEvent.TheVariants.{Ask, Torn, Restart}
+use Rattle.sv_world.specs.World.{Cluster, World, nothing_happened, run, items, records_at}
+
+-- it makes a session for each request
+abbrev makes : Response → Session → EngineMeaning
+makes response s = record { names = λ r. None; serve = λ r held now fresh. record { response = response; fate = Untouched; birth = Alive s; events = [] }; hear = λ heard t. heard }
+
+abbrev two : Cluster
+two = record { nodes = 2; deadline = 30 }
+
+module _ (response : Response) (s : Session) (r : Request) (moment : Moment) where
+  abbrev asked : World
+  asked = run (makes response s) two nothing_happened (Restart 0 ∷ Ask 0 moment 7 r ∷ [])
+
+  replies : replies_of (items asked.trace) ≡ (record { number = 7; node = 0; boot = 1 }, response) ∷ []
+  replies = rw (len-empty key_cmp KeyState) refl
+
+  records : records_at 0 asked.trace ≡ Boot 1 ∷ CommitRecord Unchanged (ChangeAlive (record { home = 0; serial = 1 }) s) ∷ []
+  records = rw (len-empty key_cmp KeyState) refl
+
+  -- the session goes to the other node, cut behind its record; then it is sent there again
+  abbrev moved : World
+  moved = run (makes response s) two nothing_happened (Restart 0 ∷ Restart 1 ∷ Ask 0 moment 7 r ∷ Torn 0 moment (input.Move (record { home = 0; serial = 1 }) 1) true ∷ [])
+
+  sent : records_at 0 moved.trace ≡ Boot 1 ∷ CommitRecord Unchanged (ChangeAlive (record { home = 0; serial = 1 }) s) ∷ SentRecord (record { home = 0; serial = 1 }) 2 1 s ∷ []
+  sent = rw (len-empty key_cmp KeyState, get-insert keys_total empty (record { home = 0; serial = 1 }) (Active 1 s) (record { home = 0; serial = 1 })) refl

@@ -1,0 +1,105 @@
+-- Every list of events keeps the invariant of what waits.
+use Rattle.std.proofs.Common.{◌≡◌, ℕ, ◌+◌, ◌≤◌, true, None, List, [], ◌∷◌, ◌++◌, length, arith, refl, sym, ap, ◌∙◌, subst}
+use Rattle.std.proofs.lemmas.Bool.{eqb-true}
+use Rattle.sv_model.specs.declared.key.Moment.{Moment}
+use Rattle.sv_model.specs.declared.key.Token.{Token}
+use Rattle.sv_model.specs.declared.input.Input.{Input}
+use Rattle.sv_model.specs.declared.input.Input.TheVariants.{Ask, Packet as Incoming, Poke, Tick, Move}
+use Rattle.sv_model.specs.declared.packet.Packet.{Packet}
+use Rattle.sv_model.specs.Engine.{EngineMeaning, TouchesOnlyHanded}
+use Rattle.sv_model.specs.Step.{left}
+use Rattle.sv_model.specs.Trace.{commits_of, asked_of, asked_by, times, is_of, arrival_behind}
+use Rattle.sv_model.specs.Membership.{with_last}
+use Rattle.sv_model.specs.Outputs.{sends_in}
+use Rattle.sv_world.specs.declared.event.WorldEvent.{WorldEvent}
+use Rattle.sv_world.specs.declared.line.Line.{Line}
+use Rattle.sv_world.specs.declared.call.Call.{Call}
+use Rattle.sv_world.specs.World.{Cluster, Place, World, set_place, durable_at, stopped, nothing_happened, items, commits_in, whole, cut, is_unused, decision, happens, run, item_at, token_of_call}
+use Rattle.sv_world.specs.Waits.{Waits}
+use Rattle.sv_world.proofs.Arrivals.{one_if, token_self, asked_snoc, arrival_snoc, arrival_new, items_snoc}
+use Rattle.sv_world.proofs.Waiting.{Patient, waits_still, whole_waits, stop_waits, boot_waits}
+use Rattle.sv_world.proofs.Patience.{HasCome, decide_patient}
+use Rattle.sv_model.specs.Serving.{token_of}
+use Rattle.sv_model.specs.NodeState.{Durable}
+use Rattle.sv_world.specs.World.{setting_of}
+use Rattle.sv_world.proofs.Events.{IsSentIn, IsReady, behind, behind_all}
+use Rattle.sv_world.proofs.Runs.{Inv, commits_snoc, happens_keeps}
+
+abbrev pub arrival_in : List Line → Token → ℕ
+arrival_in trace t = arrival_behind 0 (items trace) t
+
+abbrev pub HasAsked : List Line → Token → Type 0
+HasAsked trace t = 1 ≤ times t (asked_of (items trace))
+
+pub record Waiting (m : EngineMeaning) (w : World) : Type 0 where
+  pub waits : Waits m w.places w.packets (commits_in w) (arrival_in w.trace) (HasAsked w.trace)
+
+-- with one more line
+grows : (m : EngineMeaning) (w : World) (l : Line) → Waiting m w → Waits m w.places w.packets (commits_in w) (arrival_in (w.trace ++ l ∷ [])) (HasAsked (w.trace ++ l ∷ []))
+grows m w l j = waits_still m (arrival_in w.trace) (arrival_in (w.trace ++ l ∷ [])) (HasAsked w.trace) (HasAsked (w.trace ++ l ∷ []))
+    (λ t h. ap (λ is. arrival_behind 0 is t) (items_snoc w.trace l) ∙ arrival_snoc 0 (items w.trace) (item_at l) t h)
+    (λ t h. omega (arith, ap (λ is. times t (asked_of is)) (items_snoc w.trace l), asked_snoc t (items w.trace) (item_at l)))
+    w.places w.packets (commits_in w) j.waits
+
+-- a world with the line
+lined : (m : EngineMeaning) (places : ℕ → Place) (packets : List Packet) (trace : List Line) (l : Line) → Waits m places packets (with_last (commits_of (items trace)) l.commit) (arrival_in (trace ++ l ∷ [])) (HasAsked (trace ++ l ∷ [])) → Waiting m (record { places = places; packets = packets; trace = trace ++ l ∷ [] })
+lined m places packets trace l h = record { waits = subst (λ cs. Waits m places packets cs (arrival_in (trace ++ l ∷ [])) (HasAsked (trace ++ l ∷ []))) (sym (commits_snoc trace l)) h }
+
+module _ (m : EngineMeaning) (c : Cluster) where
+  -- the input of a step has come with its line
+  has_come : (w : World) (n : ℕ) (moment : Moment) (i : Input) (l : Line) → l.asked ≡ asked_by (token_of (setting_of c n) (durable_at w n)) i → is_unused (asked_of (items w.trace)) (asked_by (token_of (setting_of c n) (durable_at w n)) i) ≡ true
+      → IsSentIn w.packets i → (inv : Inv m c w) → (j : Waiting m w) → HasCome m c w.places w.packets _ (commits_in w) (arrival_in (w.trace ++ l ∷ [])) (HasAsked (w.trace ++ l ∷ [])) inv.sane (grows m w l j) n moment i
+  has_come w n moment (Ask number r) l is unused sent inv j =
+      let t = token_of (setting_of c n) (durable_at w n) number in
+      let new : times t (asked_of (items w.trace)) ≡ 0 = eqb-true _ _ unused in
+      let at : arrival_in (w.trace ++ l ∷ []) t ≡ 0 + length (commits_in w) = ap (λ is. arrival_behind 0 is t) (items_snoc w.trace l) ∙ arrival_new 0 (items w.trace) (item_at l) t new is in
+      (omega (arith, at), omega (arith, ap (λ is. times t (asked_of is)) (items_snoc w.trace l), asked_snoc t (items w.trace) (item_at l), ap one_if (ap (is_of t) is ∙ token_self t)))
+  has_come w n moment (Incoming p) l is unused sent inv j = sent
+  has_come w n moment Poke l is unused sent inv j = tt
+  has_come w n moment Tick l is unused sent inv j = tt
+  has_come w n moment (Move k to) l is unused sent inv j = tt
+
+  -- the decision, with its line
+  patient_at : (w : World) (call : Call) (l : Line) → l.asked ≡ token_of_call c w call → IsReady c w call → Inv m c w → Waiting m w
+      → Patient m w.places w.packets (commits_in w) (arrival_in (w.trace ++ l ∷ [])) (HasAsked (w.trace ++ l ∷ [])) call.node (decision m c w call)
+  patient_at w call l is r inv j =
+      decide_patient m c w.places w.packets _ (commits_in w) (arrival_in (w.trace ++ l ∷ [])) (HasAsked (w.trace ++ l ∷ [])) inv.sane (grows m w l j) call.node call.moment call.input
+      (has_come w call.node call.moment call.input l is r.unused r.sent inv j)
+
+  whole_waiting : (w : World) (e : WorldEvent) (call : Call) → IsReady c w call → Inv m c w → Waiting m w → Waiting m (whole c w e call (decision m c w call))
+  whole_waiting w e call r inv j =
+      let d = decision m c w call in
+      lined m (set_place w.places call.node (record { up = true; node = left d })) (w.packets ++ sends_in d.outputs) w.trace _
+      (whole_waits m w.places w.packets (commits_in w) _ _ (grows m w _ j) call.node d r.up (patient_at w call _ refl r inv j))
+
+  cut_waiting : (w : World) (e : WorldEvent) (call : Call) → IsReady c w call → Inv m c w → Waiting m w → Waiting m (cut c w e call (decision m c w call))
+  cut_waiting w e call r inv j =
+      let d = decision m c w call in
+      let p = patient_at w call _ refl r inv j in
+      lined m (set_place w.places call.node (stopped d.durable)) w.packets w.trace _
+      (stop_waits m w.places w.packets (commits_in w) _ _ (grows m w _ j) call.node d.durable d.commit p.boot p.commit p.served)
+
+  pub happens_waits : (w : World) (e : WorldEvent) → Inv m c w → Waiting m w → Waiting m (happens m c w e)
+  happens_waits w e inv j = behind m c w (Waiting m) e (record {
+    still = j;
+    whole_by = λ call r. whole_waiting w e call r inv j;
+    cut_by = λ call r. cut_waiting w e call r inv j;
+    halt_by = λ n asked _. lined m (set_place w.places n (stopped (durable_at w n))) w.packets w.trace _ (stop_waits m w.places w.packets (commits_in w) _ _ (grows m w _ j) n (durable_at w n) None refl tt tt);
+    boots_by = λ n p none same. lined m (set_place w.places n p) w.packets w.trace _ (boot_waits m w.places w.packets (commits_in w) _ _ (grows m w _ j) n p none (ap (λ (d : Durable). d.boot) same));
+  })
+
+  pub first_waits : Waiting m nothing_happened
+  first_waits = record {
+    waits = record {
+      want_past = λ from to k b x i. absurd i;
+      no_past = λ from to k b x i. absurd i;
+      no_excuse = λ from to k b x p i at boot want key. absurd i;
+      parked = λ n p i. absurd i;
+      excused = tt;
+      served = tt;
+    };
+  }
+
+  module _ (touches : TouchesOnlyHanded m) where
+    pub run_waits : (w : World) (es : List WorldEvent) → Inv m c w → Waiting m w → Waiting m (run m c w es)
+    run_waits w es inv j = behind_all m c (Inv m c) (Waiting m) (happens_keeps m touches c) happens_waits w es inv j

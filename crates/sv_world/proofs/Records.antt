@@ -1,0 +1,81 @@
+-- What is durable at a node is its records, one behind the other.
+use Rattle.std.proofs.Common.{◌≡◌, ◌≢◌, ℕ, ◌==◌, true, cond, Option, Some, None, List, [], ◌∷◌, ◌++◌, refl, sym, ap, ◌∙◌, subst, ⊎_elim, eq-eqb, append-nil}
+use Rattle.std.specs.Option.{option_to_list}
+use Rattle.std.proofs.lemmas.Bool.{cases_eq, ne_eqb, cond-true, cond-false}
+use Rattle.std.proofs.lemmas.List.Concat.{flat_map-append}
+use Rattle.sv_model.specs.declared.packet.Packet.{Packet}
+use Rattle.sv_model.specs.declared.record.Record.{Record}
+use Rattle.sv_model.specs.Engine.{EngineMeaning, TouchesOnlyHanded}
+use Rattle.sv_model.specs.NodeState.{Durable}
+use Rattle.std.specs.Prelude.{IfSome}
+use Rattle.sv_model.specs.declared.node.Setting.{Setting}
+use Rattle.sv_model.specs.declared.node.Stage.{Stage}
+use Rattle.sv_model.specs.declared.node.Stage.TheVariants.{Blank}
+use Rattle.sv_model.specs.Replay.{blank, applied, applied_if, replayed, Fits, AllFit, stage_behind}
+use Rattle.sv_model.proofs.JournalLemmas.{journaled}
+use Rattle.sv_model.specs.Step.{left}
+use Rattle.sv_world.specs.declared.event.WorldEvent.{WorldEvent}
+use Rattle.sv_world.specs.declared.line.Line.{Line}
+use Rattle.sv_world.specs.declared.call.Call.{Call}
+use Rattle.sv_world.specs.World.{Cluster, setting_of, Place, World, set_place, durable_at, stopped, nothing_happened, records_at, decision, happens, run}
+use Rattle.sv_world.proofs.Waiting.{by_node}
+use Rattle.sv_world.proofs.Events.{behind, behind_all}
+use Rattle.sv_world.proofs.Runs.{Inv, sound_at, happens_keeps}
+
+pub record Kept (c : Cluster) (w : World) : Type 0 where
+  pub replay : (n : ℕ) → durable_at w n ≡ replayed blank (records_at n w.trace)
+  pub fits : (n : ℕ) → AllFit (setting_of c n) Blank blank (records_at n w.trace)
+
+-- the record that may be there fits
+abbrev pub FitsIf : Setting → Durable → Option Record → Type 0
+FitsIf set d o = (stage : Stage) → IfSome o (λ r. Fits set stage d r)
+
+fits_more : (set : Setting) (stage : Stage) (d : Durable) (rs : List Record) (o : Option Record) → AllFit set stage d rs → FitsIf set (replayed d rs) o → AllFit set stage d (rs ++ (option_to_list o ++ []))
+fits_more set stage d [] None h f = tt
+fits_more set stage d [] (Some r) h f = (f stage, tt)
+fits_more set stage d (x ∷ rs) o h f = (h.0, fits_more set (stage_behind x stage) (applied x d) rs o h.1 f)
+
+replayed_more : (d : Durable) (rs ss : List Record) → replayed d (rs ++ ss) ≡ replayed (replayed d rs) ss
+replayed_more d [] ss = refl
+replayed_more d (r ∷ rs) ss = replayed_more (applied r d) rs ss
+
+one_more : (d : Durable) (o : Option Record) → replayed d (option_to_list o ++ []) ≡ applied_if o d
+one_more d None = refl
+one_more d (Some r) = refl
+
+grows : (c : Cluster) (w : World) (n : ℕ) (p : Place) (l : Line) (packets : List Packet) → l.node ≡ n → p.node.durable ≡ applied_if l.entry (durable_at w n) → FitsIf (setting_of c n) (durable_at w n) l.entry → Kept c w → Kept c (record { places = set_place w.places n p; packets = packets; trace = w.trace ++ l ∷ [] })
+grows c w n p l packets at applies fit j = record {
+  replay = λ y.
+      let split : replayed blank (records_at y (w.trace ++ l ∷ [])) ≡ replayed (durable_at w y) (cond (l.node == y) (option_to_list l.entry) [] ++ []) =
+      ap (replayed blank) (flat_map-append (λ (x : Line). cond (x.node == y) (option_to_list x.entry) []) w.trace (l ∷ [])) ∙ replayed_more blank (records_at y w.trace) _ ∙ ap (λ d. replayed d (cond (l.node == y) (option_to_list l.entry) [] ++ [])) (sym (j.replay y)) in
+      by_node (λ z q. y ≡ z → q.node.durable ≡ replayed blank (records_at y (w.trace ++ l ∷ []))) w.places n p y
+      (λ e _. applies ∙ sym (one_more (durable_at w n) l.entry) ∙ ap (λ d. replayed d (option_to_list l.entry ++ [])) (ap (durable_at w) (sym e)) ∙ ap (λ rs. replayed (durable_at w y) (rs ++ [])) (sym (cond-true (l.node == y) (option_to_list l.entry) [] (eq-eqb l.node y (at ∙ sym e)))) ∙ sym split)
+      (λ e _. ap (λ rs. replayed (durable_at w y) (rs ++ [])) (sym (cond-false (l.node == y) (option_to_list l.entry) [] (ne_eqb l.node y (λ h. e (sym h ∙ at))))) ∙ sym split) refl;
+  fits = λ y.
+      let now : records_at y (w.trace ++ l ∷ []) ≡ records_at y w.trace ++ (cond (l.node == y) (option_to_list l.entry) [] ++ []) = flat_map-append (λ (x : Line). cond (x.node == y) (option_to_list x.entry) []) w.trace (l ∷ []) in
+      subst (AllFit (setting_of c y) Blank blank) (sym now) (⊎_elim
+      (λ (e : y ≡ n). subst (λ rs. AllFit (setting_of c y) Blank blank (records_at y w.trace ++ (rs ++ []))) (sym (cond-true (l.node == y) (option_to_list l.entry) [] (eq-eqb l.node y (at ∙ sym e))))
+      (fits_more (setting_of c y) Blank blank (records_at y w.trace) l.entry (j.fits y) (subst (λ d. FitsIf (setting_of c y) d l.entry) (j.replay y) (subst (λ z. FitsIf (setting_of c z) (durable_at w z) l.entry) (sym e) fit))))
+      (λ (e : y ≢ n). subst (λ rs. AllFit (setting_of c y) Blank blank (records_at y w.trace ++ (rs ++ []))) (sym (cond-false (l.node == y) (option_to_list l.entry) [] (ne_eqb l.node y (λ h. e (sym h ∙ at)))))
+      (subst (AllFit (setting_of c y) Blank blank) (sym (append-nil (records_at y w.trace))) (j.fits y)))
+      (cases_eq y n));
+}
+
+module _ (m : EngineMeaning) (touches : TouchesOnlyHanded m) (c : Cluster) where
+  fits_at : (w : World) (call : Call) → FitsIf (setting_of c call.node) (durable_at w call.node) (decision m c w call).entry
+  fits_at w call = (journaled (setting_of c call.node) (w.places call.node).node m touches call.moment call.input).fits
+
+  happens_kept : (w : World) (e : WorldEvent) → Inv m c w → Kept c w → Kept c (happens m c w e)
+  happens_kept w e inv j = behind m c w (Kept c) e (record {
+    still = j;
+    whole_by = λ call r. grows c w call.node (record { up = true; node = left (decision m c w call) }) _ _ refl (sound_at m touches c w call inv r).applies (fits_at w call) j;
+    cut_by = λ call r. grows c w call.node (stopped (decision m c w call).durable) _ w.packets refl (sound_at m touches c w call inv r).applies (fits_at w call) j;
+    halt_by = λ n asked _. grows c w n (stopped (durable_at w n)) _ w.packets refl refl (λ stage. tt) j;
+    boots_by = λ n p none same. grows c w n p _ w.packets refl same (λ stage. refl) j;
+  })
+
+  pub run_kept : (w : World) (es : List WorldEvent) → Inv m c w → Kept c w → Kept c (run m c w es)
+  run_kept w es inv j = behind_all m c (Inv m c) (Kept c) (happens_keeps m touches c) happens_kept w es inv j
+
+pub first_kept : (c : Cluster) → Kept c nothing_happened
+first_kept c = record { replay = λ n. refl; fits = λ n. tt }

@@ -1,0 +1,7 @@
+use Rattle.std.proofs.Common.{◌≡◌, drop}
+use Rattle.std.specs.List.{list_any}
+use Rattle.sv_world.specs.Sent.{same_packet}
+use Rattle.sv_world.proofs.sent.was_sent.Given as goal
+
+abbrev pub invariant-loop-sent : goal.invariant-loop-sent
+invariant-loop-sent l = list_any (same_packet l.packet) (drop l.sent-index l.packets) ≡ list_any (same_packet l.packet) l.packets

@@ -1,0 +1,32 @@
+-- What holds of all that is durable, and of all packets.
+use Rattle.std.specs.Prelude.{◌≡◌, ◌⊎◌, ℕ, ◌<◌, ◌≤◌, true, None, List}
+use Rattle.std.specs.FinMap.{get}
+use Rattle.sv_model.specs.declared.key.Key.{Key}
+use Rattle.sv_model.specs.declared.packet.Packet.{Packet}
+use Rattle.sv_model.specs.declared.packet.Packet.TheVariants.{Ack}
+use Rattle.sv_model.specs.declared.commit.Commit.{Commit}
+use Rattle.sv_model.specs.Engine.{EngineMeaning}
+use Rattle.sv_model.specs.Container.{Store, nothing_stored, after, AreLawful}
+use Rattle.sv_model.specs.NodeState.{Durable}
+use Rattle.sv_model.specs.Membership.{In}
+use Rattle.sv_model.specs.Opening.{Opening}
+use Rattle.sv_world.specs.Life.{Life}
+use Rattle.sv_world.specs.World.{Cluster}
+use Rattle.sv_world.specs.Headline.{granted, opened}
+
+-- an Ack of the epoch of the key was sent
+abbrev pub acked : List Packet → Key → ℕ → ℕ → Type 0
+acked packets k e to = (from : ℕ) × In (Ack from to k e) packets
+
+abbrev pub store_of : EngineMeaning → List Commit → Store
+store_of m cs = after m nothing_stored cs
+
+-- its home is no node, or has not yet handed it out
+abbrev pub IsUnmade : Cluster → (ℕ → Durable) → Key → Type 0
+IsUnmade c disks q = (c.nodes ≤ q.home) ⊎ ((disks q.home).next ≤ q.serial)
+
+pub record Sane (m : EngineMeaning) (c : Cluster) (disks : ℕ → Durable) (packets : List Packet) (openings : List Opening) (commits : List Commit) : Type 0 where
+  pub lives : (q : Key) → Life (λ x. get (disks x).keys q) (granted packets q) (acked packets q) (opened openings q) ((store_of m commits).map q)
+  pub unmade : (x : ℕ) (q : Key) → IsUnmade c disks q → get (disks x).keys q ≡ None
+  pub made : (q : Key) → (store_of m commits).made q ≡ true → q.serial < (disks q.home).next
+  pub lawful : AreLawful m nothing_stored commits

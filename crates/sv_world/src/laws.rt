@@ -1,0 +1,51 @@
+//! What holds of every list of events.
+
+ghost use Rattle.std.specs.Prelude.{List};
+ghost use Rattle.sv_model.specs.Engine.{EngineMeaning, TouchesOnlyHanded};
+ghost use Rattle.sv_world.specs.declared.event.WorldEvent.{WorldEvent};
+ghost use Rattle.sv_world.specs.World.{Cluster, World, run, nothing_happened};
+ghost use Rattle.sv_world.specs.Faults.{IsFaulty};
+ghost use Rattle.sv_world.specs.Headline.{AtMostOne, Agree, IsOneContainer, IsAcknowledged, IsTold, IsReplay, IsHeadline};
+
+/// Over every list of events one copy of each session lives at most, and opening values agree.
+pub fn lives()
+    ensures one { (m : EngineMeaning) → TouchesOnlyHanded m → (c : Cluster) (events : List WorldEvent) → AtMostOne (run m c nothing_happened events) }
+    ensures agree { (m : EngineMeaning) → TouchesOnlyHanded m → (c : Cluster) (events : List WorldEvent) → Agree (run m c nothing_happened events) }
+{}
+
+/// Over every list of events the commits are a run of one container, whose sessions are those of the live copies.
+pub fn order()
+    ensures { (m : EngineMeaning) → TouchesOnlyHanded m → (c : Cluster) (events : List WorldEvent) → IsOneContainer m (run m c nothing_happened events) }
+{}
+
+/// Over every list of events each answer is its own request's reply, at its place in the order, and no request is
+/// served or refused twice.
+pub fn answers()
+    ensures { (m : EngineMeaning) → TouchesOnlyHanded m → (c : Cluster) (events : List WorldEvent) → IsAcknowledged m (run m c nothing_happened events) }
+{}
+
+/// Over every list of events each whole step tells what its commit and its record say, and one that was cut nothing.
+pub fn heard()
+    ensures { (m : EngineMeaning) → TouchesOnlyHanded m → (c : Cluster) (events : List WorldEvent) → IsTold m (run m c nothing_happened events) }
+{}
+
+/// Over every list of events what is durable at a node is its records, one behind the other.
+pub fn journals()
+    ensures { (m : EngineMeaning) → TouchesOnlyHanded m → (c : Cluster) (events : List WorldEvent) → IsReplay c (run m c nothing_happened events) }
+{}
+
+/// All of them.
+pub fn headline()
+    ensures { (m : EngineMeaning) → TouchesOnlyHanded m → (c : Cluster) (events : List WorldEvent) → IsHeadline m c (run m c nothing_happened events) }
+{
+    lives();
+    order();
+    answers();
+    heard();
+    journals();
+}
+
+/// An event with a fault changes nothing; any other adds its line.
+pub fn faults()
+    ensures { (m : EngineMeaning) (c : Cluster) (w : World) (e : WorldEvent) → IsFaulty m c w e }
+{}
