@@ -68,7 +68,7 @@ impl Decision {
 }
 
 /// A list of one output.
-pub fn one_output(alloc: Global, output: Output) -> Result<Vec<Output>, AllocError>
+pub(crate) fn one_output(alloc: Global, output: Output) -> Result<Vec<Output>, AllocError>
     ensures { IfOk result (λ v. v.items ≡ output ∷ []) }
 {
     let mut outputs = Vec::with_capacity(alloc, 1)?;
@@ -80,7 +80,7 @@ impl Decision {
     ghost use Rattle.sv_core.specs.Plain.{put_out, recorded};
 
     /// Nothing changes.
-    pub fn put_out(alloc: Global, outputs: Vec<Output>) -> Decision
+    pub(crate) fn put_out(alloc: Global, outputs: Vec<Output>) -> Decision
         ensures { result ≡ put_out outputs.items }
     {
         Decision {
@@ -93,21 +93,21 @@ impl Decision {
     }
 
     /// Nothing changes, and nothing is put out.
-    pub fn nothing(alloc: Global) -> Decision
+    pub(crate) fn nothing(alloc: Global) -> Decision
         ensures { result ≡ put_out [] }
     {
         Decision::put_out(alloc, Vec::new(alloc))
     }
 
     /// Nothing changes, and this is put out.
-    pub fn says(alloc: Global, output: Output) -> Result<Decision, AllocError>
+    pub(crate) fn says(alloc: Global, output: Output) -> Result<Decision, AllocError>
         ensures { IfOk result (λ d. d ≡ put_out (output ∷ [])) }
     {
         Ok(Decision::put_out(alloc, one_output(alloc, output)?))
     }
 
     /// One key changes, by a record, with no commit.
-    pub fn recorded(
+    pub(crate) fn recorded(
         alloc: Global,
         entry: Record,
         mark: Told,
@@ -127,7 +127,7 @@ impl Decision {
     }
 
     /// One key changes, by a record, with no commit and nothing put out or told.
-    pub fn noted(alloc: Global, entry: Record) -> Decision
+    pub(crate) fn noted(alloc: Global, entry: Record) -> Decision
         ensures { result ≡ recorded entry None [] }
     {
         Decision {
