@@ -239,15 +239,20 @@ impl Cluster {
         Ok(self.members.get_mut(node as usize).ok_or("no such node")?)
     }
 
-    /// One output, as a text; a packet has its number in front.
-    fn put_out(&mut self, output: Output) -> Result<String, Fail> {
-        let text = output_text(self.alloc, &output)?;
-        let Output::Send(packet) = output else {
-            return Ok(text);
-        };
+    /// A packet leaves; its text, behind its number.
+    fn send(&mut self, packet: Packet) -> Result<String, AllocError> {
+        let text = packet_text(self.alloc, &packet)?;
         let line = numbered(self.alloc, self.packets.len(), text.as_str())?;
         self.packets.push(packet)?;
         Ok(line)
+    }
+
+    /// One output, as a text; a packet has its number in front.
+    fn put_out(&mut self, output: Output) -> Result<String, AllocError> {
+        match output {
+            Output::Send(packet) => self.send(packet),
+            other => output_text(self.alloc, &other),
+        }
     }
 
     /// A whole step, and what it puts out.
