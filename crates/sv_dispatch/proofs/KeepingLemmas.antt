@@ -19,12 +19,12 @@ use Rattle.sv_dispatch.specs.Place.{place_of}
 use Rattle.sv_dispatch.specs.Rows.{Row, after_at, after_by, before_at, before_by, labels_of_rows, ready_at, served, served_by}
 use Rattle.sv_dispatch.specs.Sight.{Sight, call_of, forwarded, is_forwarded, values_of_request, with_params}
 use Rattle.sv_dispatch.specs.Attributes.{with_values}
-use Rattle.sv_dispatch.specs.Target.{read_target}
+use Rattle.sv_dispatch.specs.Destination.{destination_of}
 use Rattle.sv_dispatch.specs.declared.attributes.Group.TheVariants.{Forward as ForwardGroup}
 use Rattle.sv_dispatch.specs.declared.mode.Ending.{Ending}
 use Rattle.sv_dispatch.specs.declared.mode.Ending.TheVariants.{Finished, Failed, Faulted, Abandoned}
 use Rattle.sv_dispatch.specs.declared.place.Place.{Place}
-use Rattle.sv_dispatch.specs.declared.target.Target.{Target}
+use Rattle.sv_dispatch.specs.declared.destination.Destination.{Destination}
 use Rattle.sv_dispatch.specs.declared.visit.Ask.{Ask}
 use Rattle.sv_dispatch.specs.declared.visit.Visit.{Visit}
 
@@ -82,27 +82,27 @@ either_included : (b : Bool) (x y : Sight) (i : Bool) → x.is_included ≡ i �
 either_included true x y i hx hy = hx
 either_included false x y i hx hy = hy
 
-forwarded_included : (s : Sight) (target : Target) (path : List ℕ) (info : Option (List ℕ)) → (forwarded s target path info).is_included ≡ s.is_included
+forwarded_included : (s : Sight) (target : Destination) (path : List ℕ) (info : Option (List ℕ)) → (forwarded s target path info).is_included ≡ s.is_included
 forwarded_included s target path info =
     let p : Sight = with_params s target.params in
     either_included (is_forwarded p) p (record p { attributes = with_values ForwardGroup (values_of_request p.request) p.attributes }) s.is_included refl refl
 
-visit_included : (a : Ask) (target : Target) (p : Place) (d : Dispatcher) → (visit_at a target p d).view.is_included ≡ includes_by d a.view
+visit_included : (a : Ask) (target : Destination) (p : Place) (d : Dispatcher) → (visit_at a target p d).view.is_included ≡ includes_by d a.view
 visit_included a target p Request = refl
 visit_included a target p ByForward = forwarded_included a.view target p.servlet_path p.path_info
 visit_included a target p ByInclude = refl
 visit_included a target p Error = forwarded_included a.view target p.servlet_path p.path_info
 
 module _ (t : Table) (a : Ask) where
-  visited_to : (d : Dispatcher) (found : Option Target) → IfSome (visit_to t (record a { dispatcher = d }) found) (λ v. v.view.is_included ≡ includes_by d a.view)
+  visited_to : (d : Dispatcher) (found : Option Destination) → IfSome (visit_to t (record a { dispatcher = d }) found) (λ v. v.view.is_included ≡ includes_by d a.view)
   visited_to d None = tt
   visited_to d (Some target) = visit_included (record a { dispatcher = d }) target (place_of t.patterns target.path) d
 
   visited_by : (d : Dispatcher) → IfSome (visit_by t (record a { dispatcher = d }) d) (λ v. v.view.is_included ≡ includes_by d a.view)
   visited_by Request = refl
-  visited_by ByForward = visited_to ByForward (read_target a.view.request.context_path a.path)
-  visited_by ByInclude = visited_to ByInclude (read_target a.view.request.context_path a.path)
-  visited_by Error = visited_to Error (read_target a.view.request.context_path a.path)
+  visited_by ByForward = visited_to ByForward (destination_of a.view.request.context_path a.path)
+  visited_by ByInclude = visited_to ByInclude (destination_of a.view.request.context_path a.path)
+  visited_by Error = visited_to Error (destination_of a.view.request.context_path a.path)
 
   visited : IfSome (visit_of t a) (λ v. v.view.is_included ≡ is_below_include a)
   unfolding visit_of

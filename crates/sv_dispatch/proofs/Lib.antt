@@ -7,6 +7,5 @@ pub mod StepLemmas
 pub mod OpenLemmas
 pub mod PlaceLemmas
 pub mod PageLemmas
-pub mod TargetLemmas
 pub mod SoundLemmas
 pub mod KeepingLemmas

@@ -17,14 +17,14 @@ use Rattle.sv_servlet.specs.declared.servlet.Next.TheVariants.{Done, Forward, In
 use Rattle.sv_dispatch.specs.Place.{place_of}
 use Rattle.sv_dispatch.specs.Rows.{Row, served, before_at, after_at, labels_of_rows, ready_at}
 use Rattle.sv_dispatch.specs.Sight.{Sight, call_of, forwarded, included}
-use Rattle.sv_dispatch.specs.Target.{read_target}
+use Rattle.sv_dispatch.specs.Destination.{destination_of}
 use Rattle.sv_dispatch.specs.declared.place.Place.{Place}
 use Rattle.sv_dispatch.specs.declared.visit.Ask.{Ask}
 use Rattle.sv_dispatch.specs.declared.mode.Ending.{Ending}
 use Rattle.sv_dispatch.specs.declared.mode.Ending.TheVariants.{Finished, Failed, Faulted, Abandoned}
 use Rattle.sv_dispatch.specs.declared.page.ErrorPage.{ErrorPage}
 use Rattle.sv_dispatch.specs.declared.visit.Visit.{Visit}
-use Rattle.sv_dispatch.specs.declared.target.Target.{Target}
+use Rattle.sv_dispatch.specs.declared.destination.Destination.{Destination}
 
 -- the objects of a context, and what leads to them
 pub record Table : Type 0 where
@@ -159,21 +159,21 @@ performed t inner v left l =
 abbrev pub visit : Dispatcher → Sight → List ℕ → Option ℕ → Visit
 visit dispatcher s path servlet = record { dispatcher = dispatcher; view = s; path = path; servlet = servlet }
 
-abbrev pub visit_at : Ask → Target → Place → Dispatcher → Visit
+abbrev pub visit_at : Ask → Destination → Place → Dispatcher → Visit
 visit_at a target p Request = visit Request a.view target.path p.servlet
 visit_at a target p ByForward = visit ByForward (forwarded a.view target p.servlet_path p.path_info) target.path p.servlet
 visit_at a target p ByInclude = visit ByInclude (included a.view target p.servlet_path p.path_info) target.path p.servlet
 visit_at a target p Error = visit Error (forwarded a.view target p.servlet_path p.path_info) target.path p.servlet
 
-abbrev pub visit_to : Table → Ask → Option Target → Option Visit
+abbrev pub visit_to : Table → Ask → Option Destination → Option Visit
 visit_to t a None = None
 visit_to t a (Some target) = Some (visit_at a target (place_of t.patterns target.path) a.dispatcher)
 
 abbrev pub visit_by : Table → Ask → Dispatcher → Option Visit
 visit_by t a Request = Some (visit Request a.view a.path (place_of t.patterns a.path).servlet)
-visit_by t a ByForward = visit_to t a (read_target a.view.request.context_path a.path)
-visit_by t a ByInclude = visit_to t a (read_target a.view.request.context_path a.path)
-visit_by t a Error = visit_to t a (read_target a.view.request.context_path a.path)
+visit_by t a ByForward = visit_to t a (destination_of a.view.request.context_path a.path)
+visit_by t a ByInclude = visit_to t a (destination_of a.view.request.context_path a.path)
+visit_by t a Error = visit_to t a (destination_of a.view.request.context_path a.path)
 
 -- the dispatch that is asked for, or none where its path is refused
 unfoldable pub visit_of : Table → Ask → Option Visit

@@ -1,7 +1,7 @@
 pub mod Values
 pub mod Attributes
 pub mod Sight
-pub mod Target
+pub mod Destination
 pub mod Place
 pub mod Rows
 pub mod Dispatching

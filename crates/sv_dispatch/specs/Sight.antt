@@ -7,7 +7,7 @@ use Rattle.sv_dispatch.specs.Attributes.{attribute_name, with_values, with_error
 use Rattle.sv_dispatch.specs.Values.{DispatchValues}
 use Rattle.sv_dispatch.specs.declared.attributes.Group.TheVariants.{Forward, Include}
 use Rattle.sv_dispatch.specs.declared.attributes.Part.TheVariants.{RequestUri}
-use Rattle.sv_dispatch.specs.declared.target.Target.{Target}
+use Rattle.sv_dispatch.specs.declared.destination.Destination.{Destination}
 use Rattle.sv_dispatch.specs.declared.view.Shown.{Shown}
 
 -- the request as it came, and what the dispatch shows in the place of its parts
@@ -67,19 +67,19 @@ abbrev pub with_forward_values : Sight → Sight
 with_forward_values s = if is_forwarded s then s else record s { attributes = with_values Forward (values_of_request s.request) s.attributes }
 
 -- A forward shows the target's URI and paths, its query if it has one, and its parameters before the others.
-abbrev pub forwarded : Sight → Target → List ℕ → Option (List ℕ) → Sight
+abbrev pub forwarded : Sight → Destination → List ℕ → Option (List ℕ) → Sight
 forwarded s target servlet_path path_info =
     record (with_forward_values (with_params s target.params)) {
       query = query_over target.query s.query;
       shown = record { request_uri = target.request_uri; servlet_path = servlet_path; path_info = path_info };
     }
 
-abbrev pub values_of_target : Sight → Target → List ℕ → Option (List ℕ) → DispatchValues
+abbrev pub values_of_target : Sight → Destination → List ℕ → Option (List ℕ) → DispatchValues
 values_of_target s target servlet_path path_info =
     record { request_uri = target.request_uri; context_path = s.request.context_path; servlet_path = servlet_path; path_info = path_info; query = target.query }
 
 -- An include keeps URI, paths and query; five attributes show the target's, those of the innermost include.
-abbrev pub included : Sight → Target → List ℕ → Option (List ℕ) → Sight
+abbrev pub included : Sight → Destination → List ℕ → Option (List ℕ) → Sight
 included s target servlet_path path_info =
     record (with_params s target.params) {
       attributes = with_values Include (values_of_target s target servlet_path path_info) s.attributes;

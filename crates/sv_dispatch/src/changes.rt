@@ -4,7 +4,7 @@ ghost use Rattle.std.specs.Prelude.{◌≡◌, IfOk, OnOk, option_map};
 ghost use Rattle.sv_dispatch.specs.Sight.{forwarded, included, joined, errored, with_params, with_forward_values};
 
 use crate::attributes::{Group, Values, set_error, set_values};
-use crate::target::Target;
+use crate::destination::Destination;
 use crate::view::{Shown, View};
 use std::alloc::{AllocError, Global};
 use std::rc::Rc;
@@ -62,14 +62,14 @@ impl<'a> View<'a> {
     pub fn forwarded(
         self,
         alloc: Global,
-        target: Target,
+        target: Destination,
         servlet_path: Text,
         path_info: Option<Text>,
     ) -> Result<View<'a>, AllocError>
         ensures { IfOk result (λ view. view ≡ forwarded self.entry target servlet_path path_info) }
     {
         let mut view = self;
-        let Target {
+        let Destination {
             request_uri,
             path: _,
             query,
@@ -123,7 +123,7 @@ impl<'a> View<'a> {
     pub fn included<'t>(
         self,
         alloc: Global,
-        target: &'t Target,
+        target: &'t Destination,
         servlet_path: &'t Text,
         path_info: &'t Option<Text>,
     ) -> Result<View<'a>, AllocError>

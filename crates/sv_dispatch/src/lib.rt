@@ -1,7 +1,7 @@
 //! The dispatcher: a call goes through filters to a servlet, and on by forwards and includes to others (Jakarta
 //! Servlet 6.0, chapters "Dispatching Requests" and "Filtering").
 //!
-//! Stands on servlets and the mapping. [`run`] keeps the dispatches that wait on a stack of its own, so a servlet that
+//! Stands on servlets, the mapping and the reading of targets. [`run`] keeps the dispatches that wait on a stack of its own, so a servlet that
 //! asks for another dispatch has returned, also where it asks for itself; its contract is the big step of
 //! `Dispatching`, by recursion on what the servlets answer, and `Pages` above it. Nothing here knows contexts, sessions
 //! beyond the edit, or connections.
@@ -11,6 +11,7 @@ mod attributes;
 mod calls;
 mod chain;
 mod changes;
+mod destination;
 mod hosted;
 pub mod laws;
 mod mode;
@@ -20,7 +21,6 @@ mod request;
 mod stack;
 mod stage;
 mod steps;
-mod target;
 mod view;
 mod visit;
 

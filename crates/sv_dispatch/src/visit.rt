@@ -4,9 +4,9 @@ ghost use Rattle.std.specs.Prelude.{◌≡◌, IfOk};
 ghost use Rattle.sv_dispatch.specs.Dispatching.{visit_at, visit_of};
 ghost use Rattle.sv_dispatch.specs.Stages.{table_of};
 
+use crate::destination::{Destination, destination_of};
 use crate::place::{Place, place_of};
 use crate::stage::Stage;
-use crate::target::{Target, read_target};
 use crate::view::View;
 use std::alloc::{AllocError, Global};
 use sv_mapping::Dispatcher;
@@ -38,7 +38,7 @@ pub struct Visit<'a> {
 fn visit_at<'a>(
     alloc: Global,
     ask: Ask<'a>,
-    target: Target,
+    target: Destination,
     place: Place,
 ) -> Result<Visit<'a>, AllocError>
     ensures { IfOk result (λ visit. visit ≡ visit_at ask.entry target place ask.entry.dispatcher) }
@@ -86,7 +86,7 @@ pub fn visit_of<'a, S: Servlet, F: Filter>(
             servlet: place.servlet,
         }));
     }
-    match read_target(alloc, ask.view.context_path(), ask.path.as_str())? {
+    match destination_of(alloc, ask.view.context_path(), ask.path.as_str())? {
         Some(target) => {
             let place = place_of(alloc, &stage.patterns, target.path.as_str())?;
             Ok(Some(visit_at(alloc, ask, target, place)?))

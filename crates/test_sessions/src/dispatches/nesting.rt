@@ -6,7 +6,7 @@ use crate::staged::empty_stage;
 use std::test::Fail;
 use sv_dispatch::{Ended, Stage};
 
-const SERVLETS: [Row; 12] = [
+const SERVLETS: [Row; 16] = [
     ("/w", 201, Says::Text("w"), Then::Ends),
     ("/fw", 200, Says::Text("lost"), Then::Forwards("/w")),
     ("/iw", 200, Says::Text("["), Then::Includes("/w")),
@@ -19,11 +19,22 @@ const SERVLETS: [Row; 12] = [
     ("/ifail", 202, Says::Text("["), Then::Includes("/fail")),
     ("/ifault", 202, Says::Text("["), Then::Includes("/fault")),
     ("/query", 202, Says::Text("["), Then::Includes("/w?a=b")),
+    (
+        "/escape",
+        202,
+        Says::Text("["),
+        Then::Includes("/x/../%77;v=1"),
+    ),
+    ("/above", 202, Says::Text("["), Then::Includes("/../w")),
+    ("/slash", 202, Says::Text("["), Then::Includes("/%2Fw")),
+    ("/relative", 202, Says::Text("["), Then::Includes("w")),
 ];
 
 /// A forward empties the body, also that of the includer, and keeps its target's status. Below an include the status
-/// stands still, and an error that is sent is an end; a fault isn't, and no more is a dispatch that is 17 deep.
-const ROWS: [(&str, Want); 9] = [
+/// stands still, and an error that is sent is an end; a fault isn't, and no more is a dispatch that is 17 deep. A dispatch
+/// path is read as a target: with a query, an escape, a dot segment; one above the root, one with an escaped slash and one
+/// that doesn't begin with a slash is a fault.
+const ROWS: [(&str, Want); 15] = [
     ("/w", (Ended::Normal, 201, "w")),
     ("/fw", (Ended::Normal, 201, "w")),
     ("/iw", (Ended::Normal, 200, "[w7]")),
@@ -33,29 +44,18 @@ const ROWS: [(&str, Want); 9] = [
     ("/ifail", (Ended::Normal, 202, "[f7]")),
     ("/ifault", (Ended::Plain(500), 500, "")),
     ("/loop", (Ended::Plain(500), 500, "")),
-];
-
-/// A path that no servlet is mapped to, and one that isn't read.
-const MISSING: [(&str, Want); 2] = [
     ("/none", (Ended::Plain(404), 404, "")),
-    ("/query", (Ended::Plain(500), 500, "")),
+    ("/query", (Ended::Normal, 202, "[w7]")),
+    ("/escape", (Ended::Normal, 202, "[w7]")),
+    ("/above", (Ended::Plain(500), 500, "")),
+    ("/slash", (Ended::Plain(500), 500, "")),
+    ("/relative", (Ended::Plain(500), 500, "")),
 ];
 
 #[test]
 fn nested_dispatches(rt: HostRuntime) -> Result<(), Fail> {
     let alloc = rt.alloc();
     for (path, want) in ROWS {
-        let mut stage: Stage<Scripted, Marking> = empty_stage(alloc);
-        add_servlets(alloc, &mut stage, &SERVLETS)?;
-        expect(&rt, stage, path, want)?;
-    }
-    Ok(())
-}
-
-#[test]
-fn missing_targets(rt: HostRuntime) -> Result<(), Fail> {
-    let alloc = rt.alloc();
-    for (path, want) in MISSING {
         let mut stage: Stage<Scripted, Marking> = empty_stage(alloc);
         add_servlets(alloc, &mut stage, &SERVLETS)?;
         expect(&rt, stage, path, want)?;

@@ -1,0 +1,9 @@
+pub mod NumeralLemmas
+pub mod RefusalLemmas
+pub mod HelloLemmas
+pub mod CountLemmas
+pub mod SnoopLemmas
+pub mod LoginLemmas
+pub mod IncluderLemmas
+pub mod ForwarderLemmas
+pub mod FaultyLemmas

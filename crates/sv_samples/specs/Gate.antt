@@ -1,0 +1,18 @@
+-- What the filter does that lets a request through where it has the key (Jakarta Servlet 6.0, section 6.2.1).
+use Rattle.std.specs.Prelude.{ℕ, Bool, false, List, codes, bytes_eq, Option, if◌then◌else◌}
+use Rattle.std.specs.Option.{option_map_or}
+use Rattle.sv_servlet.specs.Call.{Asked}
+use Rattle.sv_servlet.specs.Filter.{Filters, verdict}
+use Rattle.sv_servlet.specs.declared.filter.Before.{Before}
+use Rattle.sv_servlet.specs.declared.filter.Before.TheVariants.{Pass, SendError}
+use Rattle.sv_samples.specs.Parameter.{parameter}
+
+-- the first parameter `key` is `open`
+abbrev pub has_key : Asked → Bool
+has_key c = option_map_or (λ key. bytes_eq key (codes "open")) (parameter c.params (codes "key")) false
+
+abbrev pub admitted : Asked → Before
+admitted c = if has_key c then Pass else SendError 403 (codes "closed")
+
+abbrev pub gate_filters : Filters
+gate_filters = record { before = λ call l. verdict l (admitted call); after = λ call l. l }

@@ -1,0 +1,12 @@
+pub mod Numeral
+pub mod Parameter
+pub mod Refusal
+pub mod Hello
+pub mod Count
+pub mod Snoop
+pub mod Login
+pub mod Includer
+pub mod Forwarder
+pub mod Faulty
+pub mod Stamp
+pub mod Gate

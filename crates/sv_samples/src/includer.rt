@@ -1,0 +1,96 @@
+//! A servlet that puts another one's text between brackets.
+
+ghost use Rattle.std.specs.Prelude.{◌≡◌};
+ghost use Rattle.sv_servlet.specs.Servlet.{lent};
+ghost use Rattle.sv_samples.specs.Includer.{bracketed, includer_of};
+ghost use Rattle.sv_samples.specs.Refusal.{Ends};
+ghost use Rattle.sv_servlet.specs.declared.servlet.Phase.TheVariants.{New};
+ghost use Rattle.sv_samples.specs.Includer.{includer_serves};
+
+use crate::life::Life;
+use crate::parameter::value_or;
+use crate::refusal::{Refusal, next_after};
+use std::alloc::{AllocError, Global};
+use sv_model::plain_type;
+use sv_servlet::{Call, InitFault, Next, Reply, Servlet};
+use sv_session::SessionEdit;
+
+/// Writes `[`, includes the path of its first parameter `path`, or `/hello`, and writes `]` behind it.
+#[derive(Drop)]
+pub struct Includer {
+    life: Life,
+    alloc: Global,
+}
+
+/// One bracket, and what is to follow it.
+fn write_bracket(
+    alloc: Global,
+    call: &Call<'_>,
+    edit: &SessionEdit,
+    reply: &mut Reply,
+) -> Result<Next, Refusal>
+    ensures { Ends (bracketed call.now (lent edit.entry.now reply.old)) (lent edit.entry.now reply.new) result }
+{
+    if call.resume != 0 {
+        reply.write(b"]")?;
+        return Ok(Next::Done);
+    }
+    reply.write(b"[")?;
+    let path = value_or(alloc, call.params, "path", "/hello")?;
+    Ok(Next::Include { path, resume: 1 })
+}
+
+/// Writes a bracket as plain text; the edit of the session is left alone.
+#[tactic(auto, unfolding(crate::specs::Includer::includer_of))]
+fn include(
+    alloc: Global,
+    call: &Call<'_>,
+    edit: &SessionEdit,
+    reply: &mut Reply,
+) -> Result<Next, Refusal>
+    ensures { Ends (includer_of call.now (lent edit.entry.now reply.old)) (lent edit.entry.now reply.new) result }
+{
+    reply.set(plain_type())?;
+    write_bracket(alloc, call, edit, reply)
+}
+
+impl Includer {
+    /// A servlet that has not been initialised.
+    pub fn new(alloc: Global) -> Includer
+        ensures phase { ⟦<Includer as Servlet>⟧.servlet_phase result ≡ New }
+        ensures meaning { ⟦<Includer as Servlet>⟧.serves result ≡ includer_serves }
+    {
+        Includer {
+            life: Life::new(),
+            alloc,
+        }
+    }
+}
+
+impl Servlet for Includer {
+    ghost use Rattle.sv_samples.specs.Includer.{includer_serves};
+
+    ghost serves = { λ s. includer_serves };
+
+    ghost servlet_phase = { λ s. s.life.phase };
+
+    fn init(&mut self) -> Result<(), InitFault> {
+        self.life.begin();
+        Ok(())
+    }
+
+    fn service(
+        &mut self,
+        call: &Call<'_>,
+        edit: &mut SessionEdit,
+        reply: &mut Reply,
+    ) -> Result<Next, AllocError> {
+        self.life.count();
+        let ended = include(self.alloc, call, edit, reply);
+        next_after(self.alloc, ended)
+    }
+
+    fn destroy(&mut self) {
+        self.life.end();
+    }
+}

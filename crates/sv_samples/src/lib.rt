@@ -1,0 +1,32 @@
+//! Sample servlets and filters, each with a meaning that is written down and proved.
+//!
+//! Stands on servlets and filters alone. What a sample means is a definition of the file of its name in `specs/`, and each
+//! call is that meaning whatever the object has lived through: each counts its calls in a number that no answer shows.
+//! Nothing here knows contexts, mappings or which names a descriptor gives. The reading of decimal numbers is here for
+//! others too.
+#![tactic(auto)]
+
+mod count;
+mod faulty;
+mod forwarder;
+mod gate;
+mod hello;
+mod includer;
+mod life;
+mod login;
+mod numeral;
+mod parameter;
+mod refusal;
+mod snoop;
+mod stamp;
+
+pub use count::Count;
+pub use faulty::Faulty;
+pub use forwarder::Forwarder;
+pub use gate::Gate;
+pub use hello::Hello;
+pub use includer::Includer;
+pub use login::Login;
+pub use numeral::{read_u8, read_u16, read_u64};
+pub use snoop::Snoop;
+pub use stamp::Stamp;
