@@ -1,0 +1,80 @@
+-- What an opening finds, and what a stop leaves of disks that it has handed back.
+use Rattle.std.proofs.Common.{◌≡◌, ◌⊎◌, inl, inr, ⊎_elim, ℕ, ◌≤◌, Bool, true, false, cond, List, sym, ap, ◌∙◌, subst}
+use Rattle.std.proofs.Common.{refl}
+use Rattle.sv_journal.specs.Disk.{Only, LeavesOnly}
+use Rattle.sv_journal.specs.Format.{Opens, OpensAlike}
+use Rattle.sv_journal.specs.Journal.{OpensWithoutLoss}
+use Rattle.sv_journal.proofs.JournalLemmas.{one_opening}
+use Rattle.sv_journal.specs.declared.journal_fault.JournalFault.{JournalFault}
+use Rattle.sv_journal.specs.declared.journal_fault.JournalFault.TheVariants as journal
+use Rattle.sv_core.specs.declared.fault.ApplyFault.{ApplyFault}
+use Rattle.sv_core.specs.declared.fault.ApplyFault.TheVariants as apply
+use Rattle.sv_model.specs.declared.node.Setting.{Setting}
+use Rattle.sv_model.specs.declared.node.Stage.TheVariants.{Blank}
+use Rattle.sv_model.specs.declared.record.Record.{Record}
+use Rattle.sv_model.specs.NodeState.{Durable, Node as State}
+use Rattle.sv_model.specs.Ranges.{IsRanged}
+use Rattle.sv_model.specs.Replay.{blank, replayed, AllFit}
+use Rattle.sv_record.specs.Record.{record_format, spelling, HasSpelling}
+use Rattle.sv_record.proofs.KindLaws.{record_lawful}
+use Rattle.sv_record.proofs.WholeLaws.{one_value}
+use Rattle.sv_node.specs.declared.fault.OpenFault.TheVariants.{Damaged}
+use Rattle.sv_node.specs.Fault.{open_fault, apply_fault}
+use Rattle.sv_node.specs.Records.{Spell, Replays}
+use Rattle.sv_node.specs.Stops.{Restores}
+use Rattle.sv_node.specs.Opened.{LeavesStart, restarted}
+use Rattle.sv_node.proofs.RecordLemmas.{one_list}
+
+pub was_damaged : (f : JournalFault) → open_fault f ≡ Damaged → f ≡ journal.Damaged
+was_damaged journal.Failed is = absurd cc
+was_damaged journal.Damaged is = refl
+was_damaged journal.Full is = absurd cc
+was_damaged journal.Device is = absurd cc
+was_damaged journal.Memory is = absurd cc
+
+pub was_bad : (f : ApplyFault) → apply_fault f ≡ Damaged → f ≡ apply.BadRecord
+was_bad apply.BadRecord is = refl
+was_bad apply.Memory is = absurd cc
+
+pub current_tells : {D : Type 0} (tells : D → Type 0) (on_a : Bool) (current other : D) → tells (cond on_a current other) → tells (cond on_a other current) → tells current
+current_tells tells true current other a b = a
+current_tells tells false current other a b = b
+
+pub both_tell : {D : Type 0} (tells : D → Type 0) (on_a : Bool) (current other : D) → tells current → tells other → tells (cond on_a current other) × tells (cond on_a other current)
+both_tell tells true current other a b = (a, b)
+both_tell tells false current other a b = (b, a)
+
+one : (a b : Record) → HasSpelling a → HasSpelling b → spelling a ≡ spelling b → a ≡ b
+one = one_value record_format record_lawful
+
+pub fits_too : (set : Setting) (entries : List (List ℕ)) (rs : List Record) (d : Durable) → Spell entries rs → Replays set entries d → AllFit set Blank blank rs
+fits_too set entries rs d s r = subst (λ (xs : List Record). AllFit set Blank blank xs) (one_list one entries r.records rs r.spelled s) r.fit
+
+pub gives_too : (set : Setting) (entries : List (List ℕ)) (rs : List Record) (d : Durable) → Spell entries rs → Replays set entries d → d ≡ replayed blank rs
+gives_too set entries rs d s r = sym r.gives ∙ ap (replayed blank) (one_list one entries r.records rs r.spelled s)
+
+pub recovered : (set : Setting) (entries : List (List ℕ)) (rs ss : List Record) (d : Durable) → Spell entries rs → ss ≡ rs → AllFit set Blank blank ss → d ≡ replayed blank ss → Replays set entries d
+recovered set entries rs ss d s is fit gives = record { records = ss; spelled = subst (Spell entries) (sym is) s; fit = fit; gives = sym gives }
+
+pub restarted_ranged : (n : State) → IsRanged n → IsRanged (record n { durable = restarted n.durable })
+restarted_ranged n r = record { known = r.known; next = r.next; waiting = r.waiting; next_within = r.next_within; want_within = r.want_within }
+
+-- a promise of one state is that of an equal one
+pub at_state : (P Q : Setting → Durable → Type 0) (s t : Setting) (x y : Durable) → s ≡ t → x ≡ y → (P s x → Q s x) → P t y → Q t y
+at_state P Q s t x y a b f p = subst (λ (z : Setting). Q z y) a (subst (λ (z : Durable). Q s z) b (f (subst (λ (z : Durable). P s z) (sym b) (subst (λ (z : Setting). P z y) (sym a) p))))
+
+module _ {D : Type 0} (tells : D → Type 0) (seen : D → List ℕ) (may_leave : D → List ℕ → Type 0) (moment : D → ℕ) (left_since : D → ℕ → List ℕ → Type 0)
+    (counts_now : (disk : D) (t : ℕ) (c : List ℕ) → tells disk → t ≤ moment disk → may_leave disk c → left_since disk t c)
+    (set : Setting) (a b new_a new_b : D) (told_a : tells new_a) (told_b : tells new_b) (d : Durable) (r : Restores set (seen a) (seen b) d) where
+  alike : (x y : List ℕ) → y ≡ seen b → OpensAlike (seen a) (seen b) x → Restores set x y d
+  alike x y is o =
+      let same : o.0 ≡ r.entries = one_opening (seen a) (seen b) o.0 r.entries o.1 r.opens in
+      record { entries = r.entries; opens = subst (λ (l : List ℕ). Opens x l r.entries) (sym is) (subst (λ (es : List (List ℕ)). Opens x (seen b) es) same o.2); replays = r.replays }
+
+  pub refused_left : OpensWithoutLoss seen may_leave moment left_since a b new_a new_b → LeavesStart may_leave set a b d new_a new_b
+  refused_left w x y left_x left_y =
+      let at_x = λ (P : List ℕ → Type 0) (l : LeavesOnly moment left_since a new_a P). l.each x (counts_now new_a (moment a) x told_a l.later left_x) in
+      let old_y : may_leave b y = w.of_b.each y (counts_now new_b (moment b) y told_b w.of_b.later left_y) in
+      ⊎_elim (λ (only : Only (seen b) (may_leave new_b)).
+      ⊎_elim (λ old_x. inl (old_x, old_y)) (λ o. inr (inl (alike x y (only y left_y) o))) (at_x (λ c. may_leave a c ⊎ OpensAlike (seen a) (seen b) c) w.of_a))
+      (λ (still : LeavesOnly moment left_since a new_a (may_leave a)). inl (at_x (may_leave a) still, old_y)) w.apart

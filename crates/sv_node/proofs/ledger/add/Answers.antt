@@ -1,0 +1,22 @@
+use Rattle.std.proofs.Common.{ℕ, List, [], ◌∷◌, ◌++◌, ◌∙◌, subst}
+use Rattle.std.proofs.lemmas.Result.{on_ok_weaker}
+use Rattle.sv_journal.specs.Disk.{LeavesOnly}
+use Rattle.sv_journal.specs.Format.{OpensEither}
+use Rattle.sv_journal.specs.Journal.{Holds}
+use Rattle.sv_node.proofs.StopLemmas.{adding, added}
+use Rattle.sv_node.proofs.ledger.add.Goals as goal
+
+pub returns-clause-stored : goal.returns-clause-stored
+returns-clause-stored g c =
+    let d = g.D.Disk in
+    let is = c.deref.ensures.value ∙ c.in_ok-bytes.ensures.bytes in
+    on_ok_weaker c.append.result (λ more set e told follows s.
+    added d.tells d.seen d.may_leave d.moment d.left_since c.args.journal.now c.append.new.self set e c.args.entry.now s c.in_ok-bytes.ensures.fits follows
+    (subst (λ (p : List ℕ). Holds d.seen d.may_leave c.append.new.self (s.entries ++ p ∷ [])) is (more s.entries told s.holds))) c.append.ensures.added
+
+pub returns-clause-any_moment : goal.returns-clause-any_moment
+returns-clause-any_moment g c = λ set e told follows s.
+    let d = g.D.Disk in
+    let is = c.deref.ensures.value ∙ c.in_ok-bytes.ensures.bytes in
+    adding d.tells d.seen d.may_leave d.moment d.left_since c.args.journal.now set e c.args.entry.now c.append.new.self.current s c.in_ok-bytes.ensures.fits follows
+    (subst (λ (p : List ℕ). LeavesOnly d.moment d.left_since c.args.journal.now.current c.append.new.self.current (OpensEither (d.seen c.args.journal.now.other) s.entries (s.entries ++ p ∷ []))) is (c.append.ensures.any_moment s.entries told s.holds))

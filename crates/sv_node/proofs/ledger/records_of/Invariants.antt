@@ -1,0 +1,9 @@
+use Rattle.std.specs.Prelude.{take}
+use Rattle.std.specs.List.{AllByRecursion}
+use Rattle.sv_journal.specs.Format.{payloads}
+use Rattle.sv_model.specs.Ranges.{IsRecord}
+use Rattle.sv_node.specs.Records.{Spell}
+use Rattle.sv_node.proofs.ledger.records_of.Given as goal
+
+abbrev pub invariant-loop-payload : goal.invariant-loop-payload
+invariant-loop-payload l = Spell (payloads (take l.payload-index l.all)) l.records.items × AllByRecursion IsRecord l.records.items

@@ -1,0 +1,137 @@
+use Rattle.std.proofs.Common.{◌≡◌, inr, ◌∙◌, List, ap, sym, subst}
+use Rattle.sv_core.specs.Core.{node_at, durable_at, setting_of as core_setting}
+use Rattle.sv_journal.specs.Disk.{LeavesOnly}
+use Rattle.sv_model.specs.NodeState.{Durable, Node as State}
+use Rattle.std.specs.List.{AllByRecursion}
+use Rattle.sv_model.specs.Ranges.{IsSetting, IsRanged, IsRecord}
+use Rattle.sv_model.specs.declared.node.Setting.{Setting}
+use Rattle.sv_model.specs.declared.node.Stage.TheVariants.{Blank}
+use Rattle.sv_model.specs.declared.record.Record.{Record}
+use Rattle.sv_model.specs.Replay.{blank, replayed, AllFit}
+use Rattle.sv_node.specs.Opened.{restarted}
+use Rattle.sv_node.specs.Stops.{Stores, RestoresEither}
+use Rattle.sv_node.specs.declared.fault.OpenFault.TheVariants.{Damaged}
+use Rattle.sv_node.proofs.OpenLemmas.{was_damaged, was_bad, current_tells, both_tell, fits_too, gives_too, recovered, restarted_ranged, at_state, refused_left}
+use Rattle.sv_node.proofs.StopLemmas.{left_behind, reading}
+use Rattle.sv_node.proofs.node.Node.open.Goals as goal
+
+pub returns-in-Err-clause-damaged : goal.returns-in-Err-clause-damaged
+returns-in-Err-clause-damaged g c = λ is ta tb d r. absurd (c.in-Err.ensures.damaged (was_damaged c.in-Err.refused.fault (sym c.open_fault.ensures ∙ is)) ta tb r.entries r.opens)
+
+pub returns-in-Err-clause-left_err : goal.returns-in-Err-clause-left_err
+returns-in-Err-clause-left_err g c = λ ta tb d r.
+    let k = g.D.Disk in
+    let t = c.in-Err.ensures.tells_err in
+    refused_left k.tells k.seen k.may_leave k.moment k.left_since g.met.D.Disk.counts_now c.args.setting c.args.a c.args.b c.in-Err.refused.a c.in-Err.refused.b (t.0.tells_after ta) (t.1.tells_after tb) d r (c.in-Err.ensures.any_moment_err ta tb)
+
+pub returns-in-Err-read-clause-damaged : goal.returns-in-Err-read-clause-damaged
+returns-in-Err-read-clause-damaged g c = λ is ta tb d r.
+    let j = c.in-Ok.journal in
+    let t = c.in-Ok.ensures.tells in
+    let told = current_tells g.D.Disk.tells j.on_a j.current j.other (t.0.tells_after ta) (t.1.tells_after tb) in
+    let fault_is : c.in-Err-read.fault ≡ Damaged = sym (ap (λ x. x.fault) c.not_opened.ensures) ∙ is in
+    absurd (c.in-Err-read.ensures.damaged fault_is told r.entries (c.in-Ok.ensures.holds ta tb r.entries r.opens) r.replays.records r.replays.spelled)
+
+pub returns-in-Err-read-clause-left_err : goal.returns-in-Err-read-clause-left_err
+returns-in-Err-read-clause-left_err g c = λ ta tb d r x y left_x left_y.
+    let k = g.D.Disk in
+    let j = c.in-Ok.journal in
+    let t = c.in-Ok.ensures.tells in
+    let told = current_tells k.tells j.on_a j.current j.other (t.0.tells_after ta) (t.1.tells_after tb) in
+    let holds = c.in-Ok.ensures.holds ta tb r.entries r.opens in
+    let q = c.read.ensures.quiet in
+    let is = c.not_opened.ensures in
+    inr (left_behind k.tells k.seen k.may_leave k.moment k.left_since g.met.D.Disk.counts_now j c.read.new.journal c.args.setting d (restarted d) (q.tells_after told) (ap (λ z. z.other) c.read.ensures.same) holds.other_durable
+    (reading k.tells k.seen k.may_leave k.moment k.left_since j c.read.new.journal.current c.args.setting r.entries d (restarted d) holds r.replays (q.left told)) x y
+    (subst (λ z. k.may_leave z x) (ap (λ z. z.a) is) left_x) (subst (λ z. k.may_leave z y) (ap (λ z. z.b) is) left_y))
+
+pub returns-in-Err-recover-clause-damaged : goal.returns-in-Err-recover-clause-damaged
+returns-in-Err-recover-clause-damaged g c = λ is ta tb d r.
+    let j = c.in-Ok.journal in
+    let t = c.in-Ok.ensures.tells in
+    let told = current_tells g.D.Disk.tells j.on_a j.current j.other (t.0.tells_after ta) (t.1.tells_after tb) in
+    let fault_is = sym c.apply_fault.ensures ∙ sym (ap (λ x. x.fault) c.not_opened-in-Err-recover.ensures) ∙ is in
+    let s = c.in-Ok-read.ensures.spelled r.entries told (c.in-Ok.ensures.holds ta tb r.entries r.opens) in
+    absurd (c.in-Err-recover.ensures.bad (was_bad c.in-Err-recover.refused.fault fault_is)
+    (subst (λ (xs : List Record). AllFit c.args.setting Blank blank xs) (sym c.deref.ensures.value) (fits_too c.args.setting r.entries c.in-Ok-read.records.items d s r.replays)))
+
+pub returns-in-Err-recover-clause-left_err : goal.returns-in-Err-recover-clause-left_err
+returns-in-Err-recover-clause-left_err g c = λ ta tb d r x y left_x left_y.
+    let k = g.D.Disk in
+    let j = c.in-Ok.journal in
+    let t = c.in-Ok.ensures.tells in
+    let told = current_tells k.tells j.on_a j.current j.other (t.0.tells_after ta) (t.1.tells_after tb) in
+    let holds = c.in-Ok.ensures.holds ta tb r.entries r.opens in
+    let q = c.read.ensures.quiet in
+    let is = c.not_opened-in-Err-recover.ensures in
+    inr (left_behind k.tells k.seen k.may_leave k.moment k.left_since g.met.D.Disk.counts_now j c.read.new.journal c.args.setting d (restarted d) (q.tells_after told) (ap (λ z. z.other) c.read.ensures.same) holds.other_durable
+    (reading k.tells k.seen k.may_leave k.moment k.left_since j c.read.new.journal.current c.args.setting r.entries d (restarted d) holds r.replays (q.left told)) x y
+    (subst (λ z. k.may_leave z x) (ap (λ z. z.a) is) left_x) (subst (λ z. k.may_leave z y) (ap (λ z. z.b) is) left_y))
+
+pub returns-in-Err-start-clause-damaged : goal.returns-in-Err-start-clause-damaged
+returns-in-Err-start-clause-damaged g c = λ is ta tb d r.
+    let j = c.in-Ok.journal in
+    let t = c.in-Ok.ensures.tells in
+    let told = current_tells g.D.Disk.tells j.on_a j.current j.other (t.0.tells_after ta) (t.1.tells_after tb) in
+    let fault_is : c.in-Err-start.fault ≡ Damaged = sym (ap (λ x. x.fault) c.not_opened-in-Err-start.ensures) ∙ is in
+    let s = c.in-Ok-read.ensures.spelled r.entries told (c.in-Ok.ensures.holds ta tb r.entries r.opens) in
+    let same = gives_too c.args.setting r.entries c.in-Ok-read.records.items d s r.replays ∙ ap (replayed blank) (sym c.deref.ensures.value) ∙ sym (ap (λ (n : State). n.durable) c.in-Ok-recover.ensures.ok.node) in
+    ap (λ (x : Durable). x.boot) same ∙ c.in-Err-start.ensures.damaged fault_is
+
+pub returns-in-Err-start-clause-left_err : goal.returns-in-Err-start-clause-left_err
+returns-in-Err-start-clause-left_err g c = λ ta tb d r x y left_x left_y.
+    let k = g.D.Disk in
+    let j = c.in-Ok.journal in
+    let i = c.read.new.journal in
+    let t = c.in-Ok.ensures.tells in
+    let told = current_tells k.tells j.on_a j.current j.other (t.0.tells_after ta) (t.1.tells_after tb) in
+    let holds = c.in-Ok.ensures.holds ta tb r.entries r.opens in
+    let kept = c.read.ensures.kept r.entries told holds in
+    let told_then = c.read.ensures.quiet.tells_after told in
+    let s = c.in-Ok-read.ensures.spelled r.entries told holds in
+    let core = c.in-Ok-recover.core in
+    let same = gives_too c.args.setting r.entries c.in-Ok-read.records.items d s r.replays ∙ ap (replayed blank) (sym c.deref.ensures.value) ∙ sym (ap (λ (n : State). n.durable) c.in-Ok-recover.ensures.ok.node) in
+    let is = c.not_opened-in-Err-start.ensures in
+    let moments = at_state (λ set e. Stores k.seen k.may_leave i set e) (λ set e. LeavesOnly k.moment k.left_since i.current c.start.new.journal.current (RestoresEither set (k.seen i.other) e (restarted e)))
+    (core_setting core) c.args.setting (durable_at core) d c.in-Ok-recover.ensures.ok.setting (sym same) (c.start.ensures.any_moment told_then) (record { entries = r.entries; holds = kept; replays = r.replays }) in
+    inr (left_behind k.tells k.seen k.may_leave k.moment k.left_since g.met.D.Disk.counts_now i c.start.new.journal c.args.setting d (restarted d) (c.start.ensures.tells.tells_after told_then) c.start.ensures.other kept.other_durable
+    moments x y (subst (λ z. k.may_leave z x) (ap (λ z. z.a) is) left_x) (subst (λ z. k.may_leave z y) (ap (λ z. z.b) is) left_y))
+
+pub returns-clause-node : goal.returns-clause-node
+returns-clause-node g c =
+    let k = g.D.Disk in
+    let j = c.in-Ok.journal in
+    let t = c.in-Ok.ensures.tells in
+    let core = c.in-Ok-recover.core in
+    let found = c.in-Ok-recover.ensures.ok in
+    let ranged = c.in-Ok-recover.ensures.ranged (subst (λ (xs : List Record). AllByRecursion IsRecord xs) (sym c.deref.ensures.value) c.in-Ok-read.ensures.within) in
+    record {
+      engine = c.start.ensures.valid;
+      setting = subst IsSetting (sym (c.start.ensures.setting ∙ found.setting)) c.requires.setting;
+      ranged = subst IsRanged (sym c.in_default.ensures.node) (restarted_ranged (node_at core) ranged);
+      stored = λ live told_end.
+          let told_then = c.start.ensures.tells.told_before told_end.0 in
+          let told = c.read.ensures.quiet.told_before told_then in
+          let told_other = subst (λ z. k.tells z) (c.start.ensures.other ∙ ap (λ z. z.other) c.read.ensures.same) told_end.1 in
+          let both = both_tell k.tells j.on_a j.current j.other told told_other in
+          let ta = t.0.told_before both.0 in
+          let tb = t.1.told_before both.1 in
+          let o = c.in-Ok.ensures.opens ta tb in
+          let holds = c.in-Ok.ensures.holds ta tb o.0 o.1 in
+          let replays = recovered c.args.setting o.0 c.in-Ok-read.records.items c.deref.result.now (durable_at core) (c.in-Ok-read.ensures.spelled o.0 told holds) c.deref.ensures.value found.fit (ap (λ (n : State). n.durable) found.node) in
+          let stores = subst (λ (z : Setting). Stores k.seen k.may_leave c.read.new.journal z (durable_at core)) (sym found.setting) (record { entries = o.0; holds = c.read.ensures.kept o.0 told holds; replays = replays }) in
+          subst (λ (z : Setting). Stores k.seen k.may_leave c.start.new.journal z (durable_at c.start.new.core)) (sym c.start.ensures.setting)
+          (subst (λ (z : State). Stores k.seen k.may_leave c.start.new.journal (core_setting core) z.durable) (sym c.in_default.ensures.node) (c.in_default.ensures.stored told_then stores));
+    }
+
+pub returns-clause-restarted : goal.returns-clause-restarted
+returns-clause-restarted g c = λ ta tb.
+    let j = c.in-Ok.journal in
+    let t = c.in-Ok.ensures.tells in
+    let told = current_tells g.D.Disk.tells j.on_a j.current j.other (t.0.tells_after ta) (t.1.tells_after tb) in
+    let o = c.in-Ok.ensures.opens ta tb in
+    let holds = c.in-Ok.ensures.holds ta tb o.0 o.1 in
+    let core = c.in-Ok-recover.core in
+    let found = c.in-Ok-recover.ensures.ok in
+    let replays = recovered c.args.setting o.0 c.in-Ok-read.records.items c.deref.result.now (durable_at core) (c.in-Ok-read.ensures.spelled o.0 told holds) c.deref.ensures.value found.fit (ap (λ (n : State). n.durable) found.node) in
+    (durable_at core, record { entries = o.0; opens = o.1; replays = replays }, c.in_default.ensures.left, ap (λ (n : State). n.durable) c.in_default.ensures.node)

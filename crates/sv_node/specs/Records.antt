@@ -1,0 +1,26 @@
+-- The records that the entries of a journal spell, and what they give.
+use Rattle.std.specs.Prelude.{◌≡◌, ℕ, List, map, Option, Some, None, IfSome}
+use Rattle.std.specs.List.{AllByRecursion}
+use Rattle.sv_model.specs.declared.node.Setting.{Setting}
+use Rattle.sv_model.specs.declared.node.Stage.{Stage}
+use Rattle.sv_model.specs.declared.node.Stage.TheVariants.{Blank}
+use Rattle.sv_model.specs.declared.record.Record.{Record}
+use Rattle.sv_model.specs.NodeState.{Durable}
+use Rattle.sv_model.specs.Replay.{blank, replayed, Fits, AllFit}
+use Rattle.sv_record.specs.Record.{spelling, HasSpelling}
+
+-- the entries spell these records, one each
+pub record Spell (entries : List (List ℕ)) (records : List Record) : Type 0 where
+  pub have : AllByRecursion HasSpelling records
+  pub are : entries ≡ map spelling records
+
+-- the entries are the records of a node, each of which may stand behind those before it, and this is what they give
+pub record Replays (set : Setting) (entries : List (List ℕ)) (d : Durable) : Type 0 where
+  pub records : List Record
+  pub spelled : Spell entries records
+  pub fit : AllFit set Blank blank records
+  pub gives : replayed blank records ≡ d
+
+-- a record, if there is one, that may stand behind whatever records give this
+abbrev pub CanFollow : Setting → Durable → Option Record → Type 0
+CanFollow set d entry = (stage : Stage) → IfSome entry (λ r. Fits set stage d r)

@@ -1,0 +1,147 @@
+//! A running node.
+
+ghost use Rattle.std.specs.Prelude.{◌≡◌, ◌≢◌, IfOk, IfErr};
+ghost use Rattle.sv_journal.specs.Disk.{TellsOn};
+ghost use Rattle.sv_journal.specs.Journal.{disk_a, disk_b};
+ghost use Rattle.sv_model.specs.NodeState.{Durable, last_number};
+ghost use Rattle.sv_model.specs.Ranges.{IsSetting};
+ghost use Rattle.sv_node.specs.Opened.{LeavesStart, restarted};
+ghost use Rattle.sv_node.specs.Stops.{Restores};
+ghost use Rattle.sv_node.specs.declared.fault.OpenFault.TheVariants.{Damaged};
+
+use crate::fault::{OpenFault, apply_fault, open_fault, step_fault};
+use crate::ledger::{keep, read};
+use crate::not_opened::NotOpened;
+use crate::starting::start;
+use std::alloc::Global;
+use sv_core::Core;
+use sv_journal::{Disk, Journal};
+use sv_model::{Engine, Input, Moment, Output, Setting, Site, StepFault};
+
+/// A node that runs: a core, and the journal in which its records stand.
+#[derive(Drop)]
+pub struct Node<E, D: Disk> {
+    core: Core<E>,
+    journal: Journal<D>,
+    alloc: Global,
+}
+
+impl<E: Engine, D: Disk> Node<E, D> {
+    ghost use Rattle.sv_node.specs.Node.{IsNode, IsStarted, durable_of};
+
+    /// Opens the disks A and B, replays their records, and makes the start durable: the boot number is one more than the
+    /// last. The setting is that of a node of a cluster of 8 nodes at most. On each fault the engine and the disks are
+    /// handed back.
+    ///
+    /// Damaged: the disks hold no journal, an entry is no record, a record doesn't fit behind those before it, or the
+    /// last boot number has been spent.
+    pub fn open(
+        alloc: Global,
+        engine: E,
+        a: D,
+        b: D,
+        setting: Setting,
+    ) -> Result<Node<E, D>, NotOpened<E, D>>
+        requires valid { E.valid engine }
+        requires setting { IsSetting setting }
+        ensures started { IfOk result (λ n. IsStarted E.meaning E.heard n engine setting) }
+        ensures node { IfOk result (λ n. IsNode E.valid D.tells D.seen D.may_leave n) }
+        // It keeps what the images give, after one more start.
+        ensures restarted { IfOk result (λ n. D.tells a → D.tells b → (d : Durable) × Restores setting (D.seen a) (D.seen b) d × (d.boot ≢ last_number) × (durable_of n ≡ restarted d)) }
+        // No records of a node are there, or its starts are spent.
+        ensures damaged { IfErr result (λ r. r.fault ≡ Damaged → D.tells a → D.tells b → (d : Durable) → Restores setting (D.seen a) (D.seen b) d → d.boot ≡ last_number) }
+        // What is lost at a fault is at most the start itself.
+        ensures left_err { IfErr result (λ r. D.tells a → D.tells b → (d : Durable) → Restores setting (D.seen a) (D.seen b) d → LeavesStart D.may_leave setting a b d r.a r.b) }
+        ensures engine { IfErr result (λ r. r.engine ≡ engine) }
+        ensures tells_err { IfErr result (λ r. TellsOn D.tells a r.a × TellsOn D.tells b r.b) }
+    {
+        let mut journal = match Journal::open(alloc, a, b) {
+            Ok(journal) => journal,
+            Err(refused) => {
+                return Err(NotOpened {
+                    fault: open_fault(refused.fault),
+                    engine,
+                    a: refused.a,
+                    b: refused.b,
+                });
+            }
+        };
+        let records = match read(alloc, &mut journal) {
+            Ok(records) => records,
+            Err(fault) => return Err(not_opened(fault, engine, journal)),
+        };
+        let mut core = match Core::recover(alloc, engine, setting, &records) {
+            Ok(core) => core,
+            Err(refused) => {
+                return Err(not_opened(apply_fault(refused.fault), refused.engine, journal));
+            }
+        };
+        if let Err(fault) = start(alloc, &mut core, &mut journal) {
+            return Err(not_opened(fault, core.into_engine(), journal));
+        }
+        Ok(Node {
+            core,
+            journal,
+            alloc,
+        })
+    }
+}
+
+impl<E, D: Disk> Node<E, D> {
+    ghost use Rattle.sv_node.specs.Node.{engine_of, journal_of};
+
+    /// The length of the journal's file in bytes when a call last succeeded.
+    pub fn journal_len(&self) -> u64
+        ensures { result ≡ (journal_of self.now).len }
+    {
+        self.journal.len()
+    }
+
+    /// Stops the node: the engine and the disks A and B.
+    pub fn stop(self) -> (E, D, D)
+        ensures { result ≡ (engine_of self, disk_a (journal_of self), disk_b (journal_of self)) }
+    {
+        let Node {
+            core,
+            journal,
+            alloc: _,
+        } = self;
+        let (a, b) = journal.into_disks();
+        (core.into_engine(), a, b)
+    }
+}
+
+// What is handed back.
+fn not_opened<E, D: Disk>(fault: OpenFault, engine: E, journal: Journal<D>) -> NotOpened<E, D>
+    ensures { result ≡ record { fault = fault; engine = engine; a = disk_a journal; b = disk_b journal } }
+{
+    let (a, b) = journal.into_disks();
+    NotOpened {
+        fault,
+        engine,
+        a,
+        b,
+    }
+}
+
+impl<E: Engine, D: Disk> Site for Node<E, D> {
+    ghost use Rattle.sv_node.specs.Node.{IsNode, NodeSteps};
+
+    ghost steps = { NodeSteps E.meaning E.heard D.tells D.seen D.may_leave D.moment D.left_since D.failed };
+
+    ghost site_valid = { IsNode E.valid D.tells D.seen D.may_leave };
+
+    /// Decides, makes the decision's record durable, and only then does what was decided.
+    fn step(&mut self, moment: Moment, input: Input) -> Result<Vec<Output>, StepFault> {
+        if !self.journal.is_live() {
+            return Err(StepFault::Failed);
+        }
+        let Ok(decision) = self.core.decide(moment, input) else {
+            return Err(StepFault::Memory);
+        };
+        if let Err(fault) = keep(self.alloc, &mut self.journal, decision.entry()) {
+            return Err(step_fault(fault));
+        }
+        Ok(self.core.accept(decision))
+    }
+}
