@@ -30,7 +30,7 @@ again_at now s = record s { created = counted s.created; last = now }
 
 -- the last digit of a count
 abbrev pub digit : ℕ → Response
-digit count = record { status = 200; fields = []; body = count % 10 + 48 ∷ []; head_only = false; close = false }
+digit count = record { status = 200; fields = []; body = (count % 10 + 48) ∷ []; head_only = false; close = false }
 
 abbrev pub counts_at : Option (Key × Session) → ℕ → Key × Secret → Outcome
 counts_at None now fresh = record { response = digit 1; fate = Untouched; birth = Alive (first_at now fresh); events = [] }

@@ -12,7 +12,8 @@ use Rattle.sv_model.specs.declared.session.Session.{Session}
 use Rattle.sv_model.specs.declared.outcome.Outcome.{Outcome}
 use Rattle.sv_model.specs.declared.outcome.Fate.TheVariants.{Untouched}
 use Rattle.sv_model.specs.Keys.{IsKey}
-use Rattle.sv_model.specs.Engine.{TouchesOnlyHanded, KeepsLimits, KeepsWithin, BringsWithin, NamesKeys}
+use Rattle.sv_model.specs.declared.event.Told.{Told}
+use Rattle.sv_model.specs.Engine.{heard_all, TouchesOnlyHanded, KeepsLimits, KeepsWithin, BringsWithin, NamesKeys}
 use Rattle.sv_model.specs.Session.{IsWithinLimits}
 use Rattle.sv_model.proofs.AttributesLemmas.{attributes_size-nil}
 use Rattle.test_node.specs.Counting.{named_by, first_at, again_at, counts_at, counts}
@@ -60,3 +61,8 @@ named_keys secret (home ∷ serial ∷ more ∷ rest) = tt
 
 pub names_keys : (secret : Secret) → NamesKeys (counts secret)
 names_keys secret r = named_keys secret r.body
+
+-- its listeners note nothing
+pub hears_nothing : (secret : Secret) (told : List Told) → heard_all (counts secret) [] told ≡ []
+hears_nothing secret [] = refl
+hears_nothing secret (t ∷ ts) = hears_nothing secret ts
