@@ -61,10 +61,13 @@ impl<D: Disk> Journal<D> {
         // A stop at any moment of the call loses nothing.
         ensures any_moment { IfOk result (λ j. D.tells a → D.tells b → OpensWithoutLoss D.seen D.may_leave D.moment D.left_since a b (disk_a j) (disk_b j)) }
         ensures any_moment_err { IfErr result (λ r. D.tells a → D.tells b → OpensWithoutLoss D.seen D.may_leave D.moment D.left_since a b r.a r.b) }
+        // Where disk B is the one that is read, nothing is written to disk A.
+        ensures kept_a { IfOk result (λ j. j.on_a ≡ false → D.tells a → LeavesOnly D.moment D.left_since a (disk_a j) (D.may_leave a)) }
         ensures tells { IfOk result (λ j. TellsOn D.tells a (disk_a j) × TellsOn D.tells b (disk_b j)) }
         ensures tells_err { IfErr result (λ r. TellsOn D.tells a r.a × TellsOn D.tells b r.b) }
 
         ensures unchanged { IfErr result (λ r. r.fault ≡ JournalFault.Damaged → (D.seen r.a ≡ D.seen a) × (D.seen r.b ≡ D.seen b)) }
+        ensures count { IfOk result (λ j. (D.failed (disk_a j) ≡ D.failed a) × (D.failed (disk_b j) ≡ D.failed b)) }
         ensures device { IfErr result (λ r. r.fault ≡ JournalFault.Device → HasRisen (D.failed a) (D.failed r.a) ⊎ HasRisen (D.failed b) (D.failed r.b)) }
         ensures fault { IfErr result (λ r. (r.fault ≡ JournalFault.Damaged) ⊎ (r.fault ≡ JournalFault.Device)) }
     {
@@ -180,6 +183,7 @@ impl<D: Disk> Journal<D> {
         ensures same { self.new ≡ record self.old { current = self.new.current } }
 
         ensures failed { IsErrOf result JournalFault.Failed ↔ (self.old.live ≡ false) }
+        ensures count { OnOk result (D.failed self.new.current ≡ D.failed self.old.current) }
         ensures device { IsErrOf result JournalFault.Device → HasRisen (D.failed self.old.current) (D.failed self.new.current) }
         ensures damaged { IsErrOf result JournalFault.Damaged → D.tells self.old.current → ⊥ }
         ensures full { ¬ IsErrOf result JournalFault.Full }

@@ -71,6 +71,7 @@ pub fn read_entries<D: Disk>(
     ensures entries { IfOk result (λ found. D.tells disk.old → HasEntries (drop 16 (D.seen disk.old)) (payloads found.items)) }
     ensures damaged { IsErrOf result JournalFault.Damaged → D.tells disk.old → HasNoEntries (drop 16 (D.seen disk.old)) }
     ensures quiet { IsQuiet D.tells D.seen D.may_leave D.moment D.left_since disk.old disk.new }
+    ensures count { OnOk result (D.failed disk.new ≡ D.failed disk.old) }
     ensures device { IsErrOf result JournalFault.Device → HasRisen (D.failed disk.old) (D.failed disk.new) }
     ensures fault { IfErr result (λ e. (e ≡ JournalFault.Damaged) ⊎ ((e ≡ JournalFault.Device) ⊎ (e ≡ JournalFault.Memory))) }
 {

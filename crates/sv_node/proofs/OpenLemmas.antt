@@ -1,7 +1,7 @@
 -- What an opening finds, and what a stop leaves of disks that it has handed back.
 use Rattle.std.proofs.Common.{◌≡◌, ◌⊎◌, inl, inr, ⊎_elim, ℕ, ◌≤◌, Bool, true, false, cond, List, sym, ap, ◌∙◌, subst}
 use Rattle.std.proofs.Common.{refl}
-use Rattle.sv_journal.specs.Disk.{Only, LeavesOnly}
+use Rattle.sv_journal.specs.Disk.{Only, LeavesOnly, HasRisen}
 use Rattle.sv_journal.specs.Format.{Opens, OpensAlike}
 use Rattle.sv_journal.specs.Journal.{OpensWithoutLoss}
 use Rattle.sv_journal.proofs.JournalLemmas.{one_opening}
@@ -18,7 +18,7 @@ use Rattle.sv_model.specs.Replay.{blank, replayed, AllFit}
 use Rattle.sv_record.specs.Record.{record_format, spelling, HasSpelling}
 use Rattle.sv_record.proofs.KindLaws.{record_lawful}
 use Rattle.sv_record.proofs.WholeLaws.{one_value}
-use Rattle.sv_node.specs.declared.fault.OpenFault.TheVariants.{Damaged}
+use Rattle.sv_node.specs.declared.fault.OpenFault.TheVariants.{Damaged, Device, Full}
 use Rattle.sv_node.specs.Fault.{open_fault, apply_fault}
 use Rattle.sv_node.specs.Records.{Spell, Replays}
 use Rattle.sv_node.specs.Stops.{Restores}
@@ -35,6 +35,28 @@ was_damaged journal.Memory is = absurd cc
 pub was_bad : (f : ApplyFault) → apply_fault f ≡ Damaged → f ≡ apply.BadRecord
 was_bad apply.BadRecord is = refl
 was_bad apply.Memory is = absurd cc
+
+pub not_device : (f : ApplyFault) → apply_fault f ≡ Device → ⊥
+not_device apply.BadRecord is = cc
+not_device apply.Memory is = cc
+
+pub not_full : (f : ApplyFault) → apply_fault f ≡ Full → ⊥
+not_full apply.BadRecord is = cc
+not_full apply.Memory is = cc
+
+pub was_device : (f : JournalFault) → (f ≡ journal.Damaged) ⊎ (f ≡ journal.Device) → open_fault f ≡ Device → f ≡ journal.Device
+was_device f (inl damaged) is = absurd (let other : open_fault f ≡ Damaged = ap open_fault damaged in cc)
+was_device f (inr device) is = device
+
+pub was_full : (f : JournalFault) → (f ≡ journal.Damaged) ⊎ (f ≡ journal.Device) → open_fault f ≡ Full → ⊥
+was_full f (inl damaged) is = let other : open_fault f ≡ Damaged = ap open_fault damaged in cc
+was_full f (inr device) is = let other : open_fault f ≡ Device = ap open_fault device in cc
+
+-- a call of the current disk has failed
+pub has_risen : {D : Type 0} (failed : D → ℕ) (on_a : Bool) (current other final a b : D) → failed (cond on_a current other) ≡ failed a → failed (cond on_a other current) ≡ failed b
+    → HasRisen (failed current) (failed final) → HasRisen (failed a) (failed (cond on_a final other)) ⊎ HasRisen (failed b) (failed (cond on_a other final))
+has_risen failed true current other final a b of_a of_b risen = inl (subst (λ (n : ℕ). HasRisen n (failed final)) of_a risen)
+has_risen failed false current other final a b of_a of_b risen = inr (subst (λ (n : ℕ). HasRisen n (failed final)) of_b risen)
 
 pub current_tells : {D : Type 0} (tells : D → Type 0) (on_a : Bool) (current other : D) → tells (cond on_a current other) → tells (cond on_a other current) → tells current
 current_tells tells true current other a b = a
@@ -63,18 +85,19 @@ restarted_ranged n r = record { known = r.known; next = r.next; waiting = r.wait
 pub at_state : (P Q : Setting → Durable → Type 0) (s t : Setting) (x y : Durable) → s ≡ t → x ≡ y → (P s x → Q s x) → P t y → Q t y
 at_state P Q s t x y a b f p = subst (λ (z : Setting). Q z y) a (subst (λ (z : Durable). Q s z) b (f (subst (λ (z : Durable). P s z) (sym b) (subst (λ (z : Setting). P z y) (sym a) p))))
 
+-- disk A opens with what it opened with before
+pub alike : (set : Setting) (a b x y : List ℕ) (d : Durable) → Restores set a b d → y ≡ b → OpensAlike a b x → Restores set x y d
+alike set a b x y d r is o =
+    let same : o.0 ≡ r.entries = one_opening a b o.0 r.entries o.1 r.opens in
+    record { entries = r.entries; opens = subst (λ (l : List ℕ). Opens x l r.entries) (sym is) (subst (λ (es : List (List ℕ)). Opens x b es) same o.2); replays = r.replays }
+
 module _ {D : Type 0} (tells : D → Type 0) (seen : D → List ℕ) (may_leave : D → List ℕ → Type 0) (moment : D → ℕ) (left_since : D → ℕ → List ℕ → Type 0)
     (counts_now : (disk : D) (t : ℕ) (c : List ℕ) → tells disk → t ≤ moment disk → may_leave disk c → left_since disk t c)
     (set : Setting) (a b new_a new_b : D) (told_a : tells new_a) (told_b : tells new_b) (d : Durable) (r : Restores set (seen a) (seen b) d) where
-  alike : (x y : List ℕ) → y ≡ seen b → OpensAlike (seen a) (seen b) x → Restores set x y d
-  alike x y is o =
-      let same : o.0 ≡ r.entries = one_opening (seen a) (seen b) o.0 r.entries o.1 r.opens in
-      record { entries = r.entries; opens = subst (λ (l : List ℕ). Opens x l r.entries) (sym is) (subst (λ (es : List (List ℕ)). Opens x (seen b) es) same o.2); replays = r.replays }
-
   pub refused_left : OpensWithoutLoss seen may_leave moment left_since a b new_a new_b → LeavesStart may_leave set a b d new_a new_b
   refused_left w x y left_x left_y =
       let at_x = λ (P : List ℕ → Type 0) (l : LeavesOnly moment left_since a new_a P). l.each x (counts_now new_a (moment a) x told_a l.later left_x) in
       let old_y : may_leave b y = w.of_b.each y (counts_now new_b (moment b) y told_b w.of_b.later left_y) in
       ⊎_elim (λ (only : Only (seen b) (may_leave new_b)).
-      ⊎_elim (λ old_x. inl (old_x, old_y)) (λ o. inr (inl (alike x y (only y left_y) o))) (at_x (λ c. may_leave a c ⊎ OpensAlike (seen a) (seen b) c) w.of_a))
+      ⊎_elim (λ old_x. inl (old_x, old_y)) (λ o. inr (inl (alike set (seen a) (seen b) x y d r (only y left_y) o))) (at_x (λ c. may_leave a c ⊎ OpensAlike (seen a) (seen b) c) w.of_a))
       (λ (still : LeavesOnly moment left_since a new_a (may_leave a)). inl (at_x (may_leave a) still, old_y)) w.apart

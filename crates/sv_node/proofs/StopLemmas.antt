@@ -1,9 +1,9 @@
 -- What stops leave of a journal of records.
-use Rattle.std.proofs.Common.{◌≡◌, ◌⊎◌, inl, inr, ⊎_elim, ℕ, ◌≤◌, Bool, true, false, cond, List, [], ◌∷◌, ◌++◌, refl, sym, ap, subst, arith}
+use Rattle.std.proofs.Common.{◌≡◌, ◌⊎◌, inl, inr, ⊎_elim, ℕ, ◌≤◌, Bool, true, false, cond, List, [], ◌∷◌, ◌++◌, sym, subst, arith}
 use Rattle.std.specs.Prelude.{Some}
-use Rattle.sv_journal.specs.Disk.{Only, LeavesOnly, TellsOn}
-use Rattle.sv_journal.specs.Format.{OpensOn, Opens, OpensEither}
-use Rattle.sv_journal.specs.Journal.{JournalView, Holds, disk_a, disk_b}
+use Rattle.sv_journal.specs.Disk.{Only, LeavesOnly}
+use Rattle.sv_journal.specs.Format.{OpensOn, OpensEither}
+use Rattle.sv_journal.specs.Journal.{JournalView, Holds}
 use Rattle.sv_model.specs.declared.node.Setting.{Setting}
 use Rattle.sv_model.specs.declared.record.Record.{Record}
 use Rattle.sv_model.specs.NodeState.{Durable}
@@ -32,10 +32,10 @@ pick may_leave true x y a b p q = (p, q)
 pick may_leave false x y a b p q = (q, p)
 
 module _ {D : Type 0} (tells : D → Type 0) (seen : D → List ℕ) (may_leave : D → List ℕ → Type 0) (moment : D → ℕ) (left_since : D → ℕ → List ℕ → Type 0) where
-  weaker : (old new : D) (P Q : List ℕ → Type 0) → ((c : List ℕ) → P c → Q c) → LeavesOnly moment left_since old new P → LeavesOnly moment left_since old new Q
+  pub weaker : (old new : D) (P Q : List ℕ → Type 0) → ((c : List ℕ) → P c → Q c) → LeavesOnly moment left_since old new P → LeavesOnly moment left_since old new Q
   weaker old new P Q f l = record { later = l.later; each = λ c left. f c (l.each c left); before = λ t c le left. ⊎_elim (λ past. inl past) (λ here. inr (f c here)) (l.before t c le left) }
 
-  opens_on : (journal : JournalView D) (entries : List (List ℕ)) → Holds seen may_leave journal entries → OpensOn (seen journal.current) (seen journal.other) entries
+  pub opens_on : (journal : JournalView D) (entries : List (List ℕ)) → Holds seen may_leave journal entries → OpensOn (seen journal.current) (seen journal.other) entries
   opens_on journal entries h = record { generation = journal.generation; journal = h.keeps.image; older = h.older }
 
   restores_on : (journal : JournalView D) (set : Setting) (d : Durable) → Stores seen may_leave journal set d → RestoresOn set (seen journal.current) (seen journal.other) d

@@ -1,11 +1,14 @@
 -- What a stop leaves of the disks of a node that was to be opened.
-use Rattle.std.specs.Prelude.{◌⊎◌, ◌+◌, ℕ, List}
+use Rattle.std.specs.Prelude.{◌≡◌, ◌⊎◌, ◌+◌, ℕ, List, Some}
+use Rattle.sv_journal.specs.Disk.{Only, LeavesOnly}
 use Rattle.sv_model.specs.declared.node.Setting.{Setting}
 use Rattle.sv_model.specs.declared.record.Record.{Record}
 use Rattle.sv_model.specs.declared.record.Record.TheVariants.{Boot}
 use Rattle.sv_model.specs.NodeState.{Durable}
 use Rattle.sv_model.specs.Replay.{applied}
-use Rattle.sv_node.specs.Stops.{Restores}
+use Rattle.sv_journal.specs.Journal.{JournalView, disk_a, disk_b}
+use Rattle.sv_node.specs.Node.{IsTooLong}
+use Rattle.sv_node.specs.Stops.{Stores, Restores}
 
 -- the record of one more start
 abbrev pub start_of : Durable → Record
@@ -15,8 +18,35 @@ start_of d = Boot (d.boot + 1)
 abbrev pub restarted : Durable → Durable
 restarted d = applied (start_of d) d
 
+-- the images of the disks A and B give this, or that after one more start
+abbrev pub GivesStart : Setting → Durable → List ℕ → List ℕ → Type 0
+GivesStart set d a b = Restores set a b d ⊎ Restores set a b (restarted d)
+
 -- Whatever a stop now leaves of two disks, a stop could leave before, or it gives what the images gave, or that after one
 -- more start.
 abbrev pub LeavesStart : {D : Type 0} → (D → List ℕ → Type 0) → Setting → D → D → Durable → D → D → Type 0
 LeavesStart may_leave set a b d new_a new_b =
-    (x y : List ℕ) → may_leave new_a x → may_leave new_b y → (may_leave a x × may_leave b y) ⊎ (Restores set x y d ⊎ Restores set x y (restarted d))
+    (x y : List ℕ) → may_leave new_a x → may_leave new_b y → (may_leave a x × may_leave b y) ⊎ GivesStart set d x y
+
+-- What a stop at any moment leaves of two disks one of which alone is written. Of each of them it is what a stop before
+-- could leave, or, of the one that is written, an image that beside the other one, as that reads, gives what it should;
+-- and such an image is left only once the other one is synced, so that a stop leaves nothing else of that.
+pub record WritesOne {D : Type 0} (seen : D → List ℕ) (may_leave : D → List ℕ → Type 0) (moment : D → ℕ) (left_since : D → ℕ → List ℕ → Type 0) (gives : List ℕ → List ℕ → Type 0) (written kept written' kept' : D) : Type 0 where
+  pub of_written : LeavesOnly moment left_since written written' (λ image. may_leave written image ⊎ gives image (seen kept'))
+  pub of_kept : LeavesOnly moment left_since kept kept' (may_leave kept)
+  pub apart : Only (seen kept') (may_leave kept') ⊎ LeavesOnly moment left_since written written' (may_leave written)
+
+-- What a stop at any moment of an opening of the disks A and B leaves: of both of them what a stop before could leave, or
+-- images that give what the disks gave, or that after one more start.
+abbrev pub StartsWithoutLoss : {D : Type 0} → (D → List ℕ) → (D → List ℕ → Type 0) → (D → ℕ) → (D → ℕ → List ℕ → Type 0) → Setting → Durable → D → D → D → D → Type 0
+StartsWithoutLoss seen may_leave moment left_since set d a b a' b' =
+    WritesOne seen may_leave moment left_since (λ image other. GivesStart set d image other) a b a' b'
+    ⊎ WritesOne seen may_leave moment left_since (λ image other. GivesStart set d other image) b a b' a'
+
+-- the disks A and B are those of a journal that stores this and has no room for one more start
+pub record LacksRoom {D : Type 0} (seen : D → List ℕ) (may_leave : D → List ℕ → Type 0) (set : Setting) (d : Durable) (a b : D) : Type 0 where
+  pub journal : JournalView D
+  pub on_a : disk_a journal ≡ a
+  pub on_b : disk_b journal ≡ b
+  pub stores : Stores seen may_leave journal set d
+  pub too_long : IsTooLong journal (Some (start_of d))

@@ -1,5 +1,5 @@
 -- The records that the entries of a journal spell, and what they give.
-use Rattle.std.specs.Prelude.{◌≡◌, ℕ, List, map, Option, Some, None, IfSome}
+use Rattle.std.specs.Prelude.{◌≡◌, ℕ, List, map, Option, IfSome}
 use Rattle.std.specs.List.{AllByRecursion}
 use Rattle.sv_model.specs.declared.node.Setting.{Setting}
 use Rattle.sv_model.specs.declared.node.Stage.{Stage}
@@ -18,6 +18,11 @@ pub record Spell (entries : List (List ℕ)) (records : List Record) : Type 0 wh
 pub record Replays (set : Setting) (entries : List (List ℕ)) (d : Durable) : Type 0 where
   pub records : List Record
   pub spelled : Spell entries records
+  pub fit : AllFit set Blank blank records
+  pub gives : replayed blank records ≡ d
+
+-- records that may stand behind one another from the first on, and give this
+pub record Give (set : Setting) (records : List Record) (d : Durable) : Type 0 where
   pub fit : AllFit set Blank blank records
   pub gives : replayed blank records ≡ d
 

@@ -126,6 +126,7 @@ pub fn read<D: Disk>(alloc: Global, journal: &mut Journal<D>) -> Result<Vec<Reco
     ensures kept { (entries : List (List ℕ)) → D.tells journal.old.current → Holds D.seen D.may_leave journal.old entries → Holds D.seen D.may_leave journal.new entries }
     ensures quiet { IsQuiet D.tells D.seen D.may_leave D.moment D.left_since journal.old.current journal.new.current }
     ensures same { journal.new ≡ record journal.old { current = journal.new.current } }
+    ensures count { OnOk result (D.failed journal.new.current ≡ D.failed journal.old.current) }
     ensures damaged { IfErr result (λ e. e ≡ OpenDamaged → D.tells journal.old.current → (entries : List (List ℕ)) → Holds D.seen D.may_leave journal.old entries
         → (records : List Record) → Spell entries records → ⊥) }
     ensures device { IfErr result (λ e. e ≡ OpenDevice → HasRisen (D.failed journal.old.current) (D.failed journal.new.current)) }

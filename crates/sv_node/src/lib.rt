@@ -7,6 +7,7 @@
 //! what is put out.
 #![tactic(auto)]
 
+mod compaction;
 mod fault;
 mod ledger;
 mod node;

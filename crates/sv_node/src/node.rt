@@ -1,21 +1,22 @@
 //! A running node.
 
-ghost use Rattle.std.specs.Prelude.{◌≡◌, ◌≢◌, IfOk, IfErr};
-ghost use Rattle.sv_journal.specs.Disk.{TellsOn};
+ghost use Rattle.std.specs.Prelude.{◌≡◌, ◌≢◌, ◌⊎◌, IfOk, IfErr};
+ghost use Rattle.sv_journal.specs.Disk.{TellsOn, HasRisen};
 ghost use Rattle.sv_journal.specs.Journal.{disk_a, disk_b};
 ghost use Rattle.sv_model.specs.NodeState.{Durable, last_number};
 ghost use Rattle.sv_model.specs.Ranges.{IsSetting};
-ghost use Rattle.sv_node.specs.Opened.{LeavesStart, restarted};
+ghost use Rattle.sv_node.specs.Opened.{LeavesStart, StartsWithoutLoss, LacksRoom, restarted};
 ghost use Rattle.sv_node.specs.Stops.{Restores};
-ghost use Rattle.sv_node.specs.declared.fault.OpenFault.TheVariants.{Damaged};
+ghost use Rattle.sv_node.specs.declared.fault.OpenFault.TheVariants.{Damaged, Device, Full};
 
+use crate::compaction::replace;
 use crate::fault::{OpenFault, apply_fault, open_fault, step_fault};
 use crate::ledger::{keep, read};
 use crate::not_opened::NotOpened;
 use crate::starting::start;
 use std::alloc::Global;
 use sv_core::Core;
-use sv_journal::{Disk, Journal};
+use sv_journal::{Disk, Journal, JournalFault};
 use sv_model::{Engine, Input, Moment, Output, Setting, Site, StepFault};
 
 /// A node that runs: a core, and the journal in which its records stand.
@@ -27,7 +28,7 @@ pub struct Node<E, D: Disk> {
 }
 
 impl<E: Engine, D: Disk> Node<E, D> {
-    ghost use Rattle.sv_node.specs.Node.{IsNode, IsStarted, durable_of};
+    ghost use Rattle.sv_node.specs.Node.{IsNode, IsStarted, durable_of, journal_of};
 
     /// Opens the disks A and B, replays their records, and makes the start durable: the boot number is one more than the
     /// last. The setting is that of a node of a cluster of 8 nodes at most. On each fault the engine and the disks are
@@ -52,6 +53,13 @@ impl<E: Engine, D: Disk> Node<E, D> {
         ensures damaged { IfErr result (λ r. r.fault ≡ Damaged → D.tells a → D.tells b → (d : Durable) → Restores setting (D.seen a) (D.seen b) d → d.boot ≡ last_number) }
         // What is lost at a fault is at most the start itself.
         ensures left_err { IfErr result (λ r. D.tells a → D.tells b → (d : Durable) → Restores setting (D.seen a) (D.seen b) d → LeavesStart D.may_leave setting a b d r.a r.b) }
+        // A stop at any moment of the call loses nothing.
+        ensures any_moment { IfOk result (λ n. D.tells a → D.tells b → (d : Durable) → Restores setting (D.seen a) (D.seen b) d
+            → StartsWithoutLoss D.seen D.may_leave D.moment D.left_since setting d a b (disk_a (journal_of n)) (disk_b (journal_of n))) }
+        ensures any_moment_err { IfErr result (λ r. D.tells a → D.tells b → (d : Durable) → Restores setting (D.seen a) (D.seen b) d
+            → StartsWithoutLoss D.seen D.may_leave D.moment D.left_since setting d a b r.a r.b) }
+        ensures full { IfErr result (λ r. r.fault ≡ Full → D.tells a → D.tells b → (d : Durable) → Restores setting (D.seen a) (D.seen b) d → LacksRoom D.seen D.may_leave setting d r.a r.b) }
+        ensures device { IfErr result (λ r. r.fault ≡ Device → HasRisen (D.failed a) (D.failed r.a) ⊎ HasRisen (D.failed b) (D.failed r.b)) }
         ensures engine { IfErr result (λ r. r.engine ≡ engine) }
         ensures tells_err { IfErr result (λ r. TellsOn D.tells a r.a × TellsOn D.tells b r.b) }
     {
@@ -84,6 +92,27 @@ impl<E: Engine, D: Disk> Node<E, D> {
             journal,
             alloc,
         })
+    }
+}
+
+impl<E: Engine, D: Disk> Node<E, D> {
+    ghost use Rattle.sv_node.specs.Node.{IsNode};
+    ghost use Rattle.sv_node.specs.Compaction.{IsCompaction};
+
+    /// Writes all that the node keeps durably to the disk that isn't current, which is current from then on. On each fault
+    /// the node is as it was; after Device every call but `journal_len` and `stop` answers Failed from then on.
+    pub fn compact(&mut self) -> Result<(), JournalFault>
+        requires valid { IsNode E.valid D.tells D.seen D.may_leave self.old }
+        ensures valid { IsNode E.valid D.tells D.seen D.may_leave self.new }
+        ensures compaction { IsCompaction E.meaning E.heard D.tells D.seen D.may_leave D.moment D.left_since D.failed self.old result self.new }
+    {
+        if !self.journal.is_live() {
+            return Err(JournalFault::Failed);
+        }
+        let Ok(records) = self.core.snapshot() else {
+            return Err(JournalFault::Memory);
+        };
+        replace(self.alloc, &mut self.journal, &records)
     }
 }
 

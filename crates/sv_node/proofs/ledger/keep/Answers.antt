@@ -1,4 +1,4 @@
-use Rattle.std.proofs.Common.{◌≡◌, ap, sym, subst, Option, Some, List, ℕ}
+use Rattle.std.proofs.Common.{◌≡◌, ap, sym, subst, Option, Some}
 use Rattle.std.specs.Prelude.{OnOk, option_copied}
 use Rattle.sv_journal.specs.Disk.{LeavesOnly}
 use Rattle.sv_model.specs.declared.node.Setting.{Setting}

@@ -1,4 +1,4 @@
-use Rattle.std.proofs.Common.{◌≡◌, inr, ◌∙◌, List, ap, sym, subst}
+use Rattle.std.proofs.Common.{◌≡◌, inr, ◌∙◌, List, Some, ap, sym, subst}
 use Rattle.sv_core.specs.Core.{node_at, durable_at, setting_of as core_setting}
 use Rattle.sv_journal.specs.Disk.{LeavesOnly}
 use Rattle.sv_model.specs.NodeState.{Durable, Node as State}
@@ -8,10 +8,13 @@ use Rattle.sv_model.specs.declared.node.Setting.{Setting}
 use Rattle.sv_model.specs.declared.node.Stage.TheVariants.{Blank}
 use Rattle.sv_model.specs.declared.record.Record.{Record}
 use Rattle.sv_model.specs.Replay.{blank, replayed, AllFit}
-use Rattle.sv_node.specs.Opened.{restarted}
+use Rattle.sv_journal.specs.Journal.{disk_a, disk_b}
+use Rattle.sv_node.specs.Node.{IsTooLong}
+use Rattle.sv_node.specs.Opened.{StartsWithoutLoss, start_of, restarted}
 use Rattle.sv_node.specs.Stops.{Stores, RestoresEither}
-use Rattle.sv_node.specs.declared.fault.OpenFault.TheVariants.{Damaged}
+use Rattle.sv_node.specs.declared.fault.OpenFault.TheVariants.{Damaged, Full}
 use Rattle.sv_node.proofs.OpenLemmas.{was_damaged, was_bad, current_tells, both_tell, fits_too, gives_too, recovered, restarted_ranged, at_state, refused_left}
+use Rattle.sv_node.proofs.OpeningMoments.{refused_moments, started_moments, read_then}
 use Rattle.sv_node.proofs.StopLemmas.{left_behind, reading}
 use Rattle.sv_node.proofs.node.Node.open.Goals as goal
 
@@ -135,3 +138,101 @@ returns-clause-restarted g c = λ ta tb.
     let found = c.in-Ok-recover.ensures.ok in
     let replays = recovered c.args.setting o.0 c.in-Ok-read.records.items c.deref.result.now (durable_at core) (c.in-Ok-read.ensures.spelled o.0 told holds) c.deref.ensures.value found.fit (ap (λ (n : State). n.durable) found.node) in
     (durable_at core, record { entries = o.0; opens = o.1; replays = replays }, c.in_default.ensures.left, ap (λ (n : State). n.durable) c.in_default.ensures.node)
+
+pub returns-in-Err-clause-any_moment_err : goal.returns-in-Err-clause-any_moment_err
+returns-in-Err-clause-any_moment_err g c = λ ta tb d r.
+    let k = g.D.Disk in
+    refused_moments k.tells k.seen k.may_leave k.moment k.left_since g.met.D.Disk.reads_now c.args.setting c.args.a c.args.b d r c.in-Err.refused.a c.in-Err.refused.b (c.in-Err.ensures.tells_err.1.tells_after tb) (c.in-Err.ensures.any_moment_err ta tb)
+
+pub returns-in-Err-read-clause-any_moment_err : goal.returns-in-Err-read-clause-any_moment_err
+returns-in-Err-read-clause-any_moment_err g c = λ ta tb d r.
+    let k = g.D.Disk in
+    let j = c.in-Ok.journal in
+    let t = c.in-Ok.ensures.tells in
+    let told = current_tells k.tells j.on_a j.current j.other (t.0.tells_after ta) (t.1.tells_after tb) in
+    let holds = c.in-Ok.ensures.holds ta tb r.entries r.opens in
+    let same = c.read.ensures.same in
+    subst (λ z. StartsWithoutLoss k.seen k.may_leave k.moment k.left_since c.args.setting d c.args.a c.args.b z.a z.b) (sym c.not_opened.ensures)
+    (started_moments k.tells k.seen k.may_leave k.moment k.left_since g.met.D.Disk.reads_now c.args.setting c.args.a c.args.b d r j c.read.new.journal (t.1.tells_after tb) (ap (λ z. z.other) same) (ap (λ z. z.on_a) same)
+    (c.in-Ok.ensures.any_moment ta tb) (λ e. c.in-Ok.ensures.kept_a e ta) holds.other_durable
+    (reading k.tells k.seen k.may_leave k.moment k.left_since j c.read.new.journal.current c.args.setting r.entries d (restarted d) holds r.replays (c.read.ensures.quiet.left told)))
+
+pub returns-in-Err-recover-clause-any_moment_err : goal.returns-in-Err-recover-clause-any_moment_err
+returns-in-Err-recover-clause-any_moment_err g c = λ ta tb d r.
+    let k = g.D.Disk in
+    let j = c.in-Ok.journal in
+    let t = c.in-Ok.ensures.tells in
+    let told = current_tells k.tells j.on_a j.current j.other (t.0.tells_after ta) (t.1.tells_after tb) in
+    let holds = c.in-Ok.ensures.holds ta tb r.entries r.opens in
+    let same = c.read.ensures.same in
+    subst (λ z. StartsWithoutLoss k.seen k.may_leave k.moment k.left_since c.args.setting d c.args.a c.args.b z.a z.b) (sym c.not_opened-in-Err-recover.ensures)
+    (started_moments k.tells k.seen k.may_leave k.moment k.left_since g.met.D.Disk.reads_now c.args.setting c.args.a c.args.b d r j c.read.new.journal (t.1.tells_after tb) (ap (λ z. z.other) same) (ap (λ z. z.on_a) same)
+    (c.in-Ok.ensures.any_moment ta tb) (λ e. c.in-Ok.ensures.kept_a e ta) holds.other_durable
+    (reading k.tells k.seen k.may_leave k.moment k.left_since j c.read.new.journal.current c.args.setting r.entries d (restarted d) holds r.replays (c.read.ensures.quiet.left told)))
+
+pub returns-in-Err-start-clause-any_moment_err : goal.returns-in-Err-start-clause-any_moment_err
+returns-in-Err-start-clause-any_moment_err g c = λ ta tb d r.
+    let k = g.D.Disk in
+    let j = c.in-Ok.journal in
+    let i = c.read.new.journal in
+    let last = c.start.new.journal in
+    let t = c.in-Ok.ensures.tells in
+    let told = current_tells k.tells j.on_a j.current j.other (t.0.tells_after ta) (t.1.tells_after tb) in
+    let told_then = c.read.ensures.quiet.tells_after told in
+    let holds = c.in-Ok.ensures.holds ta tb r.entries r.opens in
+    let kept = c.read.ensures.kept r.entries told holds in
+    let s = c.in-Ok-read.ensures.spelled r.entries told holds in
+    let core = c.in-Ok-recover.core in
+    let gives = gives_too c.args.setting r.entries c.in-Ok-read.records.items d s r.replays ∙ ap (replayed blank) (sym c.deref.ensures.value) ∙ sym (ap (λ (n : State). n.durable) c.in-Ok-recover.ensures.ok.node) in
+    let same = c.read.ensures.same in
+    let moments = at_state (λ set e. Stores k.seen k.may_leave i set e) (λ set e. LeavesOnly k.moment k.left_since i.current last.current (RestoresEither set (k.seen i.other) e (restarted e)))
+    (core_setting core) c.args.setting (durable_at core) d c.in-Ok-recover.ensures.ok.setting (sym gives) (c.start.ensures.any_moment told_then) (record { entries = r.entries; holds = kept; replays = r.replays }) in
+    subst (λ z. StartsWithoutLoss k.seen k.may_leave k.moment k.left_since c.args.setting d c.args.a c.args.b z.a z.b) (sym c.not_opened-in-Err-start.ensures)
+    (started_moments k.tells k.seen k.may_leave k.moment k.left_since g.met.D.Disk.reads_now c.args.setting c.args.a c.args.b d r j last (t.1.tells_after tb) (c.start.ensures.other ∙ ap (λ z. z.other) same) (c.start.ensures.on_a ∙ ap (λ z. z.on_a) same)
+    (c.in-Ok.ensures.any_moment ta tb) (λ e. c.in-Ok.ensures.kept_a e ta) holds.other_durable
+    (read_then k.moment k.left_since c.args.setting (k.seen j.other) d j.current i.current last.current
+    (reading k.tells k.seen k.may_leave k.moment k.left_since j i.current c.args.setting r.entries d (restarted d) holds r.replays (c.read.ensures.quiet.left told))
+    (subst (λ z. LeavesOnly k.moment k.left_since i.current last.current (RestoresEither c.args.setting (k.seen z) d (restarted d))) (ap (λ z. z.other) same) moments)))
+
+pub returns-in-Err-start-clause-full : goal.returns-in-Err-start-clause-full
+returns-in-Err-start-clause-full g c = λ is ta tb d r.
+    let j = c.in-Ok.journal in
+    let i = c.read.new.journal in
+    let t = c.in-Ok.ensures.tells in
+    let told = current_tells g.D.Disk.tells j.on_a j.current j.other (t.0.tells_after ta) (t.1.tells_after tb) in
+    let holds = c.in-Ok.ensures.holds ta tb r.entries r.opens in
+    let refused = c.not_opened-in-Err-start.ensures in
+    let fault_is : c.in-Err-start.fault ≡ Full = sym (ap (λ x. x.fault) refused) ∙ is in
+    let s = c.in-Ok-read.ensures.spelled r.entries told holds in
+    let gives = gives_too c.args.setting r.entries c.in-Ok-read.records.items d s r.replays ∙ ap (replayed blank) (sym c.deref.ensures.value) ∙ sym (ap (λ (n : State). n.durable) c.in-Ok-recover.ensures.ok.node) in
+    let same = c.in-Err-start.ensures.full_unchanged fault_is in
+    record {
+      journal = i;
+      on_a = sym (ap (λ z. z.a) refused ∙ ap disk_a same);
+      on_b = sym (ap (λ z. z.b) refused ∙ ap disk_b same);
+      stores = record { entries = r.entries; holds = c.read.ensures.kept r.entries told holds; replays = r.replays };
+      too_long = subst (λ (e : Durable). IsTooLong i (Some (start_of e))) (sym gives) (c.in-Err-start.ensures.full fault_is);
+    }
+
+pub returns-clause-any_moment : goal.returns-clause-any_moment
+returns-clause-any_moment g c = λ ta tb d r.
+    let k = g.D.Disk in
+    let j = c.in-Ok.journal in
+    let i = c.read.new.journal in
+    let last = c.start.new.journal in
+    let t = c.in-Ok.ensures.tells in
+    let told = current_tells k.tells j.on_a j.current j.other (t.0.tells_after ta) (t.1.tells_after tb) in
+    let told_then = c.read.ensures.quiet.tells_after told in
+    let holds = c.in-Ok.ensures.holds ta tb r.entries r.opens in
+    let kept = c.read.ensures.kept r.entries told holds in
+    let s = c.in-Ok-read.ensures.spelled r.entries told holds in
+    let core = c.in-Ok-recover.core in
+    let gives = gives_too c.args.setting r.entries c.in-Ok-read.records.items d s r.replays ∙ ap (replayed blank) (sym c.deref.ensures.value) ∙ sym (ap (λ (n : State). n.durable) c.in-Ok-recover.ensures.ok.node) in
+    let same = c.read.ensures.same in
+    let moments = at_state (λ set e. Stores k.seen k.may_leave i set e) (λ set e. LeavesOnly k.moment k.left_since i.current last.current (RestoresEither set (k.seen i.other) e (restarted e)))
+    (core_setting core) c.args.setting (durable_at core) d c.in-Ok-recover.ensures.ok.setting (sym gives) (c.start.ensures.any_moment told_then) (record { entries = r.entries; holds = kept; replays = r.replays }) in
+    started_moments k.tells k.seen k.may_leave k.moment k.left_since g.met.D.Disk.reads_now c.args.setting c.args.a c.args.b d r j last (t.1.tells_after tb) (c.start.ensures.other ∙ ap (λ z. z.other) same) (c.start.ensures.on_a ∙ ap (λ z. z.on_a) same)
+    (c.in-Ok.ensures.any_moment ta tb) (λ e. c.in-Ok.ensures.kept_a e ta) holds.other_durable
+    (read_then k.moment k.left_since c.args.setting (k.seen j.other) d j.current i.current last.current
+    (reading k.tells k.seen k.may_leave k.moment k.left_since j i.current c.args.setting r.entries d (restarted d) holds r.replays (c.read.ensures.quiet.left told))
+    (subst (λ z. LeavesOnly k.moment k.left_since i.current last.current (RestoresEither c.args.setting (k.seen z) d (restarted d))) (ap (λ z. z.other) same) moments))

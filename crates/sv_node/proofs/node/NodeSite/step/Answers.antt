@@ -1,7 +1,6 @@
-use Rattle.std.proofs.Common.{◌≡◌, ◌∙◌, Ok, Err, Option, Result, List, IsTrue, ap, refl, sym, subst}
+use Rattle.std.proofs.Common.{◌≡◌, ◌∙◌, Ok, Err, Option, IsTrue, ap, refl, sym, subst}
 use Rattle.std.specs.Prelude.{option_copied, vec_items, IfSome}
 use Rattle.sv_core.specs.Core as core
-use Rattle.sv_journal.specs.Journal.{JournalView}
 use Rattle.sv_model.specs.Decision.{Decision}
 use Rattle.sv_model.specs.NodeState.{Durable, Node as State}
 use Rattle.sv_model.specs.Ranges.{IsSetting, IsRanged}
@@ -12,7 +11,7 @@ use Rattle.sv_model.specs.declared.record.Record.{Record}
 use Rattle.sv_model.specs.declared.site.StepFault.{StepFault}
 use Rattle.sv_model.specs.declared.site.StepFault.TheVariants.{Memory}
 use Rattle.sv_node.specs.Fault.{step_fault}
-use Rattle.sv_node.specs.Node.{decided_at, setting_of, durable_of, journal_of, IsTooLong}
+use Rattle.sv_node.specs.Node.{decided_at, setting_of, durable_of, IsTooLong}
 use Rattle.sv_node.specs.Records.{CanFollow}
 use Rattle.sv_node.specs.Stops.{Stores}
 use Rattle.sv_node.specs.declared.node.Node.{Node}

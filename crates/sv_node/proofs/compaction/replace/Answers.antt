@@ -1,0 +1,29 @@
+use Rattle.std.proofs.Common.{refl, sym, subst}
+use Rattle.sv_journal.specs.Disk.{LeavesOnly}
+use Rattle.sv_journal.specs.Format.{payloads}
+use Rattle.sv_node.specs.Compaction.{RestoresBeside}
+use Rattle.sv_node.specs.Records.{Spell, Replays}
+use Rattle.sv_node.proofs.CompactionLemmas.{written_turned, written_stayed, replacing, unmoved, by_answer}
+use Rattle.sv_node.proofs.compaction.replace.Goals as goal
+
+pub returns-in_err-found-clause-any_moment : goal.returns-in_err-found-clause-any_moment
+returns-in_err-found-clause-any_moment g c = λ set d told is s.
+    let k = g.D.Disk in
+    let j = c.args.journal.now in
+    subst (λ z. LeavesOnly k.moment k.left_since j.other z (RestoresBeside set (k.seen j.current) d)) (sym (written_stayed j j refl))
+    (unmoved k.tells k.seen k.may_leave k.moment k.left_since g.met.D.Disk.only_now j set d told s)
+
+pub returns-clause-any_moment : goal.returns-clause-any_moment
+returns-clause-any_moment g c = λ set d told is s.
+    let k = g.D.Disk in
+    let j = c.args.journal.now in
+    let last = c.compact.new.self in
+    let e = c.compact.ensures in
+    let after = payloads c.deref.result.now in
+    let spelled = subst (λ vs. Spell (payloads vs) c.args.records.now) (sym c.deref.ensures.value) c.in_ok-found.ensures.spelled in
+    let replays : Replays set after d = record { records = c.args.records.now; spelled = spelled; fit = is.fit; gives = is.gives } in
+    by_answer c.compact.result e.any_moment e.on_a e.any_moment_err e.on_a_err
+    (λ left on_a. subst (λ z. LeavesOnly k.moment k.left_since j.other z (RestoresBeside set (k.seen j.current) d)) (sym (written_turned j last on_a))
+    (replacing k.tells k.seen k.may_leave k.moment k.left_since j last.current set s.entries after d s.replays replays (left s.entries told s.holds)))
+    (λ left on_a. subst (λ z. LeavesOnly k.moment k.left_since j.other z (RestoresBeside set (k.seen j.current) d)) (sym (written_stayed j last on_a))
+    (replacing k.tells k.seen k.may_leave k.moment k.left_since j last.other set s.entries after d s.replays replays (left s.entries told s.holds)))
