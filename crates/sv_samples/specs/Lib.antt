@@ -10,3 +10,4 @@ pub mod Forwarder
 pub mod Faulty
 pub mod Stamp
 pub mod Gate
+pub mod Tally

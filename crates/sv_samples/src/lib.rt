@@ -1,9 +1,9 @@
-//! Sample servlets and filters, each with a meaning that is written down and proved.
+//! Sample servlets, filters and a listener, each with a meaning that is written down and proved.
 //!
-//! Stands on servlets and filters alone. What a sample means is a definition of the file of its name in `specs/`, and each
-//! call is that meaning whatever the object has lived through: each counts its calls in a number that no answer shows.
-//! Nothing here knows contexts, mappings or which names a descriptor gives. The reading of decimal numbers is here for
-//! others too.
+//! Stands on servlets, filters and listeners alone. What a sample means is a definition of the file of its name in
+//! `specs/`, and each call is that meaning whatever the object has lived through: each counts its calls in a number that
+//! no answer shows. Nothing here knows contexts, mappings or which names a descriptor gives. The reading of decimal
+//! numbers is here for others too.
 #![tactic(auto)]
 
 mod count;
@@ -19,6 +19,7 @@ mod parameter;
 mod refusal;
 mod snoop;
 mod stamp;
+mod tally;
 
 pub use count::Count;
 pub use faulty::Faulty;
@@ -30,3 +31,4 @@ pub use login::Login;
 pub use numeral::{read_u8, read_u16, read_u64};
 pub use snoop::Snoop;
 pub use stamp::Stamp;
+pub use tally::Tally;

@@ -1,15 +1,17 @@
-//! Servlets and filters, and what they are lent (Jakarta Servlet 6.0, chapters "The Servlet Interface", "The Request",
-//! "The Response" and "Filtering").
+//! Servlets, filters and listeners, and what they are lent (Jakarta Servlet 6.0, chapters "The Servlet Interface", "The
+//! Request", "The Response", "Filtering" and "Application Lifecycle Events").
 //!
 //! Stands on the session's edit. A servlet or a filter is an object with a meaning that no call changes and a phase that
-//! each call needs; contracts see a [`Call`] and a [`Reply`] as plain values. Nothing here knows paths' mapping,
-//! contexts or connections.
+//! each call needs; a listener has numbers, and what an event makes of them. Contracts see a [`Call`] and a [`Reply`] as
+//! plain values. Nothing here knows paths' mapping, contexts or connections.
 #![tactic(auto)]
 
 mod attributes;
 mod call;
 mod filter;
 mod filter_box;
+mod listener;
+mod listener_box;
 mod reply;
 mod servlet;
 mod servlet_box;
@@ -17,5 +19,6 @@ mod servlet_box;
 pub use attributes::{Entries, RequestAttributes};
 pub use call::Call;
 pub use filter::{Before, Filter};
+pub use listener::Listener;
 pub use reply::{BODY_LIMIT, FIELD_LIMIT, Replied, Reply, ReplyFault};
 pub use servlet::{InitFault, Next, Phase, Servlet};
