@@ -18,3 +18,4 @@ pub mod Records
 pub mod Answered
 pub mod Example
 pub mod FaultLemmas
+pub mod TracedLemmas
