@@ -1,6 +1,6 @@
 //! Bodies, by RFC 9112, sections 6 and 7.1: the fields and the bytes behind the head of a POST.
 
-use crate::told::{Row, joined, told, told_in_two};
+use crate::told::{Row, expect_cuts, expect_pieces};
 use std::process::Abort;
 use std::test::Fail;
 use sv_message::RequestReader;
@@ -194,30 +194,14 @@ const CHUNKED: &str = "POST / HTTP/1.1\r\nHost: h\r\nTransfer-Encoding: CHUNKED\
 
 /// Each row behind a head, cut at each byte, and byte by byte.
 fn expect_rows(rt: &(impl Abort + AllocGlobal), head: &str, rows: &[Row]) -> Result<(), Fail> {
-    for (what, text, want) in rows {
-        let stream = joined(rt.alloc(), head, text)?;
-        let told = told(rt.alloc(), stream.as_bytes(), 1)?;
-        assert_eq!(rt; told.as_str(), *want, "{what}, byte by byte");
-        for cut in 0..=stream.len() {
-            let told = told_in_two(rt.alloc(), stream.as_bytes(), cut)?;
-            assert_eq!(rt; told.as_str(), *want, "{what}, cut at {cut}");
-        }
-    }
-    Ok(())
+    expect_pieces(rt, head, rows, &[1])?;
+    expect_cuts(rt, head, rows)
 }
 
 #[test]
-fn declared(rt: HostRuntime) -> Result<(), Fail> {
-    expect_rows(&rt, HEAD, &DECLARED)
-}
-
-#[test]
-fn codings(rt: HostRuntime) -> Result<(), Fail> {
-    expect_rows(&rt, HEAD, &CODINGS)
-}
-
-#[test]
-fn chunks(rt: HostRuntime) -> Result<(), Fail> {
+fn bodies(rt: HostRuntime) -> Result<(), Fail> {
+    expect_rows(&rt, HEAD, &DECLARED)?;
+    expect_rows(&rt, HEAD, &CODINGS)?;
     expect_rows(&rt, CHUNKED, &CHUNKS)
 }
 

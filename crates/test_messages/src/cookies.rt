@@ -74,48 +74,46 @@ const VALUES: [(&str, &str, &str); 20] = [
     ("letters beyond ASCII", "käg=brämble", "<käg|brämble>"),
 ];
 
-#[test]
-fn pairs_of_a_field(rt: HostRuntime) -> Result<(), Fail> {
-    let alloc = rt.alloc();
-    for (what, value, want) in VALUES {
-        let fields = fields_of(alloc, &[("cookie", value)])?;
-        let found = cookies(alloc, fields.as_slice())?;
-        let text = shown(alloc, found.as_slice())?;
-        assert_eq!(rt; text.as_slice(), want.as_bytes(), "{what}");
-    }
-    Ok(())
+/// What is tried, the fields, and the cookies in them.
+const FIELDS: [(&str, &[(&str, &str)], &str); 4] = [
+    ("no field", &[], ""),
+    (
+        "another field",
+        &[("set-cookie", "a=b"), ("cookie2", "c=d"), ("x", "e=f")],
+        "",
+    ),
+    (
+        "several fields",
+        &[
+            ("cookie", "a=1; b=2"),
+            ("host", "h=3"),
+            ("cookie", "c=4"),
+            ("cookie", "a=5"),
+        ],
+        "<a|1><b|2><c|4><a|5>",
+    ),
+    (
+        "a field's name in another case",
+        &[("Cookie", "a=1"), ("COOKIE", "b=2")],
+        "<a|1><b|2>",
+    ),
+];
+
+/// The cookies of fields of these names and values.
+fn found(alloc: Global, pairs: &[(&str, &str)]) -> Result<Vec<u8>, Fail> {
+    let fields = fields_of(alloc, pairs)?;
+    let found = cookies(alloc, fields.as_slice())?;
+    Ok(shown(alloc, found.as_slice())?)
 }
 
 #[test]
-fn pairs_of_all_fields(rt: HostRuntime) -> Result<(), Fail> {
-    let alloc = rt.alloc();
-    let rows: [(&str, &[(&str, &str)], &str); 4] = [
-        ("no field", &[], ""),
-        (
-            "another field",
-            &[("set-cookie", "a=b"), ("cookie2", "c=d"), ("x", "e=f")],
-            "",
-        ),
-        (
-            "several fields",
-            &[
-                ("cookie", "a=1; b=2"),
-                ("host", "h=3"),
-                ("cookie", "c=4"),
-                ("cookie", "a=5"),
-            ],
-            "<a|1><b|2><c|4><a|5>",
-        ),
-        (
-            "a field's name in another case",
-            &[("Cookie", "a=1"), ("COOKIE", "b=2")],
-            "<a|1><b|2>",
-        ),
-    ];
-    for (what, pairs, want) in rows {
-        let fields = fields_of(alloc, pairs)?;
-        let found = cookies(alloc, fields.as_slice())?;
-        let text = shown(alloc, found.as_slice())?;
+fn pairs(rt: HostRuntime) -> Result<(), Fail> {
+    for (what, value, want) in VALUES {
+        let text = found(rt.alloc(), &[("cookie", value)])?;
+        assert_eq!(rt; text.as_slice(), want.as_bytes(), "{what}");
+    }
+    for (what, pairs, want) in FIELDS {
+        let text = found(rt.alloc(), pairs)?;
         assert_eq!(rt; text.as_slice(), want.as_bytes(), "{what}");
     }
     Ok(())

@@ -1,7 +1,6 @@
 //! Heads, by RFC 9112, sections 2 to 5 and 9.3, and RFC 9110, sections 5, 7.2, 7.6.1 and 10.1.1.
 
-use crate::told::{Row, told};
-use std::process::Abort;
+use crate::told::{Long, Row, expect_long, expect_pieces};
 use std::test::Fail;
 use sv_message::{ReadFault, RequestReader};
 
@@ -192,39 +191,32 @@ const CONNECTIONS: [Row; 6] = [
     ),
 ];
 
-/// Each row in one piece and byte by byte.
-fn expect_rows(rt: &(impl Abort + AllocGlobal), rows: &[Row]) -> Result<(), Fail> {
-    for (what, stream, want) in rows {
-        for size in [8_192, 1] {
-            let told = told(rt.alloc(), stream.as_bytes(), size)?;
-            assert_eq!(rt; told.as_str(), *want, "{what}, in pieces of {size}");
-        }
-    }
-    Ok(())
-}
+/// A byte that no target has is refused once the target has ended.
+const TARGETS: [Long; 2] = [
+    Long {
+        what: "a target that may go on",
+        front: b"GET /\xff",
+        part: b"",
+        count: 0,
+        back: b"",
+        want: "none",
+    },
+    Long {
+        what: "a target that has ended",
+        front: b"GET /\xff ",
+        part: b"",
+        count: 0,
+        back: b"",
+        want: "BadHead",
+    },
+];
 
 #[test]
 fn heads(rt: HostRuntime) -> Result<(), Fail> {
-    expect_rows(&rt, &HEADS)
-}
-
-#[test]
-fn hosts(rt: HostRuntime) -> Result<(), Fail> {
-    expect_rows(&rt, &HOSTS)
-}
-
-#[test]
-fn connections(rt: HostRuntime) -> Result<(), Fail> {
-    expect_rows(&rt, &CONNECTIONS)
-}
-
-#[test]
-fn a_target_is_judged_at_its_end(rt: HostRuntime) -> Result<(), Fail> {
-    let so_far = told(rt.alloc(), b"GET /\xff", 1)?;
-    assert_eq!(rt; so_far.as_str(), "none");
-    let whole = told(rt.alloc(), b"GET /\xff ", 1)?;
-    assert_eq!(rt; whole.as_str(), "BadHead");
-    Ok(())
+    expect_pieces(&rt, "", &HEADS, &[8_192, 1])?;
+    expect_pieces(&rt, "", &HOSTS, &[8_192, 1])?;
+    expect_pieces(&rt, "", &CONNECTIONS, &[8_192, 1])?;
+    expect_long(&rt, &TARGETS)
 }
 
 #[test]

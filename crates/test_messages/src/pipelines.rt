@@ -1,30 +1,20 @@
 //! Many requests in one stream: the same ones come, however it is cut.
 
-use crate::told::{told, told_in_two};
+use crate::told::{Row, expect_cuts, expect_pieces};
 use std::alloc::{AllocError, Global};
 use std::test::Fail;
 use sv_message::RequestReader;
 
+const TWO_REQUESTS: [Row; 1] = [(
+    "two requests",
+    "GET /a HTTP/1.1\r\nHost: h\r\n\r\nHEAD /b HTTP/1.0\r\n\r\n",
+    "GET /a stays <> HEAD /b closes <> none",
+)];
+
 #[test]
 fn two_requests_cut_at_each_byte(rt: HostRuntime) -> Result<(), Fail> {
-    let stream: &[u8] = b"GET /a HTTP/1.1\r\nHost: h\r\n\r\nHEAD /b HTTP/1.0\r\n\r\n";
-    for cut in 0..=stream.len() {
-        let told = told_in_two(rt.alloc(), stream, cut)?;
-        assert_eq!(rt;
-            told.as_str(),
-            "GET /a stays <> HEAD /b closes <> none",
-            "cut at {cut}"
-        );
-    }
-    for size in [1, 2, 3, 5, 7] {
-        let told = told(rt.alloc(), stream, size)?;
-        assert_eq!(rt;
-            told.as_str(),
-            "GET /a stays <> HEAD /b closes <> none",
-            "pieces of {size}"
-        );
-    }
-    Ok(())
+    expect_cuts(&rt, "", &TWO_REQUESTS)?;
+    expect_pieces(&rt, "", &TWO_REQUESTS, &[1, 2, 3, 5, 7])
 }
 
 /// 200 requests with chunked bodies of 1,000 bytes, whose first bytes are the request's number.

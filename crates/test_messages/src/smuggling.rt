@@ -1,8 +1,7 @@
 //! Streams that two receivers could cut in two ways: each is cut in one, or refused (RFC 9112, sections 6.1, 6.3, 7.1
 //! and 11.2). A row's name says why.
 
-use crate::told::{Row, joined, told};
-use std::process::Abort;
+use crate::told::{Row, expect_pieces};
 use std::test::Fail;
 
 /// Behind `POST / HTTP/1.1`, a Host field and its line end.
@@ -201,30 +200,13 @@ const STREAMS: [Row; 5] = [
     ),
 ];
 
-/// Each row behind a front, in one piece, in pieces of 3 bytes and byte by byte.
-fn expect_rows(rt: &(impl Abort + AllocGlobal), front: &str, rows: &[Row]) -> Result<(), Fail> {
-    for (what, text, want) in rows {
-        let stream = joined(rt.alloc(), front, text)?;
-        for size in [8_192, 3, 1] {
-            let told = told(rt.alloc(), stream.as_bytes(), size)?;
-            assert_eq!(rt; told.as_str(), *want, "{what}, in pieces of {size}");
-        }
-    }
-    Ok(())
-}
+const HEAD: &str = "POST / HTTP/1.1\r\nHost: h\r\n";
+
+const CHUNKED: &str = "POST / HTTP/1.1\r\nHost: h\r\nTransfer-Encoding: chunked\r\n\r\n";
 
 #[test]
-fn framings(rt: HostRuntime) -> Result<(), Fail> {
-    expect_rows(&rt, "POST / HTTP/1.1\r\nHost: h\r\n", &FRAMINGS)
-}
-
-#[test]
-fn chunks(rt: HostRuntime) -> Result<(), Fail> {
-    let front = "POST / HTTP/1.1\r\nHost: h\r\nTransfer-Encoding: chunked\r\n\r\n";
-    expect_rows(&rt, front, &CHUNKS)
-}
-
-#[test]
-fn streams(rt: HostRuntime) -> Result<(), Fail> {
-    expect_rows(&rt, "", &STREAMS)
+fn smuggling(rt: HostRuntime) -> Result<(), Fail> {
+    expect_pieces(&rt, HEAD, &FRAMINGS, &[8_192, 3, 1])?;
+    expect_pieces(&rt, CHUNKED, &CHUNKS, &[8_192, 3, 1])?;
+    expect_pieces(&rt, "", &STREAMS, &[8_192, 3, 1])
 }

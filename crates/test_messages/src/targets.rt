@@ -143,17 +143,32 @@ fn paths_within_a_context(rt: HostRuntime) -> Result<(), Fail> {
     Ok(())
 }
 
+/// What is tried, the method, the target, and the fault. Methods are compared with case (RFC 9110, section 9.1).
+const METHODS: [(&str, &str, &str, TargetFault); 5] = [
+    ("CONNECT", "CONNECT", "h:80", TargetFault::Connect),
+    ("CONNECT to a path", "CONNECT", "/x", TargetFault::Connect),
+    (
+        "CONNECT to an asterisk",
+        "CONNECT",
+        "*",
+        TargetFault::Connect,
+    ),
+    (
+        "in another case it is any other method",
+        "connect",
+        "h:80",
+        TargetFault::BadTarget,
+    ),
+    ("an asterisk", "OPTIONS", "*", TargetFault::BadTarget),
+];
+
 #[test]
 fn methods(rt: HostRuntime) -> Result<(), Fail> {
-    for raw in ["h:80", "/x", "*"] {
-        let answer = Target::read(rt.alloc(), &Method::CONNECT, raw);
-        assert_eq!(rt; answer.err(), Some(TargetFault::Connect), "{raw}");
+    for (what, name, raw, fault) in METHODS {
+        let method = Method::from_bytes(rt.alloc(), name.as_bytes())?;
+        let answer = Target::read(rt.alloc(), &method, raw);
+        assert_eq!(rt; answer.err(), Some(fault), "{what}");
     }
-    let lower = Method::from_bytes(rt.alloc(), b"connect")?;
-    let answer = Target::read(rt.alloc(), &lower, "h:80");
-    assert_eq!(rt; answer.err(), Some(TargetFault::BadTarget));
-    let answer = Target::read(rt.alloc(), &Method::OPTIONS, "*");
-    assert_eq!(rt; answer.err(), Some(TargetFault::BadTarget));
     Ok(())
 }
 
