@@ -1,13 +1,4 @@
-pub mod Numeral
-pub mod Refusal
-pub mod Hello
-pub mod Count
-pub mod Context
-pub mod Admission
-pub mod SetCookie
-pub mod Hosted
-pub mod Thin
-pub mod ThinLaws
 pub mod Once
 pub mod Words
 pub mod Fault
+pub mod Objects

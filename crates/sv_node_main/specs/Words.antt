@@ -1,7 +1,7 @@
 -- The words of the command line.
 use Rattle.std.specs.Prelude.{ℕ, List, [], ◌∷◌, codes, Option, Some, None, Result, Ok, Err, if◌then◌else◌}
 use Rattle.std.specs.Str.{bytes_eq}
-use Rattle.sv_node_main.specs.Numeral.{number_in}
+use Rattle.sv_samples.specs.Numeral.{number_in}
 use Rattle.sv_node_main.specs.declared.words.Words.{Words}
 use Rattle.sv_node_main.specs.declared.words.Words.TheVariants.{Once, Node}
 use Rattle.sv_node_main.specs.declared.words.Arguments.{Arguments}

@@ -21,7 +21,7 @@ pub enum OnceFault {
 }
 
 /// The secret of a request by its number: the number in 16 big-endian bytes.
-fn secret_of(number: u64) -> Secret
+pub fn secret_of(number: u64) -> Secret
     ensures { result ≡ secret_of number }
 {
     let mut bytes = [0u8; 16];

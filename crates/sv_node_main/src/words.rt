@@ -1,10 +1,10 @@
 //! The words of the command line.
 
 ghost use Rattle.std.specs.Prelude.{◌≡◌, map, string_bytes};
-ghost use Rattle.sv_node_main.specs.Numeral.{number_in};
+ghost use Rattle.sv_samples.specs.Numeral.{number_in};
 ghost use Rattle.sv_node_main.specs.Words.{command_of, command_in, once_at, node_at};
 
-use crate::numeral::{read_u8, read_u64};
+use sv_samples::{read_u8, read_u64};
 use thiserror::Error;
 
 /// What the program is asked to do.

@@ -1,0 +1,10 @@
+pub mod CookieLemmas
+pub mod LoopLemmas
+pub mod TellLemmas
+pub mod LifeLemmas
+pub mod ArrangeLemmas
+pub mod EngineLemmas
+pub mod AssembleLemmas
+pub mod ShownLemmas
+pub mod ContainerLemmas
+pub mod PrepareLemmas

@@ -1,0 +1,11 @@
+use Rattle.sv_container.proofs.EngineLemmas.{app_within, named_one}
+use Rattle.std.proofs.Common.{◌∙◌}
+use Rattle.sv_container.proofs.engine.ContainerEngine.names.Goals as goal
+
+pub index-requires : goal.index-requires
+index-requires g c = rw c.args.self.now.applications.ok.0 (app_within g.S.Servlet.serves g.S.Servlet.servlet_phase g.F.Filter.filtering g.F.Filter.filter_phase g.L.Listener.hears c.args.self.now _ _ c.in_ok-place.ensures)
+
+pub returns : goal.returns
+returns g c =
+    c.session_cookie.ensures
+    ∙ named_one g.S.Servlet.serves g.S.Servlet.servlet_phase g.F.Filter.filtering g.F.Filter.filter_phase g.L.Listener.hears c.args.self.now _ _ _ _ _ c.in_ok-place.ensures c.as_str.ensures c.index.ensures c.as_slice.ensures

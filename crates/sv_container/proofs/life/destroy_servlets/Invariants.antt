@@ -1,0 +1,12 @@
+use Rattle.std.proofs.Common.{◌≡◌, ℕ, ◌+◌, ◌<◌, ◌≤◌, length, get_or, take}
+use Rattle.sv_dispatch.specs.Rows.{rows}
+use Rattle.sv_container.specs.Life.{ready_count}
+use Rattle.sv_container.proofs.life.destroy_servlets.Given as goal
+
+abbrev pub invariant-loop-at : goal.invariant-loop-at
+invariant-loop-at g l = record {
+  within : l.at ≤ length l.fn.all.items;
+  long : length l.all.items ≡ length l.fn.all.items;
+  rest : (k : ℕ) (d : _) → k < l.at → get_or l.all.items k d ≡ get_or l.fn.all.items k d;
+  counted : l.count + ready_count (take l.at (rows g.S.Servlet.serves g.S.Servlet.servlet_phase l.fn.all.items)) ≡ ready_count (rows g.S.Servlet.serves g.S.Servlet.servlet_phase l.fn.all.items);
+}

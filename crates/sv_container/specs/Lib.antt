@@ -1,0 +1,10 @@
+pub mod Admission
+pub mod SetCookie
+pub mod Pairs
+pub mod Application
+pub mod Life
+pub mod Listening
+pub mod Deployment
+pub mod Outcome
+pub mod Serving
+pub mod Laws

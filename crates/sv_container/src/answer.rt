@@ -1,0 +1,142 @@
+//! What an application answers to a request: the dispatch, and the response that comes of it.
+
+ghost use Rattle.std.specs.Prelude.{◌≡◌, IfOk, true, option_map};
+ghost use Rattle.sv_dispatch.specs.Pages.{ran, served as served_by_table};
+ghost use Rattle.sv_dispatch.specs.Place.{place_of};
+ghost use Rattle.sv_dispatch.specs.Stages.{lent_of};
+ghost use Rattle.sv_container.specs.Application.{IsSoundApp, app_of};
+ghost use Rattle.sv_container.specs.Serving.{answered, answered_by, asked, replied, served_in};
+
+use crate::admission::Admission;
+use crate::application::{Application, idle_edit, idle_reply};
+use crate::outcome::outcome_of;
+use std::alloc::{AllocError, Global};
+use std::mem;
+use sv_dispatch::{Ended, run};
+use sv_mapping::Mappings;
+use sv_model::{Key, Outcome, Request, Response, Secret, is_head, plain_page};
+use sv_servlet::{Call, Filter, Replied, Reply, RequestAttributes, Servlet};
+use sv_session::SessionEdit;
+
+/// The servlet path and the path info of a path within a context; without a servlet, as the default one sees them.
+fn shown<'a>(patterns: &Mappings, path: &'a str) -> (&'a str, Option<&'a str>)
+    ensures servlet_path { result.0.now ≡ (place_of patterns.now path.now).servlet_path }
+    ensures path_info { option_map (λ t. t.now) result.1 ≡ (place_of patterns.now path.now).path_info }
+{
+    match patterns.find(path) {
+        Some(found) => (found.servlet_path(path), found.path_info(path)),
+        None => (path, None),
+    }
+}
+
+/// The reply as the response, or the plain page of its status behind its fields.
+fn replied(
+    alloc: Global,
+    request: &Request,
+    ended: Ended,
+    reply: Reply,
+) -> Result<Response, AllocError>
+    ensures { IfOk result (λ response. response ≡ replied request.now ended reply) }
+{
+    let head_only = is_head(&request.method);
+    let Replied {
+        status,
+        fields,
+        body,
+    } = reply.finish();
+    match ended {
+        Ended::Normal | Ended::ErrorPage(_) => Ok(Response {
+            status,
+            fields,
+            body,
+            head_only,
+            close: request.close,
+        }),
+        Ended::Plain(_) => plain_page(alloc, status, fields, head_only, request.close),
+    }
+}
+
+impl<S: Servlet, F: Filter> Application<S, F> {
+    /// Dispatches a request for a path within the context.
+    fn dispatch(
+        &mut self,
+        alloc: Global,
+        request: &Request,
+        path: &str,
+    ) -> Result<Ended, AllocError>
+        requires sound { IsSoundApp (app_of S.serves S.servlet_phase F.filtering F.filter_phase self.old) }
+        requires serving { self.old.is_in_service ≡ true }
+        ensures same { app_of S.serves S.servlet_phase F.filtering F.filter_phase self.new ≡ app_of S.serves S.servlet_phase F.filtering F.filter_phase self.old }
+        ensures ran { IfOk result (λ ended. ran ended (lent_of self.new.stage) ≡ served_by_table (app_of S.serves S.servlet_phase F.filtering F.filter_phase self.old).table (asked (app_of S.serves S.servlet_phase F.filtering F.filter_phase self.old) request.now path.now) (lent_of self.old.stage)) }
+    {
+        let (servlet_path, path_info) = shown(&self.stage.patterns, path);
+        let attributes = RequestAttributes::new(alloc);
+        let call = Call {
+            method: &request.method,
+            request_uri: request.raw_path.as_str(),
+            context_path: self.path.as_str(),
+            servlet_path,
+            path_info,
+            query: request.query.as_ref().map(|query| query.as_str()),
+            params: request.params.as_slice(),
+            fields: request.fields.as_slice(),
+            body: request.body.as_slice(),
+            attributes: &attributes,
+            resume: 0,
+        };
+        run(alloc, &mut self.stage, call)
+    }
+
+    /// The response to a request, and the edit behind it; edits stand, whatever follows.
+    #[tactic(auto, unfolding(crate::specs::Serving::answered_by))]
+    fn answer(
+        &mut self,
+        alloc: Global,
+        request: &Request,
+        path: &str,
+        edit: SessionEdit,
+    ) -> Result<(Response, SessionEdit), AllocError>
+        requires sound { IsSoundApp (app_of S.serves S.servlet_phase F.filtering F.filter_phase self.old) }
+        requires serving { self.old.is_in_service ≡ true }
+        ensures same { app_of S.serves S.servlet_phase F.filtering F.filter_phase self.new ≡ app_of S.serves S.servlet_phase F.filtering F.filter_phase self.old }
+        ensures answer { IfOk result (λ r. answered r.0 r.1 ≡ answered_by (app_of S.serves S.servlet_phase F.filtering F.filter_phase self.old) request.now path.now edit) }
+    {
+        self.stage.edit = edit;
+        self.stage.reply = Reply::new(alloc);
+        let ended = self.dispatch(alloc, request, path);
+        let edit = mem::replace(&mut self.stage.edit, idle_edit(alloc));
+        let reply = mem::replace(&mut self.stage.reply, idle_reply(alloc));
+        let response = replied(alloc, request, ended?, reply)?;
+        Ok((response, edit))
+    }
+
+    /// Serves a request for a path within the context.
+    #[tactic(auto, unfolding(crate::specs::Serving::served_in))]
+    pub fn serve(
+        &mut self,
+        alloc: Global,
+        request: &Request,
+        path: &str,
+        admission: Admission,
+        now: u64,
+        fresh: (Key, Secret),
+    ) -> Result<Outcome, AllocError>
+        requires sound { IsSoundApp (app_of S.serves S.servlet_phase F.filtering F.filter_phase self.old) }
+        requires serving { self.old.is_in_service ≡ true }
+        ensures same { app_of S.serves S.servlet_phase F.filtering F.filter_phase self.new ≡ app_of S.serves S.servlet_phase F.filtering F.filter_phase self.old }
+        ensures outcome { IfOk result (λ o. o ≡ served_in (app_of S.serves S.servlet_phase F.filtering F.filter_phase self.old) request.now path.now admission now fresh) }
+    {
+        let (expired, held) = admission.into_parts();
+        let edit = SessionEdit::begin(alloc, held, self.number, self.interval, now, fresh);
+        let (response, edit) = self.answer(alloc, request, path, edit)?;
+        outcome_of(
+            alloc,
+            self.number,
+            self.path.as_str(),
+            expired,
+            fresh,
+            response,
+            edit.finish(),
+        )
+    }
+}

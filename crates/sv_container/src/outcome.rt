@@ -1,0 +1,103 @@
+//! What comes of a request: the response with its cookie, what became of sessions, and the events in order.
+
+ghost use Rattle.std.specs.Prelude.{◌≡◌, IfOk, IsTrue};
+ghost use Rattle.sv_container.specs.SetCookie.{is_sendable};
+ghost use Rattle.sv_container.specs.Outcome.{events_for, fate_for, missing_page, outcome_of, served_outside, told};
+
+use crate::set_cookie::with_cookie;
+use http::StatusCode;
+use std::alloc::{AllocError, Global};
+use sv_model::{
+    Birth, Event, Fate, Key, Outcome, Request, Response, Secret, Sequence, Told, is_head,
+    plain_page,
+};
+use sv_session::Edited;
+
+/// The page where no context serves.
+fn missing_page(alloc: Global, request: &Request) -> Result<Response, AllocError>
+    ensures { IfOk result (λ response. response ≡ missing_page request.now) }
+{
+    let head_only = is_head(&request.method);
+    plain_page(
+        alloc,
+        StatusCode::NOT_FOUND,
+        Sequence::new(alloc),
+        head_only,
+        request.close,
+    )
+}
+
+/// What comes of a request for which no context serves.
+pub fn served_outside(alloc: Global, request: &Request) -> Result<Outcome, AllocError>
+    ensures { IfOk result (λ o. o ≡ served_outside request.now) }
+{
+    Ok(Outcome {
+        response: missing_page(alloc, request)?,
+        fate: Fate::Untouched,
+        birth: Birth::Absent,
+        events: Sequence::new(alloc),
+    })
+}
+
+/// An event for the listeners of a context.
+pub fn told(context: u8, event: Event) -> Told
+    ensures { result ≡ told context event }
+{
+    Told { context, event }
+}
+
+/// The events of a request in a context, with those of its edit.
+fn events_for(
+    alloc: Global,
+    context: u8,
+    expired: Option<Key>,
+    edited: Sequence<Told>,
+) -> Result<Sequence<Told>, AllocError>
+    ensures { IfOk result (λ events. events ≡ events_for context expired edited) }
+{
+    let mut events = Vec::new(alloc);
+    if let Some(key) = expired {
+        events.push(told(context, Event::Destroyed(key)))?;
+    }
+    events.push(told(context, Event::RequestIn))?;
+    let mut edited = edited.into_vec();
+    events.append(&mut edited)?;
+    events.push(told(context, Event::RequestOut))?;
+    Ok(Sequence::from_vec(events))
+}
+
+/// What became of the session that was handed in.
+fn fate_for(expired: Option<Key>, fate: Fate) -> Fate
+    ensures { result ≡ fate_for expired fate }
+{
+    match expired {
+        Some(_) => Fate::Ended,
+        None => fate,
+    }
+}
+
+/// What comes of a request in a context.
+pub fn outcome_of(
+    alloc: Global,
+    context: u8,
+    path: &str,
+    expired: Option<Key>,
+    fresh: (Key, Secret),
+    response: Response,
+    edited: Edited,
+) -> Result<Outcome, AllocError>
+    requires { IsTrue (is_sendable path.now) }
+    ensures { IfOk result (λ o. o ≡ outcome_of context path.now expired fresh response edited.fate edited.birth edited.events) }
+{
+    let Edited {
+        fate,
+        birth,
+        events,
+    } = edited;
+    Ok(Outcome {
+        response: with_cookie(alloc, context, path, &birth, fresh, response)?,
+        fate: fate_for(expired, fate),
+        birth,
+        events: events_for(alloc, context, expired, events)?,
+    })
+}

@@ -1,0 +1,139 @@
+//! Applications before their objects are put into them: all that takes memory.
+
+ghost use Rattle.std.specs.Prelude.{◌≡◌, IfOk, All, map, min, string_bytes};
+ghost use Rattle.sv_container.specs.Deployment as spec;
+
+use crate::application::{Application, idle_edit, idle_reply};
+use std::alloc::{AllocError, Global};
+use sv_config::Context;
+use sv_dispatch::{ErrorPage, PageFor, Stage};
+use sv_model::Text;
+
+/// The applications of a deployment, with the context path of each by its number.
+#[derive(Drop)]
+pub struct Prepared<S, F> {
+    pub paths: Vec<String>,
+    pub applications: Vec<Application<S, F>>,
+}
+
+/// What a page is for.
+fn page_for(alloc: Global, choice: &sv_config::PageFor) -> Result<PageFor, AllocError>
+    ensures { IfOk result (λ copy. copy ≡ spec.page_for choice.now) }
+{
+    match choice {
+        sv_config::PageFor::Status(status) => Ok(PageFor::Status(*status)),
+        sv_config::PageFor::Fault(name) => Ok(PageFor::Fault(Text::from_str(
+            alloc,
+            name.as_str(),
+        )?)),
+        sv_config::PageFor::Default => Ok(PageFor::Default),
+    }
+}
+
+#[tactic(auto, unfolding(crate::specs::Deployment::page_of))]
+fn page_of(alloc: Global, page: &sv_config::ErrorPage) -> Result<ErrorPage, AllocError>
+    ensures { IfOk result (λ copy. copy ≡ spec.page_of page.now) }
+{
+    Ok(ErrorPage {
+        page_for: page_for(alloc, &page.choice)?,
+        path: Text::from_str(alloc, page.path.as_str())?,
+    })
+}
+
+/// The error pages of a context.
+fn pages_of(alloc: Global, pages: &[sv_config::ErrorPage]) -> Result<Vec<ErrorPage>, AllocError>
+    ensures { IfOk result (λ copies. copies.items ≡ map spec.page_of pages.now) }
+{
+    let mut copies = Vec::new(alloc);
+    for page in pages {
+        copies.push(page_of(alloc, page)?)?;
+    }
+    Ok(copies)
+}
+
+/// The number of a context as sessions and events have it; a context that has none is never in service.
+fn number_of(place: usize) -> u8
+    ensures { result ≡ min place 255 }
+{
+    place.min(255) as u8
+}
+
+/// An application with room for its objects, which is not in service yet.
+fn prepare_one<S: Drop, F: Drop>(
+    alloc: Global,
+    place: usize,
+    context: Context,
+) -> Result<Application<S, F>, AllocError>
+    ensures frame { IfOk result (λ a. spec.frame_of a ≡ spec.frame_of_context place context) }
+    ensures empty { IfOk result (spec.IsEmpty) }
+{
+    let pages = pages_of(alloc, context.error_pages.as_slice())?;
+    let path = Text::from_str(alloc, context.path.as_str())?;
+    let servlets = Vec::with_capacity(alloc, context.servlets.len())?;
+    let filters = Vec::with_capacity(alloc, context.filters.len())?;
+    let Context {
+        path: _,
+        interval,
+        servlets: _,
+        mappings,
+        filters: _,
+        filter_mappings,
+        listeners: _,
+        error_pages: _,
+    } = context;
+    Ok(Application {
+        number: number_of(place),
+        path,
+        interval,
+        is_in_service: false,
+        stage: Stage {
+            servlets,
+            filters,
+            patterns: mappings,
+            chains: filter_mappings,
+            pages,
+            edit: idle_edit(alloc),
+            reply: idle_reply(alloc),
+        },
+    })
+}
+
+/// A copy of a context path.
+#[tactic(auto, unfolding(crate::specs::Deployment::path_of))]
+fn path_of(alloc: Global, context: &Context) -> Result<String, AllocError>
+    ensures { IfOk result (λ path. string_bytes path ≡ spec.path_of context.now) }
+{
+    String::from_str(alloc, context.path.as_str())
+}
+
+/// The context paths, by the numbers of the contexts.
+fn paths_of(alloc: Global, contexts: &[Context]) -> Result<Vec<String>, AllocError>
+    ensures { IfOk result (λ paths. map string_bytes paths.items ≡ map spec.path_of contexts.now) }
+{
+    let mut paths = Vec::new(alloc);
+    for context in contexts {
+        paths.push(path_of(alloc, context)?)?;
+    }
+    Ok(paths)
+}
+
+/// The applications of contexts, with room for their objects.
+pub fn prepare<S: Drop, F: Drop>(
+    alloc: Global,
+    contexts: Vec<Context>,
+) -> Result<Prepared<S, F>, AllocError>
+    ensures paths { IfOk result (λ p. map string_bytes p.paths.items ≡ map spec.path_of contexts.items) }
+    ensures frames { IfOk result (λ p. map spec.frame_of p.applications.items ≡ spec.frames_from 0 contexts.items) }
+    ensures empty { IfOk result (λ p. All spec.IsEmpty p.applications.items) }
+{
+    let paths = paths_of(alloc, contexts.as_slice())?;
+    let mut applications = Vec::new(alloc);
+    for context in contexts {
+        let place = applications.len();
+        applications.push(prepare_one(alloc, place, context)?)?;
+    }
+    Ok(Prepared {
+        paths,
+        applications,
+    })
+}

@@ -1,9 +1,0 @@
-use Rattle.std.proofs.Common.{Err, ap, arith, rules, subst, sym, ◌∙◌}
-use Rattle.http_header.specs.FieldValue.{IsFieldValue}
-use Rattle.sv_node_main.proofs.CookieLemmas.{cookie_fits}
-use Rattle.sv_node_main.proofs.set_cookie.cookie_field.Goals as goal
-
-pub unreachable-requires : goal.unreachable-requires
-unreachable-requires c =
-    let fits = cookie_fits c.args.named (omega arith) (λ k. search rules) in
-    c.from_bytes.ensures.invalid.0 (c.in-Err-Invalid.is ∙ ap Err c.in-Err-Invalid.field-0-is) (subst IsFieldValue (sym (c.as_slice.ensures.value ∙ c.in_ok-value.ensures)) fits)

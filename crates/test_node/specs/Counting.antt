@@ -1,0 +1,44 @@
+-- What the engine of this crate's tests answers: it counts the requests of a session.
+use Rattle.std.specs.Prelude.{ℕ, ◌+◌, ◌%◌, ◌==◌, ◌&&◌, nat_lt, cond, pos, false, true, Option, Some, None, List, [], ◌∷◌}
+use Rattle.sv_model.specs.declared.key.Key.{Key}
+use Rattle.sv_model.specs.declared.key.Secret.{Secret}
+use Rattle.sv_model.specs.declared.request.Request.{Request}
+use Rattle.sv_model.specs.declared.response.Response.{Response}
+use Rattle.sv_model.specs.declared.session.Session.{Session}
+use Rattle.sv_model.specs.declared.outcome.Outcome.{Outcome}
+use Rattle.sv_model.specs.declared.outcome.Fate.TheVariants.{Untouched, Kept}
+use Rattle.sv_model.specs.declared.outcome.Birth.TheVariants.{Absent, Alive}
+use Rattle.sv_model.specs.Engine.{EngineMeaning}
+use Rattle.sv_model.specs.NodeState.{last_number}
+
+-- a body of two bytes names a home and a serial
+abbrev pub named_by : Secret → List ℕ → Option (Key × Secret)
+named_by secret [] = None
+named_by secret (home ∷ []) = None
+named_by secret (home ∷ serial ∷ []) = cond (nat_lt home 8 && nat_lt 0 serial) (Some (record { home = home; serial = serial }, secret)) None
+named_by secret (home ∷ serial ∷ more ∷ rest) = None
+
+-- a session has its count in the place of the second in which it was made, and expires after 60 seconds
+abbrev pub first_at : ℕ → Key × Secret → Session
+first_at now fresh = record { context = 0; secret = fresh.1; created = 1; last = now; interval = pos 60; fresh = true; attributes = [] }
+
+abbrev pub counted : ℕ → ℕ
+counted count = cond (count == last_number) count (count + 1)
+
+abbrev pub again_at : ℕ → Session → Session
+again_at now s = record s { created = counted s.created; last = now }
+
+-- the last digit of a count
+abbrev pub digit : ℕ → Response
+digit count = record { status = 200; fields = []; body = (count % 10 + 48) ∷ []; head_only = false; close = false }
+
+abbrev pub counts_at : Option (Key × Session) → ℕ → Key × Secret → Outcome
+counts_at None now fresh = record { response = digit 1; fate = Untouched; birth = Alive (first_at now fresh); events = [] }
+counts_at (Some (k, s)) now fresh = record { response = digit (counted s.created); fate = Kept (again_at now s); birth = Absent; events = [] }
+
+-- a request that closes its connection touches nothing, and is answered 0
+abbrev pub count : Request → Option (Key × Session) → ℕ → Key × Secret → Outcome
+count r held now fresh = cond r.close (record { response = digit 0; fate = Untouched; birth = Absent; events = [] }) (counts_at held now fresh)
+
+abbrev pub counts : Secret → EngineMeaning
+counts secret = record { names = λ r. named_by secret r.body; serve = count; hear = λ heard told. heard }
