@@ -1,28 +1,12 @@
 //! Cores of three nodes, the records that each has kept, and all packets in order of sending.
 
-use crate::counter::Counter;
+use crate::member::{Member, NOW};
 use crate::step::{KeyName, Step};
+use crate::texts::{numbered, output_text, packet_text, state_text};
 use http::Method;
 use std::alloc::{AllocError, Global};
 use std::test::Fail;
-use sv_core::{Core, Decision};
-use sv_model::{
-    Input, Key, KeyState, Moment, Output, Packet, Record, Request, Response, Secret, Sequence,
-    Setting, Text,
-};
-
-/// The secret of each session.
-pub const SECRET: Secret = Secret([1; 16]);
-
-/// The second in which all but ticks happen.
-pub const NOW: u64 = 1000;
-
-/// One node, and the records that it has kept.
-#[derive(Drop)]
-struct Member {
-    core: Core<Counter>,
-    records: Vec<Record>,
-}
+use sv_model::{Input, Key, Output, Packet, Request, Sequence, Text};
 
 /// All nodes, and all packets in order of sending.
 #[derive(Drop)]
@@ -31,15 +15,6 @@ pub struct Cluster {
     members: Vec<Member>,
     packets: Vec<Packet>,
     token: u64,
-}
-
-/// One of three nodes, at which requests wait for 30 seconds.
-pub fn setting(node: u8) -> Setting {
-    Setting {
-        node,
-        nodes: 3,
-        deadline: 30,
-    }
 }
 
 pub fn key((home, serial): KeyName) -> Key {
@@ -66,18 +41,6 @@ pub fn request(alloc: Global, body: &[u8], close: bool) -> Result<Request, Alloc
     })
 }
 
-/// A core of these records.
-pub fn recovered(alloc: Global, node: u8, records: &[Record]) -> Result<Core<Counter>, Fail> {
-    let engine = Counter {
-        alloc,
-        secret: SECRET,
-    };
-    match Core::recover(alloc, engine, setting(node), records) {
-        Ok(core) => Ok(core),
-        Err(_) => Err("the records don't fit".into()),
-    }
-}
-
 /// The node that a packet is for.
 fn addressee(packet: &Packet) -> u8 {
     match packet {
@@ -85,133 +48,6 @@ fn addressee(packet: &Packet) -> u8 {
         Packet::Grant { to, .. } => *to,
         Packet::Ack { to, .. } => *to,
         Packet::No { to, .. } => *to,
-    }
-}
-
-/// A packet's kind, sender and addressee, and the epoch of a Grant or an Ack.
-fn packet_text(alloc: Global, packet: &Packet) -> Result<String, AllocError> {
-    match packet {
-        Packet::Want { from, to, .. } => format!(in alloc; "Want {from} to {to}"),
-        Packet::Grant {
-            from,
-            to,
-            epoch,
-            ..
-        } => format!(in alloc; "Grant {from} to {to} epoch {epoch}"),
-        Packet::Ack {
-            from,
-            to,
-            epoch,
-            ..
-        } => format!(in alloc; "Ack {from} to {to} epoch {epoch}"),
-        Packet::No { from, to, .. } => format!(in alloc; "No {from} to {to}"),
-    }
-}
-
-/// The one byte of a counter's answer.
-fn digit(response: &Response) -> char {
-    match response.body.as_slice() {
-        [digit] => *digit as char,
-        _ => '?',
-    }
-}
-
-/// The text of a packet behind its number.
-fn numbered(alloc: Global, number: usize, text: &str) -> Result<String, AllocError> {
-    let mut line = format!(in alloc; "p{number} ")?;
-    line.push_str(text)?;
-    Ok(line)
-}
-
-/// One output, as a text.
-pub fn output_text(alloc: Global, output: &Output) -> Result<String, AllocError> {
-    match output {
-        Output::Answer { response, .. } => format!(in alloc; "answer {}", digit(response)),
-        Output::Refuse { cause, .. } => format!(in alloc; "refuse {cause:?}"),
-        Output::Moved => format!(in alloc; "moved"),
-        Output::MoveRefused(why) => format!(in alloc; "refused {why:?}"),
-        Output::Send(packet) => packet_text(alloc, packet),
-    }
-}
-
-/// What is known of a key.
-pub fn state_text(alloc: Global, state: Option<&KeyState>) -> Result<String, AllocError> {
-    match state {
-        None => format!(in alloc; "Nothing"),
-        Some(KeyState::Active { epoch, session }) => {
-            format!(in alloc; "Active {epoch} count {}", session.created)
-        }
-        Some(KeyState::Sent { epoch, to, session }) => {
-            format!(in alloc; "Sent {epoch} to {to} count {}", session.created)
-        }
-        Some(KeyState::Gone { epoch }) => format!(in alloc; "Gone {epoch}"),
-        Some(KeyState::Ended { epoch }) => format!(in alloc; "Ended {epoch}"),
-    }
-}
-
-/// A decision's record is kept.
-fn keep(records: &mut Vec<Record>, alloc: Global, decision: &Decision) -> Result<(), AllocError> {
-    if let Some(entry) = decision.entry() {
-        records.push(entry.copy(alloc)?)?;
-    }
-    Ok(())
-}
-
-impl Member {
-    /// A node in its first start.
-    fn new(alloc: Global, node: u8) -> Result<Member, Fail> {
-        let mut member = Member {
-            core: recovered(alloc, node, &[])?,
-            records: Vec::new(alloc),
-        };
-        member.start(alloc)?;
-        Ok(member)
-    }
-
-    /// It starts once more.
-    fn start(&mut self, alloc: Global) -> Result<(), Fail> {
-        let Some(decision) = self.core.decide_start()? else {
-            return Err("no boot is left".into());
-        };
-        keep(&mut self.records, alloc, &decision)?;
-        self.core.accept(decision);
-        Ok(())
-    }
-
-    /// It is made anew from its records, and starts.
-    fn restart(&mut self, alloc: Global, node: u8) -> Result<(), Fail> {
-        self.core = recovered(alloc, node, &self.records)?;
-        self.start(alloc)
-    }
-
-    /// Its records make place for a snapshot, and it starts anew.
-    fn compact(&mut self, alloc: Global, node: u8) -> Result<(), Fail> {
-        self.records = self.core.snapshot()?;
-        self.restart(alloc, node)
-    }
-
-    /// A whole step.
-    fn step(&mut self, alloc: Global, now: u64, input: Input) -> Result<Vec<Output>, Fail> {
-        let moment = Moment {
-            now,
-            secret: SECRET,
-        };
-        let decision = self.core.decide(moment, input)?;
-        keep(&mut self.records, alloc, &decision)?;
-        Ok(self.core.accept(decision))
-    }
-
-    /// A step in which the node stops: its record is there or not, and nothing is told or put out.
-    fn torn(&mut self, alloc: Global, node: u8, input: Input, kept: bool) -> Result<(), Fail> {
-        let moment = Moment {
-            now: NOW,
-            secret: SECRET,
-        };
-        let decision = self.core.decide(moment, input)?;
-        if kept {
-            keep(&mut self.records, alloc, &decision)?;
-        }
-        self.restart(alloc, node)
     }
 }
 

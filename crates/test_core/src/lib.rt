@@ -11,6 +11,10 @@ mod counter;
 #[cfg(test)]
 mod limits;
 #[cfg(test)]
+mod member;
+#[cfg(test)]
 mod rows;
 #[cfg(test)]
 mod step;
+#[cfg(test)]
+mod texts;

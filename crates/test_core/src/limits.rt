@@ -1,7 +1,9 @@
 //! Numbers at their ends: keys, serials and epochs; and records that don't fit.
 
-use crate::cluster::{NOW, SECRET, output_text, recovered, request, setting, state_text};
+use crate::cluster::request;
 use crate::counter::Counter;
+use crate::member::{NOW, SECRET, recovered, setting};
+use crate::texts::{output_text, state_text};
 use std::alloc::Global;
 use std::process::Abort;
 use std::test::Fail;

@@ -1,6 +1,7 @@
 //! Sessions that go from node to node, requests that wait, stops and snapshots: step by step, with what each step puts out.
 
-use crate::cluster::{Cluster, NOW};
+use crate::cluster::Cluster;
+use crate::member::NOW;
 use crate::step::{KeyName, Step};
 use std::process::Abort;
 use std::test::Fail;
