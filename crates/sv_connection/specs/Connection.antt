@@ -12,11 +12,20 @@ is_single c = c.single
 abbrev pub is_closed : Connection → Bool
 is_closed c = c.closed
 
--- it holds no bytes and is open
+-- its request is still to be answered
+abbrev pub is_waiting : Connection → Bool
+is_waiting c = c.waiting
+
+-- the bytes that were read and not yet served
+abbrev pub held_by : Connection → List ℕ
+held_by c = c.requests.rest
+
+-- it holds no bytes, is open, and waits for nothing
 pub record IsFresh (c : Connection) (single : Bool) : Type 0 where
   pub empty : c.requests.rest ≡ []
   pub single_is : is_single c ≡ single
   pub not_closed : is_closed c ≡ false
+  pub not_waiting : is_waiting c ≡ false
 
 -- what a call sees of a connection, of what its reader has left, of what its writer holds, and of a site
 abbrev pub sight_of : {S : Type 0} → Connection → Option (List ℕ) → Option (List ℕ) → S → Sight S

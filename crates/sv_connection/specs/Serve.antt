@@ -52,17 +52,17 @@ sight unread written site closed = record { unread = unread; written = written; 
 -- what follows from a step's answer
 pub data Verdict : Type 0 where
   Says : (response : Response) → Verdict
-  Parks : Verdict
+  Parks : (head_only : Bool) → Verdict
   Fails : Verdict
 
 -- by the first output that speaks to the token
 abbrev pub said_by : Bool → Bool → Option Output → Verdict
-said_by head_only close None = Parks
+said_by head_only close None = Parks head_only
 said_by head_only close (Some (Answer token response)) = Says response
 said_by head_only close (Some (Refuse token cause)) = Says (refusal cause head_only close)
-said_by head_only close (Some (Send packet)) = Parks
-said_by head_only close (Some Moved) = Parks
-said_by head_only close (Some (MoveRefused why)) = Parks
+said_by head_only close (Some (Send packet)) = Parks head_only
+said_by head_only close (Some Moved) = Parks head_only
+said_by head_only close (Some (MoveRefused why)) = Parks head_only
 
 abbrev pub verdict : ℕ → Bool → Bool → Result (List Output) StepFault → Verdict
 verdict token head_only close (Ok outputs) = said_by head_only close (find (speaks_to token) outputs)
@@ -97,8 +97,23 @@ IsSaid response now done wo wn closed outcome =
 -- what is written, by a verdict
 abbrev pub Follows : Verdict → ℕ → Option (List ℕ) → Option (List ℕ) → Bool → Outcome → Type 0
 Follows (Says response) now wo wn closed outcome = IsSaid response now Answered wo wn closed outcome
-Follows Parks now wo wn closed outcome = (outcome ≡ Parked) × (wn ≡ wo) × (closed ≡ false)
+Follows (Parks head_only) now wo wn closed outcome = (outcome ≡ Parked head_only) × (wn ≡ wo) × (closed ≡ false)
 Follows Fails now wo wn closed outcome = (outcome ≡ SiteFailed) × (wn ≡ wo) × (closed ≡ true)
+
+-- the response to a request that waited was written, or there was no memory for it; a connection that was closed stays so
+abbrev pub IsLateAnswer : Response → ℕ → Bool → Option (List ℕ) → Option (List ℕ) → Bool → Outcome → Type 0
+IsLateAnswer response now was_closed wo wn closed outcome =
+    (closes : Bool) × IsSaid response now Answered wo wn closes outcome × (closed ≡ (was_closed || closes))
+
+-- the site will answer later
+abbrev pub is_parked : Outcome → Bool
+is_parked Answered = false
+is_parked (Parked head_only) = true
+is_parked Closed = false
+is_parked (Refused fault) = false
+is_parked ReadFailed = false
+is_parked WriteFailed = false
+is_parked SiteFailed = false
 
 -- the status of a fault's page (RFC 9110, section 15; RFC 6585, section 5)
 abbrev pub status_of_read : ReadFault → Option ℕ

@@ -1,6 +1,6 @@
 //! Says what a step of the site leads to.
 
-ghost use Rattle.std.specs.Prelude.{◌≡◌, ℕ, Err, Some, find, vec_items};
+ghost use Rattle.std.specs.Prelude.{◌≡◌, ℕ, false, Err, Some, find, vec_items};
 ghost use Rattle.sv_model.specs.Site.{with_list};
 ghost use Rattle.std.specs.Io.KnownBytes.{Appends};
 ghost use Rattle.sv_connection.specs.Manner.{manner_of};
@@ -8,6 +8,7 @@ ghost use Rattle.sv_connection.specs.Reply.{refusal, speaks_to};
 ghost use Rattle.sv_target.specs.Cookies.{cookies_of};
 ghost use Rattle.sv_connection.specs.Serve.{Follows, said_by, verdict, outputs_of, IsSaid};
 ghost use Rattle.sv_connection.specs.Request.{params_in, request_of};
+ghost use Rattle.sv_connection.specs.declared.outcome.Outcome.TheVariants.{Parked};
 
 use crate::outcome::Outcome;
 use crate::reply::{refusal, reply_to};
@@ -65,10 +66,17 @@ pub fn request_of(raw: RawRequest, read: ReadRequest, single: bool) -> Request
 }
 
 /// The site will answer later.
-const PARKED: Said = Said {
-    outcome: Outcome::Parked,
-    closed: false,
-};
+fn parked(manner: Manner) -> Said
+    ensures outcome { result.outcome ≡ Parked manner.head_only }
+    ensures closed { result.closed ≡ false }
+{
+    Said {
+        outcome: Outcome::Parked {
+            head_only: manner.head_only,
+        },
+        closed: false,
+    }
+}
 
 /// Sends the response for a cause.
 fn say_refusal<W: Write>(
@@ -113,7 +121,7 @@ fn say_output<W: Write>(
             Outcome::Answered,
         ),
         Output::Refuse { token: _, cause } => say_refusal(alloc, buffer, writer, *cause, manner),
-        Output::Send(_) | Output::Moved | Output::MoveRefused(_) => PARKED,
+        Output::Send(_) | Output::Moved | Output::MoveRefused(_) => parked(manner),
     }
 }
 
@@ -130,7 +138,7 @@ fn say_outputs<W: Write>(
 {
     match reply_to(token, outputs) {
         Some(output) => say_output(alloc, buffer, writer, output, manner),
-        None => PARKED,
+        None => parked(manner),
     }
 }
 

@@ -6,12 +6,12 @@ use crate::answer::{manner_of, outputs_of, request_of, say_step};
 use crate::arrive::{Arrived, arrive};
 use crate::outcome::{Outcome, Served};
 use crate::request::{ReadRequest, read_request};
-use crate::speak::{say_read_fault, say_target_fault};
+use crate::speak::{say, say_read_fault, say_target_fault};
 use std::alloc::Global;
 use std::io::{Read, Write};
 use sv_message::reader::RequestReader;
 use sv_message::request::RawRequest;
-use sv_model::{Input, Moment, Site, is_head};
+use sv_model::{Input, Moment, Response, Site, is_head};
 
 /// One connection of a client (RFC 9112, section 9), with the bytes that were read and not yet served.
 #[derive(Drop)]
@@ -21,6 +21,8 @@ pub struct Connection {
     buffer: Vec<u8>,
     single: bool,
     closed: bool,
+    /// Its request was parked, and is not yet answered.
+    waiting: bool,
     alloc: Global,
     ghost shut: { requests.closed ≡ true → closed ≡ true },
 }
@@ -40,8 +42,8 @@ impl Connection {
     ghost use Rattle.std.specs.Prelude.{◌≡◌, true, false, []};
     ghost use Rattle.sv_target.specs.Cookies.{cookies_of};
     ghost use Rattle.sv_connection.specs.Request.{params_in};
-    ghost use Rattle.sv_connection.specs.Serve.{how, IsAnswered, IsDirected, IsServed};
-    ghost use Rattle.sv_connection.specs.Connection.{IsFresh, is_closed, is_single, sight_of};
+    ghost use Rattle.sv_connection.specs.Serve.{how, is_parked, IsAnswered, IsDirected, IsLateAnswer, IsServed};
+    ghost use Rattle.sv_connection.specs.Connection.{IsFresh, held_by, is_closed, is_single, is_waiting, sight_of};
     ghost use Rattle.sv_connection.specs.declared.outcome.Outcome.TheVariants.{Closed};
 
     /// A connection that has read nothing; `single` has it close behind its first answer.
@@ -53,6 +55,7 @@ impl Connection {
             buffer: Vec::new(alloc),
             single,
             closed: false,
+            waiting: false,
             alloc,
         }
     }
@@ -88,11 +91,64 @@ impl Connection {
     }
 
     /// Reads one request, steps the site by it as an Ask with the token, and writes what the step says to the
-    /// token.
+    /// token. Not called while an earlier request waits.
     ///
     /// A fault of the message, or of the method and the target, is answered with its plain page and not handed
     /// on. Where the site's step is refused for want of room or memory, the answer is a 503 with the cause.
     pub fn serve_next<R: Read, W: Write, S: Site>(
+        &mut self,
+        reader: &mut R,
+        writer: &mut W,
+        site: &mut S,
+        moment: Moment,
+        token: u64,
+    ) -> Served
+        requires valid { S.site_valid site.old }
+        requires answered { is_waiting self.old ≡ false }
+        ensures valid { S.site_valid site.new }
+        ensures single { is_single self.new ≡ is_single self.old }
+        ensures waiting { is_waiting self.new ≡ is_parked result.outcome }
+        ensures once_closed { is_closed self.old ≡ true → (result.outcome ≡ Closed) × (R.remaining reader.new ≡ R.remaining reader.old) }
+        ensures served { IsServed S.steps (how moment token (is_single self.old)) (sight_of self.old (R.remaining reader.old) (W.contents writer.old) site.old) (sight_of self.new (R.remaining reader.new) (W.contents writer.new) site.new) result }
+    {
+        let served = self.serve(reader, writer, site, moment, token);
+        self.waiting = served.outcome.is_parked();
+        served
+    }
+
+    /// Its request was parked, and is not yet answered.
+    pub fn waiting(&self) -> bool
+        ensures { result ≡ is_waiting self.now }
+    {
+        self.waiting
+    }
+
+    /// Writes the response to a request that was parked; `now` is in whole seconds since 1970.
+    ///
+    /// Where memory is refused in making its text, the lines that say so are written in its place, and the outcome is
+    /// `Refused` with `Memory`. The connection closes where the response says so, and behind every outcome but
+    /// `Answered`.
+    pub fn answer<W: Write>(&mut self, writer: &mut W, response: &Response, now: u64) -> Outcome
+        ensures single { is_single self.new ≡ is_single self.old }
+        ensures waiting { is_waiting self.new ≡ false }
+        ensures held { held_by self.new ≡ held_by self.old }
+        ensures answered { IsLateAnswer response.now now (is_closed self.old) (W.contents writer.old) (W.contents writer.new) (is_closed self.new) result }
+    {
+        let said = say(
+            self.alloc,
+            &mut self.buffer,
+            writer,
+            response,
+            now,
+            Outcome::Answered,
+        );
+        self.closed = self.closed || said.closed;
+        self.waiting = false;
+        said.outcome
+    }
+
+    /// One call of `serve_next`, but for what waits behind it.
+    fn serve<R: Read, W: Write, S: Site>(
         &mut self,
         reader: &mut R,
         writer: &mut W,

@@ -1,5 +1,8 @@
 //! How a call of a connection ends.
 
+ghost use Rattle.std.specs.Prelude.{◌≡◌};
+ghost use Rattle.sv_connection.specs.Serve.{is_parked};
+
 use sv_message::fault::ReadFault;
 use sv_model::Output;
 use sv_target::TargetFault;
@@ -18,8 +21,8 @@ pub enum RequestFault {
 pub enum Outcome {
     /// An answer was written, or a refusal with status 503; the connection closes where that says so.
     Answered,
-    /// The site will answer later; nothing was written.
-    Parked,
+    /// The site will answer later; nothing was written. `head_only` where that answer is to leave out its body.
+    Parked { head_only: bool },
     /// The input has ended with no whole message, or the connection was closed before.
     Closed,
     /// The plain page of the fault was written, or the lines that say that memory was refused.
@@ -30,6 +33,15 @@ pub enum Outcome {
     WriteFailed,
     /// The site has failed; nothing was written.
     Failed,
+}
+
+impl Outcome {
+    /// The site will answer later.
+    pub fn is_parked(self) -> bool
+        ensures { result ≡ is_parked self }
+    {
+        matches!(self, Outcome::Parked { .. })
+    }
 }
 
 /// What a call of a connection did.

@@ -2,19 +2,22 @@
 
 mod alone;
 mod echo;
+mod engines;
+mod parked;
 mod rows;
 mod streams;
 
 use echo::Echo;
 use http::StatusCode;
 use rows::{ANSWERS, REFUSALS, Row};
+use std::alloc::Global;
 use std::io::{Read, Write};
 use std::process::Abort;
 use std::test::Fail;
 use streams::{GULP, new_sink, slow_reader};
 use sv_connection::{Connection, Outcome, RequestFault, Served, refusal};
 use sv_message::fault::ReadFault;
-use sv_model::{Cause, Moment, Secret};
+use sv_model::{Cause, Moment, Response, Secret, Sequence};
 
 /// Sun, 06 Nov 1994 08:49:37 GMT.
 const AT: Moment = Moment {
@@ -22,7 +25,19 @@ const AT: Moment = Moment {
     secret: Secret([7; 16]),
 };
 
-/// One call, with no clause, so that the proof of a test carries none of the connection's facts.
+/// A response with status 200 and no body.
+fn late_answer(alloc: Global) -> Response {
+    Response {
+        status: StatusCode::OK,
+        fields: Sequence::new(alloc),
+        body: Sequence::new(alloc),
+        head_only: false,
+        close: false,
+    }
+}
+
+/// One call, behind the answer to a request that waits; with no clause, so that the proof of a test carries none of the
+/// connection's facts.
 fn serve<R: Read, W: Write>(
     connection: &mut Connection,
     reader: &mut R,
@@ -30,6 +45,9 @@ fn serve<R: Read, W: Write>(
     site: &mut Echo,
     token: u64,
 ) -> Served {
+    if connection.waiting() {
+        let _ = connection.answer(writer, &late_answer(site.alloc), AT.now);
+    }
     connection.serve_next(reader, writer, site, AT, token)
 }
 

@@ -9,7 +9,7 @@ use sv_model::{Cause, Input, Moment, Output, Request, Response, Sequence, Site, 
 /// Answers with the path, but at some paths in another way, and keeps what it was asked last.
 #[derive(Drop)]
 pub(super) struct Echo {
-    alloc: Global,
+    pub(super) alloc: Global,
     pub(super) steps: u64,
     pub(super) token: u64,
     pub(super) now: u64,

@@ -22,6 +22,8 @@ const ANSWERED: (Outcome, usize) = (Outcome::Answered, 1);
 
 const REFUSED: (Outcome, usize) = (Outcome::Answered, 0);
 
+const PARKED: (Outcome, usize) = (Outcome::Parked { head_only: false }, 1);
+
 const CLOSED: (Outcome, usize) = (Outcome::Closed, 0);
 
 const FAILED: (Outcome, usize) = (Outcome::Failed, 0);
@@ -148,12 +150,12 @@ pub(super) const ANSWERS: [Row; 19] = [
         written: "",
     },
     Row {
-        name: "nothing speaks to the token, and the connection stays open",
+        name: "nothing speaks to the token, and the connection goes on behind a late answer",
         single: true,
         sent: "GET /park HTTP/1.1\r\nHost: h\r\n\r\nGET /a HTTP/1.1\r\nHost: h\r\n\r\n",
-        calls: [(Outcome::Parked, 1), ANSWERED, CLOSED],
+        calls: [PARKED, ANSWERED, CLOSED],
         steps: 2,
-        written: "HTTP/1.1 200 OK\r\nDate: Sun, 06 Nov 1994 08:49:37 GMT\r\nContent-Length: 2\r\nConnection: close\r\n\r\n/a",
+        written: "HTTP/1.1 200 OK\r\nDate: Sun, 06 Nov 1994 08:49:37 GMT\r\nContent-Length: 0\r\n\r\nHTTP/1.1 200 OK\r\nDate: Sun, 06 Nov 1994 08:49:37 GMT\r\nContent-Length: 2\r\nConnection: close\r\n\r\n/a",
     },
     Row {
         name: "outputs to another token, and a second one to its own",

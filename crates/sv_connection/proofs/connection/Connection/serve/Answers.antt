@@ -2,7 +2,7 @@ use Rattle.std.proofs.Common.{refl, inl}
 use Rattle.std.specs.Io.KnownBytes.{prepend_known}
 use Rattle.sv_connection.specs.Serve.{Faulty}
 use Rattle.sv_connection.proofs.ServeLemmas.{page_shut, stands}
-use Rattle.sv_connection.proofs.connection.Connection.serve_next.Goals as goal
+use Rattle.sv_connection.proofs.connection.Connection.serve.Goals as goal
 
 pub returns-in-Fault-clause-served : goal.returns-in-Fault-clause-served
 returns-in-Fault-clause-served g c =

@@ -4,7 +4,7 @@ use Rattle.sv_model.specs.Engine.{EngineMeaning}
 use Rattle.sv_model.specs.declared.outcome.Fate.TheVariants.{Untouched}
 use Rattle.sv_model.specs.declared.outcome.Birth.TheVariants.{Absent}
 use Rattle.sv_connection.proofs.QuietLemmas.{notes_nothing}
-use Rattle.test_connection.proofs.tests.alone.GreeterEngine.tell.Goals as goal
+use Rattle.test_connection.proofs.tests.engines.GreeterEngine.tell.Goals as goal
 
 pub returns-clause-heard : goal.returns-clause-heard
 returns-clause-heard c =
