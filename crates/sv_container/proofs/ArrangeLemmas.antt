@@ -22,7 +22,7 @@ pub none_labelled : (O : Type 0) (all : List (ℕ × List ℕ)) → labels_of {O
 unfolding labels_of
 none_labelled O all = refl
 
-an_element : {X : Type 0} (xs : List X) (i : ℕ) → i < length xs → X
+pub an_element : {X : Type 0} (xs : List X) (i : ℕ) → i < length xs → X
 an_element [] i h = absurd (omega (arith, h))
 an_element (x ∷ xs) i h = x
 

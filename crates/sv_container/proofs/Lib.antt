@@ -3,6 +3,8 @@ pub mod LoopLemmas
 pub mod TellLemmas
 pub mod LifeLemmas
 pub mod ArrangeLemmas
+pub mod StartingLemmas
+pub mod FollowingLemmas
 pub mod EngineLemmas
 pub mod AssembleLemmas
 pub mod ShownLemmas

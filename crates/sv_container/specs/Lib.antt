@@ -5,6 +5,8 @@ pub mod Application
 pub mod Life
 pub mod Listening
 pub mod Deployment
+pub mod Starting
 pub mod Outcome
 pub mod Serving
+pub mod Following
 pub mod Laws

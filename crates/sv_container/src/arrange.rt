@@ -1,8 +1,9 @@
 //! Which object is meant by which name of a deployment.
 
-ghost use Rattle.std.specs.Prelude.{◌≡◌, ◌≤◌, ◌++◌, IfOk, IfSome, length, take, map, string_bytes};
+ghost use Rattle.std.specs.Prelude.{◌≡◌, ◌≤◌, ◌<◌, ◌++◌, IfErr, IfNone, IfOk, IfSome, length, take, map, string_bytes};
 ghost use Rattle.std.specs.List.Sorted.{IsPermutation};
 ghost use Rattle.sv_container.specs.Deployment as spec;
+ghost use Rattle.sv_container.specs.Starting.{HasAll, IsFaultFor, Lacks, filter_labels, listener_labels, servlet_labels, times};
 ghost use Rattle.sv_container.specs.declared.arrange.Kind.TheVariants as kinds;
 
 use crate::named::{Named, StartFault};
@@ -29,10 +30,12 @@ fn names_of(kind: Kind, context: &Context) -> &[String]
 
 /// The first place, from `from` on, of an object of a context and a name.
 fn find<O>(objects: &[Named<O>], from: usize, context: usize, name: &str) -> Option<usize>
-    ensures { IfSome result (spec.IsFoundAt objects.now from (spec.label context name.now)) }
+    ensures found { IfSome result (spec.IsFoundAt objects.now from (spec.label context name.now)) }
+    ensures missing { IfNone result (times (spec.label context name.now) (spec.labels_of objects.now) ≡ times (spec.label context name.now) (spec.labels_of (take from objects.now))) }
 {
     for at in from..objects.len() {
-        if objects[at].context == context && objects[at].name.as_str() == name {
+        let object = &objects[at];
+        if object.context == context && object.name.as_str() == name {
             return Some(at);
         }
     }
@@ -51,6 +54,7 @@ fn arrange_context<O>(
     ensures same { IsPermutation objects.old.items objects.new.items }
     ensures within { IfSome result (λ at. at ≤ length objects.new.items) }
     ensures named { IfSome result (λ at. spec.labels_of (take at objects.new.items) ≡ spec.labels_of (take from objects.old.items) ++ map (spec.label context) (map string_bytes names.now)) }
+    ensures missing { IfNone result (Lacks (spec.labels_of objects.old.items) (spec.labels_of (take from objects.old.items) ++ map (spec.label context) (map string_bytes names.now))) }
 {
     for count in 0..names.len() {
         let at = from + count;
@@ -64,6 +68,10 @@ fn arrange_context<O>(
 fn arrange_kind<O>(objects: &mut Vec<Named<O>>, kind: Kind, contexts: &[Context]) -> Option<usize>
     ensures same { IsPermutation objects.old.items objects.new.items }
     ensures named { IfSome result (λ at. spec.labels_of (take at objects.new.items) ≡ spec.declared kind contexts.now) }
+    ensures missing { IfNone result (Lacks (spec.labels_of objects.old.items) (spec.declared kind contexts.now)) }
+    ensures complete { IfSome result (λ at. HasAll (spec.labels_of objects.old.items) (spec.declared kind contexts.now)) }
+    ensures extra { IfSome result (λ at. at < length objects.new.items → Lacks (spec.declared kind contexts.now) (spec.labels_of objects.old.items)) }
+    ensures within { IfSome result (λ at. at ≤ length objects.new.items) }
 {
     let mut at = 0;
     for number in 0..contexts.len() {
@@ -84,19 +92,26 @@ pub fn arrange<S, F, L>(
     ensures listeners { IsPermutation listeners.old.items listeners.new.items }
     ensures named_servlets { IfOk result (λ _. spec.labels_of servlets.new.items ≡ spec.declared kinds.Servlet contexts.now) }
     ensures named_filters { IfOk result (λ _. spec.labels_of filters.new.items ≡ spec.declared kinds.Filter contexts.now) }
+    ensures fault { IfErr result (λ fault. IsFaultFor fault (servlet_labels contexts.now servlets.old.items) (filter_labels contexts.now filters.old.items) (listener_labels contexts.now listeners.old.items)) }
     ensures named_listeners { IfOk result (λ _. spec.labels_of listeners.new.items ≡ spec.declared kinds.Listener contexts.now) }
 {
-    let servlet_count = arrange_kind(servlets, Kind::Servlet, contexts);
-    let filter_count = arrange_kind(filters, Kind::Filter, contexts);
-    let listener_count = arrange_kind(listeners, Kind::Listener, contexts);
-    match (servlet_count, filter_count, listener_count) {
-        (Some(s), Some(f), Some(l)) => {
-            if s == servlets.len() && f == filters.len() && l == listeners.len() {
-                Ok(())
-            } else {
-                Err(StartFault::ExtraObject)
-            }
-        }
-        _ => Err(StartFault::MissingObject),
+    let Some(servlet_count) = arrange_kind(servlets, Kind::Servlet, contexts) else {
+        return Err(StartFault::MissingObject);
+    };
+    let Some(filter_count) = arrange_kind(filters, Kind::Filter, contexts) else {
+        return Err(StartFault::MissingObject);
+    };
+    let Some(listener_count) = arrange_kind(listeners, Kind::Listener, contexts) else {
+        return Err(StartFault::MissingObject);
+    };
+    if servlet_count < servlets.len() {
+        return Err(StartFault::ExtraObject);
     }
+    if filter_count < filters.len() {
+        return Err(StartFault::ExtraObject);
+    }
+    if listener_count < listeners.len() {
+        return Err(StartFault::ExtraObject);
+    }
+    Ok(())
 }

@@ -5,6 +5,7 @@ ghost use Rattle.std.specs.List.Sorted.{IsPermutation};
 ghost use Rattle.sv_container.specs.Deployment.{IsDeployed, path_of};
 ghost use Rattle.sv_container.specs.Life.{AreAble, AreNamedNew, ready_filters, ready_servlets};
 ghost use Rattle.sv_container.specs.Serving.{IsSound, deployed};
+ghost use Rattle.sv_container.specs.Starting.{IsFaultFor, filter_labels, listener_labels, servlet_labels};
 
 use crate::application::Application;
 use crate::arrange::arrange;
@@ -54,6 +55,7 @@ impl<S: Servlet, F: Filter, L: Listener> Container<S, F, L> {
         ensures service { IfOk result (λ c. AreAble (deployed S.serves S.servlet_phase F.filtering F.filter_phase L.hears c).apps) }
         ensures paths { IfOk result (λ c. (deployed S.serves S.servlet_phase F.filtering F.filter_phase L.hears c).paths ≡ map path_of deployment.contexts.items) }
         ensures deployed { IfOk result (λ c. IsDeployed S.serves F.filtering deployment.contexts.items servlets.items filters.items listeners.items L.hears (deployed S.serves S.servlet_phase F.filtering F.filter_phase L.hears c).apps (deployed S.serves S.servlet_phase F.filtering F.filter_phase L.hears c).ears) }
+        ensures fault { IfErr result (λ e. IsFaultFor e.fault (servlet_labels deployment.contexts.items servlets.items) (filter_labels deployment.contexts.items filters.items) (listener_labels deployment.contexts.items listeners.items)) }
         ensures servlets_back { IfErr result (λ e. IsPermutation servlets.items e.servlets.items) }
         ensures filters_back { IfErr result (λ e. IsPermutation filters.items e.filters.items) }
         ensures listeners_back { IfErr result (λ e. IsPermutation listeners.items e.listeners.items) }

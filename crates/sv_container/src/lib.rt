@@ -14,6 +14,7 @@ mod arrange;
 mod assemble;
 mod container;
 mod engine;
+pub mod laws;
 mod life;
 mod named;
 mod outcome;
