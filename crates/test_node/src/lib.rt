@@ -8,3 +8,5 @@
 mod counter;
 #[cfg(test)]
 mod running;
+#[cfg(test)]
+mod waiting;
