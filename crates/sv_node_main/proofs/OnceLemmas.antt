@@ -4,13 +4,16 @@ use Rattle.std.specs.Io.KnownBytes.{prepend_known}
 use Rattle.sv_model.specs.declared.key.Secret.{Secret}
 use Rattle.sv_model.specs.Engine.{EngineMeaning}
 use Rattle.sv_connection.specs.declared.connection.Connection.{Connection}
+use Rattle.sv_connection.specs.declared.outcome.Outcome.{Outcome}
+use Rattle.sv_connection.specs.declared.outcome.Outcome.TheVariants.{Answered, Parked, Closed, Refused, ReadFailed, WriteFailed, Failed}
 use Rattle.sv_connection.specs.declared.outcome.Served.{Served}
 use Rattle.sv_connection.specs.declared.solo.Solo.{Solo}
 use Rattle.sv_connection.specs.Connection.{IsFresh, sight_of}
-use Rattle.sv_connection.specs.Serve.{how, Sight, sight, IsServed}
+use Rattle.sv_connection.specs.Serve.{how, is_parked, Sight, sight, IsServed}
 use Rattle.sv_connection.specs.Solo.{IsNew, solo_steps}
 use Rattle.sv_node_main.specs.declared.once.OnceFault.{OnceFault}
-use Rattle.sv_node_main.specs.Once.{secret_of, turn_of, ending, Reaches, AtStart, Behind, IsUnderway, HasServed}
+use Rattle.sv_host.specs.Secrets.{secret_of}
+use Rattle.sv_node_main.specs.Once.{turn_of, ending, Reaches, AtStart, Behind, IsUnderway, HasServed}
 
 -- with nothing held what is unread is what is to come
 pub nothing_held : (to_come : Option (List ℕ)) → prepend_known [] to_come ≡ to_come
@@ -23,6 +26,16 @@ first_sight c to_come written site new =
     ap (λ rest. sight (prepend_known rest to_come) written site c.closed) new.empty
     ∙ ap (λ unread. sight unread written site c.closed) (nothing_held to_come)
     ∙ ap (sight to_come written site) new.not_closed
+
+-- where another request is taken, none waits
+pub goes_on_unparked : (outcome : Outcome) → ending outcome ≡ None → is_parked outcome ≡ false
+goes_on_unparked Answered is = refl
+goes_on_unparked (Parked head_only) is = absurd cc
+goes_on_unparked Closed is = refl
+goes_on_unparked (Refused fault) is = refl
+goes_on_unparked ReadFailed is = refl
+goes_on_unparked WriteFailed is = refl
+goes_on_unparked Failed is = refl
 
 -- a call under its number and secret
 pub as_turn : {E : Type 0} (meaning : E → EngineMeaning) (heard : E → List (List ℕ)) (now number : ℕ) (secret : Secret) (single : Bool) (old new : Sight (Solo E)) (served : Served)

@@ -1,9 +1,7 @@
 -- How a stream of requests is served.
-use Rattle.std.specs.Prelude.{◌≡◌, ◌⊎◌, ℕ, ◌+◌, ◌^◌, Bool, false, List, [], ◌∷◌, ◌++◌, replicate, Option, Some, None, Result, Ok, Err}
+use Rattle.std.specs.Prelude.{◌≡◌, ◌⊎◌, ℕ, ◌+◌, ◌^◌, Bool, false, List, [], ◌∷◌, ◌++◌, Option, Some, None, Result, Ok, Err}
 use Rattle.std.proofs.Common.{inl, inr}
-use Rattle.std.specs.Int.{to_be_bytes, w64}
 use Rattle.std.specs.Io.KnownBytes.{prepend_known}
-use Rattle.sv_model.specs.declared.key.Secret.{Secret}
 use Rattle.sv_model.specs.declared.key.Moment.{Moment}
 use Rattle.sv_model.specs.declared.input.Input.{Input}
 use Rattle.sv_model.specs.declared.input.Input.TheVariants.{Ask}
@@ -22,11 +20,8 @@ use Rattle.sv_connection.specs.Solo.{IsNew, IsHistory, solo_steps, view_of}
 use Rattle.sv_connection.specs.Request.{request_of}
 use Rattle.sv_connection.specs.Serve.{How, how, Sight, sight, IsDirected, IsServed}
 use Rattle.sv_node_main.specs.declared.once.OnceFault.{OnceFault}
+use Rattle.sv_host.specs.Secrets.{secret_of}
 use Rattle.sv_node_main.specs.declared.once.OnceFault.TheVariants.{Input as InputFault, Output as OutputFault}
-
--- the number in 16 big-endian bytes
-abbrev pub secret_of : ℕ → Secret
-secret_of number = record { 0 = replicate 8 0 ++ to_be_bytes w64 number }
 
 -- how the n-th request of a stream is served: under the number n, with the secret n
 abbrev pub turn_of : ℕ → ℕ → How
@@ -35,7 +30,7 @@ turn_of now number = how (record { now = now; secret = secret_of number }) numbe
 -- what the outcome of a call makes of the whole stream; none where another request is taken
 abbrev pub ending : Outcome → Option (Result (Unit {0}) OnceFault)
 ending Answered = None
-ending Parked = None
+ending (Parked head_only) = Some (Ok tt)
 ending Closed = Some (Ok tt)
 ending (Refused fault) = Some (Ok tt)
 ending ReadFailed = Some (Err InputFault)

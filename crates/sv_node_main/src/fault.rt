@@ -1,13 +1,14 @@
 //! Why the program ends before its work is done, and how it says so.
 
 ghost use Rattle.std.specs.Prelude.{◌≡◌};
-ghost use Rattle.sv_node_main.specs.Fault.{fault_at, fault_in, fault_of, status_of};
+ghost use Rattle.sv_node_main.specs.Fault.{fault_at, fault_in, fault_of, host_fault, place_fault, status_of};
 ghost use Rattle.sv_node_main.specs.declared.fault.Fault.TheVariants.{Memory};
 
 use crate::once::OnceFault;
 use std::alloc::{AllocError, AllocFailed};
 use sv_config::ConfigFault;
 use sv_container::StartFault;
+use sv_host::{HostFault, PlaceFault};
 use thiserror::Error;
 
 /// Why the program ends before its work is done. Its text is its name, which the program prints.
@@ -46,6 +47,27 @@ pub enum Fault {
     /// Status 3: an object was made that the descriptor doesn't name.
     #[error("ExtraObject")]
     ExtraObject,
+    /// Status 3: the descriptor gives no ports to the nodes of a cluster.
+    #[error("Ports")]
+    Ports,
+    /// Status 4: a file of the journal failed.
+    #[error("Device")]
+    Device,
+    /// Status 4: the journal is none of a node's, or its starts are spent.
+    #[error("Damaged")]
+    Damaged,
+    /// Status 4: the journal has no room for the start.
+    #[error("Full")]
+    Full,
+    /// Status 4: memory was refused while the journal was opened.
+    #[error("Memory")]
+    JournalMemory,
+    /// Status 5: the file of secrets can't be opened, or has ended.
+    #[error("Secrets")]
+    Secrets,
+    /// Status 5: the node's port can't be listened at.
+    #[error("Socket")]
+    Socket,
     /// Status 5: standard input can't be read.
     #[error("Input")]
     Input,
@@ -64,7 +86,8 @@ impl Fault {
     {
         match self {
             Fault::Arguments => 2,
-            Fault::Input | Fault::Output | Fault::Memory => 5,
+            Fault::Device | Fault::Damaged | Fault::Full | Fault::JournalMemory => 4,
+            Fault::Secrets | Fault::Socket | Fault::Input | Fault::Output | Fault::Memory => 5,
             _ => 3,
         }
     }
@@ -111,6 +134,34 @@ impl From<StartFault> for Fault {
             StartFault::MissingObject => Fault::MissingObject,
             StartFault::ExtraObject => Fault::ExtraObject,
             StartFault::Memory => Fault::Memory,
+        }
+    }
+}
+
+impl From<PlaceFault> for Fault {
+    ghost from_gives = { λ place fault. fault ≡ place_fault place };
+
+    fn from(fault: PlaceFault) -> Self {
+        match fault {
+            PlaceFault::Ports => Fault::Ports,
+            PlaceFault::NoNode => Fault::Arguments,
+            PlaceFault::Memory => Fault::Memory,
+        }
+    }
+}
+
+impl From<HostFault> for Fault {
+    ghost from_gives = { λ host fault. fault ≡ host_fault host };
+
+    fn from(fault: HostFault) -> Self {
+        match fault {
+            HostFault::Secrets => Fault::Secrets,
+            HostFault::Socket => Fault::Socket,
+            HostFault::Output => Fault::Output,
+            HostFault::Device => Fault::Device,
+            HostFault::Damaged => Fault::Damaged,
+            HostFault::Full => Fault::Full,
+            HostFault::Memory => Fault::JournalMemory,
         }
     }
 }

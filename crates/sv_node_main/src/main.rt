@@ -3,7 +3,12 @@
 //! `node --once CONFIG NOW` serves standard input to its end on one node that stands alone, at the moment NOW in
 //! whole seconds since 1970, and writes the responses to standard output. CONFIG is the path of a descriptor, whose
 //! names stand for the samples of `sv_samples`, or `-` for the built-in one: the context `/shop` with each sample
-//! servlet. A fault prints one line `node: ` and its name on standard error and ends the program with its status.
+//! servlet.
+//!
+//! `node CONFIG JOURNAL NUMBER` runs the node of that number in the cluster of the descriptor: it listens at its port on the
+//! loopback address, keeps its sessions in the files JOURNAL and JOURNAL with `.b`, and serves until a command stops it.
+//!
+//! A fault prints one line `node: ` and its name on standard error and ends the program with its status.
 #![tactic(auto)]
 
 mod descriptor;
@@ -11,6 +16,7 @@ mod fault;
 mod kinds;
 mod objects;
 mod once;
+mod purpose;
 mod serve;
 #[cfg(test)]
 mod tests;
@@ -18,10 +24,14 @@ mod words;
 
 use descriptor::read_config;
 use fault::Fault;
-use serve::serve;
+use purpose::Running;
+use serve::{serve, start};
+use std::fs::File;
+use std::net::{Net, TcpListener, TcpStream};
 use std::process::ExitCode;
-use std::rt::Env;
+use std::rt::{Clock, Env, Files};
 use std::{env, io};
+use sv_host::Place;
 use words::{Words, read_words};
 
 /// The words behind the program's name.
@@ -44,11 +54,37 @@ fn serve_input(rt: &HostRuntime, config: &str, now: u64) -> Result<(), Fault> {
     serve(rt.alloc(), deployment, now, &mut reader, &mut writer)
 }
 
+/// Runs the node of a number in the cluster of a CONFIG, over a JOURNAL.
+fn run_in_cluster<R>(machine: &R, config: &str, journal: &str, number: u8) -> Result<(), Fault>
+where
+    R: Net<Listener = TcpListener, Stream = TcpStream>
+        + Files<File = File>
+        + Clock
+        + Print
+        + AllocGlobal,
+{
+    let deployment = read_config(machine, config)?;
+    let place = Place::new(machine.alloc(), &deployment.cluster, number)?;
+    let running = Running {
+        machine,
+        place,
+        journal,
+    };
+    start(machine.alloc(), deployment, running)
+}
+
 fn run(rt: &HostRuntime) -> Result<(), Fault> {
     let words = words_of(rt)?;
     match read_words(words.as_slice()) {
         Ok(Words::Once { config, now }) => serve_input(rt, config, now),
-        Ok(Words::Node { .. }) | Err(_) => Err(Fault::Arguments),
+        Ok(
+            Words::Node {
+                config,
+                journal,
+                number,
+            },
+        ) => run_in_cluster(rt, config, journal, number),
+        Err(_) => Err(Fault::Arguments),
     }
 }
 

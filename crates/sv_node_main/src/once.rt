@@ -3,12 +3,13 @@
 ghost use Rattle.std.specs.Prelude.{◌≡◌, false};
 ghost use Rattle.sv_connection.specs.Serve.{sight};
 ghost use Rattle.sv_connection.specs.Solo.{solo_steps};
-ghost use Rattle.sv_node_main.specs.Once.{secret_of, ending, calls_of, HasServed, IsOneHistory};
+ghost use Rattle.sv_node_main.specs.Once.{ending, calls_of, HasServed, IsOneHistory};
 
 use std::alloc::Global;
 use std::io::{Read, Write};
 use sv_connection::{Connection, Outcome, Solo};
-use sv_model::{Engine, Moment, Secret};
+use sv_host::secret_of;
+use sv_model::{Engine, Moment};
 use thiserror::Error;
 
 /// Why a stream was not served to its end.
@@ -20,22 +21,16 @@ pub enum OnceFault {
     Output,
 }
 
-/// The secret of a request by its number: the number in 16 big-endian bytes.
-pub fn secret_of(number: u64) -> Secret
-    ensures { result ≡ secret_of number }
-{
-    let mut bytes = [0u8; 16];
-    bytes[8..].copy_from_slice(&number.to_be_bytes());
-    Secret(bytes)
-}
-
 /// What the outcome of a call makes of the whole stream; none where another request is taken.
 fn ending(outcome: Outcome) -> Option<Result<(), OnceFault>>
     ensures { result ≡ ending outcome }
 {
     match outcome {
-        Outcome::Answered | Outcome::Parked => None,
-        Outcome::Closed | Outcome::Refused(_) | Outcome::Failed => Some(Ok(())),
+        Outcome::Answered => None,
+        // A node that stands alone answers each request in its step, and parks none.
+        Outcome::Parked { .. } | Outcome::Closed | Outcome::Refused(_) | Outcome::Failed => {
+            Some(Ok(()))
+        }
         Outcome::ReadFailed => Some(Err(OnceFault::Input)),
         Outcome::WriteFailed => Some(Err(OnceFault::Output)),
     }

@@ -1,4 +1,4 @@
-//! Starts the applications of a deployment with the sample objects, and serves a stream by them.
+//! Starts the applications of a deployment with the sample objects, and serves by them.
 //!
 //! Boxes of objects stay in the function that makes them and those that it calls, so each kind of object is made in a
 //! step of its own, which goes on to the next.
@@ -8,7 +8,7 @@ ghost use Rattle.sv_container.specs.Life.{AreNamedNew};
 use crate::fault::Fault;
 use crate::kinds::{FilterKind, ListenerKind, ServletKind};
 use crate::objects::{Entry, entries_of};
-use crate::once::once;
+use crate::purpose::{Purpose, Stream};
 use std::alloc::Global;
 use std::io::{Read, Write};
 use sv_config::Deployment;
@@ -17,8 +17,6 @@ use sv_samples::{Count, Faulty, Forwarder, Gate, Hello, Includer, Login, Snoop, 
 use sv_servlet::{Filter, Listener, Servlet};
 
 /// Serves the reader's requests to their end by the applications of a deployment, all at `now`.
-///
-/// Each object that the deployment names is a sample of the kind that its name says.
 pub fn serve<R: Read, W: Write>(
     alloc: Global,
     deployment: Deployment,
@@ -26,6 +24,21 @@ pub fn serve<R: Read, W: Write>(
     reader: &mut R,
     writer: &mut W,
 ) -> Result<(), Fault> {
+    start(
+        alloc,
+        deployment,
+        Stream {
+            now,
+            reader,
+            writer,
+        },
+    )
+}
+
+/// Starts the applications of a deployment, and serves by them to the end.
+///
+/// Each object that the deployment names is a sample of the kind that its name says.
+pub fn start<P: Purpose>(alloc: Global, deployment: Deployment, purpose: P) -> Result<(), Fault> {
     let entries: Vec<Entry<ServletKind>> = entries_of(alloc, deployment.contexts.as_slice())?;
     let mut servlets: Vec<Named<Box<dyn Servlet>>> = Vec::new(alloc);
     for entry in entries {
@@ -49,17 +62,15 @@ pub fn serve<R: Read, W: Write>(
             object,
         })?;
     }
-    with_servlets(alloc, deployment, servlets, now, reader, writer)
+    with_servlets(alloc, deployment, servlets, purpose)
 }
 
 /// Makes the filters.
-fn with_servlets<S: Servlet, R: Read, W: Write>(
+fn with_servlets<S: Servlet, P: Purpose>(
     alloc: Global,
     deployment: Deployment,
     servlets: Vec<Named<S>>,
-    now: u64,
-    reader: &mut R,
-    writer: &mut W,
+    purpose: P,
 ) -> Result<(), Fault>
     requires { AreNamedNew S.servlet_phase servlets.items }
 {
@@ -81,18 +92,16 @@ fn with_servlets<S: Servlet, R: Read, W: Write>(
             object,
         })?;
     }
-    with_filters(alloc, deployment, servlets, filters, now, reader, writer)
+    with_filters(alloc, deployment, servlets, filters, purpose)
 }
 
 /// Makes the listeners.
-fn with_filters<S: Servlet, F: Filter, R: Read, W: Write>(
+fn with_filters<S: Servlet, F: Filter, P: Purpose>(
     alloc: Global,
     deployment: Deployment,
     servlets: Vec<Named<S>>,
     filters: Vec<Named<F>>,
-    now: u64,
-    reader: &mut R,
-    writer: &mut W,
+    purpose: P,
 ) -> Result<(), Fault>
     requires servlets { AreNamedNew S.servlet_phase servlets.items }
     requires filters { AreNamedNew F.filter_phase filters.items }
@@ -114,21 +123,17 @@ fn with_filters<S: Servlet, F: Filter, R: Read, W: Write>(
             object,
         })?;
     }
-    with_objects(
-        alloc, deployment, servlets, filters, listeners, now, reader, writer,
-    )
+    with_objects(alloc, deployment, servlets, filters, listeners, purpose)
 }
 
 /// Starts the applications, and serves.
-fn with_objects<S: Servlet, F: Filter, L: Listener, R: Read, W: Write>(
+fn with_objects<S: Servlet, F: Filter, L: Listener, P: Purpose>(
     alloc: Global,
     deployment: Deployment,
     servlets: Vec<Named<S>>,
     filters: Vec<Named<F>>,
     listeners: Vec<Named<L>>,
-    now: u64,
-    reader: &mut R,
-    writer: &mut W,
+    purpose: P,
 ) -> Result<(), Fault>
     requires servlets { AreNamedNew S.servlet_phase servlets.items }
     requires filters { AreNamedNew F.filter_phase filters.items }
@@ -137,6 +142,5 @@ fn with_objects<S: Servlet, F: Filter, L: Listener, R: Read, W: Write>(
         Ok(container) => container,
         Err(not_started) => return Err(not_started.fault.into()),
     };
-    once(alloc, container, now, reader, writer)?;
-    Ok(())
+    purpose.serve(alloc, container)
 }

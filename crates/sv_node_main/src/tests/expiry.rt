@@ -1,11 +1,11 @@
 //! When a session expires: its interval in seconds behind its last request, and not before.
 
 use crate::descriptor::deployment_in;
-use crate::once::secret_of;
 use std::alloc::Global;
 use std::test::Fail;
 use sv_connection::{Connection, Solo};
 use sv_container::{Container, Named};
+use sv_host::secret_of;
 use sv_model::Moment;
 use sv_samples::{Count, Gate, Tally};
 
@@ -60,6 +60,9 @@ fn written(alloc: Global, moments: [u64; 2], input: &str) -> Result<Vec<u8>, Fai
         secret: secret_of(1),
     };
     connection.serve_next(&mut reader, &mut writer, &mut site, first, 1);
+    if connection.waiting() {
+        return Err("a node that stands alone has no request wait".into());
+    }
     let second = Moment {
         now: moments[1],
         secret: secret_of(2),

@@ -1,6 +1,6 @@
 use Rattle.std.proofs.Common.{◌+◌, sym, subst, ◌∙◌, arith}
 use Rattle.sv_connection.specs.Connection.{is_single}
-use Rattle.sv_node_main.proofs.OnceLemmas.{begins, as_turn, goes_on, stops, runs_out}
+use Rattle.sv_node_main.proofs.OnceLemmas.{begins, as_turn, goes_on, goes_on_unparked, stops, runs_out}
 use Rattle.sv_node_main.proofs.HistoryLemmas.{one_history}
 use Rattle.sv_node_main.proofs.once.once.Goals as goal
 
@@ -8,6 +8,7 @@ pub loop-count-init : goal.loop-count-init
 loop-count-init g c = record {
   valid = subst (λ e. g.E.Engine.valid e) (sym c.new-site.ensures.over) c.requires;
   single = c.new-connection.ensures.single_is;
+  waiting = c.new-connection.ensures.not_waiting;
   underway = begins g.E.Engine.meaning g.E.Engine.heard c.args.engine c.args.now _ _ c.new-connection.result c.new-site.result c.new-site.ensures c.new-connection.ensures;
 }
 
@@ -15,6 +16,7 @@ pub loop-count-preserved : goal.loop-count-preserved
 loop-count-preserved g c = record {
   valid = c.serve_next-served.ensures.valid;
   single = c.serve_next-served.ensures.single ∙ c.loop-count.invariant.single;
+  waiting = c.serve_next-served.ensures.waiting ∙ goes_on_unparked _ (sym c.ending.ensures ∙ c.in_default.is);
   underway =
       goes_on _ _ c.args.engine c.args.now _ _ c.loop-count.count _ _ c.serve_next-served.result c.loop-count.invariant.underway (sym c.ending.ensures ∙ c.in_default.is)
       (as_turn _ _ c.args.now (c.loop-count.count + 1) c.secret_of.result (is_single c.loop-count.connection) _ _ c.serve_next-served.result c.secret_of.ensures

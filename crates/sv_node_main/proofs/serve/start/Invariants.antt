@@ -1,7 +1,7 @@
 use Rattle.std.proofs.Common.{◌≡◌, All}
 use Rattle.sv_servlet.specs.declared.servlet.Phase.TheVariants.{New}
-use Rattle.sv_node_main.proofs.serve.serve.OwnLists.{own-1}
-use Rattle.sv_node_main.proofs.serve.serve.Given as goal
+use Rattle.sv_node_main.proofs.serve.start.OwnLists.{own-1}
+use Rattle.sv_node_main.proofs.serve.start.Given as goal
 
 -- all servlets are as they were made
 abbrev pub invariant-loop-entry : goal.invariant-loop-entry

@@ -1,0 +1,18 @@
+-- What a node puts out, as what can be sent.
+use Rattle.std.specs.Prelude.{List, ⊤}
+use Rattle.std.specs.List.{AllByRecursion}
+use Rattle.sv_model.specs.declared.output.Output.{Output}
+use Rattle.sv_model.specs.declared.output.Output.TheVariants.{Answer, Refuse, Send, Moved, MoveRefused}
+use Rattle.sv_model.specs.Outputs.{sends_in}
+use Rattle.sv_model.specs.Ranges.{IsPacket}
+
+-- a packet has a spelling
+abbrev pub IsSendable : Output → Type 0
+IsSendable (Answer token response) = ⊤
+IsSendable (Refuse token cause) = ⊤
+IsSendable (Send packet) = IsPacket packet
+IsSendable Moved = ⊤
+IsSendable (MoveRefused why) = ⊤
+
+abbrev pub AreSendable : List Output → Type 0
+AreSendable outputs = AllByRecursion IsPacket (sends_in outputs)

@@ -1,0 +1,106 @@
+//! What a running node keeps beside its journal: its clients, its peers, its secrets, and the time.
+
+ghost use Rattle.std.specs.Prelude.{◌≡◌, OnOk};
+ghost use Rattle.sv_model.specs.Ranges.{IsInput};
+ghost use Rattle.sv_node.specs.Node.{IsNode};
+ghost use Rattle.sv_host.specs.Outputs.{AreSendable, IsSendable};
+
+use crate::fault::{HostFault, Stop};
+use crate::lobby::Lobby;
+use crate::machine::{Machine, seconds};
+use crate::peers::send;
+use crate::secrets::Secrets;
+use std::alloc::Global;
+use sv_journal::Disk;
+use sv_model::{Engine, Input, Moment, MoveRefusal, Output, Site, StepFault};
+use sv_node::Node;
+
+/// What a running node keeps beside its journal.
+#[derive(Drop)]
+pub struct Desk {
+    /// The port of each node, by its number.
+    pub ports: Vec<u16>,
+    pub secrets: Secrets,
+    pub lobby: Lobby,
+    /// When the node last looked at the time, in seconds since 1970.
+    pub ticked: u64,
+    /// The length of the journal behind its last compaction; 0 before the first.
+    pub compacted: u64,
+    pub alloc: Global,
+}
+
+/// What came of a step that a node was told to take.
+#[derive(Clone, Copy, Debug, PartialEq, Eq)]
+pub enum Taken {
+    /// Nothing was put out.
+    Quiet,
+    /// Something was put out, and has been handed on.
+    Busy,
+    /// A session isn't moved, for this reason.
+    MoveRefused(MoveRefusal),
+    /// There was no room or no memory for the step.
+    Refused,
+}
+
+/// What was put out by a step.
+fn sum_up(outputs: &[Output]) -> Taken {
+    match outputs {
+        [] => Taken::Quiet,
+        [Output::MoveRefused(why)] => Taken::MoveRefused(*why),
+        _ => Taken::Busy,
+    }
+}
+
+impl Desk {
+    /// The moment of a step: the machine's clock, and a secret that no step has had.
+    pub fn moment(&mut self, machine: &impl Machine) -> Result<Moment, Stop> {
+        Ok(Moment {
+            now: seconds(machine),
+            secret: self.secrets.next()?,
+        })
+    }
+
+    /// Hands on one output.
+    fn hand_on_one(&mut self, machine: &impl Machine, output: Output, now: u64)
+        requires { IsSendable output }
+    {
+        match output {
+            Output::Send(packet) => send(machine, self.ports.as_slice(), packet),
+            Output::Answer { token, response } => self.lobby.answer(token, &response, now),
+            Output::Refuse { token, cause } => self.lobby.refuse(token, cause, now),
+            Output::Moved | Output::MoveRefused(_) => {}
+        }
+    }
+
+    /// Hands on what a step has put out, in order: packets to their nodes, answers to the clients that wait for them.
+    pub fn hand_on(&mut self, machine: &impl Machine, outputs: Vec<Output>, now: u64)
+        requires { AreSendable outputs.items }
+    {
+        for output in outputs {
+            self.hand_on_one(machine, output, now);
+        }
+    }
+
+    /// Has the node take a step, and hands on what it puts out.
+    pub fn step<E: Engine, D: Disk>(
+        &mut self,
+        machine: &impl Machine,
+        node: &mut Node<E, D>,
+        input: Input,
+    ) -> Result<Taken, Stop>
+        requires valid { IsNode E.valid D.tells D.seen D.may_leave node.old }
+        requires input { IsInput input }
+        ensures valid { IsNode E.valid D.tells D.seen D.may_leave node.new }
+    {
+        let moment = self.moment(machine)?;
+        match node.step(moment, input) {
+            Ok(outputs) => {
+                let taken = sum_up(outputs.as_slice());
+                self.hand_on(machine, outputs, moment.now);
+                Ok(taken)
+            }
+            Err(StepFault::Full | StepFault::Memory) => Ok(Taken::Refused),
+            Err(StepFault::Device | StepFault::Failed) => Err(Stop::Fault(HostFault::Device)),
+        }
+    }
+}

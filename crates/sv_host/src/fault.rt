@@ -1,0 +1,49 @@
+//! Why a node ends before it is told to.
+
+use sv_node::OpenFault;
+use thiserror::Error;
+
+/// Why a node ends before it is told to. Its text is its name, which a program prints.
+#[derive(Clone, Copy, Debug, PartialEq, Eq, Error)]
+pub enum HostFault {
+    /// The file of secrets can't be opened, or has ended.
+    #[error("Secrets")]
+    Secrets,
+    /// The node's port can't be listened at.
+    #[error("Socket")]
+    Socket,
+    /// Standard output can't be written.
+    #[error("Output")]
+    Output,
+    /// A journal's file failed.
+    #[error("Device")]
+    Device,
+    /// The journal is none of a node's, or its starts are spent.
+    #[error("Damaged")]
+    Damaged,
+    /// The journal has no room for the start.
+    #[error("Full")]
+    Full,
+    /// Memory was refused while the journal was opened.
+    #[error("Memory")]
+    Memory,
+}
+
+impl From<OpenFault> for HostFault {
+    fn from(fault: OpenFault) -> Self {
+        match fault {
+            OpenFault::Device => HostFault::Device,
+            OpenFault::Damaged => HostFault::Damaged,
+            OpenFault::Full => HostFault::Full,
+            OpenFault::Memory => HostFault::Memory,
+        }
+    }
+}
+
+/// Why a node serves no longer.
+#[derive(Clone, Copy, Debug, PartialEq, Eq)]
+pub enum Stop {
+    /// It was told to stop, or the numbers of its connections or of its secrets are used up.
+    Done,
+    Fault(HostFault),
+}

@@ -1,0 +1,29 @@
+//! What a node asks of the machine that it runs on.
+
+use std::fs::File;
+use std::net::{Net, TcpListener, TcpStream};
+use std::rt::{Clock, Files};
+
+/// The network, files, clock and standard output of a machine, and memory.
+pub trait Machine: Net<Listener = TcpListener, Stream = TcpStream>
+    + Files<File = File>
+    + Clock
+    + Print
+    + AllocGlobal {}
+
+impl<R> Machine for R
+where
+    R: Net<Listener = TcpListener, Stream = TcpStream>
+        + Files<File = File>
+        + Clock
+        + Print
+        + AllocGlobal,
+{}
+
+/// The machine's clock in whole seconds since 1970; 0 before that, and where it can't be read.
+pub fn seconds(machine: &impl Clock) -> u64 {
+    match machine.since_1970() {
+        Ok(since) => since.as_secs(),
+        Err(_) => 0,
+    }
+}

@@ -1,0 +1,55 @@
+//! What the applications of a deployment are started for: to serve one stream, or as a node of a cluster.
+
+use crate::fault::Fault;
+use crate::once::once;
+use std::alloc::Global;
+use std::io::{Read, Write};
+use sv_host::{Machine, Place, run_node};
+use sv_model::Engine;
+
+/// What an engine is made for.
+pub trait Purpose: Drop {
+    /// Serves by the engine, to the end.
+    fn serve<E: Engine + Drop>(self, alloc: Global, engine: E) -> Result<(), Fault>
+        requires { E.valid engine };
+}
+
+/// One stream of requests, all of them at `now` in whole seconds since 1970.
+#[derive(Drop)]
+pub struct Stream<'a, R: Read, W: Write> {
+    pub now: u64,
+    pub reader: &'a mut R,
+    pub writer: &'a mut W,
+}
+
+impl<R: Read, W: Write> Purpose for Stream<'_, R, W> {
+    fn serve<E: Engine + Drop>(self, alloc: Global, engine: E) -> Result<(), Fault> {
+        let Stream {
+            now,
+            reader,
+            writer,
+        } = self;
+        once(alloc, engine, now, reader, writer)?;
+        Ok(())
+    }
+}
+
+/// A node of a cluster, over the journal at a path.
+#[derive(Drop)]
+pub struct Running<'a, M: Machine> {
+    pub machine: &'a M,
+    pub place: Place,
+    pub journal: &'a str,
+}
+
+impl<M: Machine> Purpose for Running<'_, M> {
+    fn serve<E: Engine + Drop>(self, _alloc: Global, engine: E) -> Result<(), Fault> {
+        let Running {
+            machine,
+            place,
+            journal,
+        } = self;
+        run_node(machine, engine, place, journal)?;
+        Ok(())
+    }
+}
