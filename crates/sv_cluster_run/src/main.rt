@@ -1,0 +1,68 @@
+//! The program `cluster_run`: a cluster of nodes from one script.
+//!
+//! `cluster_run NODE CONFIG DIR SCRIPT` runs the lines of the file SCRIPT one after the other, and prints each with what
+//! came of it. NODE is the program that a node runs, CONFIG the path of a descriptor with the ports of the cluster, and the
+//! journal of node N is `DIR/jN`. Lines are
+//!
+//! - `start N`: starts the node's process, and waits until it says that it is ready; prints `ready`;
+//! - `ask N PATH`: asks the node for the path, with the session cookie that was set last; prints the status and the body;
+//! - `move N TO`: has the node hand over the session of that cookie to the node TO; prints `moved`, or `refused` and why;
+//! - `tick N`: has the node look at the time; prints `done`, or `refused 5`;
+//! - `halt N`: halts the node, and waits for the end of its process; prints `done`.
+//!
+//! CONFIG and SCRIPT are read whole before the first line is run. Nodes that still run at the end are halted, also behind a
+//! fault. A fault prints one line `cluster_run: ` and its name on standard error and ends the program with its status.
+#![tactic(auto)]
+
+mod exchange;
+mod fault;
+mod files;
+mod machine;
+mod nodes;
+mod number;
+mod perform;
+mod process;
+mod reply;
+mod request;
+mod script;
+mod session;
+#[cfg(test)]
+mod tests;
+mod words;
+
+use fault::Fault;
+use perform::run_script;
+use std::env;
+use std::process::ExitCode;
+use std::rt::Env;
+use words::read_words;
+
+/// The words behind the program's name.
+fn words_of<R: Env + AllocGlobal>(rt: &R) -> Result<Vec<String>, Fault> {
+    let mut words = Vec::new(rt.alloc());
+    let Ok(args) = env::args(rt) else {
+        return Err(Fault::Arguments);
+    };
+    for word in args.skip(1) {
+        if words.push(word).is_err() {
+            return Err(Fault::Arguments);
+        }
+    }
+    Ok(words)
+}
+
+fn run(rt: &HostRuntime) -> Result<(), Fault> {
+    let words = words_of(rt)?;
+    let words = read_words(words.as_slice())?;
+    run_script(rt, words)
+}
+
+fn main(rt: HostRuntime) -> ExitCode {
+    match run(&rt) {
+        Ok(()) => ExitCode::SUCCESS,
+        Err(fault) => {
+            let _ = eprintln!(rt; "cluster_run: {fault}");
+            ExitCode::from(fault.status())
+        }
+    }
+}

@@ -1,0 +1,114 @@
+//! A script from its first line to its last.
+
+use crate::fault::Fault;
+use crate::files::{read_cluster, read_text};
+use crate::machine::Machine;
+use crate::nodes::Nodes;
+use crate::script::{Act, Line, read_script};
+use crate::words::Words;
+use std::alloc::{AllocError, Global};
+use std::io;
+use std::io::Write;
+
+/// The bytes of a text.
+fn text(alloc: Global, text: &str) -> Result<Vec<u8>, AllocError> {
+    Vec::from_slice(alloc, text.as_bytes())
+}
+
+/// A status and a body, without the body's last line feed.
+fn page(alloc: Global, status: u16, body: &[u8]) -> Result<Vec<u8>, AllocError> {
+    let status = format!(in alloc; "{status} ")?;
+    let mut page = text(alloc, status.as_str())?;
+    page.extend_from_slice(body.strip_suffix(b"\n").unwrap_or(body))?;
+    Ok(page)
+}
+
+/// What the byte says that a node answers to a command.
+fn verdict(alloc: Global, byte: u8, done: &str) -> Result<Vec<u8>, AllocError> {
+    if byte == 0 {
+        return text(alloc, done);
+    }
+    let refused = format!(in alloc; "refused {byte}")?;
+    text(alloc, refused.as_str())
+}
+
+/// What is printed where memory for it is refused.
+fn printed(said: Result<Vec<u8>, AllocError>) -> Result<Vec<u8>, Fault> {
+    match said {
+        Ok(said) => Ok(said),
+        Err(_) => Err(Fault::Socket),
+    }
+}
+
+/// Does what a line asks for. What is to be printed of it is given.
+fn perform<M: Machine>(
+    alloc: Global,
+    nodes: &mut Nodes<'_, M>,
+    act: Act<'_>,
+) -> Result<Vec<u8>, Fault> {
+    match act {
+        Act::Start(node) => {
+            nodes.start(node)?;
+            printed(text(alloc, "ready"))
+        }
+        Act::Ask { node, path } => {
+            let (status, body) = nodes.ask(node, path)?;
+            printed(page(alloc, status, body.as_slice()))
+        }
+        Act::Move { node, to } => {
+            let byte = nodes.hand_over(node, to)?;
+            printed(verdict(alloc, byte, "moved"))
+        }
+        Act::Tick(node) => {
+            let byte = nodes.tick(node)?;
+            printed(verdict(alloc, byte, "done"))
+        }
+        Act::Halt(node) => {
+            nodes.halt(node)?;
+            printed(text(alloc, "done"))
+        }
+    }
+}
+
+/// A line of the script, and what came of it.
+fn report(alloc: Global, line: &str, said: &[u8]) -> Result<Vec<u8>, AllocError> {
+    let mut report = text(alloc, line)?;
+    report.extend_from_slice(b": ")?;
+    report.extend_from_slice(said)?;
+    report.extend_from_slice(b"\n")?;
+    Ok(report)
+}
+
+/// Prints a line of the script, and what came of it.
+fn print_report(machine: &impl Machine, line: &str, said: &[u8]) -> Result<(), Fault> {
+    let report = printed(report(machine.alloc(), line, said))?;
+    match io::writer(machine).write_all(report.as_slice()) {
+        Ok(()) => Ok(()),
+        Err(_) => Err(Fault::Socket),
+    }
+}
+
+/// Runs the lines of a script in order, and prints each with what came of it, up to the first fault.
+fn run_lines<M: Machine>(
+    machine: &M,
+    nodes: &mut Nodes<'_, M>,
+    lines: &[Line<'_>],
+) -> Result<(), Fault> {
+    for line in lines {
+        let said = perform(machine.alloc(), nodes, line.act)?;
+        print_report(machine, line.text, said.as_slice())?;
+    }
+    Ok(())
+}
+
+/// Runs a script over the cluster of a descriptor. Nodes that still run behind its last line, or behind a fault, are halted.
+pub fn run_script(machine: &impl Machine, words: Words<'_>) -> Result<(), Fault> {
+    let alloc = machine.alloc();
+    let described = read_cluster(machine, words.config)?;
+    let text = read_text(machine, words.script)?;
+    let lines = read_script(alloc, text.as_str())?;
+    let mut nodes = Nodes::new(machine, words, described);
+    let ran = run_lines(machine, &mut nodes, lines.as_slice());
+    let halted = nodes.halt_all();
+    ran.and(halted)
+}

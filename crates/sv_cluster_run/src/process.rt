@@ -1,0 +1,73 @@
+//! The processes of nodes.
+
+use crate::fault::Fault;
+use crate::machine::Machine;
+use crate::number::NodeNumber;
+use crate::words::Words;
+use std::io;
+use std::io::{ErrorKind, Read};
+use std::process::{Child, Command, OpenProcess, Stdio};
+
+/// Starts the program as a node.
+fn spawn<M: Machine>(
+    machine: &M,
+    words: Words<'_>,
+    node: NodeNumber,
+) -> io::Result<Child<M::Started>> {
+    let alloc = machine.alloc();
+    let number = node.value;
+    let journal = format!(in alloc; "{}/j{number}", words.folder)?;
+    let number = format!(in alloc; "{number}")?;
+    let mut command = Command::new(alloc, words.node)?;
+    command
+        .arg(words.config)?
+        .arg(journal.as_str())?
+        .arg(number.as_str())?
+        .stdin(Stdio::null())
+        .stdout(Stdio::piped())
+        .spawn(machine)
+}
+
+/// Waits for the line `ready` with the node's number.
+fn hear_ready<P: OpenProcess>(process: &mut Child<P>, node: NodeNumber) -> io::Result<()> {
+    let Some(output) = process.stdout.as_mut() else {
+        return Err(ErrorKind::NotFound.into());
+    };
+    let mut said = [0u8; 8];
+    output.read_exact(&mut said)?;
+    let ready = [b'r', b'e', b'a', b'd', b'y', b' ', b'0' + node.value, b'\n'];
+    if said != ready {
+        return Err(ErrorKind::InvalidData.into());
+    }
+    Ok(())
+}
+
+/// Ends a process that goes on by itself.
+pub fn kill<P: OpenProcess>(process: &mut Child<P>) {
+    let _ = process.kill();
+    let _ = process.wait();
+}
+
+/// Starts a node, and waits until it is ready. Its standard output stays open as long as the answer is kept.
+pub fn start<M: Machine>(
+    machine: &M,
+    words: Words<'_>,
+    node: NodeNumber,
+) -> Result<Child<M::Started>, Fault> {
+    let Ok(mut process) = spawn(machine, words, node) else {
+        return Err(Fault::Process);
+    };
+    if hear_ready(&mut process, node).is_err() {
+        kill(&mut process);
+        return Err(Fault::Process);
+    }
+    Ok(process)
+}
+
+/// Waits for the end of a node that was told to halt.
+pub fn await_end<P: OpenProcess>(process: &mut Child<P>) -> Result<(), Fault> {
+    match process.wait() {
+        Ok(status) if status.success() => Ok(()),
+        _ => Err(Fault::Process),
+    }
+}
