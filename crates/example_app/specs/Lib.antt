@@ -1,0 +1,3 @@
+pub mod Welcome
+pub mod Latch
+pub mod Visits

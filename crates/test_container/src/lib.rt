@@ -1,0 +1,19 @@
+//! Tests of a container's life from outside: objects that note what they live through, in one list.
+//!
+//! On top of `sv_container`. What is served is proved there; which object is called when, that each is destroyed and
+//! dropped once, and in which order listeners hear, no contract says, and these tests do. Expected notes are
+//! those of Jakarta Servlet 6.0, sections 2.3 ("Servlet Life Cycle"), 6.2.1 ("Filter Lifecycle") and 11.3.2 ("Listener
+//! Registration"), or are reasoned out beside each row.
+#![tactic(auto)]
+
+#[cfg(test)]
+mod cast;
+#[cfg(test)]
+mod events;
+#[cfg(test)]
+mod faults;
+#[cfg(test)]
+mod lives;
+mod noting;
+#[cfg(test)]
+mod served;
