@@ -1,0 +1,65 @@
+"""What clients saw of a session that counts its requests, and what they may see."""
+import threading
+import time
+from dataclasses import dataclass
+
+
+class Breach(Exception):
+    """Something that must not be."""
+
+
+@dataclass
+class Request:
+    begun: float
+    ended: float = 0
+    number: int = 0
+    refused: bool = False
+
+
+class History:
+    """The requests of one session. Each that is answered is given a number: the count of the session behind it."""
+
+    def __init__(self, cookie):
+        self.cookie = cookie
+        self.key = int(cookie[2:4], 16), int(cookie[4:20], 16)
+        self.lock = threading.Lock()
+        self.requests = [Request(time.monotonic(), time.monotonic(), 1)]
+        self.at = 0
+
+    def begin(self):
+        with self.lock:
+            self.requests.append(Request(time.monotonic()))
+            return self.requests[-1]
+
+    def answered(self, request, number):
+        with self.lock:
+            request.ended, request.number = time.monotonic(), number
+            self.look_at(request)
+
+    def refused(self, request):
+        request.refused = True
+
+    def look_at(self, request):
+        """No number is given twice; a request that begins behind an answer has a greater one; and no number is above the
+        count of requests that had begun and weren't refused."""
+        begun = 0
+        for other in self.requests:
+            if other is request:
+                begun += 1
+                continue
+            begun += other.begun < request.ended and not other.refused
+            if other.number == request.number:
+                raise Breach(f"session {self.cookie}: the number {request.number} is given twice")
+            if other.number and other.ended < request.begun and other.number > request.number:
+                raise Breach(f"session {self.cookie}: {request.number} behind {other.number}")
+        if request.number > begun:
+            raise Breach(f"session {self.cookie}: the number {request.number} for {begun} requests")
+
+    def look_at_the_end(self, count):
+        """The session that is kept counts each answered request, and at most those besides whose answers were cut off."""
+        answered = [request.number for request in self.requests if request.number]
+        unknown = sum(not request.number and not request.refused for request in self.requests)
+        if count < max(answered):
+            raise Breach(f"session {self.cookie}: {max(answered)} was answered and {count} is kept")
+        if count - len(answered) > unknown:
+            raise Breach(f"session {self.cookie}: {count} is kept of {len(answered)} answers and {unknown} without one")
