@@ -2,11 +2,10 @@
 
 use crate::member::{Member, NOW};
 use crate::step::{KeyName, Step};
-use crate::texts::{numbered, output_text, packet_text, state_text};
-use http::Method;
 use std::alloc::{AllocError, Global};
 use std::test::Fail;
-use sv_model::{Input, Key, Output, Packet, Request, Sequence, Text};
+use sv_model::{Input, Key, Output, Packet};
+use test_engine::{numbered, output_text, packet_text, request, state_text};
 
 /// All nodes, and all packets in order of sending.
 #[derive(Drop)]
@@ -22,23 +21,6 @@ pub fn key((home, serial): KeyName) -> Key {
         home,
         serial: serial as u64,
     }
-}
-
-/// A request with this body.
-pub fn request(alloc: Global, body: &[u8], close: bool) -> Result<Request, AllocError> {
-    let mut bytes = Sequence::new(alloc);
-    bytes.extend_from_slice(body)?;
-    Ok(Request {
-        method: Method::GET,
-        raw_path: Text::from_str(alloc, "/count")?,
-        path: Text::from_str(alloc, "/count")?,
-        query: None,
-        fields: Sequence::new(alloc),
-        cookies: Sequence::new(alloc),
-        params: Sequence::new(alloc),
-        body: bytes,
-        close,
-    })
 }
 
 /// The node that a packet is for.

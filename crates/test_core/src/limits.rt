@@ -1,9 +1,6 @@
 //! Numbers at their ends: keys, serials and epochs; and records that don't fit.
 
-use crate::cluster::request;
-use crate::counter::Counter;
 use crate::member::{NOW, SECRET, recovered, setting};
-use crate::texts::{output_text, state_text};
 use std::alloc::Global;
 use std::process::Abort;
 use std::test::Fail;
@@ -11,6 +8,7 @@ use sv_core::{ApplyFault, Core};
 use sv_model::{
     Attributes, Change, Input, KEY_LIMIT, Key, KeyState, Moment, Packet, Record, Session,
 };
+use test_engine::{Counter, output_text, request, state_text};
 
 fn key((home, serial): (u8, u64)) -> Key {
     Key { home, serial }

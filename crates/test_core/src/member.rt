@@ -1,10 +1,10 @@
 //! One node of a cluster: its core, and the records that it has kept.
 
-use crate::counter::Counter;
 use std::alloc::{AllocError, Global};
 use std::test::Fail;
 use sv_core::{Core, Decision};
 use sv_model::{Input, Moment, Output, Record, Secret, Setting};
+use test_engine::Counter;
 
 /// The secret of each session.
 pub const SECRET: Secret = Secret([1; 16]);

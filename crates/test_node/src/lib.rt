@@ -5,8 +5,6 @@
 #![tactic(auto)]
 
 #[cfg(test)]
-mod counter;
-#[cfg(test)]
 mod running;
 #[cfg(test)]
 mod waiting;

@@ -2,14 +2,13 @@
 
 ghost use Rattle.std.specs.Prelude.{IfOk};
 
-use crate::counter::Counter;
-use http::Method;
 use std::alloc::{AllocError, Global};
 use std::process::Abort;
 use std::test::Fail;
 use sv_journal::MemoryDisk;
-use sv_model::{Input, Moment, Output, Request, Secret, Sequence, Setting, Site, StepFault, Text};
+use sv_model::{Input, Moment, Output, Secret, Setting, Site, StepFault};
 use sv_node::{Node, NotOpened};
+use test_engine::{Counter, request};
 
 const AT: Moment = Moment {
     now: 1000,
@@ -48,22 +47,6 @@ fn opened(alloc: Global, a: MemoryDisk, b: MemoryDisk) -> Result<Node<Counter, M
     }
 }
 
-fn request(alloc: Global) -> Result<Request, AllocError> {
-    let mut body = Sequence::new(alloc);
-    body.extend_from_slice(&FIRST)?;
-    Ok(Request {
-        method: Method::GET,
-        raw_path: Text::from_str(alloc, "/count")?,
-        path: Text::from_str(alloc, "/count")?,
-        query: None,
-        fields: Sequence::new(alloc),
-        cookies: Sequence::new(alloc),
-        params: Sequence::new(alloc),
-        body,
-        close: false,
-    })
-}
-
 /// The digit of the one answer that was put out.
 fn digit(outputs: &[Output]) -> char {
     match outputs {
@@ -89,7 +72,7 @@ fn count<S: Site>(alloc: Global, site: &mut S) -> Result<char, AllocError>
     requires { S.site_valid site.old }
     ensures { S.site_valid site.new }
 {
-    let request = request(alloc)?;
+    let request = request(alloc, &FIRST, false)?;
     match site.step(AT, Input::Ask { token: 1, request }) {
         Ok(outputs) => Ok(digit(&outputs)),
         Err(fault) => Ok(letter(fault)),

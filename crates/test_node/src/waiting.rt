@@ -2,7 +2,6 @@
 
 ghost use Rattle.std.specs.Prelude.{◌<◌, IfOk};
 
-use crate::counter::Counter;
 use std::alloc::Global;
 use std::process::Abort;
 use std::test::Fail;
@@ -10,6 +9,7 @@ use sv_connection::{Connection, Outcome};
 use sv_journal::MemoryDisk;
 use sv_model::{Input, Key, Moment, Output, Packet, Secret, Setting, Site};
 use sv_node::Node;
+use test_engine::Counter;
 
 const AT: Moment = Moment {
     now: 1000,

@@ -1,4 +1,5 @@
-//! What a node puts out, and what it knows of a key, as texts.
+//! What a node puts out, and what it knows of a key, as texts. No contract pins them: tests compare them with what was written
+//! by hand.
 
 use std::alloc::{AllocError, Global};
 use sv_model::{KeyState, Output, Packet, Response};

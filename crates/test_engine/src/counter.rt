@@ -1,7 +1,7 @@
 //! An engine that counts the requests of a session.
 
 ghost use Rattle.std.specs.Prelude.{◌≡◌, ⊤, [], Option, IfOk};
-ghost use Rattle.test_node.specs.Counting.{named_by, first_at, counted, again_at, digit};
+ghost use Rattle.test_engine.specs.Counting.{named_by, first_at, counted, again_at, digit};
 
 use http::StatusCode;
 use std::alloc::{AllocError, Global};
@@ -81,8 +81,8 @@ fn digit(alloc: Global, count: u64) -> Result<Response, AllocError>
 }
 
 impl Engine for Counter {
-    ghost use Rattle.test_node.specs.Counting.{counts};
-    ghost use Rattle.test_node.specs.CountingLaws.{keeps_limits, touches_only_handed, names_keys};
+    ghost use Rattle.test_engine.specs.Counting.{counts};
+    ghost use Rattle.test_engine.specs.CountingLaws.{keeps_limits, touches_only_handed, names_keys};
 
     ghost meaning = { λ e. counts e.secret };
 

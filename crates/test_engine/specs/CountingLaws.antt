@@ -1,4 +1,4 @@
--- The laws of the engine of this crate's tests.
+-- The laws of the engine of tests.
 use Rattle.std.proofs.Common.{◌≡◌, ℕ, suc, ◌<◌, ◌≤◌, true, false, length, Option, Some, None, List, [], ◌∷◌, arith, refl, ⊎_elim}
 use Rattle.std.specs.Prelude.{IfSome, ◌&&◌, nat_lt}
 use Rattle.std.proofs.lemmas.Bool.{cond_both}
@@ -15,7 +15,7 @@ use Rattle.sv_model.specs.declared.event.Told.{Told}
 use Rattle.sv_model.specs.Engine.{heard_all, TouchesOnlyHanded, KeepsLimits, KeepsWithin, BringsWithin, NamesKeys}
 use Rattle.sv_model.specs.Session.{IsWithinLimits}
 use Rattle.sv_model.proofs.AttributesLemmas.{attributes_size-nil}
-use Rattle.test_node.specs.Counting.{named_by, first_at, again_at, counts_at, counts}
+use Rattle.test_engine.specs.Counting.{named_by, first_at, again_at, counts_at, counts}
 
 first_within : (now : ℕ) (fresh : Key × Secret) → IsWithinLimits (first_at now fresh)
 first_within now fresh = record {

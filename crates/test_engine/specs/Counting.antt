@@ -1,4 +1,4 @@
--- What the engine of this crate's tests answers: it counts the requests of a session.
+-- What the engine of tests answers: it counts the requests of a session.
 use Rattle.std.specs.Prelude.{ℕ, ◌+◌, ◌%◌, ◌==◌, ◌&&◌, nat_lt, cond, pos, false, true, Option, Some, None, List, [], ◌∷◌}
 use Rattle.sv_model.specs.declared.key.Key.{Key}
 use Rattle.sv_model.specs.declared.key.Secret.{Secret}
