@@ -13,7 +13,7 @@ use Rattle.sv_model.specs.declared.outcome.Fate.TheVariants.{Untouched}
 use Rattle.sv_model.specs.Keys.{IsKey}
 use Rattle.sv_model.specs.declared.event.Told.{Told}
 use Rattle.sv_model.specs.Engine.{heard_all, TouchesOnlyHanded, KeepsLimits, KeepsWithin, BringsWithin, NamesKeys}
-use Rattle.sv_model.specs.Session.{IsWithinLimits}
+use Rattle.sv_model.specs.Session.{IsWithinLimits, is_expired}
 use Rattle.sv_model.proofs.AttributesLemmas.{attributes_size-nil}
 use Rattle.test_engine.specs.Counting.{named_by, first_at, again_at, counts_at, counts}
 
@@ -35,7 +35,7 @@ IsWithin o = KeepsWithin o.fate × BringsWithin o.birth
 
 counts_within : (held : Option (Key × Session)) (now : ℕ) (fresh : Key × Secret) → IfSome held (λ h. IsWithinLimits h.1) → IsWithin (counts_at held now fresh)
 counts_within None now fresh within = (tt, first_within now fresh)
-counts_within (Some (k, s)) now fresh within = (again_within now s within, tt)
+counts_within (Some (k, s)) now fresh within = cond_both (is_expired s now) _ _ (λ o. IsWithin o) (λ _. (tt, first_within now fresh)) (λ _. (again_within now s within, tt))
 
 pub keeps_limits : (secret : Secret) → KeepsLimits (counts secret)
 keeps_limits secret r held now fresh within = cond_both r.close _ _ (λ o. IsWithin o) (λ _. (tt, tt)) (λ _. counts_within held now fresh within)

@@ -1,16 +1,17 @@
 //! An engine that counts the requests of a session.
 
-ghost use Rattle.std.specs.Prelude.{◌≡◌, ⊤, [], Option, IfOk};
-ghost use Rattle.test_engine.specs.Counting.{named_by, first_at, counted, again_at, digit};
+ghost use Rattle.std.specs.Prelude.{◌≡◌, ◌∷◌, ⊤, [], Option, IfOk};
+ghost use Rattle.sv_model.specs.declared.event.Event.TheVariants.{Destroyed};
+ghost use Rattle.test_engine.specs.Counting.{named_by, first_at, counted, again_at, digit, begun, kept, untouched};
 
 use http::StatusCode;
 use std::alloc::{AllocError, Global};
 use sv_model::{
-    Attributes, Birth, Engine, EngineFault, Fate, Key, Outcome, Request, Response, Secret,
+    Attributes, Birth, Engine, EngineFault, Event, Fate, Key, Outcome, Request, Response, Secret,
     Sequence, Session, Told,
 };
 
-/// It makes a session where none is handed in, and answers the last digit of the count.
+/// It makes a session where none is handed in, or an expired one, which it ends; and answers the last digit of the count.
 #[derive(Drop)]
 pub struct Counter {
     pub alloc: Global,
@@ -61,7 +62,7 @@ fn again_at(alloc: Global, now: u64, session: &Session) -> Result<Session, Alloc
 {
     let mut kept = session.copy(alloc)?;
     kept.created = counted(kept.created);
-    kept.last = now;
+    kept.last = kept.last.max(now);
     Ok(kept)
 }
 
@@ -78,6 +79,60 @@ fn digit(alloc: Global, count: u64) -> Result<Response, AllocError>
         head_only: false,
         close: false,
     })
+}
+
+/// The first request of a session, which ends the one that was handed in and has expired.
+fn begun(
+    alloc: Global,
+    fate: Fate,
+    now: u64,
+    fresh: (Key, Secret),
+    events: Sequence<Told>,
+) -> Result<Outcome, AllocError>
+    ensures { IfOk result (λ outcome. outcome ≡ begun fate now fresh events) }
+{
+    Ok(Outcome {
+        response: digit(alloc, 1)?,
+        fate,
+        birth: Birth::Alive(first_at(alloc, now, fresh)),
+        events,
+    })
+}
+
+/// One more request of a session.
+fn kept(alloc: Global, now: u64, session: &Session) -> Result<Outcome, AllocError>
+    ensures { IfOk result (λ outcome. outcome ≡ kept now session.now) }
+{
+    Ok(Outcome {
+        response: digit(alloc, counted(session.created))?,
+        fate: Fate::Kept(again_at(alloc, now, session)?),
+        birth: Birth::Absent,
+        events: Sequence::new(alloc),
+    })
+}
+
+/// A request that touches no session.
+fn untouched(alloc: Global) -> Result<Outcome, AllocError>
+    ensures { IfOk result (λ outcome. outcome ≡ untouched) }
+{
+    Ok(Outcome {
+        response: digit(alloc, 0)?,
+        fate: Fate::Untouched,
+        birth: Birth::Absent,
+        events: Sequence::new(alloc),
+    })
+}
+
+/// That a session has ended.
+fn ended(alloc: Global, key: Key) -> Result<Sequence<Told>, AllocError>
+    ensures { IfOk result (λ events. events ≡ record { context = 0; event = Destroyed key } ∷ []) }
+{
+    let mut events = Sequence::new(alloc);
+    events.push(Told {
+        context: 0,
+        event: Event::Destroyed(key),
+    })?;
+    Ok(events)
 }
 
 impl Engine for Counter {
@@ -101,28 +156,19 @@ impl Engine for Counter {
         now: u64,
         fresh: (Key, Secret),
     ) -> Result<Outcome, EngineFault> {
-        let events = Sequence::new(self.alloc);
         if request.close {
-            return Ok(Outcome {
-                response: digit(self.alloc, 0)?,
-                fate: Fate::Untouched,
-                birth: Birth::Absent,
-                events,
-            });
+            return Ok(untouched(self.alloc)?);
         }
         match session {
-            Some((_, session)) => Ok(Outcome {
-                response: digit(self.alloc, counted(session.created))?,
-                fate: Fate::Kept(again_at(self.alloc, now, session)?),
-                birth: Birth::Absent,
-                events,
-            }),
-            None => Ok(Outcome {
-                response: digit(self.alloc, 1)?,
-                fate: Fate::Untouched,
-                birth: Birth::Alive(first_at(self.alloc, now, fresh)),
-                events,
-            }),
+            Some((key, session)) if session.is_expired(now) => {
+                let events = ended(self.alloc, key)?;
+                Ok(begun(self.alloc, Fate::Ended, now, fresh, events)?)
+            }
+            Some((_, session)) => Ok(kept(self.alloc, now, session)?),
+            None => {
+                let events = Sequence::new(self.alloc);
+                Ok(begun(self.alloc, Fate::Untouched, now, fresh, events)?)
+            }
         }
     }
 
