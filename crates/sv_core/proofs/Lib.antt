@@ -1,3 +1,4 @@
+pub mod OrderLemmas
 pub mod TableLemmas
 pub mod WaitingLemmas
 pub mod TimeLemmas
@@ -10,4 +11,3 @@ pub mod KeptLemmas
 pub mod SoundLemmas
 pub mod SnapshotLemmas
 pub mod RangeLemmas
-pub mod SearchLemmas

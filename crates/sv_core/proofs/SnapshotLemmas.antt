@@ -18,10 +18,10 @@ use Rattle.sv_model.specs.NodeState.{Keys, Durable, is_unmade}
 use Rattle.sv_model.specs.Replay.{blank, replayed, AllFit}
 use Rattle.sv_model.proofs.KeyLemmas.{keys_total}
 use Rattle.sv_model.proofs.EntryLemmas.{no_entries, known}
-use Rattle.sv_core.specs.Entries.{Entry, Rises}
+use Rattle.sv_core.specs.Order.{Entry}
 use Rattle.sv_core.specs.Snapshot.{staged, state_record, snapshot_of}
 use Rattle.sv_core.proofs.SoundLemmas.{IsSound}
-use Rattle.sv_core.proofs.TableLemmas.{first, second, less, reversed}
+use Rattle.sv_core.proofs.OrderLemmas.{Rises, first, second, less, reversed}
 use Rattle.sv_core.proofs.KeptLemmas.{lower_is}
 
 -- ---- an entry above all others

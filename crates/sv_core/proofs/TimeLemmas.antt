@@ -4,7 +4,7 @@ use Rattle.std.specs.Ordering.{is_eq}
 use Rattle.std.specs.declared.cmp.Ordering.{Ordering}
 use Rattle.std.specs.declared.cmp.Ordering.TheVariants.{Less, Equal, Greater}
 use Rattle.std.specs.Cmp.{eq_by_cmp_equiv}
-use Rattle.std.specs.FinMap.{insert, entries, find, put, get-insert, get-from_entries, entries-insert}
+use Rattle.std.specs.FinMap.{insert, entries, find, put, entries_sorted, get-entries, get-insert, entries-insert}
 use Rattle.std.specs.FinMap.Entries.{below_all, by_order}
 use Rattle.sv_model.specs.declared.key.Key.{Key}
 use Rattle.sv_model.specs.declared.session.Session.{Session}
@@ -14,10 +14,10 @@ use Rattle.sv_model.specs.Keys.{key_cmp, same_key}
 use Rattle.sv_model.specs.Decision.{Decision}
 use Rattle.sv_model.specs.Serving.{ended_at}
 use Rattle.sv_model.proofs.KeyLemmas.{keys_total}
-use Rattle.sv_core.specs.Entries.{Entry, Rises}
+use Rattle.sv_core.specs.Order.{Entry}
 use Rattle.sv_core.specs.Plain.{expiring, ticked}
 use Rattle.sv_core.specs.Decision.{decision_of}
-use Rattle.sv_core.proofs.TableLemmas.{first, second, less, reversed, find_low, one_key, map_of, entries_are}
+use Rattle.sv_core.proofs.OrderLemmas.{Rises, first, second, less, reversed, find_low, one_key}
 use Rattle.std.proofs.Common.{◌≡◌, ℕ, Bool, true, false, cond, Option, Some, None, List, [], ◌∷◌, ◌++◌, refl, sym, ap, ◌∙◌, subst}
 use Rattle.std.specs.Prelude.{not, T}
 use Rattle.std.specs.List.{filter, filter_map, flat_map}
@@ -99,12 +99,12 @@ granted_still set k n s (e ∷ es) rises found = granted_by set k n s e es (key_
 
 -- ---- the tick
 
-module _ (set : Setting) (es : List Entry) (rises : Rises es) (boot next : ℕ) (parked : List Parked) (want now : ℕ) where
+module _ (set : Setting) (keys : Keys) (boot next : ℕ) (parked : List Parked) (want now : ℕ) where
   abbrev pub there : Node
-  there = record { durable = record { keys = map_of es; boot = boot; next = next }; parked = parked; next_want = want }
+  there = record { durable = record { keys = keys; boot = boot; next = next }; parked = parked; next_want = want }
 
   abbrev pub put_out : List Output
-  put_out = deadlines set now parked ++ wants_of set there.durable now parked ++ filter_map (grant_again set) es
+  put_out = deadlines set now parked ++ wants_of set there.durable now parked ++ filter_map (grant_again set) (entries keys)
 
   abbrev pub tick_by : Option Entry → Decision
   tick_by f =
@@ -114,30 +114,30 @@ module _ (set : Setting) (es : List Entry) (rises : Rises es) (boot next : ℕ) 
         parked = waiting;
       }
 
-  tick_idle : tick_by None ≡ record (tick_by None) { outputs = put_out }
-  tick_idle = λ i. record (tick_by None) { outputs = deadlines set now parked ++ wants_of set there.durable now parked ++ filter_map (grant_again set) (entries_are es rises i) }
+  found : (k : Key) (st : KeyState) → first_over now (entries keys) ≡ Some (k, st) → find key_cmp k (entries keys) ≡ Some st
+  found k st is = found_over now (entries keys) k st (entries_sorted keys) is
 
-  known : (k : Key) (st : KeyState) → first_over now es ≡ Some (k, st) → get (map_of es) k ≡ Some st
-  known k st found = get-from_entries keys_total es k ∙ found_over now es k st rises found
+  known : (k : Key) (st : KeyState) → first_over now (entries keys) ≡ Some (k, st) → get keys k ≡ Some st
+  known k st is = get-entries keys k ∙ found k st is
 
-  tick_ended : (k : Key) (e : ℕ) (s : Session) → first_over now es ≡ Some (k, Active e s)
+  tick_ended : (k : Key) (e : ℕ) (s : Session) → first_over now (entries keys) ≡ Some (k, Active e s)
       → decision_of set there (ticked now (Some (k, s.context)) put_out) ≡ tick_by (Some (k, Active e s))
-  tick_ended k e s found = λ i. record (tick_by (Some (k, Active e s))) {
-    durable = record { keys = ended_at k (known k (Active e s) found i) (map_of es); boot = boot; next = next };
+  tick_ended k e s is = λ i. record (tick_by (Some (k, Active e s))) {
+    durable = record { keys = ended_at k (known k (Active e s) is i) keys; boot = boot; next = next };
     outputs = deadlines set now parked
-        ++ flat_map (λ p. wants set there.durable p.key p.want) (filter (λ p. not (sym (settled_still (map_of es) k e s p.key (known k (Active e s) found)) i)) (filter (λ p. not (is_late set now p)) parked))
-        ++ sym (ap (filter_map (grant_again set)) (entries-insert keys_total (map_of es) k (Ended e) ∙ ap (put key_cmp k (Ended e)) (entries_are es rises)) ∙ granted_still set k e s es rises (found_over now es k (Active e s) rises found)) i;
+        ++ flat_map (λ p. wants set there.durable p.key p.want) (filter (λ p. not (sym (settled_still keys k e s p.key (known k (Active e s) is)) i)) (filter (λ p. not (is_late set now p)) parked))
+        ++ sym (ap (filter_map (grant_again set)) (entries-insert keys_total keys k (Ended e)) ∙ granted_still set k e s (entries keys) (entries_sorted keys) (found k (Active e s) is)) i;
   }
 
-  by_found : (f : Option Entry) → first_over now es ≡ f → decision_of set there (ticked now (expiring f) put_out) ≡ tick_by f
-  by_found None found = sym tick_idle
-  by_found (Some (k, Active e s)) found = tick_ended k e s found
-  by_found (Some (k, Sent e s to)) found = sym tick_idle
-  by_found (Some (k, Gone e)) found = sym tick_idle
-  by_found (Some (k, Ended e)) found = sym tick_idle
+  by_found : (f : Option Entry) → first_over now (entries keys) ≡ f → decision_of set there (ticked now (expiring f) put_out) ≡ tick_by f
+  by_found None is = refl
+  by_found (Some (k, Active e s)) is = tick_ended k e s is
+  by_found (Some (k, Sent e s to)) is = refl
+  by_found (Some (k, Gone e)) is = refl
+  by_found (Some (k, Ended e)) is = refl
 
-  pub ticks : (outs : List Output) → outs ≡ put_out → decision_of set there (ticked now (expiring (first_over now es)) outs) ≡ on_tick set there now
-  ticks outs is = ap (λ l. decision_of set there (ticked now (expiring (first_over now es)) l)) is ∙ by_found (first_over now es) refl ∙ ap tick_by (ap (first_over now) (sym (entries_are es rises)))
+  pub ticks : (outs : List Output) → outs ≡ put_out → decision_of set there (ticked now (expiring (first_over now (entries keys))) outs) ≡ on_tick set there now
+  ticks outs is = ap (λ l. decision_of set there (ticked now (expiring (first_over now (entries keys))) l)) is ∙ by_found (first_over now (entries keys)) refl
 
 -- three lists, one behind the other
 pub put_three : (a b c d x y z : List Output) → a ≡ [] → b ≡ a ++ x → c ≡ b ++ y → d ≡ c ++ z → d ≡ x ++ y ++ z

@@ -31,7 +31,7 @@ use Rattle.sv_model.specs.Migration.{no_if_unmade, says_no, on_want, hands_over,
 use Rattle.sv_model.specs.Time.{first_over, expire, on_tick}
 use Rattle.sv_model.specs.Node.{decided}
 use Rattle.sv_core.specs.Core.{IsWithin}
-use Rattle.sv_core.specs.Entries.{Entry}
+use Rattle.sv_core.specs.Order.{Entry}
 
 module _ (set : Setting) (n : Node) (want : n.next_want ≤ last_number) (next : n.durable.next ≤ last_number) where
   either : (b : Bool) (x y : Decision) → (b ≡ true → IsWithin x) → (b ≡ false → IsWithin y) → IsWithin (cond b x y)

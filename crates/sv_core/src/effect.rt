@@ -4,7 +4,7 @@ ghost use Rattle.std.specs.Prelude.{◌≡◌, ◌<◌, ◌≤◌, vec_len, vec_
 ghost use Rattle.sv_model.specs.NodeState.{last_number};
 ghost use Rattle.sv_model.specs.Replay.{with_named, with_born, keys_behind, applied, applied_if, stage_behind, stage_behind_if};
 ghost use Rattle.sv_core.specs.Decision.{parked_by, want_by, behind};
-ghost use Rattle.sv_core.specs.Table.{keys_of, HasRoom};
+ghost use Rattle.sv_core.specs.Table.{keys_of, HasRoom, HasPlace};
 ghost use Rattle.sv_core.specs.Effect.{HasSerial};
 
 use crate::decision::Waiting;
@@ -18,7 +18,7 @@ impl Table {
     fn take_named(&mut self, named: Change)
         requires { HasRoom self.old }
         ensures keys { keys_of self.new ≡ with_named named (keys_of self.old) }
-        ensures room { HasRoom self.new }
+        ensures place { HasPlace self.new }
     {
         match named {
             Change::Absent => {}
@@ -29,7 +29,7 @@ impl Table {
 
     /// What became of a session that was made.
     fn take_born(&mut self, born: Change)
-        requires { HasRoom self.old }
+        requires { HasPlace self.old }
         ensures { keys_of self.new ≡ with_born born (keys_of self.old) }
     {
         match born {

@@ -1,23 +1,23 @@
 //! All that a node keeps durably, as records that give it again.
 
 ghost use Rattle.std.specs.Prelude.{◌≡◌, ◌++◌, IfOk, OnOk, map};
+ghost use Rattle.std.specs.FinMap.{entries};
 ghost use Rattle.sv_core.specs.Kept.{node_of};
 ghost use Rattle.sv_core.specs.Snapshot.{state_record, snapshot_of};
 
 use crate::kept::Kept;
+use crate::order::Wanted;
 use std::alloc::AllocError;
 use sv_model::Record;
 
 impl Kept {
     /// A record of what is known of each key, in order of the keys.
     fn add_states(&self, records: &mut Vec<Record>) -> Result<(), AllocError>
-        ensures { OnOk result (records.new.items ≡ records.old.items ++ map state_record self.now.keys.entries.items) }
+        ensures { OnOk result (records.new.items ≡ records.old.items ++ map state_record (entries (node_of self.now).durable.keys)) }
     {
-        for entry in self.keys.entries() {
-            records.push(Record::State {
-                key: entry.0,
-                state: entry.1.copy(self.alloc)?,
-            })?;
+        for (key, state) in self.keys.in_order(self.alloc, Wanted::Every)? {
+            let state = state.copy(self.alloc)?;
+            records.push(Record::State { key, state })?;
         }
         Ok(())
     }

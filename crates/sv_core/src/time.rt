@@ -3,12 +3,14 @@
 ghost use Rattle.std.specs.Prelude.{◌≡◌, ◌++◌, ℕ, List, [], ◌∷◌, Option, Some, None, not, IfOk, OnOk, map};
 ghost use Rattle.std.specs.List.{filter_map};
 ghost use Rattle.std.specs.Option.{option_to_list};
+ghost use Rattle.std.specs.FinMap.{entries};
 ghost use Rattle.sv_core.specs.Time.{wants_of};
 ghost use Rattle.sv_core.specs.Plain.{expiring, ticked};
 ghost use Rattle.sv_model.specs.Time.{is_late, deadlines, grant_again, first_over, on_tick};
 
 use crate::decision::{Decision, Waiting};
 use crate::kept::Kept;
+use crate::order::Wanted;
 use std::alloc::AllocError;
 use sv_model::{
     Cause, Commit, Event, Key, KeyState, Output, Packet, Parked, Record, Setting, Told,
@@ -93,20 +95,20 @@ impl Kept {
 
     /// The sessions that were handed over are handed over again, in order of their keys.
     fn add_grants_again(&self, outputs: &mut Vec<Output>) -> Result<(), AllocError>
-        ensures { OnOk result (outputs.new.items ≡ outputs.old.items ++ filter_map (grant_again self.now.setting) self.now.keys.entries.items) }
+        ensures { OnOk result (outputs.new.items ≡ outputs.old.items ++ filter_map (grant_again self.now.setting) (entries (node_of self.now).durable.keys)) }
     {
-        for entry in self.keys.entries() {
-            self.add_grant_of(outputs, entry.0, &entry.1)?;
+        for (key, state) in self.keys.in_order(self.alloc, Wanted::HandedOver)? {
+            self.add_grant_of(outputs, key, state)?;
         }
         Ok(())
     }
 
     /// The key and the context of the session of the least key that has expired.
     fn expiring(&self, now: u64) -> Option<(Key, u8)>
-        ensures { result ≡ expiring (first_over now self.now.keys.entries.items) }
+        ensures { result ≡ expiring (first_over now (entries (node_of self.now).durable.keys)) }
     {
         match self.keys.first_over(now) {
-            Some((key, KeyState::Active { session, .. })) => Some((*key, session.context)),
+            Some((key, KeyState::Active { session, .. })) => Some((key, session.context)),
             _ => None,
         }
     }

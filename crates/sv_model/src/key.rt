@@ -4,7 +4,7 @@
 pub const NODE_LIMIT: u8 = 8;
 
 /// The name of a session in the whole cluster, in order of home and then serial.
-#[derive(Clone, Copy, Debug, PartialEq, Eq, PartialOrd, Ord)]
+#[derive(Clone, Copy, Debug, PartialEq, Eq, PartialOrd, Ord, Hash)]
 pub struct Key {
     /// The node that made the session, below 8.
     pub home: u8,
