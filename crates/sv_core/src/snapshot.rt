@@ -15,7 +15,8 @@ impl Kept {
     fn add_states(&self, records: &mut Vec<Record>) -> Result<(), AllocError>
         ensures { OnOk result (records.new.items ≡ records.old.items ++ map state_record (entries (node_of self.now).durable.keys)) }
     {
-        for (key, state) in self.keys.in_order(self.alloc, Wanted::Every)? {
+        let ordered = self.keys.in_order(self.alloc, Wanted::Every)?;
+        for (key, state) in ordered {
             let state = state.copy(self.alloc)?;
             records.push(Record::State { key, state })?;
         }

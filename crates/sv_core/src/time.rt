@@ -97,7 +97,8 @@ impl Kept {
     fn add_grants_again(&self, outputs: &mut Vec<Output>) -> Result<(), AllocError>
         ensures { OnOk result (outputs.new.items ≡ outputs.old.items ++ filter_map (grant_again self.now.setting) (entries (node_of self.now).durable.keys)) }
     {
-        for (key, state) in self.keys.in_order(self.alloc, Wanted::HandedOver)? {
+        let ordered = self.keys.in_order(self.alloc, Wanted::HandedOver)?;
+        for (key, state) in ordered {
             self.add_grant_of(outputs, key, state)?;
         }
         Ok(())
