@@ -1,6 +1,6 @@
 //! What a node knows of its keys, in order of the keys.
 
-ghost use Rattle.std.specs.Prelude.{◌≡◌, Option, IfOk, map};
+ghost use Rattle.std.specs.Prelude.{◌≡◌, IfOk, map};
 ghost use Rattle.std.specs.List.{filter};
 ghost use Rattle.std.specs.Option.{option_map};
 ghost use Rattle.std.specs.FinMap.{entries};
@@ -15,7 +15,7 @@ use std::alloc::{AllocError, Global};
 use std::collections::BTreeMap;
 use sv_model::{Key, KeyState};
 
-/// Of which keys it is wanted what is known of them.
+/// Of which keys the states are wanted.
 #[derive(Clone, Copy)]
 pub enum Wanted {
     Every,

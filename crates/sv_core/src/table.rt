@@ -1,6 +1,6 @@
 //! The keys that a node knows.
 
-ghost use Rattle.std.specs.Prelude.{◌≡◌, [], ◌+◌, ◌≤◌, OnOk, option_copied};
+ghost use Rattle.std.specs.Prelude.{◌≡◌, ◌+◌, ◌≤◌, OnOk, option_copied};
 ghost use Rattle.std.specs.HashMap.{IsEmpty, spare};
 ghost use Rattle.std.specs.FinMap.{get, insert, len};
 ghost use Rattle.sv_model.specs.Serving.{kept_at, ended_at};
