@@ -19,7 +19,7 @@ pub struct Call {
 }
 
 /// To whom a packet goes.
-pub fn addressee(packet: &Packet) -> u8
+fn addressee(packet: &Packet) -> u8
     ensures { result ≡ addressee packet.now }
 {
     match *packet {

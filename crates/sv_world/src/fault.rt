@@ -1,10 +1,9 @@
 //! Why an event did not happen.
 
 ghost use Rattle.std.specs.Prelude.{◌≡◌};
-ghost use Rattle.sv_world.specs.declared.fault.WorldFault.TheVariants.{Memory as OutOfMemory};
+ghost use Rattle.sv_world.specs.declared.fault.WorldFault.TheVariants.{Memory};
 
 use std::alloc::{AllocError, AllocFailed};
-use sv_core::Memory;
 use thiserror::Error;
 
 /// Why an event did not happen; nothing has changed.
@@ -31,7 +30,7 @@ pub enum WorldFault {
 }
 
 impl From<AllocError> for WorldFault {
-    ghost from_gives = { λ _ fault. fault ≡ OutOfMemory };
+    ghost from_gives = { λ _ fault. fault ≡ Memory };
 
     fn from(_: AllocError) -> Self {
         WorldFault::Memory
@@ -39,17 +38,9 @@ impl From<AllocError> for WorldFault {
 }
 
 impl<T: Drop> From<AllocFailed<T>> for WorldFault {
-    ghost from_gives = { λ _ fault. fault ≡ OutOfMemory };
+    ghost from_gives = { λ _ fault. fault ≡ Memory };
 
     fn from(_: AllocFailed<T>) -> Self {
-        WorldFault::Memory
-    }
-}
-
-impl From<Memory> for WorldFault {
-    ghost from_gives = { λ _ fault. fault ≡ OutOfMemory };
-
-    fn from(_: Memory) -> Self {
         WorldFault::Memory
     }
 }

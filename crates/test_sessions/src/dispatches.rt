@@ -6,20 +6,18 @@ ghost use Rattle.sv_servlet.specs.declared.servlet.Phase.TheVariants.{Ready};
 ghost use Rattle.test_sessions.specs.Staged.{IsStaged};
 
 mod filters;
-mod kinds;
 mod nesting;
 mod pages;
 mod shown;
 
 use crate::scripted::{Marking, Says, Scripted, Then};
-use crate::staged::{add_filter, add_servlet};
+use crate::staged::add_servlet;
 use http::Method;
 use std::alloc::Global;
 use std::process::Abort;
 use std::test::Fail;
 use sv_dispatch::{Ended, Stage, run};
-use sv_mapping::{Dispatcher, Dispatchers};
-use sv_servlet::{Call, Filter, Phase, Replied, RequestAttributes, Servlet};
+use sv_servlet::{Call, Filter, Phase, RequestAttributes, Servlet};
 
 /// A servlet of a path: its status, what it writes, and what is to follow.
 type Row = (&'static str, u16, Says, Then);
@@ -54,39 +52,6 @@ fn add_servlets(
     Ok(())
 }
 
-/// A filter that is ready.
-fn filter_of(alloc: Global, before: &'static str, after: &'static str, then: Then) -> Marking
-    ensures { result.phase ≡ Ready }
-{
-    Marking {
-        before,
-        after,
-        then,
-        phase: Phase::Ready,
-        alloc,
-    }
-}
-
-/// Adds two filters for a kind of dispatch: the first passes, and the second does as `then` says.
-fn add_filters(
-    alloc: Global,
-    stage: &mut Stage<Scripted, Marking>,
-    kind: Dispatcher,
-    then: Then,
-) -> Result<(), Fail>
-    requires { IsStaged stage.old }
-    ensures { IsStaged stage.new }
-{
-    let kinds = Dispatchers::of(&[kind]);
-    add_filter(
-        alloc,
-        stage,
-        kinds,
-        filter_of(alloc, "<b", "b>", Then::Ends),
-    )?;
-    add_filter(alloc, stage, kinds, filter_of(alloc, "<a", "a>", then))
-}
-
 /// A request for a path of the context `/shop`.
 fn call_of<'a>(
     method: &'a Method,
@@ -113,20 +78,6 @@ fn call_of<'a>(
 /// What comes of a request: how it ends, the status and the body.
 type Want = (Ended, u16, &'static str);
 
-/// A dispatch ended so, with this status and this body.
-fn compare(
-    rt: &(impl Abort + AllocGlobal),
-    path: &str,
-    ended: Ended,
-    replied: &Replied,
-    want: Want,
-) -> Result<(), Fail> {
-    let body = str::from_utf8(replied.body.as_slice())?;
-    let got = (ended, replied.status.as_u16(), body);
-    assert_eq!(rt; got, want, "at {path}");
-    Ok(())
-}
-
 /// Dispatches a request for a path of the context, and compares.
 fn expect<S: Servlet, F: Filter>(
     rt: &(impl Abort + AllocGlobal),
@@ -143,5 +94,11 @@ fn expect<S: Servlet, F: Filter>(
     let uri = format!(in alloc; "/shop{path}")?;
     let call = call_of(&method, None, &attributes, uri.as_str(), path);
     let ended = run(alloc, &mut stage, call)?;
-    compare(rt, uri.as_str(), ended, &stage.reply.finish(), want)
+    let (want_ended, want_status, want_body) = want;
+    assert_eq!(rt; ended, want_ended, "at {path}");
+    let replied = stage.reply.finish();
+    assert_eq!(rt; replied.status.as_u16(), want_status, "at {path}");
+    let body = str::from_utf8(replied.body.as_slice())?;
+    assert_eq!(rt; body, want_body, "at {path}");
+    Ok(())
 }
