@@ -23,7 +23,7 @@ step_none true true false u f h = refl
 step_none true true true false f h = refl
 step_none true true true true f h = absurd (let no : None ≡ Some f = h in cc)
 
-step_goes : (a b s u : Bool) → step_fault a b s u ≡ None → (a && (b && (s && u))) ≡ true
+pub step_goes : (a b s u : Bool) → step_fault a b s u ≡ None → (a && (b && (s && u))) ≡ true
 step_goes false b s u h = absurd (let no : Some NoNode ≡ None = h in cc)
 step_goes true false s u h = absurd (let no : Some NotRunning ≡ None = h in cc)
 step_goes true true false u h = absurd (let no : Some NoPacket ≡ None = h in cc)
@@ -35,7 +35,7 @@ start_none false b f h = refl
 start_none true true f h = refl
 start_none true false f h = absurd (let no : None ≡ Some f = h in cc)
 
-start_goes : (a b : Bool) → start_fault a b ≡ None → (a && not b) ≡ true
+pub start_goes : (a b : Bool) → start_fault a b ≡ None → (a && not b) ≡ true
 start_goes false b h = absurd (let no : Some NoNode ≡ None = h in cc)
 start_goes true true h = absurd (let no : Some Running ≡ None = h in cc)
 start_goes true false h = refl
@@ -45,7 +45,7 @@ stop_none false b f h = refl
 stop_none true false f h = refl
 stop_none true true f h = absurd (let no : None ≡ Some f = h in cc)
 
-stop_goes : (a b : Bool) → stop_fault a b ≡ None → (a && b) ≡ true
+pub stop_goes : (a b : Bool) → stop_fault a b ≡ None → (a && b) ≡ true
 stop_goes false b h = absurd (let no : Some NoNode ≡ None = h in cc)
 stop_goes true false h = absurd (let no : Some NotRunning ≡ None = h in cc)
 stop_goes true true h = refl

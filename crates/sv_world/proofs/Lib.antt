@@ -19,3 +19,12 @@ pub mod Answered
 pub mod Example
 pub mod FaultLemmas
 pub mod TracedLemmas
+pub mod NodeLemmas
+pub mod OrderLemmas
+pub mod HappenedLemmas
+pub mod HeadlineLemmas
+pub mod RanLemmas
+pub mod ActingLemmas
+pub mod SeatLemmas
+pub mod MakingLemmas
+pub mod BegunLemmas

@@ -1,14 +1,29 @@
--- What an event has done, as a line of the trace.
-use Rattle.std.specs.Prelude.{false, true, Option, None, List, []}
+-- What a task does at a node, and what has been done, as a line of the trace.
+use Rattle.std.specs.Prelude.{◌+◌, ◌==◌, ◌&&◌, false, true, Bool, cond, is_some, not, Option, Some, None, List, []}
+use Rattle.sv_model.specs.declared.input.Input.{Input}
+use Rattle.sv_model.specs.declared.key.Token.{Token}
+use Rattle.sv_model.specs.declared.node.Setting.{Setting}
+use Rattle.sv_model.specs.declared.event.Told.{Told}
 use Rattle.sv_model.specs.declared.output.Output.{Output}
 use Rattle.sv_model.specs.declared.record.Record.{Record}
+use Rattle.sv_model.specs.declared.record.Record.TheVariants.{Boot}
 use Rattle.sv_model.specs.declared.commit.Commit.{Commit}
+use Rattle.sv_model.specs.Engine.{EngineMeaning}
+use Rattle.sv_model.specs.NodeState.{Durable, last_number}
 use Rattle.sv_model.specs.Decision.{Decision}
+use Rattle.sv_model.specs.Node.{decided}
+use Rattle.sv_model.specs.Replay.{applied}
+use Rattle.sv_model.specs.Serving.{token_of}
+use Rattle.sv_model.specs.Step.{left, with_mark}
+use Rattle.sv_model.specs.Trace.{asked_by}
 use Rattle.sv_world.specs.declared.event.WorldEvent.{WorldEvent}
 use Rattle.sv_world.specs.declared.line.Line.{Line}
 use Rattle.sv_world.specs.declared.line.Effect.{Effect}
 use Rattle.sv_world.specs.declared.line.Heading.{Heading}
 use Rattle.sv_world.specs.declared.traced.Traced.{Traced}
+use Rattle.sv_world.specs.declared.task.Task.{Task}
+use Rattle.sv_world.specs.declared.task.Task.TheVariants.{Step, Torn, Stop, Start, TornStart}
+use Rattle.sv_world.specs.World.{Place, stopped, started}
 
 -- nothing is put out and nothing is told
 abbrev pub quiet_at : Heading → Option Record → Option Commit → Effect
@@ -39,3 +54,60 @@ line_of e f =
       mark = f.traced.mark;
       outputs = f.outputs;
     }
+
+-- ---- what a task does
+
+-- the place behind it, and what has been done
+pub record Done : Type 0 where
+  pub place : Place
+  pub effect : Effect
+
+-- a node's heading, with the token of the request that came
+abbrev pub heading_at : Setting → Durable → Option Token → Heading
+heading_at set d asked = record { node = set.node; boot = d.boot; asked = asked }
+
+-- the heading of a step at an input
+abbrev pub heading_by : Setting → Durable → Input → Heading
+heading_by set d input = heading_at set d (asked_by (token_of set d) input)
+
+-- a whole step that was decided
+abbrev pub stepped : Heading → Decision → Done
+stepped h d = record { place = record { up = true; node = left d }; effect = whole_at h d }
+
+-- the node stops, or stays stopped, and nothing is durable that was not
+abbrev pub halted : Heading → Durable → Done
+halted h d = record { place = stopped d; effect = quiet_at h None None }
+
+-- a step that a stop cuts: a commit is kept only with its record
+abbrev pub torn_by : Heading → Durable → Bool → Decision → Done
+torn_by h old kept d =
+    cond (kept && is_some d.entry) (record { place = stopped d.durable; effect = quiet_at h d.entry d.commit }) (halted h old)
+
+-- a start by its record
+abbrev pub booted : Heading → Durable → (Durable → Place) → Done
+booted h d place = record { place = place (applied (Boot (d.boot + 1)) d); effect = quiet_at h (Some (Boot (d.boot + 1))) None }
+
+-- a start, that leaves the node running (`started`) or stopped, with its record or without; the last number is never gone past
+abbrev pub start_by : Setting → Durable → Bool → (Durable → Place) → Done
+start_by set d kept place =
+    cond (kept && not (d.boot == last_number)) (booted (heading_at set d None) d place) (halted (heading_at set d None) d)
+
+-- what a task does at a node that may be given it
+abbrev pub deed : EngineMeaning → Setting → Place → Task → Done
+deed m set p (Step moment input) = stepped (heading_by set p.node.durable input) (decided m set p.node moment input)
+deed m set p (Torn moment input kept) = torn_by (heading_by set p.node.durable input) p.node.durable kept (decided m set p.node moment input)
+deed m set p Stop = halted (heading_at set p.node.durable None) p.node.durable
+deed m set p Start = start_by set p.node.durable true started
+deed m set p (TornStart kept) = start_by set p.node.durable kept stopped
+
+-- whether a node has to run to be given it
+abbrev pub wants_up : Task → Bool
+wants_up (Step moment input) = true
+wants_up (Torn moment input kept) = true
+wants_up Stop = true
+wants_up Start = false
+wants_up (TornStart kept) = false
+
+-- what listeners were told
+abbrev pub told_by : Effect → List Told
+told_by f = with_mark f.traced.events f.traced.mark

@@ -1,5 +1,7 @@
 -- A node in code, seen as a place of the world.
-use Rattle.std.specs.Prelude.{◌≡◌, ℕ, true, cond, is_some, is_none, Option, Some, None, IfSome}
+use Rattle.std.specs.Prelude.{◌≡◌, ℕ, true, cond, is_some, is_none, Option, Some, None, List, IfSome}
+use Rattle.std.specs.Option.{option_map}
+use Rattle.sv_model.specs.Engine.{EngineMeaning, heard_all}
 use Rattle.sv_model.specs.declared.node.Setting.{Setting}
 use Rattle.sv_model.specs.declared.node.Stage.TheVariants.{Blank}
 use Rattle.sv_model.specs.NodeState.{Durable}
@@ -7,6 +9,9 @@ use Rattle.sv_model.specs.Replay.{blank, replayed, AllFit}
 use Rattle.sv_core.specs.declared.node.Core.{Core}
 use Rattle.sv_core.specs.Core as core
 use Rattle.sv_world.specs.declared.seat.Seat.{Seat}
+use Rattle.sv_world.specs.declared.task.Task.{Task}
+use Rattle.sv_world.specs.declared.line.Effect.{Effect}
+use Rattle.sv_world.specs.Deed.{deed, told_by}
 use Rattle.sv_world.specs.World.{Place, stopped}
 
 -- what its journal gives
@@ -44,3 +49,22 @@ pub record IsSeat {E : Type 0} (valid : E → Type 0) (s : Seat E) : Type 0 wher
 -- the number of its last start, where it runs
 abbrev pub boot_of : Place → Option ℕ
 boot_of p = cond p.up (Some p.node.durable.boot) None
+
+-- what its engine means, and what the engine's listeners have noted
+abbrev pub meaning_in : {E : Type 0} → (E → EngineMeaning) → Seat E → Option EngineMeaning
+meaning_in meaning s = option_map meaning (engine_in s)
+
+abbrev pub heard_in : {E : Type 0} → (E → List (List ℕ)) → Seat E → Option (List (List ℕ))
+heard_in heard s = option_map heard (engine_in s)
+
+-- a task was done whose engine means `m`: the node is as the task leaves it, what was done is what the task does, and
+-- listeners have noted what was told
+pub record HasDone {E : Type 0} (noted : E → List (List ℕ)) (m : EngineMeaning) (old new : Seat E) (task : Task) (f : Effect) : Type 0 where
+  pub place : place_of new ≡ (deed m old.setting (place_of old) task).place
+  pub effect : f ≡ (deed m old.setting (place_of old) task).effect
+  pub heard : heard_in noted new ≡ option_map (λ h. heard_all m h (told_by f)) (heard_in noted old)
+
+-- nothing was done
+pub record IsUndone {E : Type 0} (noted : E → List (List ℕ)) (old new : Seat E) : Type 0 where
+  pub place : place_of new ≡ place_of old
+  pub heard : heard_in noted new ≡ heard_in noted old

@@ -19,7 +19,7 @@ pub struct Call {
 }
 
 /// To whom a packet goes.
-fn addressee(packet: &Packet) -> u8
+pub fn addressee(packet: &Packet) -> u8
     ensures { result ≡ addressee packet.now }
 {
     match *packet {

@@ -1,9 +1,10 @@
 //! Why an event did not happen.
 
 ghost use Rattle.std.specs.Prelude.{◌≡◌};
-ghost use Rattle.sv_world.specs.declared.fault.WorldFault.TheVariants.{Memory};
+ghost use Rattle.sv_world.specs.declared.fault.WorldFault.TheVariants.{Memory as OutOfMemory};
 
 use std::alloc::{AllocError, AllocFailed};
+use sv_core::Memory;
 use thiserror::Error;
 
 /// Why an event did not happen; nothing has changed.
@@ -30,7 +31,7 @@ pub enum WorldFault {
 }
 
 impl From<AllocError> for WorldFault {
-    ghost from_gives = { λ _ fault. fault ≡ Memory };
+    ghost from_gives = { λ _ fault. fault ≡ OutOfMemory };
 
     fn from(_: AllocError) -> Self {
         WorldFault::Memory
@@ -38,9 +39,17 @@ impl From<AllocError> for WorldFault {
 }
 
 impl<T: Drop> From<AllocFailed<T>> for WorldFault {
-    ghost from_gives = { λ _ fault. fault ≡ Memory };
+    ghost from_gives = { λ _ fault. fault ≡ OutOfMemory };
 
     fn from(_: AllocFailed<T>) -> Self {
+        WorldFault::Memory
+    }
+}
+
+impl From<Memory> for WorldFault {
+    ghost from_gives = { λ _ fault. fault ≡ OutOfMemory };
+
+    fn from(_: Memory) -> Self {
         WorldFault::Memory
     }
 }

@@ -1,11 +1,14 @@
 //! A node of a world, running or stopped.
 
-ghost use Rattle.std.specs.Prelude.{◌≡◌, IsTrue};
+ghost use Rattle.std.specs.Prelude.{◌≡◌, IsTrue, None};
+ghost use Rattle.sv_world.specs.Deed.{heading_at, heading_by};
 ghost use Rattle.sv_world.specs.Seat.{IsSeat, place_of, engine_in, boot_of};
 ghost use Rattle.sv_world.specs.World.{stopped};
 
+use crate::line::Heading;
+use crate::used::asked_by;
 use sv_core::Core;
-use sv_model::{Engine, Record, Setting};
+use sv_model::{Engine, Input, Record, Setting};
 
 /// A node: its journal, and the core that runs over it, or the engine of the next start.
 #[derive(Drop)]
@@ -29,6 +32,34 @@ impl<E> Seat<E> {
             None => None,
         }
     }
+
+    /// The heading of what happens at it with no request, while it runs.
+    pub fn heading(&self) -> Heading
+        requires up { IsTrue (place_of self.now).up }
+        ensures { result ≡ heading_at self.now.setting (place_of self.now).node.durable None }
+    {
+        let Some(core) = &self.core else {
+            unreachable!()
+        };
+        Heading {
+            node: self.setting.node,
+            boot: core.boot(),
+            asked: None,
+        }
+    }
+
+    /// The heading of a step, while it runs.
+    pub fn heading_by(&self, input: &Input) -> Heading
+        requires up { IsTrue (place_of self.now).up }
+        ensures { result ≡ heading_by self.now.setting (place_of self.now).node.durable input.now }
+    {
+        let Heading { node, boot, .. } = self.heading();
+        Heading {
+            node,
+            boot,
+            asked: asked_by(node, boot, input),
+        }
+    }
 }
 
 impl<E: Engine + Drop> Seat<E> {
@@ -38,6 +69,7 @@ impl<E: Engine + Drop> Seat<E> {
         requires up { IsTrue (place_of self.old).up }
         ensures seat { IsSeat E.valid self.new }
         ensures setting { self.new.setting ≡ self.old.setting }
+        ensures journal { self.new.journal ≡ self.old.journal }
         ensures engine { engine_in self.new ≡ engine_in self.old }
         ensures place { place_of self.new ≡ stopped (place_of self.old).node.durable }
     {

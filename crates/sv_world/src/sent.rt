@@ -86,7 +86,7 @@ fn is_packet(one: &Packet, other: &Packet) -> bool
 }
 
 /// One of the packets is this.
-fn was_sent(packets: &[Packet], packet: &Packet) -> bool
+pub fn was_sent(packets: &[Packet], packet: &Packet) -> bool
     ensures { result ≡ list_any (same_packet packet.now) packets.now }
 {
     for sent in packets {

@@ -1,0 +1,144 @@
+-- A world whose nodes have just started, and its engines.
+use Rattle.std.proofs.Common.{◌≡◌, ℕ, zero, suc, ◌<◌, ◌≤◌, true, false, Option, Some, None, List, [], ◌∷◌, map, get_or, length, arith, refl, sym, ap, ◌∙◌, subst}
+use Rattle.std.specs.Prelude.{is_some, is_none, IfSome, slice_get, Result, Ok, Err, IfOk}
+use Rattle.std.specs.List.{All}
+use Rattle.std.specs.Option.{option_map}
+use Rattle.std.proofs.lemmas.List.{length-map}
+use Rattle.std.proofs.lemmas.Option.{slice_get-get_or}
+use Rattle.sv_core.specs.declared.node.Core.{Core}
+use Rattle.sv_model.specs.declared.record.Record.{Record}
+use Rattle.sv_model.specs.declared.node.Stage.TheVariants.{Blank}
+use Rattle.sv_model.specs.Engine.{EngineMeaning}
+use Rattle.sv_model.specs.Replay.{blank, replayed, AllFit}
+use Rattle.sv_world.specs.declared.seat.Seat.{Seat}
+use Rattle.sv_world.specs.declared.world.World.{World as Nodes}
+use Rattle.sv_world.specs.Seat.{IsSeat, RunsOver, durable_of, engine_in, engine_by, place_of, place_by}
+use Rattle.sv_world.specs.World.{Place, World, setting_of, stopped, nothing_happened, run}
+use Rattle.sv_world.specs.Worlds.{place_in, meant_in, noted_in, settings_by, world_of, cluster_of, meanings_of, heard_of, IsWorld, AllMean}
+use Rattle.sv_world.specs.Happened.{AllAlike, AreStarted, AreBack, restarts}
+use Rattle.sv_world.specs.Making.{IsIdle, AreSeated, HaveBegun, AreOf}
+use Rattle.sv_world.proofs.MakingLemmas.{all_some}
+
+all_by : {X : Type 0} (P : X → Type 0) (xs : List X) → ((k : ℕ) → IfSome (slice_get xs k) P) → All P xs
+all_by P xs h k d less = subst (λ o. IfSome o P) (slice_get-get_or xs k d less) (h k)
+
+pub ok_both : {T F : Type 0} (r : Result T F) (P Q R : T → Type 0) → ((x : T) → P x → Q x → R x) → IfOk r P → IfOk r Q → IfOk r R
+ok_both (Ok x) P Q R f p q = f x p q
+ok_both (Err e) P Q R f p q = tt
+
+module _ {E : Type 0} where
+  abbrev pub engine_seen : Option (Seat E) → Option E
+  engine_seen None = None
+  engine_seen (Some s) = engine_in s
+
+  pub at_place : (seats : List (Seat E)) (engines : List E) → map engine_in seats ≡ map Some engines → (n : ℕ) → engine_seen (slice_get seats n) ≡ slice_get engines n
+  at_place [] [] h n = refl
+  at_place [] (e ∷ es) h n = absurd (let no : [] ≡ Some e ∷ map Some es = h in cc)
+  at_place (s ∷ ss) [] h n = absurd (let no : engine_in s ∷ map engine_in ss ≡ [] = h in cc)
+  at_place (s ∷ ss) (e ∷ es) h zero = let both : engine_in s ∷ map engine_in ss ≡ Some e ∷ map Some es = h in cc
+  at_place (s ∷ ss) (e ∷ es) h (suc n) = at_place ss es (let both : engine_in s ∷ map engine_in ss ≡ Some e ∷ map Some es = h in cc) n
+
+  meant_is : (meaning : E → EngineMeaning) (o : Option (Seat E)) → meant_in meaning o ≡ option_map meaning (engine_seen o)
+  meant_is meaning None = refl
+  meant_is meaning (Some s) = refl
+
+  noted_is : (noted : E → List (List ℕ)) (o : Option (Seat E)) → noted_in noted o ≡ option_map noted (engine_seen o)
+  noted_is noted None = refl
+  noted_is noted (Some s) = refl
+
+  number_is : (seats : List (Seat E)) (engines : List E) → map engine_in seats ≡ map Some engines → length seats ≡ length engines
+  number_is seats engines h = sym (length-map seats engine_in) ∙ ap length h ∙ length-map engines Some
+
+  alike_at : (meaning : E → EngineMeaning) (m : EngineMeaning) (engines : List E) → AllAlike meaning m engines → (n : ℕ) → n < length engines → option_map meaning (slice_get engines n) ≡ Some m
+  alike_at meaning m engines all n less = subst (λ (o : Option E). IfSome o (λ e. meaning e ≡ m) → option_map meaning o ≡ Some m) (sym (slice_get-get_or engines n (head engines less) less)) (λ h. ap Some h) (all_some (λ e. meaning e ≡ m) engines all n)
+    where
+      head : (xs : List E) → n < length xs → E
+      head [] less = absurd (omega arith)
+      head (x ∷ xs) less = x
+
+  module _ (fit : E → Type 0) where
+    seat_engine : (s : Seat E) → IsSeat fit s → is_some (engine_in s) ≡ true
+    seat_engine s h = by_core s.core s.idle h.either
+      where
+        by_core : (core : Option (Core E)) (idle : Option E) → is_some idle ≡ is_none core → is_some (engine_by core idle) ≡ true
+        by_core None idle is = is
+        by_core (Some c) idle is = refl
+
+    pub all_engines : (seats : List (Seat E)) → All (λ s. IsSeat fit s) seats → All (λ s. is_some (engine_in s) ≡ true) seats
+    all_engines seats all k d less = seat_engine _ (all k d less)
+
+    seen_fit : (o : Option (Seat E)) → IfSome o (λ s. IsSeat fit s) → IfSome (engine_seen o) fit
+    seen_fit None h = tt
+    seen_fit (Some s) h = h.engine
+
+    idle_seat : (s : Seat E) → IsIdle s → IfSome (engine_in s) fit → IsSeat fit s
+    idle_seat s h engine = record {
+      engine = engine;
+      fit = subst (λ (rs : List Record). AllFit s.setting Blank blank rs) (sym h.journal) tt;
+      runs = subst (λ (core : Option (Core E)). IfSome core (λ c. RunsOver s.setting (durable_of s) c)) (sym h.core) tt;
+      either = h.idle ∙ sym (ap is_none h.core);
+    }
+
+    idle_fit : (o : Option (Seat E)) → IfSome o IsIdle → IfSome (engine_seen o) fit → IfSome o (λ s. IsSeat fit s)
+    idle_fit None h e = tt
+    idle_fit (Some s) h e = idle_seat s h e
+
+    -- engines in their seats are a world
+    pub seated_world : (w : Nodes E) (engines : List E) → AreSeated (length engines) w.deadline engines w.seats.items → All fit engines → 0 < length engines → length engines ≤ 8 → IsWorld fit w
+    seated_world w engines h all some few =
+        let number = number_is w.seats.items engines h.engines_in in
+        record {
+          seats = all_by (λ s. IsSeat fit s) w.seats.items (λ k. idle_fit (slice_get w.seats.items k) (all_some IsIdle w.seats.items h.idle k) (subst (λ o. IfSome o fit) (sym (at_place w.seats.items engines h.engines_in k)) (all_some fit engines all k)));
+          settings = λ n less. h.settings n less ∙ (λ i. record { node = n; nodes = sym number i; deadline = w.deadline });
+          some = omega (arith, number);
+          few = omega (arith, number);
+        }
+
+  idle_place : (s : Seat E) → IsIdle s → place_of s ≡ stopped blank
+  idle_place s h = ap (λ (core : Option (Core E)). place_by core (durable_of s)) h.core ∙ ap (λ (rs : List Record). stopped (replayed blank rs)) h.journal
+
+  place_is : (o : Option (Seat E)) → IfSome o IsIdle → place_in o ≡ stopped blank
+  place_is None h = refl
+  place_is (Some s) h = idle_place s h
+
+  module _ (meaning : E → EngineMeaning) (noted : E → List (List ℕ)) where
+    meanings_are : (w : Nodes E) (engines : List E) → map engine_in w.seats.items ≡ map Some engines → (n : ℕ) → meanings_of meaning w n ≡ option_map meaning (slice_get engines n)
+    meanings_are w engines h n = meant_is meaning (slice_get w.seats.items n) ∙ ap (option_map meaning) (at_place w.seats.items engines h n)
+
+    heard_are : (w : Nodes E) (engines : List E) → map engine_in w.seats.items ≡ map Some engines → (n : ℕ) → heard_of noted w n ≡ option_map noted (slice_get engines n)
+    heard_are w engines h n = noted_is noted (slice_get w.seats.items n) ∙ ap (option_map noted) (at_place w.seats.items engines h n)
+
+    -- the engines of a world's nodes are those of a world before it
+    pub are_of : (fit : E → Type 0) (old new : Nodes E) (engines : List E) → cluster_of new ≡ cluster_of old → meanings_of meaning new ≡ meanings_of meaning old → heard_of noted new ≡ heard_of noted old
+        → All (λ s. IsSeat fit s) new.seats.items → map Some engines ≡ map engine_in new.seats.items → AreOf meaning noted fit old engines
+    are_of fit old new engines cluster meanings heard all is = record {
+      valid = all_by fit engines (λ k. subst (λ o. IfSome o fit) (at_place new.seats.items engines (sym is) k) (seen_fit fit (slice_get new.seats.items k) (all_some (λ s. IsSeat fit s) new.seats.items all k)));
+      number = sym (number_is new.seats.items engines (sym is)) ∙ (λ i. (cluster i).nodes);
+      meanings = λ n. sym (meanings_are new engines (sym is) n) ∙ (λ i. meanings i n);
+      heard = λ n. sym (heard_are new engines (sym is) n) ∙ (λ i. heard i n);
+    }
+
+    module _ (w : Nodes E) (engines : List E) (h : AreSeated (length engines) w.deadline engines w.seats.items) where
+      pub started : w.packets.items ≡ [] → w.trace.items ≡ [] → (new : Nodes E) → HaveBegun meaning noted w new → AreStarted meaning noted engines w.deadline new
+      started packets trace new b =
+          let number = number_is w.seats.items engines h.engines_in in
+          let nothing : world_of w ≡ nothing_happened = λ i. record { places = λ n. place_is (slice_get w.seats.items n) (all_some IsIdle w.seats.items h.idle n) i; packets = packets i; trace = trace i } in
+          record {
+            cluster = b.happened.cluster ∙ (λ i. record { nodes = number i; deadline = w.deadline });
+            world = λ m alike.
+                b.happened.world m (λ n less. meanings_are w engines h.engines_in n ∙ alike_at meaning m engines alike n (omega (arith, number, less)))
+                ∙ (λ i. run m (sym b.happened.cluster i) (nothing i) (restarts (number i)));
+            meanings = λ n. (λ i. b.happened.meanings i n) ∙ meanings_are w engines h.engines_in n;
+            heard = λ n. (λ i. b.heard i n) ∙ heard_are w engines h.engines_in n;
+          }
+
+      pub back : (fit : E → Type 0) (engines' : List E) → AreOf meaning noted fit w engines' → AreBack meaning noted fit engines engines'
+      back fit engines' a = record {
+        valid = a.valid;
+        number = a.number ∙ number_is w.seats.items engines h.engines_in;
+        meanings = λ n. a.meanings n ∙ meanings_are w engines h.engines_in n;
+        heard = λ n. a.heard n ∙ heard_are w engines h.engines_in n;
+      }
+
+    pub all_mean : (engines : List E) (deadline : ℕ) (w : Nodes E) → AreStarted meaning noted engines deadline w → (m : EngineMeaning) → AllAlike meaning m engines → AllMean meaning m w
+    all_mean engines deadline w s m alike n less = s.meanings n ∙ alike_at meaning m engines alike n (subst (λ k. n < k) (λ i. (s.cluster i).nodes) less)

@@ -1,0 +1,203 @@
+-- An event has happened in a world in code.
+use Rattle.std.proofs.Common.{◌≡◌, ◌≢◌, ℕ, ◌<◌, ◌≤◌, ◌==◌, ◌&&◌, get_or, Bool, true, false, cond, Option, Some, None, List, [], ◌∷◌, ◌++◌, length, arith, refl, sym, ap, ◌∙◌, subst, ⊎_elim, eq-eqb, append-nil}
+use Rattle.std.specs.Prelude.{not, is_some, is_none, IfSome, slice_get, Result, Ok, Err, IfErr, OnOk, OnErr}
+use Rattle.std.specs.List.{All}
+use Rattle.std.specs.Option.{option_map}
+use Rattle.std.proofs.lemmas.Bool.{cases_eq, ne_eqb, cond-true, cond-false}
+use Rattle.std.proofs.lemmas.Option.{same_Some, slice_get_cases}
+use Rattle.sv_core.specs.declared.node.Core.{Core}
+use Rattle.sv_core.specs.Core.{engine_of}
+use Rattle.sv_model.specs.declared.input.Input.{Input}
+use Rattle.sv_model.specs.declared.event.Told.{Told}
+use Rattle.sv_model.specs.declared.packet.Packet.{Packet}
+use Rattle.sv_model.specs.declared.node.Setting.{Setting}
+use Rattle.sv_model.specs.Engine.{EngineMeaning, heard_all}
+use Rattle.sv_model.specs.NodeState.{Durable, last_number}
+use Rattle.sv_model.specs.Outputs.{sends_in}
+use Rattle.sv_model.specs.Node.{decided}
+use Rattle.sv_world.specs.declared.event.WorldEvent.{WorldEvent}
+use Rattle.sv_world.specs.declared.event.WorldEvent.TheVariants.{Ask, Deliver, Poke, Tick, Move, Crash, Torn, Restart, TornRestart}
+use Rattle.sv_world.specs.declared.line.Effect.{Effect}
+use Rattle.sv_world.specs.declared.line.Line.{Line}
+use Rattle.sv_world.specs.declared.order.Order.{Order}
+use Rattle.sv_world.specs.declared.seat.Seat.{Seat}
+use Rattle.sv_world.specs.declared.task.Task.{Task}
+use Rattle.sv_world.specs.declared.task.Task.TheVariants as task
+use Rattle.sv_world.specs.declared.world.World.{World as Nodes}
+use Rattle.sv_world.specs.Deed.{Done, deed, told_by, line_of, quiet_at, heading_at, heading_by, halted, booted, start_by, stepped, torn_by}
+use Rattle.sv_world.specs.Seat.{IsSeat, meaning_in, engine_by}
+use Rattle.sv_world.specs.Order.{order_of}
+use Rattle.sv_world.specs.World.{Cluster, Place, World, set_place, setting_of, stopped, started, run}
+use Rattle.sv_world.specs.Worlds.{places_by, settings_by, meant_in, meanings_by, heard_by, state_by, cluster_by, world_of, cluster_of, meanings_of, heard_of, IsWorld, AllMean}
+use Rattle.sv_world.specs.Happened.{HaveDone, AreUndone, HaveHappened, HasActed, IsStill, told_at, is_start}
+use Rattle.sv_world.proofs.OrderLemmas.{Goes, done_at, goes}
+
+-- ---- what was done is done at the node, and a start tells nothing
+
+node_by : (b : Bool) (x y : Done) (n : ℕ) → x.effect.heading.node ≡ n → y.effect.heading.node ≡ n → (cond b x y).effect.heading.node ≡ n
+node_by true x y n f g = f
+node_by false x y n f g = g
+
+deed_node : (m : EngineMeaning) (set : Setting) (p : Place) (t : Task) → (deed m set p t).effect.heading.node ≡ set.node
+deed_node m set p (task.Step moment input) = refl
+deed_node m set p (task.Torn moment input kept) =
+    let d = decided m set p.node moment input in
+    let h = heading_by set p.node.durable input in
+    node_by (kept && is_some d.entry) (record { place = stopped d.durable; effect = quiet_at h d.entry d.commit }) (halted h p.node.durable) set.node refl refl
+deed_node m set p task.Stop = refl
+deed_node m set p task.Start = node_by (true && not (p.node.durable.boot == last_number)) (booted (heading_at set p.node.durable None) p.node.durable started) (halted (heading_at set p.node.durable None) p.node.durable) set.node refl refl
+deed_node m set p (task.TornStart kept) = node_by (kept && not (p.node.durable.boot == last_number)) (booted (heading_at set p.node.durable None) p.node.durable stopped) (halted (heading_at set p.node.durable None) p.node.durable) set.node refl refl
+
+silent_by : (b : Bool) (x y : Done) → told_by x.effect ≡ [] → told_by y.effect ≡ [] → told_by (cond b x y).effect ≡ []
+silent_by true x y f g = f
+silent_by false x y f g = g
+
+start_silent : (m : EngineMeaning) (set : Setting) (p : Place) → told_by (deed m set p task.Start).effect ≡ []
+start_silent m set p = silent_by (true && not (p.node.durable.boot == last_number)) (booted (heading_at set p.node.durable None) p.node.durable started) (halted (heading_at set p.node.durable None) p.node.durable) refl refl
+
+-- ---- each node has an engine
+
+module _ {E : Type 0} (meaning : E → EngineMeaning) where
+  engine_means : (core : Option (Core E)) (idle : Option E) → is_some idle ≡ is_none core → (m : EngineMeaning) × (option_map meaning (engine_by core idle) ≡ Some m)
+  engine_means (Some c) idle h = (meaning (engine_of c), refl)
+  engine_means None (Some e) h = (meaning e, refl)
+  engine_means None None h = absurd (let no : false ≡ true = h in cc)
+
+  pub means_at : (valid : E → Type 0) (seats : List (Seat E)) → All (λ s. IsSeat valid s) seats → (n : ℕ) → n < length seats → (m : EngineMeaning) × (meanings_by meaning seats n ≡ Some m)
+  means_at valid seats all n less = ⊎_elim
+      (λ (h : (s : Seat E) × (n < length seats) × (slice_get seats n ≡ Some s) × (get_or seats n s ≡ s)).
+      let s = h.0 in
+      let is : IsSeat valid s = subst (IsSeat valid) h.3 (all n s less) in
+      let e = engine_means s.core s.idle is.either in
+      (e.0, ap (meant_in meaning) h.2 ∙ e.1))
+      (λ (h : (length seats ≤ n) × (slice_get seats n ≡ None)). absurd (omega arith))
+      (slice_get_cases seats n).1
+
+-- ---- the numbers of nodes stay
+
+module _ {E : Type 0} (valid : E → Type 0) (old new : Nodes E) (number : length new.seats.items ≡ length old.seats.items) (deadline : new.deadline ≡ old.deadline) where
+  pub same_cluster : cluster_of new ≡ cluster_of old
+  same_cluster = λ i. record { nodes = number i; deadline = deadline i }
+
+  pub still_world : IsWorld valid old → All (λ s. IsSeat valid s) new.seats.items → settings_by new.seats.items ≡ settings_by old.seats.items → IsWorld valid new
+  still_world w all same = record {
+    seats = all;
+    settings = λ n less. (λ i. same i n) ∙ w.settings n (omega (arith, number)) ∙ (λ i. setting_of (sym same_cluster i) n);
+    some = omega (arith, number, w.some);
+    few = omega (arith, number, w.few);
+  }
+
+module _ {E : Type 0} (meaning : E → EngineMeaning) (noted : E → List (List ℕ)) (old new : Nodes E) (number : length new.seats.items ≡ length old.seats.items) (deadline : new.deadline ≡ old.deadline)
+    (meanings : meanings_of meaning new ≡ meanings_of meaning old) where
+  pub stays : AreUndone noted old.seats.items new.seats.items → new.packets.items ≡ old.packets.items → new.trace.items ≡ old.trace.items → IsStill meaning noted old new
+  stays undone packets trace = record {
+    cluster = λ i. record { nodes = number i; deadline = deadline i };
+    world = λ i. record { places = undone.places i; packets = packets i; trace = trace i };
+    meanings = meanings;
+    heard = undone.heard;
+  }
+
+option_same : {A : Type 0} (f : A → A) (o : Option A) → ((x : A) → f x ≡ x) → option_map f o ≡ o
+option_same f None h = refl
+option_same f (Some x) h = ap Some (h x)
+
+-- ---- one event
+
+module _ {E : Type 0} (meaning : E → EngineMeaning) (noted : E → List (List ℕ)) (old new : Nodes E) (number : length new.seats.items ≡ length old.seats.items) (deadline : new.deadline ≡ old.deadline)
+    (meanings : meanings_of meaning new ≡ meanings_of meaning old) (e : WorldEvent) (o : Order) (f : Effect) (goes : Goes (cluster_of old) (world_of old) e o)
+    (set : settings_by old.seats.items o.node ≡ setting_of (cluster_of old) o.node) (means : (m : EngineMeaning) × (meanings_of meaning old o.node ≡ Some m))
+    (done : (m : EngineMeaning) → meanings_of meaning old o.node ≡ Some m → HaveDone noted m old.seats.items new.seats.items o f) where
+  abbrev deeds : EngineMeaning → Done
+  deeds m = deed m (settings_by old.seats.items o.node) (places_by old.seats.items o.node) o.task
+
+  as_set : (m : EngineMeaning) → deeds m ≡ deed m (setting_of (cluster_of old) o.node) (places_by old.seats.items o.node) o.task
+  as_set m = ap (λ s. deed m s (places_by old.seats.items o.node) o.task) set
+
+  at_node : f.heading.node ≡ o.node
+  at_node = ap (λ (x : Effect). x.heading.node) (done means.0 means.1).effect ∙ deed_node means.0 (settings_by old.seats.items o.node) (places_by old.seats.items o.node) o.task ∙ ap (λ (s : Setting). s.node) set
+
+  world_is : new.packets.items ≡ old.packets.items ++ sends_in f.outputs → new.trace.items ≡ old.trace.items ++ line_of e f ∷ [] → (m : EngineMeaning) → AllMean meaning m old → world_of new ≡ done_at m (cluster_of old) (world_of old) e o
+  world_is packets trace m all =
+      let h = done m (all o.node goes.there) in
+      let is : f ≡ (deed m (setting_of (cluster_of old) o.node) (places_by old.seats.items o.node) o.task).effect = h.effect ∙ ap (λ (d : Done). d.effect) (as_set m) in
+      λ i. record {
+        places = (h.places ∙ ap (λ (d : Done). set_place (places_by old.seats.items) o.node d.place) (as_set m)) i;
+        packets = (packets ∙ ap (λ (x : Effect). old.packets.items ++ sends_in x.outputs) is) i;
+        trace = (trace ∙ ap (λ (x : Effect). old.trace.items ++ line_of e x ∷ []) is) i;
+      }
+
+  heard_is : (n : ℕ) (m : EngineMeaning) → meanings_of meaning old n ≡ Some m → heard_of noted new n ≡ option_map (λ h. heard_all m h (told_at n (line_of e f ∷ []))) (heard_of noted old n)
+  heard_is n m is =
+      let h = done means.0 means.1 in
+      let listen : EngineMeaning → List Told → Option (List (List ℕ)) = λ k told. option_map (λ x. heard_all k x told) (heard_of noted old n) in
+      h.heard n ∙ ⊎_elim
+      (λ (same : n ≡ o.node).
+      cond-true (n == o.node) (listen means.0 (told_by f)) (heard_of noted old n) (eq-eqb n o.node same)
+      ∙ ap (λ k. listen k (told_by f)) (same_Some means.0 m (sym means.1 ∙ ap (meanings_of meaning old) (sym same) ∙ is))
+      ∙ ap (listen m) (sym (ap (λ b. cond b (told_by f) [] ++ []) (eq-eqb f.heading.node n (at_node ∙ sym same)) ∙ append-nil (told_by f))))
+      (λ (apart : n ≢ o.node).
+      cond-false (n == o.node) (listen means.0 (told_by f)) (heard_of noted old n) (ne_eqb n o.node apart)
+      ∙ sym (option_same (λ (x : List (List ℕ)). x) (heard_of noted old n) (λ x. refl))
+      ∙ ap (listen m) (sym (ap (λ b. cond b (told_by f) [] ++ []) (ne_eqb f.heading.node n (λ k. apart (sym k ∙ at_node))))))
+      (cases_eq n o.node)
+
+  pub happened : new.packets.items ≡ old.packets.items ++ sends_in f.outputs → new.trace.items ≡ old.trace.items ++ line_of e f ∷ [] → HaveHappened meaning noted old new (e ∷ [])
+  happened packets trace = record {
+    cluster = λ i. record { nodes = number i; deadline = deadline i };
+    world = λ m all. world_is packets trace m all ∙ sym (goes.happens m);
+    lines = line_of e f ∷ [];
+    trace = trace;
+    each = refl;
+    meanings = meanings;
+    heard = heard_is;
+  }
+
+  pub silent_start : o.task ≡ task.Start → heard_of noted new ≡ heard_of noted old
+  silent_start is =
+      let h = done means.0 means.1 in
+      let told : told_by f ≡ [] = ap told_by h.effect ∙ ap (λ t. told_by (deed means.0 (settings_by old.seats.items o.node) (places_by old.seats.items o.node) t).effect) is ∙ start_silent means.0 (settings_by old.seats.items o.node) (places_by old.seats.items o.node) in
+      let none : (n : ℕ) → option_map (λ x. heard_all means.0 x (told_by f)) (heard_of noted old n) ≡ heard_of noted old n = λ n. option_same _ (heard_of noted old n) (λ x. ap (heard_all means.0 x) told) in
+      λ j n. (h.heard n ∙ ap (λ x. cond (n == o.node) x (heard_of noted old n)) (none n) ∙ either_same (n == o.node) (heard_of noted old n)) j
+    where
+      either_same : (b : Bool) (x : Option (List (List ℕ))) → cond b x x ≡ x
+      either_same true x = refl
+      either_same false x = refl
+
+pub start_task : (sent : List Packet) (e : WorldEvent) (o : Order) → is_start e ≡ true → order_of sent e ≡ Some o → o.task ≡ task.Start
+start_task sent (Ask n moment token r) o h is = absurd (let no : false ≡ true = h in cc)
+start_task sent (Deliver moment place) o h is = absurd (let no : false ≡ true = h in cc)
+start_task sent (Poke n moment) o h is = absurd (let no : false ≡ true = h in cc)
+start_task sent (Tick n moment) o h is = absurd (let no : false ≡ true = h in cc)
+start_task sent (Move n moment k to) o h is = absurd (let no : false ≡ true = h in cc)
+start_task sent (Crash n) o h is = absurd (let no : false ≡ true = h in cc)
+start_task sent (Torn n moment given kept) o h is = absurd (let no : false ≡ true = h in cc)
+start_task sent (Restart n) o h is = ap (λ (x : Order). x.task) (sym (same_Some (record { node = n; task = task.Start }) o is))
+start_task sent (TornRestart n kept) o h is = absurd (let no : false ≡ true = h in cc)
+
+-- ---- what a node has done, and then the line
+
+-- the lists of a world are those of another
+pub acted_world : {E : Type 0} (valid : E → Type 0) (mid new : Nodes E) → new.seats ≡ mid.seats → new.deadline ≡ mid.deadline → IsWorld valid mid → new.seats.items ≡ mid.seats.items → IsWorld valid new
+acted_world valid mid new seats deadline w items = still_world valid mid new (ap length items) deadline w (subst (λ xs. All (λ s. IsSeat valid s) xs) (sym items) w.seats) (ap settings_by items)
+
+module _ {E : Type 0} (meaning : E → EngineMeaning) (noted : E → List (List ℕ)) (valid : E → Type 0) (old mid : Nodes E) where
+  acted_goes : (e : WorldEvent) (f : Effect) (h : HasActed meaning noted old mid e f) → Goes (cluster_of old) (world_of old) e h.order
+  acted_goes e f h = goes (cluster_of old) (world_of old) h.order e h.possible h.asked
+
+  module _ (new : Nodes E) (e : WorldEvent) (f : Effect) (w : IsWorld valid old) (h : HasActed meaning noted old mid e f) where
+    pub acted_happened : new.seats.items ≡ mid.seats.items → new.deadline ≡ mid.deadline → new.packets.items ≡ mid.packets.items → new.trace.items ≡ mid.trace.items ++ line_of e f ∷ [] → HaveHappened meaning noted old new (e ∷ [])
+    acted_happened seats deadline packets trace =
+        let o = h.order in
+        let gone = acted_goes e f h in
+        happened meaning noted old new (ap length seats ∙ h.number) (deadline ∙ h.deadline) (ap (meanings_by meaning) seats ∙ h.meanings) e o f gone
+        (w.settings o.node gone.there) (means_at meaning valid old.seats.items w.seats o.node gone.there)
+        (λ m is. subst (λ xs. HaveDone noted m old.seats.items xs o f) (sym seats) (h.done m is))
+        (packets ∙ h.packets) (trace ∙ ap (λ ls. ls ++ line_of e f ∷ []) h.trace)
+
+  module _ (e : WorldEvent) (f : Effect) (w : IsWorld valid old) (h : HasActed meaning noted old mid e f) where
+    pub acted_silent : is_start e ≡ true → heard_of noted mid ≡ heard_of noted old
+    acted_silent start =
+        let o = h.order in
+        let gone = acted_goes e f h in
+        silent_start meaning noted old mid h.number h.deadline h.meanings e o f gone (w.settings o.node gone.there) (means_at meaning valid old.seats.items w.seats o.node gone.there) h.done
+        (start_task old.packets.items e o start h.asked)

@@ -1,0 +1,80 @@
+-- One of the nodes has changed.
+use Rattle.std.proofs.Common.{◌≡◌, ◌≢◌, ℕ, zero, suc, ◌<◌, Bool, true, false, cond, Option, Some, None, List, [], ◌∷◌, ◌++◌, length, arith, refl, sym, ap, ◌∙◌, ⊎_elim}
+use Rattle.std.specs.Prelude.{◌==◌, slice_get, slice_set, Result, Ok, Err, IfOk, OnErr}
+use Rattle.std.specs.Option.{option_map}
+use Rattle.std.proofs.lemmas.Bool.{cases_eq, ne_eqb, eq-eqb, eqb-true}
+use Rattle.sv_model.specs.Engine.{EngineMeaning, heard_all}
+use Rattle.sv_world.specs.declared.line.Effect.{Effect}
+use Rattle.sv_world.specs.declared.order.Order.{Order}
+use Rattle.sv_world.specs.declared.seat.Seat.{Seat}
+use Rattle.sv_world.specs.declared.task.Task.{Task}
+use Rattle.sv_world.specs.Deed.{deed, told_by, Done}
+use Rattle.sv_world.specs.Seat.{HasDone, IsUndone, heard_in}
+use Rattle.sv_world.specs.Worlds.{place_in, setting_in, noted_in, meant_in, places_by, settings_by, heard_by, meanings_by}
+use Rattle.sv_world.specs.Happened.{HaveDone, AreUndone}
+
+eqb_suc : (a b : ℕ) → (suc a == suc b) ≡ (a == b)
+eqb_suc a b = ⊎_elim
+    (λ (e : a ≡ b). eq-eqb (suc a) (suc b) (ap suc e) ∙ sym (eq-eqb a b e))
+    (λ (ne : a ≢ b). ne_eqb (suc a) (suc b) (λ e. ne (omega (arith, e))) ∙ sym (ne_eqb a b ne))
+    (cases_eq a b)
+
+module _ {X : Type 0} where
+  get_set : (xs : List X) (n : ℕ) (x : X) (i : ℕ) → n < length xs → slice_get (slice_set xs n x) i ≡ cond (i == n) (Some x) (slice_get xs i)
+  get_set [] n x i less = absurd (omega arith)
+  get_set (y ∷ ys) zero x zero less = refl
+  get_set (y ∷ ys) zero x (suc i) less = ap (λ b. cond b (Some x) (slice_get ys i)) (sym (ne_eqb (suc i) zero (λ e. omega (arith, e))))
+  get_set (y ∷ ys) (suc n) x zero less = ap (λ b. cond b (Some x) (Some y)) (sym (ne_eqb zero (suc n) (λ e. omega (arith, e))))
+  get_set (y ∷ ys) (suc n) x (suc i) less = get_set ys n x i (omega arith) ∙ ap (λ b. cond b (Some x) (slice_get ys i)) (sym (eqb_suc i n))
+
+  module _ {A : Type 0} (f : Option X → A) where
+    by_cond : (b : Bool) (x : X) (o : Option X) → f (cond b (Some x) o) ≡ cond b (f (Some x)) (f o)
+    by_cond true x o = refl
+    by_cond false x o = refl
+
+    pub changed : (xs : List X) (n : ℕ) (x : X) → n < length xs → (i : ℕ) → f (slice_get (slice_set xs n x) i) ≡ cond (i == n) (f (Some x)) (f (slice_get xs i))
+    changed xs n x less i = ap f (get_set xs n x i less) ∙ by_cond (i == n) x (slice_get xs i)
+
+    still_by : (xs : List X) (i n : ℕ) (b : Bool) (a : A) → (i == n) ≡ b → a ≡ f (slice_get xs n) → cond b a (f (slice_get xs i)) ≡ f (slice_get xs i)
+    still_by xs i n true a is same = same ∙ ap (λ k. f (slice_get xs k)) (sym (eqb-true i n is))
+    still_by xs i n false a is same = refl
+
+    abbrev seen : List X → ℕ → A
+    seen xs i = f (slice_get xs i)
+
+    pub same : (xs : List X) (n : ℕ) (old new : X) → n < length xs → slice_get xs n ≡ Some old → f (Some new) ≡ f (Some old) → seen (slice_set xs n new) ≡ seen xs
+    same xs n old new less there is = λ j i. (changed xs n new less i ∙ still_by xs i n (i == n) (f (Some new)) refl (is ∙ sym (ap f there))) j
+
+-- a value at a number, by what is there
+at_number : {A : Type 0} (at : ℕ → A) (g : A → A) (i n : ℕ) (b : Bool) (a : A) → (i == n) ≡ b → a ≡ g (at n) → cond b a (at i) ≡ cond b (g (at i)) (at i)
+at_number at g i n true a is h = h ∙ ap (λ k. g (at k)) (sym (eqb-true i n is))
+at_number at g i n false a is h = refl
+
+module _ {E : Type 0} (seats : List (Seat E)) (n : ℕ) (old new : Seat E) (less : n < length seats) (there : slice_get seats n ≡ Some old) where
+  pub settings_same : new.setting ≡ old.setting → settings_by (slice_set seats n new) ≡ settings_by seats
+  settings_same is = same setting_in seats n old new less there is
+
+  pub meanings_same : (meaning : E → EngineMeaning) → meant_in meaning (Some new) ≡ meant_in meaning (Some old) → meanings_by meaning (slice_set seats n new) ≡ meanings_by meaning seats
+  meanings_same meaning is = same (meant_in meaning) seats n old new less there is
+
+  pub undone : (noted : E → List (List ℕ)) → IsUndone noted old new → AreUndone noted seats (slice_set seats n new)
+  undone noted h = record { places = same place_in seats n old new less there h.place; heard = same (noted_in noted) seats n old new less there h.heard }
+
+  pub done : (noted : E → List (List ℕ)) (m : EngineMeaning) (task : Task) (f : Effect) → HasDone noted m old new task f → HaveDone noted m seats (slice_set seats n new) (record { node = n; task = task }) f
+  done noted m task f h =
+      let deeds : deed m old.setting (place_in (Some old)) task ≡ deed m (settings_by seats n) (places_by seats n) task = λ i. deed m (setting_in (sym there i)) (place_in (sym there i)) task in
+      let listen = option_map (λ (x : List (List ℕ)). heard_all m x (told_by f)) in
+      record {
+        places = λ j x. (changed place_in seats n new less x ∙ ap (λ p. cond (x == n) p (places_by seats x)) (h.place ∙ ap (λ (d : Done). d.place) deeds)) j;
+        effect = h.effect ∙ ap (λ (d : Done). d.effect) deeds;
+        heard = λ x. changed (noted_in noted) seats n new less x ∙ at_number (heard_by noted seats) listen x n (x == n) (heard_in noted new) refl (h.heard ∙ ap (λ o. listen (noted_in noted o)) (sym there));
+      }
+
+-- an answer's clause, at what it answers
+pub ok_then : {T F : Type 0} (r : Result T F) (P Q : T → Type 0) → ((x : T) → P x → Q x) → IfOk r P → IfOk r Q
+ok_then (Ok x) P Q f p = f x p
+ok_then (Err e) P Q f p = tt
+
+pub err_then : {T F : Type 0} (r : Result T F) (P Q : Type 0) → (P → Q) → OnErr r P → OnErr r Q
+err_then (Ok x) P Q f p = tt
+err_then (Err e) P Q f p = f p

@@ -1,0 +1,41 @@
+use Rattle.std.proofs.Common.{◌≡◌, ◌<◌, Some, length, sym, ap, ◌∙◌, subst, refl, rules, arith}
+use Rattle.std.proofs.lemmas.Option.{slice_get_read}
+use Rattle.std.proofs.lemmas.List.Elements.{All-set}
+use Rattle.sv_world.specs.Seat.{IsSeat}
+use Rattle.sv_world.specs.Worlds.{meant_in}
+use Rattle.sv_world.proofs.NodeLemmas.{settings_same, meanings_same, done, undone, ok_then, err_then}
+use Rattle.sv_world.proofs.seats.perform_at.Goals as goal
+
+pub returns-clause-seats : goal.returns-clause-seats
+returns-clause-seats g c =
+    let seats = c.args.seats.now.items in
+    rw c.from.ensures (All-set (IsSeat g.E.Engine.valid) seats c.args.order.node c.perform.new.self c.perform.ensures.seat c.requires.seats)
+
+pub returns-clause-settings : goal.returns-clause-settings
+returns-clause-settings g c =
+    let seats = c.args.seats.now.items in
+    let old = c.index_mut.result.now in
+    let less : c.from.result < length seats = rw c.from.ensures c.requires.there in
+    settings_same seats c.from.result old c.perform.new.self less (slice_get_read seats (length seats) c.from.result old refl less c.index_mut.ensures.value) c.perform.ensures.setting
+
+pub returns-clause-meanings : goal.returns-clause-meanings
+returns-clause-meanings g c =
+    let seats = c.args.seats.now.items in
+    let old = c.index_mut.result.now in
+    let less : c.from.result < length seats = rw c.from.ensures c.requires.there in
+    meanings_same seats c.from.result old c.perform.new.self less (slice_get_read seats (length seats) c.from.result old refl less c.index_mut.ensures.value) g.E.Engine.meaning c.perform.ensures.meaning
+
+pub returns-clause-done : goal.returns-clause-done
+returns-clause-done g c =
+    let seats = c.args.seats.now.items in
+    let old = c.index_mut.result.now in
+    let less : c.args.order.node < length seats = c.requires.there in
+    let there = slice_get_read seats (length seats) c.args.order.node old refl less (rw c.from.ensures at c.index_mut.ensures.value) in
+    rw c.from.ensures (ok_then c.perform.result _ _ (λ f h m means. done seats c.args.order.node old c.perform.new.self less there g.E.Engine.heard m c.args.order.task f (h m (sym (ap (meant_in g.E.Engine.meaning) there) ∙ means))) c.perform.ensures.done)
+
+pub returns-clause-undone : goal.returns-clause-undone
+returns-clause-undone g c =
+    let seats = c.args.seats.now.items in
+    let old = c.index_mut.result.now in
+    let less : c.from.result < length seats = rw c.from.ensures c.requires.there in
+    err_then c.perform.result _ _ (undone seats c.from.result old c.perform.new.self less (slice_get_read seats (length seats) c.from.result old refl less c.index_mut.ensures.value) g.E.Engine.heard) c.perform.ensures.undone

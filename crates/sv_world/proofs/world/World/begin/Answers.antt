@@ -1,0 +1,11 @@
+use Rattle.std.proofs.Common.{◌≡◌, ap, arith}
+use Rattle.sv_world.proofs.BegunLemmas.{all_engines, are_of}
+use Rattle.sv_world.proofs.world.World.begin.Goals as goal
+
+pub unseat_all-requires-clause-all : goal.unseat_all-requires-clause-all
+unseat_all-requires-clause-all g c = all_engines g.E.Engine.valid c.start_all.new.self.seats.items c.start_all.ensures.world.seats
+
+pub returns-in-Err-clause-back : goal.returns-in-Err-clause-back
+returns-in-Err-clause-back g c =
+    let s = c.start_all.ensures in
+    are_of g.E.Engine.meaning g.E.Engine.heard g.E.Engine.valid c.args.self.now c.start_all.new.self c.unseat_all.new.engines.items s.cluster s.meanings s.heard s.world.seats c.unseat_all.ensures

@@ -1,0 +1,16 @@
+use Rattle.sv_world.proofs.RanLemmas.{ran_more, run_some, some_headline}
+use Rattle.sv_world.proofs.world.World.run.Goals as goal
+
+pub returns-clause-ran : goal.returns-clause-ran
+returns-clause-ran g c m all r =
+    let old = c.args.self.now in
+    let new = c.happen_all.new.self in
+    let some = run_some g.E.Engine.meaning g.E.Engine.heard c.happen_all.result old new c.args.events.now c.happen_all.ensures.happened c.happen_all.ensures.stopped in
+    ran_more g.E.Engine.meaning g.E.Engine.heard m old new some.0 some.1 all r
+
+pub returns-clause-headline : goal.returns-clause-headline
+returns-clause-headline g c m all r =
+    let old = c.args.self.now in
+    let new = c.happen_all.new.self in
+    let some = run_some g.E.Engine.meaning g.E.Engine.heard c.happen_all.result old new c.args.events.now c.happen_all.ensures.happened c.happen_all.ensures.stopped in
+    some_headline g.E.Engine.meaning g.E.Engine.heard g.E.Engine.valid g.met.E.Engine.untouched m old new c.happen_all.ensures.world some all r

@@ -1,0 +1,133 @@
+-- What has happened in a world in code: what its calls promise.
+use Rattle.std.specs.Prelude.{◌≡◌, ℕ, ◌+◌, ◌==◌, ◌<◌, zero, suc, Bool, true, false, cond, Option, Some, None, List, [], ◌∷◌, ◌++◌, map, take, length, slice_get}
+use Rattle.std.specs.List.{All, flat_map}
+use Rattle.std.specs.Option.{option_map}
+use Rattle.sv_model.specs.declared.event.Told.{Told}
+use Rattle.sv_model.specs.Engine.{EngineMeaning, heard_all}
+use Rattle.sv_model.specs.Outputs.{sends_in}
+use Rattle.sv_model.specs.Step.{with_mark}
+use Rattle.sv_world.specs.declared.event.WorldEvent.{WorldEvent}
+use Rattle.sv_world.specs.declared.event.WorldEvent.TheVariants.{Ask, Deliver, Poke, Tick, Move, Crash, Torn, Restart, TornRestart}
+use Rattle.sv_world.specs.declared.fault.WorldFault.{WorldFault}
+use Rattle.sv_world.specs.declared.fault.WorldFault.TheVariants.{Memory}
+use Rattle.sv_world.specs.declared.line.Effect.{Effect}
+use Rattle.sv_world.specs.declared.line.Line.{Line}
+use Rattle.sv_world.specs.declared.order.Order.{Order}
+use Rattle.sv_world.specs.declared.running.RunFault.{RunFault}
+use Rattle.sv_world.specs.declared.seat.Seat.{Seat}
+use Rattle.sv_world.specs.declared.world.World.{World as Nodes}
+use Rattle.sv_world.specs.Deed.{deed, told_by}
+use Rattle.sv_world.specs.Faults.{fault_of}
+use Rattle.sv_world.specs.Order.{order_of}
+use Rattle.sv_world.specs.World.{Cluster, set_place, nothing_happened, run}
+use Rattle.sv_world.specs.Worlds.{places_by, settings_by, heard_by, world_of, cluster_of, meanings_of, heard_of, AllMean}
+
+-- ---- a task
+
+-- a node has done a task, whose engine means `m`; all others are as they were
+pub record HaveDone {E : Type 0} (noted : E → List (List ℕ)) (m : EngineMeaning) (old new : List (Seat E)) (o : Order) (f : Effect) : Type 0 where
+  pub places : places_by new ≡ set_place (places_by old) o.node (deed m (settings_by old o.node) (places_by old o.node) o.task).place
+  pub effect : f ≡ (deed m (settings_by old o.node) (places_by old o.node) o.task).effect
+  pub heard : (x : ℕ) → heard_by noted new x ≡ cond (x == o.node) (option_map (λ h. heard_all m h (told_by f)) (heard_by noted old x)) (heard_by noted old x)
+
+-- no node has done anything
+pub record AreUndone {E : Type 0} (noted : E → List (List ℕ)) (old new : List (Seat E)) : Type 0 where
+  pub places : places_by new ≡ places_by old
+  pub heard : heard_by noted new ≡ heard_by noted old
+
+-- ---- events
+
+-- what a line has told at a node
+abbrev pub told_in : ℕ → Line → List Told
+told_in n l = cond (l.node == n) (with_mark l.events l.mark) []
+
+abbrev pub told_at : ℕ → List Line → List Told
+told_at n lines = flat_map (told_in n) lines
+
+-- these events have happened, each with a line of its own; the world is what they make of it, each engine means what it
+-- meant, and its listeners have noted what its node has told
+pub record HaveHappened {E : Type 0} (meaning : E → EngineMeaning) (noted : E → List (List ℕ)) (old new : Nodes E) (events : List WorldEvent) : Type 0 where
+  pub cluster : cluster_of new ≡ cluster_of old
+  pub world : (m : EngineMeaning) → AllMean meaning m old → world_of new ≡ run m (cluster_of old) (world_of old) events
+  pub lines : List Line
+  pub trace : (world_of new).trace ≡ (world_of old).trace ++ lines
+  pub each : map (λ l. l.event) lines ≡ events
+  pub meanings : meanings_of meaning new ≡ meanings_of meaning old
+  pub heard : (n : ℕ) (m : EngineMeaning) → meanings_of meaning old n ≡ Some m → heard_of noted new n ≡ option_map (λ h. heard_all m h (told_at n lines)) (heard_of noted old n)
+
+-- a node has done what an event asks of it, and the trace has yet to get its line
+pub record HasActed {E : Type 0} (meaning : E → EngineMeaning) (noted : E → List (List ℕ)) (old new : Nodes E) (e : WorldEvent) (f : Effect) : Type 0 where
+  pub possible : fault_of (cluster_of old) (world_of old) e ≡ None
+  pub order : Order
+  pub asked : order_of (world_of old).packets e ≡ Some order
+  pub number : (cluster_of new).nodes ≡ (cluster_of old).nodes
+  pub deadline : (cluster_of new).deadline ≡ (cluster_of old).deadline
+  pub meanings : meanings_of meaning new ≡ meanings_of meaning old
+  pub done : (m : EngineMeaning) → meanings_of meaning old order.node ≡ Some m → HaveDone noted m old.seats.items new.seats.items order f
+  pub packets : (world_of new).packets ≡ (world_of old).packets ++ sends_in f.outputs
+  pub trace : (world_of new).trace ≡ (world_of old).trace
+
+-- nothing has happened
+pub record IsStill {E : Type 0} (meaning : E → EngineMeaning) (noted : E → List (List ℕ)) (old new : Nodes E) : Type 0 where
+  pub cluster : cluster_of new ≡ cluster_of old
+  pub world : world_of new ≡ world_of old
+  pub meanings : meanings_of meaning new ≡ meanings_of meaning old
+  pub heard : heard_of noted new ≡ heard_of noted old
+
+-- the fault with which an event is refused: its own, and where it has none, want of memory
+abbrev pub refusal : Option WorldFault → WorldFault
+refusal None = Memory
+refusal (Some fault) = fault
+
+-- an event was refused
+pub record IsRefused {E : Type 0} (meaning : E → EngineMeaning) (noted : E → List (List ℕ)) (old new : Nodes E) (e : WorldEvent) (cause : WorldFault) : Type 0 where
+  pub still : IsStill meaning noted old new
+  pub fault : cause ≡ refusal (fault_of (cluster_of old) (world_of old) e)
+
+-- the events before a place have happened, and the one there was refused
+pub record HaveStopped {E : Type 0} (meaning : E → EngineMeaning) (noted : E → List (List ℕ)) (old new : Nodes E) (events : List WorldEvent) (f : RunFault) : Type 0 where
+  pub within : f.place < length events
+  pub before : HaveHappened meaning noted old new (take f.place events)
+  pub fault : (e : WorldEvent) → slice_get events f.place ≡ Some e → f.fault ≡ refusal (fault_of (cluster_of old) (world_of new) e)
+
+-- ---- worlds that were made
+
+-- a start of each node, by number
+abbrev pub restarts : ℕ → List WorldEvent
+restarts zero = []
+restarts (suc n) = restarts n ++ Restart n ∷ []
+
+-- all engines mean this
+abbrev pub AllAlike : {E : Type 0} → (E → EngineMeaning) → EngineMeaning → List E → Type 0
+AllAlike meaning m engines = All (λ e. meaning e ≡ m) engines
+
+-- nodes that have just started, each over the engine of its number
+pub record AreStarted {E : Type 0} (meaning : E → EngineMeaning) (noted : E → List (List ℕ)) (engines : List E) (deadline : ℕ) (w : Nodes E) : Type 0 where
+  pub cluster : cluster_of w ≡ record { nodes = length engines; deadline = deadline }
+  pub world : (m : EngineMeaning) → AllAlike meaning m engines → world_of w ≡ run m (cluster_of w) nothing_happened (restarts (length engines))
+  pub meanings : (n : ℕ) → meanings_of meaning w n ≡ option_map meaning (slice_get engines n)
+  pub heard : (n : ℕ) → heard_of noted w n ≡ option_map noted (slice_get engines n)
+
+-- these engines are those: as many, in order, and no call has reached them
+pub record AreBack {E : Type 0} (meaning : E → EngineMeaning) (noted : E → List (List ℕ)) (fit : E → Type 0) (old new : List E) : Type 0 where
+  pub valid : All fit new
+  pub number : length new ≡ length old
+  pub meanings : (n : ℕ) → option_map meaning (slice_get new n) ≡ option_map meaning (slice_get old n)
+  pub heard : (n : ℕ) → option_map noted (slice_get new n) ≡ option_map noted (slice_get old n)
+
+-- the world is what some events have made of one in which nothing had happened
+pub record Ran {E : Type 0} (m : EngineMeaning) (w : Nodes E) : Type 0 where
+  pub events : List WorldEvent
+  pub world : world_of w ≡ run m (cluster_of w) nothing_happened events
+
+-- a start that no stop cuts
+abbrev pub is_start : WorldEvent → Bool
+is_start (Ask n moment token r) = false
+is_start (Deliver moment place) = false
+is_start (Poke n moment) = false
+is_start (Tick n moment) = false
+is_start (Move n moment k to) = false
+is_start (Crash n) = false
+is_start (Torn n moment given kept) = false
+is_start (Restart n) = true
+is_start (TornRestart n kept) = false

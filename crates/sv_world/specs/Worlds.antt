@@ -1,0 +1,75 @@
+-- A world in code, seen as a world of the definitions.
+use Rattle.std.specs.Prelude.{◌≡◌, ℕ, ◌<◌, ◌≤◌, Option, Some, None, List, length, slice_get}
+use Rattle.std.specs.List.{All}
+use Rattle.sv_model.specs.declared.node.Setting.{Setting}
+use Rattle.sv_model.specs.declared.packet.Packet.{Packet}
+use Rattle.sv_model.specs.Engine.{EngineMeaning}
+use Rattle.sv_model.specs.Replay.{blank}
+use Rattle.sv_world.specs.declared.line.Line.{Line}
+use Rattle.sv_world.specs.declared.seat.Seat.{Seat}
+use Rattle.sv_world.specs.declared.world.World.{World as Nodes}
+use Rattle.sv_world.specs.Seat.{IsSeat, place_of, meaning_in, heard_in}
+use Rattle.sv_world.specs.World.{Cluster, Place, World, setting_of, stopped}
+
+-- ---- nodes, by their numbers
+
+abbrev pub place_in : {E : Type 0} → Option (Seat E) → Place
+place_in None = stopped blank
+place_in (Some s) = place_of s
+
+abbrev pub places_by : {E : Type 0} → List (Seat E) → ℕ → Place
+places_by seats n = place_in (slice_get seats n)
+
+abbrev pub setting_in : {E : Type 0} → Option (Seat E) → Setting
+setting_in None = record { node = 0; nodes = 0; deadline = 0 }
+setting_in (Some s) = s.setting
+
+abbrev pub settings_by : {E : Type 0} → List (Seat E) → ℕ → Setting
+settings_by seats n = setting_in (slice_get seats n)
+
+-- what a node's engine means; none where there is no such node
+abbrev pub meant_in : {E : Type 0} → (E → EngineMeaning) → Option (Seat E) → Option EngineMeaning
+meant_in meaning None = None
+meant_in meaning (Some s) = meaning_in meaning s
+
+abbrev pub meanings_by : {E : Type 0} → (E → EngineMeaning) → List (Seat E) → ℕ → Option EngineMeaning
+meanings_by meaning seats n = meant_in meaning (slice_get seats n)
+
+-- what the listeners of a node's engine have noted
+abbrev pub noted_in : {E : Type 0} → (E → List (List ℕ)) → Option (Seat E) → Option (List (List ℕ))
+noted_in noted None = None
+noted_in noted (Some s) = heard_in noted s
+
+abbrev pub heard_by : {E : Type 0} → (E → List (List ℕ)) → List (Seat E) → ℕ → Option (List (List ℕ))
+heard_by noted seats n = noted_in noted (slice_get seats n)
+
+abbrev pub state_by : {E : Type 0} → List (Seat E) → List Packet → List Line → World
+state_by seats packets trace = record { places = places_by seats; packets = packets; trace = trace }
+
+abbrev pub cluster_by : {E : Type 0} → List (Seat E) → ℕ → Cluster
+cluster_by seats deadline = record { nodes = length seats; deadline = deadline }
+
+-- ---- a world
+
+abbrev pub world_of : {E : Type 0} → Nodes E → World
+world_of w = state_by w.seats.items w.packets.items w.trace.items
+
+abbrev pub cluster_of : {E : Type 0} → Nodes E → Cluster
+cluster_of w = cluster_by w.seats.items w.deadline
+
+abbrev pub meanings_of : {E : Type 0} → (E → EngineMeaning) → Nodes E → ℕ → Option EngineMeaning
+meanings_of meaning w = meanings_by meaning w.seats.items
+
+abbrev pub heard_of : {E : Type 0} → (E → List (List ℕ)) → Nodes E → ℕ → Option (List (List ℕ))
+heard_of noted w = heard_by noted w.seats.items
+
+-- what holds between the events: each node has its journal and a core or an engine, and its own number
+pub record IsWorld {E : Type 0} (valid : E → Type 0) (w : Nodes E) : Type 0 where
+  pub seats : All (λ s. IsSeat valid s) w.seats.items
+  pub settings : (n : ℕ) → n < length w.seats.items → settings_by w.seats.items n ≡ setting_of (cluster_of w) n
+  pub some : 0 < length w.seats.items
+  pub few : length w.seats.items ≤ 8
+
+-- all engines mean the same
+abbrev pub AllMean : {E : Type 0} → (E → EngineMeaning) → EngineMeaning → Nodes E → Type 0
+AllMean meaning m w = (n : ℕ) → n < (cluster_of w).nodes → meanings_of meaning w n ≡ Some m

@@ -1,0 +1,66 @@
+//! One event.
+
+ghost use Rattle.std.specs.Prelude.{◌≡◌, ◌<◌, [], ◌∷◌, None, true, IfOk, IfErr, OnOk, vec_len, vec_capacity};
+ghost use Rattle.sv_model.specs.Engine.{EngineMeaning};
+ghost use Rattle.sv_world.specs.Faults.{fault_of};
+ghost use Rattle.sv_world.specs.Headline.{IsHeadline};
+
+use crate::event::WorldEvent;
+use crate::fault::WorldFault;
+use crate::finding::fault_of;
+use crate::line::{Effect, Line};
+use crate::order::order_for;
+use crate::seats::perform_at;
+use crate::world::World;
+use sv_model::Engine;
+
+impl<E: Engine + Drop> World<E> {
+    ghost use Rattle.sv_world.specs.Worlds.{world_of, cluster_of, heard_of, IsWorld, AllMean};
+    ghost use Rattle.sv_world.specs.Happened.{HaveHappened, HasActed, IsRefused, Ran, is_start};
+
+    /// A node does what an event asks of it, where the event can happen. The trace then has room for its line.
+    fn act(&mut self, event: &WorldEvent) -> Result<Effect, WorldFault>
+        requires { IsWorld E.valid self.old }
+        ensures world { IsWorld E.valid self.new }
+        ensures acted { IfOk result (λ f. HasActed E.meaning E.heard self.old self.new event.now f) }
+        ensures room { OnOk result (vec_len self.new.trace < vec_capacity self.new.trace) }
+        ensures refused { IfErr result (λ f. IsRefused E.meaning E.heard self.old self.new event.now f) }
+    {
+        if let Some(fault) = fault_of(&self.seats, &self.packets, &self.trace, event) {
+            return Err(fault);
+        }
+        self.trace.try_reserve(1)?;
+        let order = order_for(self.alloc, &self.packets, event)?;
+        Ok(perform_at(&mut self.seats, self.alloc, &mut self.packets, order)?)
+    }
+
+    /// An event, where it can happen.
+    pub(crate) fn happen(&mut self, event: WorldEvent) -> Result<(), WorldFault>
+        requires { IsWorld E.valid self.old }
+        ensures world { IsWorld E.valid self.new }
+        ensures possible { OnOk result (fault_of (cluster_of self.old) (world_of self.old) event ≡ None) }
+        ensures happened { OnOk result (HaveHappened E.meaning E.heard self.old self.new (event ∷ [])) }
+        ensures silent { is_start event ≡ true → OnOk result (heard_of E.heard self.new ≡ heard_of E.heard self.old) }
+        ensures refused { IfErr result (λ f. IsRefused E.meaning E.heard self.old self.new event f) }
+    {
+        let effect = self.act(&event)?;
+        self.trace.push_reserved(Line::new(event, effect));
+        Ok(())
+    }
+
+    /// What an event does, or the first reason why it can't happen; then all is as it was.
+    ///
+    /// Where all engines mean the same, and the world is what some events have made of one in which nothing had happened, it
+    /// is so behind this event too, and the theorem of `Headline.antt` holds of it.
+    pub fn step(&mut self, event: WorldEvent) -> Result<(), WorldFault>
+        requires { IsWorld E.valid self.old }
+        ensures world { IsWorld E.valid self.new }
+        ensures possible { OnOk result (fault_of (cluster_of self.old) (world_of self.old) event ≡ None) }
+        ensures happened { OnOk result (HaveHappened E.meaning E.heard self.old self.new (event ∷ [])) }
+        ensures refused { IfErr result (λ f. IsRefused E.meaning E.heard self.old self.new event f) }
+        ensures ran { (m : EngineMeaning) → AllMean E.meaning m self.old → Ran m self.old → Ran m self.new }
+        ensures headline { (m : EngineMeaning) → AllMean E.meaning m self.old → Ran m self.old → IsHeadline m (cluster_of self.new) (world_of self.new) }
+    {
+        self.happen(event)
+    }
+}

@@ -1,0 +1,108 @@
+//! A world whose nodes have just started.
+
+ghost use Rattle.std.specs.Prelude.{◌≡◌, ◌<◌, ◌≤◌, [], length, IfOk, IfErr, OnOk, OnErr, vec_len, vec_capacity};
+ghost use Rattle.std.specs.List.{All};
+ghost use Rattle.sv_model.specs.Engine.{EngineMeaning};
+ghost use Rattle.sv_world.specs.Headline.{IsHeadline};
+
+use crate::event::WorldEvent;
+use crate::fault::WorldFault;
+use crate::seat::Seat;
+use crate::seating::{seat_all, unseat_all};
+use crate::world::World;
+use std::alloc::Global;
+use sv_model::Engine;
+
+/// The engines of a world that was not made, as memory was refused, in order; none of them has served or told anything.
+#[derive(Drop)]
+pub struct Unmade<E> {
+    pub engines: Vec<E>,
+}
+
+impl<E: Engine + Drop> World<E> {
+    ghost use Rattle.sv_world.specs.Worlds.{world_of, cluster_of, meanings_of, heard_of, IsWorld, AllMean};
+    ghost use Rattle.sv_world.specs.Happened.{HaveHappened, AreStarted, AreBack, AllAlike, Ran, restarts};
+    ghost use Rattle.sv_world.specs.Making.{HaveBegun, AreOf, AreSeated};
+
+    /// Starts each node, by number, up to the first for which memory is refused.
+    fn start_all(&mut self, nodes: u8) -> Result<(), WorldFault>
+        requires { IsWorld E.valid self.old }
+        ensures world { IsWorld E.valid self.new }
+        ensures happened { OnOk result (HaveHappened E.meaning E.heard self.old self.new (restarts nodes)) }
+        ensures cluster { cluster_of self.new ≡ cluster_of self.old }
+        ensures meanings { meanings_of E.meaning self.new ≡ meanings_of E.meaning self.old }
+        ensures heard { heard_of E.heard self.new ≡ heard_of E.heard self.old }
+    {
+        for node in 0..nodes {
+            self.happen(WorldEvent::Restart(node))?;
+        }
+        Ok(())
+    }
+
+    /// Starts all nodes. After want of memory their engines are moved into the vector, which has room for them.
+    fn begin(&mut self, nodes: u8, engines: &mut Vec<E>) -> Result<(), WorldFault>
+        requires world { IsWorld E.valid self.old }
+        requires nodes { nodes ≡ (cluster_of self.old).nodes }
+        requires empty { engines.old.items ≡ [] }
+        requires room { nodes ≤ vec_capacity engines.old }
+        ensures world { OnOk result (IsWorld E.valid self.new) }
+        ensures begun { OnOk result (HaveBegun E.meaning E.heard self.old self.new) }
+        ensures back { OnErr result (AreOf E.meaning E.heard E.valid self.old engines.new.items) }
+    {
+        if let Err(fault) = self.start_all(nodes) {
+            unseat_all(&mut self.seats, engines);
+            return Err(fault);
+        }
+        Ok(())
+    }
+
+    /// Seats the engines, and starts all nodes.
+    fn seated(
+        alloc: Global,
+        mut engines: Vec<E>,
+        mut seats: Vec<Seat<E>>,
+        deadline: u64,
+    ) -> Result<World<E>, Unmade<E>>
+        requires some { 0 < length engines.items }
+        requires few { length engines.items ≤ 8 }
+        requires valid { All (λ e. E.valid e) engines.items }
+        requires empty { seats.items ≡ [] }
+        requires room { vec_len engines ≤ vec_capacity seats }
+        ensures world { IfOk result (λ w. IsWorld E.valid w) }
+        ensures started { IfOk result (λ w. AreStarted E.meaning E.heard engines.items deadline w) }
+        ensures back { IfErr result (λ u. AreBack E.meaning E.heard E.valid engines.items u.engines.items) }
+    {
+        let nodes = engines.len() as u8;
+        seat_all(alloc, &mut engines, deadline, &mut seats);
+        let mut world = World {
+            alloc,
+            seats,
+            deadline,
+            packets: Vec::new(alloc),
+            trace: Vec::new(alloc),
+        };
+        match world.begin(nodes, &mut engines) {
+            Ok(()) => Ok(world),
+            Err(_) => Err(Unmade { engines }),
+        }
+    }
+
+    /// A world of as many nodes as there are engines, 1 to 8, in which nothing has happened but that each has started, by
+    /// number. Requests wait `deadline` seconds for their session.
+    pub fn new(alloc: Global, engines: Vec<E>, deadline: u64) -> Result<World<E>, Unmade<E>>
+        requires some { 0 < length engines.items }
+        requires few { length engines.items ≤ 8 }
+        requires valid { All (λ e. E.valid e) engines.items }
+        ensures world { IfOk result (λ w. IsWorld E.valid w) }
+        ensures started { IfOk result (λ w. AreStarted E.meaning E.heard engines.items deadline w) }
+        ensures alike { IfOk result (λ w. (m : EngineMeaning) → AllAlike E.meaning m engines.items → AllMean E.meaning m w) }
+        ensures ran { IfOk result (λ w. (m : EngineMeaning) → AllAlike E.meaning m engines.items → Ran m w) }
+        ensures headline { IfOk result (λ w. (m : EngineMeaning) → AllAlike E.meaning m engines.items → IsHeadline m (cluster_of w) (world_of w)) }
+        ensures back { IfErr result (λ u. AreBack E.meaning E.heard E.valid engines.items u.engines.items) }
+    {
+        match Vec::with_capacity(alloc, engines.len()) {
+            Ok(seats) => World::seated(alloc, engines, seats, deadline),
+            Err(_) => Err(Unmade { engines }),
+        }
+    }
+}

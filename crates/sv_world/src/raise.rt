@@ -1,0 +1,39 @@
+//! A core over what is durable.
+
+ghost use Rattle.std.specs.Prelude.{◌≡◌, false, OnOk, OnErr};
+ghost use Rattle.sv_world.specs.Seat.{IsSeat, place_of, engine_in};
+ghost use Rattle.sv_world.specs.World.{started};
+
+use crate::seat::Seat;
+use std::alloc::Global;
+use sv_core::{Core, Memory};
+use sv_model::Engine;
+
+impl<E: Engine + Drop> Seat<E> {
+    /// Puts its engine over what is durable; its boot number is still that of its last start. After want of memory it is as
+    /// it was.
+    pub fn raise(&mut self, alloc: Global) -> Result<(), Memory>
+        requires seat { IsSeat E.valid self.old }
+        requires down { (place_of self.old).up ≡ false }
+        ensures seat { IsSeat E.valid self.new }
+        ensures setting { self.new.setting ≡ self.old.setting }
+        ensures engine { engine_in self.new ≡ engine_in self.old }
+        ensures place { OnOk result (place_of self.new ≡ started (place_of self.old).node.durable) }
+        ensures still { OnErr result (place_of self.new ≡ place_of self.old) }
+    {
+        let Some(engine) = self.idle.take() else {
+            unreachable!()
+        };
+        match Core::recover(alloc, engine, self.setting, &self.journal) {
+            Ok(core) => {
+                self.core = Some(core);
+                Ok(())
+            }
+            Err(refused) => {
+                // the records of a seat fit, so what was refused is memory
+                self.idle = Some(refused.engine);
+                Err(Memory)
+            }
+        }
+    }
+}

@@ -1,0 +1,27 @@
+//! What an event asks of a node.
+
+use sv_model::{Input, Moment};
+
+/// What a node is to do.
+#[derive(Drop)]
+pub enum Task {
+    /// A whole step.
+    Step {
+        moment: Moment,
+        input: Input,
+    },
+    /// A step that a stop cuts, behind its record where that is `kept`, else before it.
+    Torn {
+        moment: Moment,
+        input: Input,
+        kept: bool,
+    },
+    /// To stop.
+    Stop,
+    /// To start.
+    Start,
+    /// A start that a stop cuts, behind its record where that is `kept`, else before it.
+    TornStart {
+        kept: bool,
+    },
+}

@@ -1,0 +1,31 @@
+//! Nodes, the packets that they have sent, and what has happened to them.
+
+ghost use Rattle.std.specs.Prelude.{◌≡◌};
+
+use crate::line::Line;
+use crate::seat::Seat;
+use std::alloc::Global;
+use sv_model::Packet;
+
+/// Up to 8 nodes, from 0, and all that has happened to them. Their engines are to mean the same.
+#[derive(Drop)]
+pub struct World<E> {
+    pub(crate) alloc: Global,
+    pub(crate) seats: Vec<Seat<E>>,
+    /// The seconds for which a request waits for its session.
+    pub(crate) deadline: u64,
+    /// All packets that were ever sent, the first at 0.
+    pub(crate) packets: Vec<Packet>,
+    pub(crate) trace: Vec<Line>,
+}
+
+impl<E> World<E> {
+    ghost use Rattle.sv_world.specs.Worlds.{world_of};
+
+    /// A line for each event, the oldest first.
+    pub fn trace(&self) -> &[Line]
+        ensures { result.now ≡ (world_of self.now).trace }
+    {
+        self.trace.as_slice()
+    }
+}
