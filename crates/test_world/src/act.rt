@@ -1,0 +1,160 @@
+//! What happens to a world, an event each.
+
+use std::alloc::{AllocError, Global};
+use sv_model::{Input, Key, Moment, Secret};
+use sv_world::WorldEvent;
+use test_engine::request;
+
+/// A key, by its home and its serial, of one byte each.
+pub type KeyName = (u8, u8);
+
+/// The first session of node 0.
+pub const K1: KeyName = (0, 1);
+
+/// The secret of each session.
+pub const SECRET: Secret = Secret([1; 16]);
+
+/// The second in which all happens for which none is given.
+pub const NOW: u64 = 1000;
+
+/// A stop comes behind the record of the step that it cuts.
+pub const KEPT: bool = true;
+
+/// A stop comes before the record of the step that it cuts.
+pub const LOST: bool = false;
+
+/// One event.
+#[derive(Clone, Copy)]
+pub enum Act {
+    /// A request that counts, at a node, with no session.
+    First(u8),
+    /// The same, in this second.
+    FirstAt(u8, u64),
+    /// One that names a session.
+    Again(u8, KeyName),
+    /// The same, in this second.
+    AgainAt(u8, KeyName, u64),
+    /// A request that touches nothing.
+    Hello(u8),
+    /// The packet that was sent as this one, counting from 0, comes to its addressee.
+    Deliver(usize),
+    Poke(u8),
+    /// Time has passed, up to this second.
+    Tick(u8, u64),
+    Move(u8, KeyName, u8),
+    Crash(u8),
+    Restart(u8),
+    /// The node stops inside a request that names a session.
+    TornAgain(u8, KeyName, bool),
+    /// The node stops inside a request that touches nothing.
+    TornHello(u8, bool),
+    /// The node stops inside a move.
+    TornMove(u8, KeyName, u8, bool),
+    /// The node stops inside its start.
+    TornRestart(u8, bool),
+}
+
+fn at(now: u64) -> Moment {
+    Moment {
+        now,
+        secret: SECRET,
+    }
+}
+
+pub fn key((home, serial): KeyName) -> Key {
+    Key {
+        home,
+        serial: serial as u64,
+    }
+}
+
+/// A request with this body, at a node in a second.
+pub fn ask(
+    alloc: Global,
+    token: u64,
+    node: u8,
+    now: u64,
+    body: &[u8],
+) -> Result<WorldEvent, AllocError> {
+    Ok(WorldEvent::Ask {
+        node,
+        moment: at(now),
+        token,
+        request: request(alloc, body, false)?,
+    })
+}
+
+/// A request that touches nothing.
+fn hello(alloc: Global, token: u64, node: u8) -> Result<WorldEvent, AllocError> {
+    Ok(WorldEvent::Ask {
+        node,
+        moment: at(NOW),
+        token,
+        request: request(alloc, &[], true)?,
+    })
+}
+
+/// A step that a stop cuts.
+pub fn torn(node: u8, input: Input, kept: bool) -> WorldEvent {
+    WorldEvent::Torn {
+        node,
+        moment: at(NOW),
+        input,
+        kept,
+    }
+}
+
+/// A request that a stop cuts; one that closes its connection touches nothing.
+fn torn_ask(
+    alloc: Global,
+    token: u64,
+    node: u8,
+    body: &[u8],
+    close: bool,
+    kept: bool,
+) -> Result<WorldEvent, AllocError> {
+    let request = request(alloc, body, close)?;
+    Ok(torn(node, Input::Ask { token, request }, kept))
+}
+
+fn torn_move(node: u8, named: KeyName, to: u8, kept: bool) -> WorldEvent {
+    let key = key(named);
+    torn(node, Input::Move { key, to }, kept)
+}
+
+/// The event; a request comes under the token.
+pub fn event(alloc: Global, token: u64, act: Act) -> Result<WorldEvent, AllocError> {
+    match act {
+        Act::First(node) => ask(alloc, token, node, NOW, &[]),
+        Act::FirstAt(node, now) => ask(alloc, token, node, now, &[]),
+        Act::Again(node, named) => ask(alloc, token, node, NOW, &[named.0, named.1]),
+        Act::AgainAt(node, named, now) => ask(alloc, token, node, now, &[named.0, named.1]),
+        Act::Hello(node) => hello(alloc, token, node),
+        Act::Deliver(place) => Ok(WorldEvent::Deliver {
+            moment: at(NOW),
+            place,
+        }),
+        Act::Poke(node) => Ok(WorldEvent::Poke {
+            node,
+            moment: at(NOW),
+        }),
+        Act::Tick(node, now) => Ok(WorldEvent::Tick {
+            node,
+            moment: at(now),
+        }),
+        Act::Move(node, named, to) => Ok(WorldEvent::Move {
+            node,
+            moment: at(NOW),
+            key: key(named),
+            to,
+        }),
+        Act::Crash(node) => Ok(WorldEvent::Crash(node)),
+        Act::Restart(node) => Ok(WorldEvent::Restart(node)),
+        Act::TornAgain(node, named, kept) => {
+            torn_ask(alloc, token, node, &[named.0, named.1], false, kept)
+        }
+        Act::TornHello(node, kept) => torn_ask(alloc, token, node, &[], true, kept),
+        Act::TornMove(node, named, to, kept) => Ok(torn_move(node, named, to, kept)),
+        Act::TornRestart(node, kept) => Ok(WorldEvent::TornRestart { node, kept }),
+    }
+}

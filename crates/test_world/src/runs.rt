@@ -1,0 +1,102 @@
+//! Lists of events.
+
+use crate::act::{Act, K1, KEPT, NOW, event};
+use crate::stage::{Row, line_text, nodes};
+use std::alloc::{AllocError, Global};
+use std::process::Abort;
+use std::test::Fail;
+use sv_world::{World, WorldEvent, WorldFault};
+use test_engine::Counter;
+
+/// Each of the nine kinds of event. A session goes from node 0 to node 1, whose next move is cut behind its record, so that
+/// its Grant is sent when time passes; then from node 2 back to node 0, in whose table it was last sent with epoch 2.
+pub const EVERY_KIND: [Row; 14] = [
+    (Act::First(0), "Commit makes 0.1, served, answer 1"),
+    (Act::Again(1, K1), "p0 Want 1 to 0, p1 Want 1 to 2"),
+    (
+        Act::Deliver(0),
+        "Sent 2 to 1, passivate, p2 Grant 0 to 1 epoch 2",
+    ),
+    (
+        Act::Deliver(2),
+        "Taken 2 from 0, activate, p3 Ack 1 to 0 epoch 2",
+    ),
+    (Act::Poke(1), "Commit keeps 0.1, served, answer 2"),
+    (Act::TornMove(1, K1, 2, KEPT), "Sent 3 to 2"),
+    (Act::TornRestart(1, KEPT), "Boot 2"),
+    (Act::Restart(1), "Boot 3"),
+    (Act::Tick(1, NOW), "p4 Grant 1 to 2 epoch 3"),
+    (
+        Act::Deliver(4),
+        "Taken 3 from 1, activate, p5 Ack 2 to 1 epoch 3",
+    ),
+    (
+        Act::Move(2, K1, 0),
+        "Sent 4 to 0, passivate, p6 Grant 2 to 0 epoch 4, moved",
+    ),
+    (Act::Crash(2), ""),
+    (
+        Act::Deliver(6),
+        "Taken 4 from 2, activate, p7 Ack 0 to 2 epoch 4",
+    ),
+    (Act::Again(0, K1), "Commit keeps 0.1, served, answer 3"),
+];
+
+/// The events of these rows. A request's token is its place.
+pub fn events(alloc: Global, rows: &[Row]) -> Result<Vec<WorldEvent>, AllocError> {
+    let mut events = Vec::new(alloc);
+    for (place, (act, _)) in rows.iter().enumerate() {
+        events.push(event(alloc, place as u64, *act)?)?;
+    }
+    Ok(events)
+}
+
+/// The last lines of a world, each with what it says.
+fn expect_lines(
+    rt: &impl Abort,
+    alloc: Global,
+    world: &World<Counter>,
+    rows: &[Row],
+) -> Result<(), Fail> {
+    let before = world.trace().len().saturating_sub(rows.len());
+    for (place, (_, want)) in rows.iter().enumerate() {
+        let said = line_text(alloc, world, before.saturating_add(place))?;
+        assert_eq!(rt; said.as_str(), *want, "event {place}");
+    }
+    Ok(())
+}
+
+/// A run does what its events do one by one.
+#[test]
+fn a_run_of_every_kind(rt: HostRuntime) -> Result<(), Fail> {
+    let alloc = rt.alloc();
+    let mut world = nodes(alloc, 3)?;
+    let events = events(alloc, &EVERY_KIND)?;
+    assert_eq!(rt; world.run(&events), Ok(()));
+    expect_lines(&rt, alloc, &world, &EVERY_KIND)
+}
+
+/// The third and the fifth can't happen.
+const FAULTY: [Row; 5] = [
+    (Act::First(0), "Commit makes 0.1, served, answer 1"),
+    (Act::Crash(0), ""),
+    (Act::Again(0, K1), "NotRunning"),
+    (Act::Restart(0), "Boot 2"),
+    (Act::Restart(0), "Running"),
+];
+
+/// A run stops at the first event that can't happen, and says which that is; those before it have happened.
+#[test]
+fn a_run_stops_at_the_first_fault(rt: HostRuntime) -> Result<(), Fail> {
+    let alloc = rt.alloc();
+    let mut world = nodes(alloc, 3)?;
+    let events = events(alloc, &FAULTY)?;
+    let fault = world.run(&events).err().ok_or("no fault")?;
+    assert_eq!(rt; (fault.place, fault.fault), (2, WorldFault::NotRunning));
+    assert_eq!(rt;
+        format!(in alloc; "{fault}")?.as_str(),
+        "the event at place 2: the node doesn't run"
+    );
+    assert_eq!(rt; world.trace().len(), 5);
+    expect_lines(&rt, alloc, &world, &FAULTY[..2])
+}
