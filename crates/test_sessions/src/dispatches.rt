@@ -6,17 +6,19 @@ ghost use Rattle.sv_servlet.specs.declared.servlet.Phase.TheVariants.{Ready};
 ghost use Rattle.test_sessions.specs.Staged.{IsStaged};
 
 mod filters;
+mod kinds;
 mod nesting;
 mod pages;
 mod shown;
 
 use crate::scripted::{Marking, Says, Scripted, Then};
-use crate::staged::add_servlet;
+use crate::staged::{add_filter, add_servlet};
 use http::Method;
 use std::alloc::Global;
 use std::process::Abort;
 use std::test::Fail;
 use sv_dispatch::{Ended, Stage, run};
+use sv_mapping::{Dispatcher, Dispatchers};
 use sv_servlet::{Call, Filter, Phase, RequestAttributes, Servlet};
 
 /// A servlet of a path: its status, what it writes, and what is to follow.
@@ -50,6 +52,39 @@ fn add_servlets(
         add_servlet(alloc, stage, path, servlet_of(alloc, status, says, then))?;
     }
     Ok(())
+}
+
+/// A filter that is ready.
+fn filter_of(alloc: Global, before: &'static str, after: &'static str, then: Then) -> Marking
+    ensures { result.phase ≡ Ready }
+{
+    Marking {
+        before,
+        after,
+        then,
+        phase: Phase::Ready,
+        alloc,
+    }
+}
+
+/// Adds two filters for a kind of dispatch: the first passes, and the second does as `then` says.
+fn add_filters(
+    alloc: Global,
+    stage: &mut Stage<Scripted, Marking>,
+    kind: Dispatcher,
+    then: Then,
+) -> Result<(), Fail>
+    requires { IsStaged stage.old }
+    ensures { IsStaged stage.new }
+{
+    let kinds = Dispatchers::of(&[kind]);
+    add_filter(
+        alloc,
+        stage,
+        kinds,
+        filter_of(alloc, "<b", "b>", Then::Ends),
+    )?;
+    add_filter(alloc, stage, kinds, filter_of(alloc, "<a", "a>", then))
 }
 
 /// A request for a path of the context `/shop`.

@@ -9,8 +9,9 @@ use http::Method;
 use std::alloc::Global;
 use std::process::Abort;
 use std::test::Fail;
-use sv_model::Field;
+use sv_model::{Field, Key, Secret};
 use sv_servlet::{Call, Replied, Reply, ReplyFault, RequestAttributes};
+use sv_session::SessionEdit;
 
 /// The fields as they are written, a line each.
 fn lines(alloc: Global, fields: &[Field]) -> Result<String, Fail> {
@@ -46,6 +47,12 @@ fn written(alloc: Global) -> Result<Reply, ReplyFault> {
     reply.header("x-a", "1")?;
     reply.write(b"body")?;
     Ok(reply)
+}
+
+/// The edit of a request that names no session.
+fn fresh_edit(alloc: Global) -> SessionEdit {
+    let fresh = (Key { home: 0, serial: 1 }, Secret([1; 16]));
+    SessionEdit::begin(alloc, None, 0, 600, 1_000, fresh)
 }
 
 /// A request for `/a` of the context `/shop`.

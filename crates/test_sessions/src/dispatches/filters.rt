@@ -1,12 +1,11 @@
 //! Filters round a servlet (Jakarta Servlet 6.0, chapter "Filtering").
 
-use super::{Want, expect, servlet_of};
+use super::{Want, add_filters, expect, filter_of, servlet_of};
 use crate::scripted::{Marking, Says, Scripted, Then};
 use crate::staged::{add_filter, add_servlet, empty_stage};
 use std::test::Fail;
 use sv_dispatch::{Ended, Stage};
 use sv_mapping::{Dispatcher, Dispatchers};
-use sv_servlet::Phase;
 
 /// What the second filter says, and what comes of a request for `/w`.
 const ROWS: [(Then, Want); 4] = [
@@ -24,32 +23,7 @@ fn chains(rt: HostRuntime) -> Result<(), Fail> {
         let mut stage: Stage<Scripted, Marking> = empty_stage(alloc);
         let hello = servlet_of(alloc, 200, Says::Text("Hello\n"), Then::Ends);
         add_servlet(alloc, &mut stage, "/w", hello)?;
-        let first = Marking {
-            before: "<b",
-            after: "b>",
-            then: Then::Ends,
-            phase: Phase::Ready,
-            alloc,
-        };
-        let second = Marking {
-            before: "<a",
-            after: "a>",
-            then,
-            phase: Phase::Ready,
-            alloc,
-        };
-        add_filter(
-            alloc,
-            &mut stage,
-            Dispatchers::of(&[Dispatcher::Request]),
-            first,
-        )?;
-        add_filter(
-            alloc,
-            &mut stage,
-            Dispatchers::of(&[Dispatcher::Request]),
-            second,
-        )?;
+        add_filters(alloc, &mut stage, Dispatcher::Request, then)?;
         expect(&rt, stage, "/w", want)?;
     }
     Ok(())
@@ -68,13 +42,7 @@ fn filters_of_includes(rt: HostRuntime) -> Result<(), Fail> {
     )?;
     let including = servlet_of(alloc, 200, Says::Text("["), Then::Includes("/w"));
     add_servlet(alloc, &mut stage, "/iw", including)?;
-    let filter = Marking {
-        before: "<",
-        after: ">",
-        then: Then::Ends,
-        phase: Phase::Ready,
-        alloc,
-    };
+    let filter = filter_of(alloc, "<", ">", Then::Ends);
     add_filter(
         alloc,
         &mut stage,

@@ -1,8 +1,11 @@
 //! Error pages (Jakarta Servlet 6.0, section 10.9).
 
+ghost use Rattle.test_sessions.specs.Staged.{IsStaged};
+
 use super::{Row, Want, add_servlets, expect};
 use crate::scripted::{Marking, Says, Scripted, Then};
 use crate::staged::{add_page, empty_stage};
+use std::alloc::Global;
 use std::test::Fail;
 use sv_dispatch::{Ended, PageFor, Stage};
 use sv_model::Text;
@@ -35,17 +38,25 @@ const ROWS: [(&str, Want); 5] = [
     ("/418", (Ended::Plain(500), 500, "")),
 ];
 
+/// The default page, and those of two statuses and of a fault.
+fn add_pages(alloc: Global, stage: &mut Stage<Scripted, Marking>) -> Result<(), Fail>
+    requires { IsStaged stage.old }
+    ensures { IsStaged stage.new }
+{
+    add_page(alloc, stage, PageFor::Default, "/again")?;
+    add_page(alloc, stage, PageFor::Status(404), "/status")?;
+    add_page(alloc, stage, PageFor::Status(500), "/name")?;
+    let fault = PageFor::Fault(Text::from_str(alloc, "x")?);
+    add_page(alloc, stage, fault, "/message")
+}
+
 #[test]
 fn error_pages(rt: HostRuntime) -> Result<(), Fail> {
     let alloc = rt.alloc();
     for (path, want) in ROWS {
         let mut stage: Stage<Scripted, Marking> = empty_stage(alloc);
         add_servlets(alloc, &mut stage, &SERVLETS)?;
-        let fault = PageFor::Fault(Text::from_str(alloc, "x")?);
-        add_page(alloc, &mut stage, PageFor::Default, "/again")?;
-        add_page(alloc, &mut stage, PageFor::Status(404), "/status")?;
-        add_page(alloc, &mut stage, PageFor::Status(500), "/name")?;
-        add_page(alloc, &mut stage, fault, "/message")?;
+        add_pages(alloc, &mut stage)?;
         expect(&rt, stage, path, want)?;
     }
     Ok(())

@@ -7,12 +7,11 @@ ghost use Rattle.sv_servlet.specs.Servlet.{lent};
 ghost use Rattle.sv_servlet.specs.declared.filter.Before.TheVariants.{Stop};
 ghost use Rattle.sv_servlet.specs.declared.servlet.Phase.TheVariants.{Ready};
 
-use super::{call_of, expect_reply, written};
+use super::{call_of, expect_reply, fresh_edit, written};
 use http::Method;
 use std::alloc::AllocError;
 use std::process::Abort;
 use std::test::Fail;
-use sv_model::{Key, Secret};
 use sv_servlet::{Before, Call, Filter, InitFault, Phase, Reply, RequestAttributes};
 use sv_session::SessionEdit;
 
@@ -56,7 +55,33 @@ impl Filter for Emptying {
     }
 }
 
-fn filter_with<F: Filter>(rt: &(impl Abort + AllocGlobal), filter: &mut F) -> Result<(), Fail>
+fn is_stop(before: Before) -> bool {
+    matches!(&before, Before::Stop)
+}
+
+/// Calls a filter before and after; it stops.
+fn call_both<F: Filter>(
+    rt: &(impl Abort + AllocGlobal),
+    filter: &mut F,
+    call: &Call<'_>,
+    edit: &mut SessionEdit,
+    reply: &mut Reply,
+) -> Result<(), Fail>
+    requires { F.filter_phase filter.old ≡ Ready }
+    ensures { F.filter_phase filter.new ≡ Ready }
+{
+    let before = filter.before(call, edit, reply)?;
+    assert!(rt; is_stop(before));
+    filter.after(call, edit, reply)?;
+    Ok(())
+}
+
+/// Filters one request through the bound.
+fn filter_once<F: Filter>(
+    rt: &(impl Abort + AllocGlobal),
+    filter: &mut F,
+    reply: &mut Reply,
+) -> Result<(), Fail>
     requires { F.filter_phase filter.old ≡ Ready }
     ensures { F.filter_phase filter.new ≡ Ready }
 {
@@ -64,12 +89,17 @@ fn filter_with<F: Filter>(rt: &(impl Abort + AllocGlobal), filter: &mut F) -> Re
     let method = Method::GET;
     let attributes = RequestAttributes::new(alloc);
     let call = call_of(&method, None, &attributes);
-    let fresh = (Key { home: 0, serial: 1 }, Secret([1; 16]));
-    let mut edit = SessionEdit::begin(alloc, None, 0, 600, 1_000, fresh);
-    let mut reply = written(alloc)?;
-    let before = filter.before(&call, &mut edit, &mut reply)?;
-    assert!(rt; matches!(&before, Before::Stop));
-    filter.after(&call, &mut edit, &mut reply)?;
+    let mut edit = fresh_edit(alloc);
+    call_both(rt, filter, &call, &mut edit, reply)
+}
+
+/// Filters one request, with a reply that has a status and a body so far.
+fn filter_with<F: Filter>(rt: &(impl Abort + AllocGlobal), filter: &mut F) -> Result<(), Fail>
+    requires { F.filter_phase filter.old ≡ Ready }
+    ensures { F.filter_phase filter.new ≡ Ready }
+{
+    let mut reply = written(rt.alloc())?;
+    filter_once(rt, filter, &mut reply)?;
     expect_reply(rt, &reply.finish(), 404, "x-a: 1\n", b"")
 }
 

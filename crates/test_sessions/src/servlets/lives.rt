@@ -6,14 +6,13 @@ ghost use Rattle.sv_servlet.specs.Servlet.{answer, lent};
 ghost use Rattle.sv_servlet.specs.declared.servlet.Next.TheVariants.{Done};
 ghost use Rattle.sv_servlet.specs.declared.servlet.Phase.TheVariants.{Ready};
 
-use super::{call_of, expect_reply, written};
+use super::{call_of, expect_reply, fresh_edit, written};
 use http::Method;
-use std::alloc::AllocError;
+use std::alloc::{AllocError, Global};
 use std::cell::RefCell;
 use std::process::Abort;
 use std::rc::Rc;
 use std::test::Fail;
-use sv_model::{Key, Secret};
 use sv_servlet::{Call, InitFault, Next, Phase, Reply, RequestAttributes, Servlet};
 use sv_session::SessionEdit;
 
@@ -82,23 +81,52 @@ impl Servlet for Noting {
     }
 }
 
-/// Serves one request through the bound, with a reply that has a status and a body so far.
-fn serve_with<S: Servlet>(rt: &(impl Abort + AllocGlobal), servlet: &mut S) -> Result<(), Fail>
+fn is_done(next: Next) -> bool {
+    matches!(&next, Next::Done)
+}
+
+/// Asks a servlet through the bound.
+fn ask<S: Servlet>(
+    alloc: Global,
+    servlet: &mut S,
+    edit: &mut SessionEdit,
+    reply: &mut Reply,
+) -> Result<Next, Fail>
+    requires { S.servlet_phase servlet.old ≡ Ready }
+    ensures { S.servlet_phase servlet.new ≡ Ready }
+{
+    let method = Method::from_bytes(alloc, b"GET")?;
+    let attributes = RequestAttributes::new(alloc);
+    let call = call_of(&method, None, &attributes);
+    let next = servlet.service(&call, edit, reply)?;
+    Ok(next)
+}
+
+/// Serves one request, which is done and tells nothing of a session.
+fn serve_once<S: Servlet>(
+    rt: &(impl Abort + AllocGlobal),
+    servlet: &mut S,
+    reply: &mut Reply,
+) -> Result<(), Fail>
     requires { S.servlet_phase servlet.old ≡ Ready }
     ensures { S.servlet_phase servlet.new ≡ Ready }
 {
     let alloc = rt.alloc();
-    let method = Method::from_bytes(alloc, b"GET")?;
-    let attributes = RequestAttributes::new(alloc);
-    let call = call_of(&method, None, &attributes);
-    let fresh = (Key { home: 0, serial: 1 }, Secret([1; 16]));
-    let mut edit = SessionEdit::begin(alloc, None, 0, 600, 1_000, fresh);
-    let mut reply = written(alloc)?;
-    let next = servlet.service(&call, &mut edit, &mut reply)?;
-    assert!(rt; matches!(&next, Next::Done));
-    expect_reply(rt, &reply.finish(), 404, "x-a: 1\n", b"")?;
+    let mut edit = fresh_edit(alloc);
+    let next = ask(alloc, servlet, &mut edit, reply)?;
+    assert!(rt; is_done(next));
     assert_eq!(rt; edit.finish().events.len(), 0);
     Ok(())
+}
+
+/// Serves one request, with a reply that has a status and a body so far.
+fn serve_with<S: Servlet>(rt: &(impl Abort + AllocGlobal), servlet: &mut S) -> Result<(), Fail>
+    requires { S.servlet_phase servlet.old ≡ Ready }
+    ensures { S.servlet_phase servlet.new ≡ Ready }
+{
+    let mut reply = written(rt.alloc())?;
+    serve_once(rt, servlet, &mut reply)?;
+    expect_reply(rt, &reply.finish(), 404, "x-a: 1\n", b"")
 }
 
 /// A servlet is initialised once, serves any number of requests and is destroyed once (Jakarta Servlet 6.0,

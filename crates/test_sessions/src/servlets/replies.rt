@@ -2,6 +2,8 @@
 
 use super::{expect_reply, lines, written};
 use http_header::{HeaderName, HeaderValue};
+use std::alloc::Global;
+use std::process::Abort;
 use std::test::Fail;
 use sv_model::Field;
 use sv_servlet::{BODY_LIMIT, Reply, ReplyFault};
@@ -115,43 +117,68 @@ fn limits(rt: HostRuntime) -> Result<(), Fail> {
     Ok(())
 }
 
+fn reset(alloc: Global) -> Result<Reply, ReplyFault> {
+    let mut reply = written(alloc)?;
+    reply.reset();
+    Ok(reply)
+}
+
+fn emptied(alloc: Global) -> Result<Reply, ReplyFault> {
+    let mut reply = written(alloc)?;
+    reply.clear_body();
+    Ok(reply)
+}
+
+fn emptied_while_held(alloc: Global) -> Result<Reply, ReplyFault> {
+    let mut reply = written(alloc)?;
+    reply.hold(true);
+    reply.clear_body();
+    Ok(reply)
+}
+
+/// No call was refused.
+fn expect_accepted(rt: &impl Abort, answers: &[Result<(), ReplyFault>]) {
+    for answer in answers {
+        assert_eq!(rt; *answer, Ok(()));
+    }
+}
+
+/// Each call of a reply while it is held, and a field behind it.
+fn change_while_held(rt: &impl Abort, reply: &mut Reply) {
+    reply.hold(true);
+    let answers = [
+        reply.status(500),
+        reply.status(600),
+        reply.header("x-b", "2"),
+        reply.header("a b", "2"),
+        reply.header("date", "2"),
+    ];
+    expect_accepted(rt, &answers);
+    reply.reset();
+    let wrote = reply.write(b" and more");
+    reply.hold(false);
+    let set = reply.header("x-c", "3");
+    expect_accepted(rt, &[wrote, set]);
+}
+
+/// A held reply keeps its status and its fields, and its body grows.
+fn expect_held(rt: &(impl Abort + AllocGlobal)) -> Result<(), Fail> {
+    let mut reply = written(rt.alloc())?;
+    change_while_held(rt, &mut reply);
+    let fields = "x-a: 1\nx-c: 3\n";
+    expect_reply(rt, &reply.finish(), 404, fields, b"body and more")
+}
+
 /// Inside an include a servlet may write its body and nothing else (Jakarta Servlet 6.0, section
 /// "The Include Method").
 #[test]
 fn resets_and_holds(rt: HostRuntime) -> Result<(), Fail> {
     let alloc = rt.alloc();
-    let mut reply = written(alloc)?;
-    reply.reset();
-    expect_reply(&rt, &reply.finish(), 200, "", b"")?;
-
-    let mut reply = written(alloc)?;
-    reply.clear_body();
-    expect_reply(&rt, &reply.finish(), 404, "x-a: 1\n", b"")?;
-
-    let mut reply = written(alloc)?;
-    reply.hold(true);
-    assert_eq!(rt; reply.status(500), Ok(()));
-    assert_eq!(rt; reply.status(600), Ok(()));
-    assert_eq!(rt; reply.header("x-b", "2"), Ok(()));
-    assert_eq!(rt; reply.header("a b", "2"), Ok(()));
-    assert_eq!(rt; reply.header("date", "2"), Ok(()));
-    reply.reset();
-    assert_eq!(rt; reply.write(b" and more"), Ok(()));
-    reply.hold(false);
-    assert_eq!(rt; reply.header("x-c", "3"), Ok(()));
-    expect_reply(
-        &rt,
-        &reply.finish(),
-        404,
-        "x-a: 1\nx-c: 3\n",
-        b"body and more",
-    )?;
-
-    let mut reply = written(alloc)?;
-    reply.hold(true);
-    reply.clear_body();
-    expect_reply(&rt, &reply.finish(), 404, "x-a: 1\n", b"")?;
-    Ok(())
+    expect_reply(&rt, &reset(alloc)?.finish(), 200, "", b"")?;
+    expect_reply(&rt, &emptied(alloc)?.finish(), 404, "x-a: 1\n", b"")?;
+    expect_held(&rt)?;
+    let held = emptied_while_held(alloc)?;
+    expect_reply(&rt, &held.finish(), 404, "x-a: 1\n", b"")
 }
 
 #[test]
