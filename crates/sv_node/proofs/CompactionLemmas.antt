@@ -1,5 +1,5 @@
 -- Records in the place of others: what they give, and what a stop leaves.
-use Rattle.std.proofs.Common.{◌≡◌, inl, inr, ⊎_elim, ℕ, ◌≤◌, Bool, true, false, cond, not, List, [], ◌∷◌, map, Result, Ok, Err, IsTrue, OnOk, OnErr, IsErr, IsErrOf, refl, sym, subst, arith}
+use Rattle.std.proofs.Common.{◌≡◌, inl, inr, ⊎_elim, ℕ, ◌≤◌, Bool, true, false, cond, not, List, [], ◌∷◌, map, Result, Ok, Err, IsTrue, OnOk, OnErr, IsErr, IsErrOf, refl, ap, sym, subst, arith}
 use Rattle.std.proofs.lemmas.List.Elements.{All-from_recursion}
 use Rattle.std.specs.FinMap.{entries}
 use Rattle.std.specs.List.{All, AllByRecursion}
@@ -164,14 +164,15 @@ module _ {D : Type 0} (tells : D → Type 0) (seen : D → List ℕ) (may_leave 
 module _ {E D T : Type 0} (valid : E → Type 0) (meaning : E → EngineMeaning) (heard : E → List (List ℕ)) (tells : D → Type 0) (seen : D → List ℕ) (may_leave : D → List ℕ → Type 0) (moment : D → ℕ) (left_since : D → ℕ → List ℕ → Type 0) (failed : D → ℕ)
     (counts_now : (disk : D) (t : ℕ) (c : List ℕ) → tells disk → t ≤ moment disk → may_leave disk c → left_since disk t c)
     (only_now : (disk : D) (c : List ℕ) → tells disk → left_since disk (moment disk) c → may_leave disk c) where
-  pub compacting : (old new : Node E D) (answer : Result T JournalFault) → IsNode valid tells seen may_leave old → CompactionEnds meaning heard failed old answer new → setting_of new ≡ setting_of old
-      → TellsOn tells (journal_of old).other (written (journal_of old) (journal_of new)) → spared (journal_of old) (journal_of new) ≡ (journal_of old).current
+  pub compacting : (old new : Node E D) (answer : Result T JournalFault) → IsNode valid tells seen may_leave old → CompactionEnds meaning heard failed old answer new
+      → ((journal_of old).live ≡ false → answer ≡ Err journal.Failed) → setting_of new ≡ setting_of old → TellsOn tells (journal_of old).other (written (journal_of old) (journal_of new)) → spared (journal_of old) (journal_of new) ≡ (journal_of old).current
       → (tells (journal_of old).other → Stores seen may_leave (journal_of old) (setting_of old) (durable_of old)
       → LeavesOnly moment left_since (journal_of old).other (written (journal_of old) (journal_of new)) (RestoresBeside (setting_of old) (seen (journal_of old).current) (durable_of old)))
       → IsCompaction meaning heard tells seen may_leave moment left_since failed old answer new
-  compacting old new answer is ends setting tells_on kept moments =
+  compacting old new answer is ends gone setting tells_on kept moments =
       record {
         ends = ends;
+        failed_before = gone;
         setting = setting;
         tells_on = tells_on;
         kept = kept;
@@ -183,10 +184,10 @@ module _ {E D T : Type 0} (valid : E → Type 0) (meaning : E → EngineMeaning)
 
   -- nothing is called
   pub nothing_done : (node : Node E D) (fault : JournalFault) → IsNode valid tells seen may_leave node → CompactionEnds {T = T} meaning heard failed node (Err fault) node
-      → IsCompaction {T = T} meaning heard tells seen may_leave moment left_since failed node (Err fault) node
-  nothing_done node fault is ends =
+      → ((journal_of node).live ≡ false → fault ≡ journal.Failed) → IsCompaction {T = T} meaning heard tells seen may_leave moment left_since failed node (Err fault) node
+  nothing_done node fault is ends gone =
       let j = journal_of node in
       let here = sym (written_stayed j j refl) in
-      compacting node node (Err fault) is ends refl (subst (λ (z : D). TellsOn tells j.other z) here (record { tells_after = λ t. t; told_before = λ t. t })) (spared_stayed j j refl)
+      compacting node node (Err fault) is ends (λ dead. ap Err (gone dead)) refl (subst (λ (z : D). TellsOn tells j.other z) here (record { tells_after = λ t. t; told_before = λ t. t })) (spared_stayed j j refl)
       (λ told s. subst (λ (z : D). LeavesOnly moment left_since j.other z (RestoresBeside (setting_of node) (seen j.current) (durable_of node))) here
       (unmoved tells seen may_leave moment left_since only_now j (setting_of node) (durable_of node) told s))

@@ -7,6 +7,7 @@ use Rattle.sv_journal.specs.declared.journal_fault.JournalFault.TheVariants as j
 use Rattle.sv_model.specs.declared.node.Setting.{Setting}
 use Rattle.sv_model.specs.declared.output.Output.{Output}
 use Rattle.sv_model.specs.declared.site.StepFault.{StepFault}
+use Rattle.sv_model.specs.declared.site.StepFault.TheVariants.{Failed}
 use Rattle.sv_model.specs.Engine.{EngineMeaning}
 use Rattle.sv_model.specs.Decision.{Decision}
 use Rattle.sv_model.specs.NodeState.{Durable, Node as State}
@@ -30,13 +31,14 @@ module _ {E D : Type 0} (valid : E → Type 0) (meaning : E → EngineMeaning) (
 
   -- the journal's part of a step
   pub stepping : (old new : Node E D) (d : Decision) (answer : Result (List Output) StepFault) → IsNode valid tells seen may_leave old
-      → Ends meaning heard failed old d answer new → setting_of new ≡ setting_of old → TellsOn tells (journal_of old).current (journal_of new).current
+      → Ends meaning heard failed old d answer new → ((journal_of old).live ≡ false → answer ≡ Err Failed) → setting_of new ≡ setting_of old → TellsOn tells (journal_of old).current (journal_of new).current
       → (journal_of new).other ≡ (journal_of old).other → (journal_of new).on_a ≡ (journal_of old).on_a
       → (tells (journal_of old).current → Stores seen may_leave (journal_of old) (setting_of old) (durable_of old) → Moments (journal_of old) (journal_of new) (setting_of old) (durable_of old) d.durable)
       → Steps old d answer new
-  stepping old new d answer is ends setting tells_on other on_a moments =
+  stepping old new d answer is ends gone setting tells_on other on_a moments =
       record {
         ends = ends;
+        failed_before = gone;
         setting = setting;
         tells_on = tells_on;
         other = other;
@@ -49,9 +51,9 @@ module _ {E D : Type 0} (valid : E → Type 0) (meaning : E → EngineMeaning) (
 
   -- the journal isn't called
   pub quiet : (old new : Node E D) (d : Decision) (answer : Result (List Output) StepFault) → IsNode valid tells seen may_leave old
-      → Ends meaning heard failed old d answer new → setting_of new ≡ setting_of old → journal_of new ≡ journal_of old → Steps old d answer new
-  quiet old new d answer is ends setting same =
-      stepping old new d answer is ends setting
+      → Ends meaning heard failed old d answer new → ((journal_of old).live ≡ false → answer ≡ Err Failed) → setting_of new ≡ setting_of old → journal_of new ≡ journal_of old → Steps old d answer new
+  quiet old new d answer is ends gone setting same =
+      stepping old new d answer is ends gone setting
       (record { tells_after = subst (λ (j : JournalView D). tells (journal_of old).current → tells j.current) (sym same) (λ t. t); told_before = subst (λ (j : JournalView D). tells j.current → tells (journal_of old).current) (sym same) (λ t. t) })
       (ap (λ (j : JournalView D). j.other) same) (ap (λ (j : JournalView D). j.on_a) same)
       (λ told s. subst (λ (j : JournalView D). Moments (journal_of old) j (setting_of old) (durable_of old) d.durable) (sym same) (still tells seen may_leave moment left_since only_now (journal_of old) (setting_of old) (durable_of old) d.durable told s))

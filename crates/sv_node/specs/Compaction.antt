@@ -53,10 +53,11 @@ CompactionEnds meaning heard failed old (Err Device) new =
     (view_of meaning heard new ≡ view_of meaning heard old) × ((journal_of new).live ≡ false) × HasRisen (failed (journal_of old).other) (failed (journal_of new).other)
 
 -- A compaction: what it does, and what a stop at any moment of it, or behind it, leaves of the disks. Whatever its answer,
--- that is the state that the node keeps. A node whose disk has failed before does nothing.
+-- that is the state that the node keeps. A node whose disk has failed before answers Failed.
 pub record IsCompaction {E D T : Type 0} (meaning : E → EngineMeaning) (heard : E → List (List ℕ)) (tells : D → Type 0) (seen : D → List ℕ) (may_leave : D → List ℕ → Type 0) (moment : D → ℕ) (left_since : D → ℕ → List ℕ → Type 0) (failed : D → ℕ)
     (old : Node E D) (answer : Result T JournalFault) (new : Node E D) : Type 0 where
   pub ends : CompactionEnds meaning heard failed old answer new
+  pub failed_before : (journal_of old).live ≡ false → answer ≡ Err Failed
   pub setting : setting_of new ≡ setting_of old
   pub tells_on : TellsOn tells (journal_of old).other (written (journal_of old) (journal_of new))
   pub kept : spared (journal_of old) (journal_of new) ≡ (journal_of old).current

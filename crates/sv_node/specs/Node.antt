@@ -74,10 +74,11 @@ Ends meaning heard failed old d (Err Device) new =
     (view_of meaning heard new ≡ view_of meaning heard old) × ((journal_of new).live ≡ false) × HasRisen (failed (journal_of old).current) (failed (journal_of new).current)
 
 -- A step of a node: what it does, and what a stop at any moment of it, or behind it, leaves of the disks. Whatever its
--- answer, that is the state before the decision or the state behind it. A node whose disk has failed before does nothing.
+-- answer, that is the state before the decision or the state behind it. A node whose disk has failed before answers Failed.
 pub record IsNodeStep {E D : Type 0} (meaning : E → EngineMeaning) (heard : E → List (List ℕ)) (tells : D → Type 0) (seen : D → List ℕ) (may_leave : D → List ℕ → Type 0) (moment : D → ℕ) (left_since : D → ℕ → List ℕ → Type 0) (failed : D → ℕ)
     (old : Node E D) (d : Decision) (answer : Result (List Output) StepFault) (new : Node E D) : Type 0 where
   pub ends : Ends meaning heard failed old d answer new
+  pub failed_before : (journal_of old).live ≡ false → answer ≡ Err Failed
   pub setting : setting_of new ≡ setting_of old
   pub tells_on : TellsOn tells (journal_of old).current (journal_of new).current
   pub other : (journal_of new).other ≡ (journal_of old).other

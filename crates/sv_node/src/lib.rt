@@ -9,6 +9,7 @@
 
 mod compaction;
 mod fault;
+pub mod laws;
 mod ledger;
 mod node;
 mod not_opened;

@@ -1,10 +1,10 @@
 -- The theorem that the project is for, of every list of events.
-use Rattle.std.proofs.Common.{◌≡◌, List, arith}
+use Rattle.std.proofs.Common.{List, arith}
 use Rattle.sv_model.specs.Container.{nothing_stored}
 use Rattle.sv_model.specs.Engine.{EngineMeaning, TouchesOnlyHanded}
 use Rattle.sv_world.specs.declared.event.WorldEvent.{WorldEvent}
 use Rattle.sv_world.specs.Headline.{IsHeadline}
-use Rattle.sv_world.specs.World.{Cluster, World, run, nothing_happened}
+use Rattle.sv_world.specs.World.{Cluster, run, nothing_happened}
 use Rattle.sv_world.proofs.Answered.{are_answers}
 use Rattle.sv_world.proofs.Orders.{run_waits, first_waits}
 use Rattle.sv_world.proofs.Records.{run_kept, first_kept}

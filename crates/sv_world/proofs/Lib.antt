@@ -28,3 +28,5 @@ pub mod ActingLemmas
 pub mod SeatLemmas
 pub mod MakingLemmas
 pub mod BegunLemmas
+pub mod DiskOrder
+pub mod DiskLemmas

@@ -1,27 +1,24 @@
 -- An event that has no fault is the task that it asks for.
-use Rattle.std.proofs.Common.{◌≡◌, ℕ, ◌<◌, ◌==◌, ◌&&◌, Bool, true, false, cond, Option, Some, None, List, [], ◌∷◌, ◌++◌, refl, sym, ap, ◌∙◌, subst, append-nil}
+use Rattle.std.proofs.Common.{◌≡◌, ℕ, ◌<◌, ◌&&◌, Bool, true, false, cond, Option, Some, None, [], ◌∷◌, ◌++◌, refl, sym, ap, ◌∙◌, subst, append-nil}
 use Rattle.std.specs.Prelude.{not, is_some, IsSome}
 use Rattle.std.specs.Option.{option_map}
 use Rattle.std.proofs.lemmas.Bool.{and_parts, ltb-true, cond-true}
 use Rattle.std.proofs.lemmas.Option.{same_Some}
-use Rattle.sv_model.specs.declared.packet.Packet.{Packet}
 use Rattle.sv_model.specs.declared.record.Record.{Record}
 use Rattle.sv_model.specs.declared.key.Token.{Token}
 use Rattle.sv_model.specs.Engine.{EngineMeaning}
-use Rattle.sv_model.specs.NodeState.{Durable, last_number}
+use Rattle.sv_model.specs.NodeState.{Durable}
 use Rattle.sv_model.specs.Outputs.{sends_in}
-use Rattle.sv_model.specs.Replay.{applied}
 use Rattle.sv_model.specs.Trace.{asked_of}
 use Rattle.sv_world.specs.declared.call.Call.{Call}
 use Rattle.sv_world.specs.declared.event.WorldEvent.{WorldEvent}
 use Rattle.sv_world.specs.declared.event.WorldEvent.TheVariants.{Ask, Deliver, Poke, Tick, Move, Crash, Torn, Restart, TornRestart}
-use Rattle.sv_world.specs.declared.fault.WorldFault.{WorldFault}
-use Rattle.sv_world.specs.declared.fault.WorldFault.TheVariants.{NoPacket, NoNode}
+use Rattle.sv_world.specs.declared.fault.WorldFault.TheVariants.{NoPacket}
 use Rattle.sv_world.specs.declared.order.Order.{Order}
 use Rattle.sv_world.specs.declared.task.Task.{Task}
 use Rattle.sv_world.specs.declared.task.Task.TheVariants as task
-use Rattle.sv_world.specs.Deed.{Done, deed, wants_up, line_of, quiet_at, heading_at, heading_by, halted, torn_by, booted, start_by}
-use Rattle.sv_world.specs.Faults.{call_fault, start_fault, stop_fault, fault_of}
+use Rattle.sv_world.specs.Deed.{Done, deed, wants_up, line_of, quiet_at, heading_at, heading_by, halted, booted, start_by}
+use Rattle.sv_world.specs.Faults.{call_fault, start_fault, fault_of}
 use Rattle.sv_world.specs.Order.{whole_order, torn_order, order_of}
 use Rattle.sv_world.specs.Sent.{may_come}
 use Rattle.sv_world.specs.World.{Cluster, Place, World, set_place, setting_of, durable_at, stopped, started, items, call_of, decision, token_of_call, is_unused, is_there, is_ready, is_spent, whole, cut, becomes, halt, boots, steps, tears, starts, happens}

@@ -1,5 +1,5 @@
 -- What has happened in a world in code: what its calls promise.
-use Rattle.std.specs.Prelude.{◌≡◌, ℕ, ◌+◌, ◌==◌, ◌<◌, zero, suc, Bool, true, false, cond, Option, Some, None, List, [], ◌∷◌, ◌++◌, map, take, length, slice_get}
+use Rattle.std.specs.Prelude.{◌≡◌, ℕ, ◌==◌, ◌<◌, zero, suc, Bool, true, false, cond, Option, Some, None, List, [], ◌∷◌, ◌++◌, map, take, length, slice_get}
 use Rattle.std.specs.List.{All, flat_map}
 use Rattle.std.specs.Option.{option_map}
 use Rattle.sv_model.specs.declared.event.Told.{Told}
@@ -19,7 +19,7 @@ use Rattle.sv_world.specs.declared.world.World.{World as Nodes}
 use Rattle.sv_world.specs.Deed.{deed, told_by}
 use Rattle.sv_world.specs.Faults.{fault_of}
 use Rattle.sv_world.specs.Order.{order_of}
-use Rattle.sv_world.specs.World.{Cluster, set_place, nothing_happened, run}
+use Rattle.sv_world.specs.World.{set_place, nothing_happened, run}
 use Rattle.sv_world.specs.Worlds.{places_by, settings_by, heard_by, world_of, cluster_of, meanings_of, heard_of, AllMean}
 
 -- ---- a task

@@ -1,10 +1,11 @@
 //! What holds of every list of events.
 
-ghost use Rattle.std.specs.Prelude.{List};
+ghost use Rattle.std.specs.Prelude.{List, []};
 ghost use Rattle.sv_model.specs.Engine.{EngineMeaning, TouchesOnlyHanded};
 ghost use Rattle.sv_world.specs.declared.event.WorldEvent.{WorldEvent};
 ghost use Rattle.sv_world.specs.World.{Cluster, World, run, nothing_happened};
 ghost use Rattle.sv_world.specs.Faults.{IsFaulty};
+ghost use Rattle.sv_world.specs.Disks.{NodeCall, AreCalls, AreWorld, nothing_called};
 ghost use Rattle.sv_world.specs.Headline.{AtMostOne, Agree, IsOneContainer, IsAcknowledged, IsTold, IsReplay, IsHeadline};
 
 /// Over every list of events one copy of each session lives at most, and opening values agree.
@@ -48,4 +49,10 @@ pub fn headline()
 /// An event with a fault changes nothing; any other adds its line.
 pub fn faults()
     ensures { (m : EngineMeaning) (c : Cluster) (w : World) (e : WorldEvent) → IsFaulty m c w e }
+{}
+
+/// Every list of calls of nodes over their disks is a list of events; so all of them hold of what the nodes keep, of what
+/// was put out and of what listeners were told.
+pub fn over_disks()
+    ensures { (m : EngineMeaning) → TouchesOnlyHanded m → (c : Cluster) (calls : List NodeCall) → AreCalls m c nothing_called (λ _. []) calls → AreWorld m c calls }
 {}

@@ -15,7 +15,7 @@ pub returns-in_default-clause-compaction : goal.returns-in_default-clause-compac
 returns-in_default-clause-compaction g c =
     let e = g.E.Engine in
     let d = g.D.Disk in
-    nothing_done e.valid e.meaning e.heard d.tells d.seen d.may_leave d.moment d.left_since d.failed g.met.D.Disk.counts_now g.met.D.Disk.only_now c.args.self.now Memory c.requires.valid (record { view = refl; journal = refl })
+    nothing_done e.valid e.meaning e.heard d.tells d.seen d.may_leave d.moment d.left_since d.failed g.met.D.Disk.counts_now g.met.D.Disk.only_now c.args.self.now Memory c.requires.valid (record { view = refl; journal = refl }) (λ dead. absurd cc)
 
 pub replace-requires-clause-ranges : goal.replace-requires-clause-ranges
 replace-requires-clause-ranges g c =
@@ -55,5 +55,5 @@ returns-clause-compaction g c =
     compacting e.valid e.meaning e.heard d.tells d.seen d.may_leave d.moment d.left_since d.failed g.met.D.Disk.counts_now g.met.D.Disk.only_now old new c.replace.result c.requires.valid
     (compaction_ends e.meaning e.heard d.failed old new refl c.replace.result r.live (subst (λ (rs : List Record). OnOk c.replace.result (last.len ≡ len_with rs)) records_are r.len) r.failed r.damaged
     (λ is. subst (λ (rs : List Record). HasNoRoom old.journal rs) records_are (r.full is)) r.device r.unchanged)
-    refl r.tells r.kept
+    (λ dead. absurd cc) refl r.tells r.kept
     (λ told s. r.any_moment set before told (subst (λ (rs : List Record). Give set rs before) (sym records_are) (snapshot_is set s.entries before s.replays)) s)

@@ -24,7 +24,7 @@ returns-in_default-clause-step g c =
     let d = g.D.Disk in
     let old = c.args.self.now in
     quiet e.valid e.meaning e.heard d.tells d.seen d.may_leave d.moment d.left_since d.failed g.met.D.Disk.counts_now g.met.D.Disk.only_now old (record { core = c.decide.new.self; journal = old.journal; alloc = old.alloc }) (decided_at e.meaning old c.args.moment c.args.input) (Err Memory)
-    c.requires.valid (record { view = c.decide.ensures.view; journal = refl }) c.decide.ensures.setting refl
+    c.requires.valid (record { view = c.decide.ensures.view; journal = refl }) (λ dead. absurd cc) c.decide.ensures.setting refl
 
 pub returns-in-Err-clause-valid : goal.returns-in-Err-clause-valid
 returns-in-Err-clause-valid g c =
@@ -52,7 +52,7 @@ returns-in-Err-clause-step g c =
     (stepping e.valid e.meaning e.heard d.tells d.seen d.may_leave d.moment d.left_since d.failed g.met.D.Disk.counts_now g.met.D.Disk.only_now old new decision (Err (step_fault c.in-Err.fault)) c.requires.valid
     (refused e.valid e.meaning e.heard d.tells d.seen d.may_leave d.moment d.left_since d.failed g.met.D.Disk.counts_now g.met.D.Disk.only_now old new decision c.in-Err.fault c.decide.ensures.view c.in-Err.ensures.failed c.in-Err.ensures.damaged
     (λ is. subst (λ (o : Option Record). IsTooLong old.journal o) entry_is (c.in-Err.ensures.full is)) c.in-Err.ensures.device (c.in-Err.ensures.unchanged refl))
-    c.decide.ensures.setting c.keep.ensures.tells c.keep.ensures.other c.keep.ensures.on_a
+    (λ dead. absurd cc) c.decide.ensures.setting c.keep.ensures.tells c.keep.ensures.other c.keep.ensures.on_a
     (λ told s. subst (λ (x : Durable). Moments e.valid e.meaning e.heard d.tells d.seen d.may_leave d.moment d.left_since d.failed g.met.D.Disk.counts_now g.met.D.Disk.only_now old.journal c.keep.new.journal set before x) after_is (c.keep.ensures.any_moment set before told follows s)))
 
 pub returns-clause-valid : goal.returns-clause-valid
@@ -96,5 +96,5 @@ returns-clause-step g c =
           (record { meaning = c.accept.ensures.meaning; node = c.accept.ensures.node; heard = c.accept.ensures.heard; outputs_are = c.accept.ensures.outputs }),
       c.in_default-keep.ensures.live,
     )
-    (c.accept.ensures.setting ∙ c.decide.ensures.setting) c.keep.ensures.tells c.keep.ensures.other c.keep.ensures.on_a
+    (λ dead. absurd cc) (c.accept.ensures.setting ∙ c.decide.ensures.setting) c.keep.ensures.tells c.keep.ensures.other c.keep.ensures.on_a
     (λ told s. subst (λ (x : Durable). Moments e.valid e.meaning e.heard d.tells d.seen d.may_leave d.moment d.left_since d.failed g.met.D.Disk.counts_now g.met.D.Disk.only_now old.journal c.keep.new.journal set before x) after_is (c.keep.ensures.any_moment set before told follows s))

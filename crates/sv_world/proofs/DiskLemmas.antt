@@ -1,0 +1,398 @@
+-- A list of calls of nodes over their disks is a world: for each call an event or none.
+use Rattle.std.proofs.Common.{◌≡◌, ◌≢◌, ◌⊎◌, ⊎_elim, ℕ, ◌<◌, ◌==◌, ◌&&◌, ◌||◌, Bool, true, false, cond, Option, Some, None, List, [], ◌∷◌, ◌++◌, refl, sym, ap, ◌∙◌, subst, eq-eqb, append-nil}
+use Rattle.std.specs.Prelude.{zero, suc, nat_lt, is_some, not, slice_get}
+use Rattle.std.specs.List.{list_any, flat_map}
+use Rattle.std.specs.Option.{option_map, option_to_list}
+use Rattle.std.proofs.lemmas.Bool.{cases_eq, ne_eqb, eqb-true, lt-ltb, cond-true, cond-false}
+use Rattle.std.proofs.lemmas.List.{map-append}
+use Rattle.std.proofs.lemmas.List.Concat.{flat_map-append}
+use Rattle.sv_journal.specs.declared.journal_fault.JournalFault.TheVariants as journal
+use Rattle.sv_model.specs.declared.input.Input.{Input}
+use Rattle.sv_model.specs.declared.input.Input.TheVariants as input
+use Rattle.sv_model.specs.declared.key.Moment.{Moment}
+use Rattle.sv_model.specs.declared.key.Token.{Token}
+use Rattle.sv_model.specs.declared.node.Setting.{Setting}
+use Rattle.sv_model.specs.declared.packet.Packet.{Packet}
+use Rattle.sv_model.specs.declared.record.Record.{Record}
+use Rattle.sv_model.specs.declared.site.StepFault.TheVariants as step
+use Rattle.sv_model.specs.Decision.{Decision, idle}
+use Rattle.sv_model.specs.Engine.{EngineMeaning, TouchesOnlyHanded}
+use Rattle.sv_model.specs.Membership.{In}
+use Rattle.sv_model.specs.Migration.{addressee, sender, on_ours}
+use Rattle.sv_model.specs.Node.{decided}
+use Rattle.sv_model.specs.NodeState.{Durable, last_number}
+use Rattle.sv_model.specs.Outputs.{sends_in}
+use Rattle.sv_model.specs.Replay.{applied_if}
+use Rattle.sv_model.specs.Serving.{token_of}
+use Rattle.sv_model.specs.Trace.{Item, asked_of, asked_by, times}
+use Rattle.sv_model.proofs.JournalLemmas.{journaled}
+use Rattle.sv_node.specs.declared.fault.OpenFault.TheVariants as opening
+use Rattle.sv_node.specs.Call.{Call, Open, Step, Compact, Stop, Done as Finished, Refused, Cut, After, quiet, kept, carried_out, Does, runs_behind}
+use Rattle.sv_node.specs.Opened.{restarted}
+use Rattle.sv_world.specs.declared.call.Call.{Call as Asked}
+use Rattle.sv_world.specs.declared.event.WorldEvent.{WorldEvent}
+use Rattle.sv_world.specs.declared.event.WorldEvent.TheVariants.{Ask, Deliver, Poke, Tick, Move, Crash, Torn, Restart, TornRestart}
+use Rattle.sv_world.specs.declared.line.Line.{Line}
+use Rattle.sv_world.specs.declared.task.Task.TheVariants as task
+use Rattle.sv_world.specs.Deed.{Done, deed, line_of, heading_by, heading_at, halted, booted, quiet_at, start_by}
+use Rattle.sv_world.specs.Disks.{NodeCall, Seen, WasSent, IsNew, MayCome, IsCall, AreCalls, shown_at, is_own, all_numbers, behind, behind_all, seen_as, shown_by, nothing_called, AreWorld}
+use Rattle.sv_world.specs.Faults.{step_fault, start_fault, stop_fault, call_fault, fault_of}
+use Rattle.sv_world.specs.Order.{whole_order, torn_order, order_of}
+use Rattle.sv_world.specs.Sent.{may_come, same_packet}
+use Rattle.sv_world.specs.World.{Cluster, Place, World, setting_of, set_place, stopped, started, items, item_at, is_there, is_unused, call_of, happens, run, nothing_happened}
+use Rattle.sv_world.proofs.DiskOrder.{asked_at, IsDown, IsFresh, Orderly, stays_orderly, comes_new}
+use Rattle.sv_world.proofs.HeadlineLemmas.{headline}
+use Rattle.sv_world.proofs.OrderLemmas.{done_by, goes}
+use Rattle.sv_world.proofs.RanLemmas.{run_more}
+use Rattle.sv_world.proofs.SentLemmas.{packet_decides}
+
+-- ---- what is seen of equal effects
+
+node_in : {a b : After} → a ≡ b → a.node ≡ b.node
+node_in is = ap (λ (x : After). x.node) is
+
+puts_in : {a b : After} → a ≡ b → a.outputs ≡ b.outputs
+puts_in is = ap (λ (x : After). x.outputs) is
+
+tells_in : {a b : After} → a ≡ b → a.told ≡ b.told
+tells_in is = ap (λ (x : After). x.told) is
+
+-- ---- a packet that was sent
+
+or_right : (b : Bool) → (b || true) ≡ true
+or_right true = refl
+or_right false = refl
+
+in_sent : (p : Packet) (ps : List Packet) → In p ps → list_any (same_packet p) ps ≡ true
+in_sent p [] i = absurd i
+in_sent p (q ∷ ps) i = ⊎_elim
+    (λ (here : q ≡ p). ap (λ b. b || list_any (same_packet p) ps) ((packet_decides p q).1 (sym here)))
+    (λ (there : In p ps). ap (λ b. same_packet p q || b) (in_sent p ps there) ∙ or_right (same_packet p q))
+    i
+
+place_of : (p : Packet) (ps : List Packet) → In p ps → (k : ℕ) × (slice_get ps k ≡ Some p)
+place_of p [] i = absurd i
+place_of p (q ∷ ps) i = ⊎_elim
+    (λ (here : q ≡ p). (zero, ap Some here))
+    (λ (there : In p ps). let r = place_of p ps there in (suc r.0, r.1))
+    i
+
+comes : (ps : List Packet) (i : Input) → WasSent ps i → may_come ps i ≡ true
+comes ps (input.Ask token r) h = refl
+comes ps (input.Packet p) h = in_sent p ps h
+comes ps input.Poke h = refl
+comes ps input.Tick h = refl
+comes ps (input.Move k to) h = refl
+
+-- ---- no fault
+
+no_step_fault : (a b s u : Bool) → a ≡ true → b ≡ true → s ≡ true → u ≡ true → step_fault a b s u ≡ None
+no_step_fault true true true true f g h i = refl
+no_step_fault true true true false f g h i = absurd (cc)
+no_step_fault true true false u f g h i = absurd (cc)
+no_step_fault true false s u f g h i = absurd (cc)
+no_step_fault false b s u f g h i = absurd (cc)
+
+no_start_fault : (a b : Bool) → a ≡ true → b ≡ false → start_fault a b ≡ None
+no_start_fault true false f g = refl
+no_start_fault true true f g = absurd (cc)
+no_start_fault false b f g = absurd (cc)
+
+no_stop_fault : (a b : Bool) → a ≡ true → b ≡ true → stop_fault a b ≡ None
+no_stop_fault true true f g = refl
+no_stop_fault true false f g = absurd (cc)
+no_stop_fault false b f g = absurd (cc)
+
+-- ---- a world with one line more, as it is seen
+
+asked_more : (trace : List Line) (l : Line) → asked_of (items (trace ++ l ∷ [])) ≡ asked_of (items trace) ++ option_to_list l.asked
+asked_more trace l =
+    ap asked_of (map-append item_at trace (l ∷ [])) ∙ flat_map-append (λ (i : Item). option_to_list i.asked) (items trace) (item_at l ∷ [])
+    ∙ ap (λ ts. asked_of (items trace) ++ ts) (append-nil (option_to_list l.asked))
+
+shown_more : (trace : List Line) (l : Line) → flat_map shown_by (trace ++ l ∷ []) ≡ flat_map shown_by trace ++ shown_by l
+shown_more trace l = flat_map-append shown_by trace (l ∷ []) ∙ ap (λ s. flat_map shown_by trace ++ s) (append-nil (shown_by l))
+
+module _ (m : EngineMeaning) (c : Cluster) (w : World) (n : ℕ) (call : Call) (a : After) where
+  abbrev here : Place
+  here = w.places n
+
+  abbrev made : NodeCall
+  made = record { node = n; call = call; after = a }
+
+  -- the world has events that make of it what the call makes
+  pub record Simulated : Type 0 where
+    pub events : List WorldEvent
+    pub seen : seen_as (run m c w events) ≡ behind (seen_as w) made
+    pub asked : asked_of (items (run m c w events).trace) ≡ asked_of (items w.trace) ++ asked_at c n here.node.durable call
+
+  -- what the call leaves of the node
+  abbrev left_place : Place
+  left_place = record { up = runs_behind here.up call; node = a.node }
+
+  same_place : here ≡ left_place → (x : ℕ) → w.places x ≡ set_place w.places n left_place x
+  same_place is x = ⊎_elim
+      (λ (e : x ≡ n). ap w.places e ∙ is ∙ sym (cond-true (x == n) left_place (w.places x) (eq-eqb x n e)))
+      (λ (e : x ≢ n). sym (cond-false (x == n) left_place (w.places x) (ne_eqb x n e)))
+      (cases_eq x n)
+
+  -- nothing happens
+  still : here ≡ left_place → a.outputs ≡ [] → asked_at c n here.node.durable call ≡ [] → shown_at n here.node.durable call a ≡ [] → Simulated
+  still place silent none unseen = record {
+    events = [];
+    seen = λ i. record {
+      places = λ x. same_place place x i;
+      packets = (sym (append-nil w.packets) ∙ ap (λ os. w.packets ++ sends_in os) (sym silent)) i;
+      shown = (sym (append-nil (flat_map shown_by w.trace)) ∙ ap (λ s. flat_map shown_by w.trace ++ s) (sym unseen)) i;
+    };
+    asked = sym (append-nil (asked_of (items w.trace))) ∙ ap (λ ts. asked_of (items w.trace) ++ ts) (sym none);
+  }
+
+  -- an event happens that does this
+  does : (e : WorldEvent) (d : Done) → happens m c w e ≡ done_by w e n d → d.place ≡ left_place → d.effect.outputs ≡ a.outputs
+      → option_to_list d.effect.heading.asked ≡ asked_at c n here.node.durable call → shown_by (line_of e d.effect) ≡ shown_at n here.node.durable call a → Simulated
+  does e d happened place puts asks shows = record {
+    events = e ∷ [];
+    seen = ap seen_as happened ∙ (λ i. record {
+      places = set_place w.places n (place i);
+      packets = w.packets ++ sends_in (puts i);
+      shown = (shown_more w.trace (line_of e d.effect) ∙ ap (λ s. flat_map shown_by w.trace ++ s) shows) i;
+    });
+    asked = ap (λ (v : World). asked_of (items v.trace)) happened ∙ asked_more w.trace (line_of e d.effect) ∙ ap (λ ts. asked_of (items w.trace) ++ ts) asks;
+  }
+
+-- ---- a step
+
+module _ (m : EngineMeaning) (touches : TouchesOnlyHanded m) (c : Cluster) (w : World) (n : ℕ) (inside : n < c.nodes) where
+  abbrev set : Setting
+  set = setting_of c n
+
+  abbrev at_node : Place
+  at_node = w.places n
+
+  abbrev asked_with : Input → Option Token
+  asked_with i = asked_by (token_of set at_node.node.durable) i
+
+  there : is_there c n ≡ true
+  there = lt-ltb n c.nodes inside
+
+  abbrev step_of : Moment → Input → Asked
+  step_of at i = record { node = n; moment = at; input = i }
+
+  -- a step may be taken
+  ready : (at : Moment) (i : Input) (o : Option Asked) → o ≡ Some (step_of at i) → at_node.up ≡ true → WasSent w.packets i → is_unused (asked_of (items w.trace)) (asked_with i) ≡ true → call_fault c w o ≡ None
+  ready at i o is up sent unused = ap (call_fault c w) is ∙ no_step_fault (is_there c n) at_node.up (may_come w.packets i) (is_unused (asked_of (items w.trace)) (asked_with i)) there up (comes w.packets i sent) unused
+
+  module _ (at : Moment) (i : Input) (a : After) (up : at_node.up ≡ true)
+      (sent : WasSent w.packets i) (unused : is_unused (asked_of (items w.trace)) (asked_with i) ≡ true) where
+    abbrev decision : Decision
+    decision = decided m set at_node.node at i
+
+    -- the event that hands the input to its node
+    whole_by : (e : WorldEvent) → call_of w.packets e ≡ Some (step_of at i) → fault_of c w e ≡ call_fault c w (call_of w.packets e) → order_of w.packets e ≡ option_map whole_order (call_of w.packets e)
+        → is_own n i ≡ true → a ≡ carried_out decision → Simulated m c w n (Step at i Finished) a
+    whole_by e call fault order own d =
+        does m c w n (Step at i Finished) a e (deed m set at_node (task.Step at i))
+        ((goes c w (whole_order (step_of at i)) e (fault ∙ ready at i (call_of w.packets e) call up sent unused) (order ∙ ap (option_map whole_order) call)).happens m)
+        (λ j. record { up = sym up j; node = sym (node_in d) j }) (sym (puts_in d)) refl
+        ((λ j. record { node = n; boot = at_node.node.durable.boot; outputs = sym (puts_in d) j; told = sym (tells_in d) j } ∷ [])
+        ∙ sym (cond-true (is_own n i) (record { node = n; boot = at_node.node.durable.boot; outputs = a.outputs; told = a.told } ∷ []) [] own))
+
+    -- the event of a stop inside it
+    torn_by_event : (kept_too : Bool) → happens m c w (Torn n at i kept_too) ≡ done_by w (Torn n at i kept_too) n (deed m set at_node (task.Torn at i kept_too))
+    torn_by_event kept_too = (goes c w (torn_order kept_too (step_of at i)) (Torn n at i kept_too) (ready at i (Some (step_of at i)) refl up sent unused) refl).happens m
+
+    torn_before : (call : Call) → runs_behind at_node.up call ≡ false → asked_at c n at_node.node.durable call ≡ option_to_list (asked_with i) → shown_at n at_node.node.durable call a ≡ []
+        → a ≡ quiet (kept at_node.node.durable) → Simulated m c w n call a
+    torn_before call ends asks shows l =
+        does m c w n call a (Torn n at i false) (deed m set at_node (task.Torn at i false)) (torn_by_event false)
+        (λ j. record { up = sym ends j; node = sym (node_in l) j }) (sym (puts_in l)) (sym asks) (sym shows)
+
+    -- the record that the decision may have, and what is kept behind it
+    torn_behind_by : (call : Call) → runs_behind at_node.up call ≡ false → asked_at c n at_node.node.durable call ≡ option_to_list (asked_with i) → shown_at n at_node.node.durable call a ≡ []
+        → (entry : Option Record) → decision.entry ≡ entry → decision.durable ≡ applied_if entry at_node.node.durable → a ≡ quiet (kept decision.durable) → Simulated m c w n call a
+    torn_behind_by call ends asks shows None is gives l = torn_before call ends asks shows (l ∙ ap (λ d. quiet (kept d)) gives)
+    torn_behind_by call ends asks shows (Some r) is gives l =
+        let h = heading_by set at_node.node.durable i in
+        let cut : Done = record { place = stopped decision.durable; effect = quiet_at h decision.entry decision.commit } in
+        does m c w n call a (Torn n at i true) cut
+        (torn_by_event true ∙ ap (done_by w (Torn n at i true) n) (cond-true (is_some decision.entry) cut (halted h at_node.node.durable) (ap is_some is)))
+        (λ j. record { up = sym ends j; node = sym (node_in l) j }) (sym (puts_in l)) (sym asks) (sym shows)
+
+    torn_behind : (call : Call) → runs_behind at_node.up call ≡ false → asked_at c n at_node.node.durable call ≡ option_to_list (asked_with i) → shown_at n at_node.node.durable call a ≡ []
+        → a ≡ quiet (kept decision.durable) → Simulated m c w n call a
+    torn_behind call ends asks shows l = torn_behind_by call ends asks shows decision.entry refl (journaled set at_node.node m touches at i).gives l
+
+    torn : (call : Call) → runs_behind at_node.up call ≡ false → asked_at c n at_node.node.durable call ≡ option_to_list (asked_with i) → shown_at n at_node.node.durable call a ≡ []
+        → (a ≡ quiet (kept at_node.node.durable)) ⊎ (a ≡ quiet (kept decision.durable)) → Simulated m c w n call a
+    torn call ends asks shows l = ⊎_elim (torn_before call ends asks shows) (torn_behind call ends asks shows) l
+
+  -- a packet for another node
+  not_ours : (at : Moment) (p : Packet) → (addressee p == n) ≡ false → decided m set at_node.node at (input.Packet p) ≡ idle at_node.node []
+  not_ours at p other = ap (λ b. cond (b && (not (sender p == n) && nat_lt (sender p) c.nodes)) (on_ours m set at_node.node at p) (idle at_node.node [])) other
+
+  whole_packet : (at : Moment) (p : Packet) (a : After) → at_node.up ≡ true → WasSent w.packets (input.Packet p) → is_unused (asked_of (items w.trace)) (asked_with (input.Packet p)) ≡ true
+      → (b : Bool) → (addressee p == n) ≡ b → a ≡ carried_out (decided m set at_node.node at (input.Packet p)) → Simulated m c w n (Step at (input.Packet p) Finished) a
+  whole_packet at p a up sent unused true own d =
+      let k = place_of p w.packets sent in
+      let call : call_of w.packets (Deliver at k.0) ≡ Some (step_of at (input.Packet p)) =
+      ap (option_map (λ q. record { node = addressee q; moment = at; input = input.Packet q })) k.1 ∙ (λ j. Some (record { node = eqb-true (addressee p) n own j; moment = at; input = input.Packet p })) in
+      whole_by at (input.Packet p) a up sent unused (Deliver at k.0) call refl refl own d
+  whole_packet at p a up sent unused false other d =
+      let e : a ≡ carried_out (idle at_node.node []) = d ∙ ap carried_out (not_ours at p other) in
+      still m c w n (Step at (input.Packet p) Finished) a (λ j. record { up = at_node.up; node = sym (node_in e) j }) (puts_in e) refl
+      (cond-false (is_own n (input.Packet p)) (record { node = n; boot = at_node.node.durable.boot; outputs = a.outputs; told = a.told } ∷ []) [] other)
+
+  whole : (at : Moment) (i : Input) (a : After) → at_node.up ≡ true → WasSent w.packets i → is_unused (asked_of (items w.trace)) (asked_with i) ≡ true
+      → a ≡ carried_out (decided m set at_node.node at i) → Simulated m c w n (Step at i Finished) a
+  whole at (input.Ask token r) a up sent unused d = whole_by at (input.Ask token r) a up sent unused (Ask n at token r) refl refl refl refl d
+  whole at (input.Packet p) a up sent unused d = whole_packet at p a up sent unused (addressee p == n) refl d
+  whole at input.Poke a up sent unused d = whole_by at input.Poke a up sent unused (Poke n at) refl refl refl refl d
+  whole at input.Tick a up sent unused d = whole_by at input.Tick a up sent unused (Tick n at) refl refl refl refl d
+  whole at (input.Move k to) a up sent unused d = whole_by at (input.Move k to) a up sent unused (Move n at k to) refl refl refl refl d
+
+  -- ---- a start
+
+  start_ready : at_node.up ≡ false → start_fault (is_there c n) at_node.up ≡ None
+  start_ready down = no_start_fault (is_there c n) at_node.up there down
+
+  -- its record stands, and the node runs or has stopped again
+  started_by : (e : WorldEvent) (place : Durable → Place) (call : Call) (a : After) → happens m c w e ≡ done_by w e n (start_by set at_node.node.durable true place)
+      → place (restarted at_node.node.durable) ≡ left_place m c w n call a → at_node.node.durable.boot ≢ last_number → a.outputs ≡ []
+      → asked_at c n at_node.node.durable call ≡ [] → shown_at n at_node.node.durable call a ≡ [] → Simulated m c w n call a
+  started_by e place call a happened is some silent asks shows =
+      let d = at_node.node.durable in
+      let h = heading_at set d None in
+      does m c w n call a e (booted h d place)
+      (happened ∙ ap (done_by w e n) (ap (λ b. cond (true && not b) (booted h d place) (halted h d)) (ne_eqb d.boot last_number some)))
+      is (sym silent) (sym asks) (sym shows)
+
+  -- no record of it stands
+  halted_by : (e : WorldEvent) (kept_too : Bool) (place : Durable → Place) (call : Call) (a : After) → happens m c w e ≡ done_by w e n (start_by set at_node.node.durable kept_too place)
+      → (kept_too && not (at_node.node.durable.boot == last_number)) ≡ false
+      → stopped at_node.node.durable ≡ left_place m c w n call a → a.outputs ≡ []
+      → asked_at c n at_node.node.durable call ≡ [] → shown_at n at_node.node.durable call a ≡ [] → Simulated m c w n call a
+  halted_by e kept_too place call a happened unkept is silent asks shows =
+      let d = at_node.node.durable in
+      let h = heading_at set d None in
+      does m c w n call a e (halted h d)
+      (happened ∙ ap (done_by w e n) (cond-false (kept_too && not (d.boot == last_number)) (booted h d place) (halted h d) unkept))
+      is (sym silent) (sym asks) (sym shows)
+
+  restart_goes : at_node.up ≡ false → happens m c w (Restart n) ≡ done_by w (Restart n) n (start_by set at_node.node.durable true started)
+  restart_goes down = (goes c w (record { node = n; task = task.Start }) (Restart n) (start_ready down) refl).happens m
+
+  torn_restart_goes : (kept_too : Bool) → at_node.up ≡ false → happens m c w (TornRestart n kept_too) ≡ done_by w (TornRestart n kept_too) n (start_by set at_node.node.durable kept_too stopped)
+  torn_restart_goes kept_too down = (goes c w (record { node = n; task = task.TornStart kept_too }) (TornRestart n kept_too) (start_ready down) refl).happens m
+
+  module _ (a : After) (down : at_node.up ≡ false) (was : IsDown at_node.up at_node.node) where
+    opened : at_node.node.durable.boot ≢ last_number → a ≡ quiet (kept (restarted at_node.node.durable)) → Simulated m c w n (Open Finished) a
+    opened some l =
+        started_by (Restart n) started (Open Finished) a (restart_goes down) (λ j. record { up = true; node = sym (node_in l) j }) some (puts_in l) refl refl
+
+    -- nothing is there but what was durable
+    same_stopped : a ≡ quiet at_node.node → a.node ≡ kept at_node.node.durable
+    same_stopped l = (node_in l) ∙ was down
+
+    open_spent : at_node.node.durable.boot ≡ last_number → a ≡ quiet at_node.node → Simulated m c w n (Open (Refused opening.Damaged)) a
+    open_spent last l =
+        halted_by (Restart n) true started (Open (Refused opening.Damaged)) a (restart_goes down) (ap not (eq-eqb at_node.node.durable.boot last_number last))
+        (λ j. record { up = false; node = sym (same_stopped l) j }) (puts_in l) refl refl
+
+    -- a stop before its record
+    open_before : (call : Call) → runs_behind at_node.up call ≡ false → asked_at c n at_node.node.durable call ≡ [] → shown_at n at_node.node.durable call a ≡ []
+        → a.node ≡ kept at_node.node.durable → a.outputs ≡ [] → Simulated m c w n call a
+    open_before call ends asks shows is silent =
+        halted_by (TornRestart n false) false stopped call a (torn_restart_goes false down) refl (λ j. record { up = sym ends j; node = sym is j }) silent asks shows
+
+    -- a stop behind its record
+    open_behind : (call : Call) → runs_behind at_node.up call ≡ false → asked_at c n at_node.node.durable call ≡ [] → shown_at n at_node.node.durable call a ≡ []
+        → at_node.node.durable.boot ≢ last_number → a ≡ quiet (kept (restarted at_node.node.durable)) → Simulated m c w n call a
+    open_behind call ends asks shows some l =
+        started_by (TornRestart n true) stopped call a (torn_restart_goes true down) (λ j. record { up = sym ends j; node = sym (node_in l) j }) some (puts_in l) asks shows
+
+    open_stops : (call : Call) → runs_behind at_node.up call ≡ false → asked_at c n at_node.node.durable call ≡ [] → shown_at n at_node.node.durable call a ≡ []
+        → (a ≡ quiet (kept at_node.node.durable)) ⊎ ((at_node.node.durable.boot ≢ last_number) × (a ≡ quiet (kept (restarted at_node.node.durable)))) → Simulated m c w n call a
+    open_stops call ends asks shows l = ⊎_elim
+        (λ (x : a ≡ quiet (kept at_node.node.durable)). open_before call ends asks shows (node_in x) (puts_in x))
+        (λ (x : (at_node.node.durable.boot ≢ last_number) × (a ≡ quiet (kept (restarted at_node.node.durable)))). open_behind call ends asks shows x.0 x.1)
+        l
+
+  -- ---- a stop between two calls
+
+  crash_goes : at_node.up ≡ true → happens m c w (Crash n) ≡ done_by w (Crash n) n (halted (heading_at set at_node.node.durable None) at_node.node.durable)
+  crash_goes up = (goes c w (record { node = n; task = task.Stop }) (Crash n) (no_stop_fault (is_there c n) at_node.up there up) refl).happens m
+
+  stops_by : (call : Call) (a : After) → runs_behind at_node.up call ≡ false → asked_at c n at_node.node.durable call ≡ [] → shown_at n at_node.node.durable call a ≡ []
+      → IsDown at_node.up at_node.node → a ≡ quiet (kept at_node.node.durable) → (b : Bool) → at_node.up ≡ b → Simulated m c w n call a
+  stops_by call a ends asks shows was l true up =
+      does m c w n call a (Crash n) (halted (heading_at set at_node.node.durable None) at_node.node.durable) (crash_goes up) (λ j. record { up = sym ends j; node = sym (node_in l) j }) (sym (puts_in l)) (sym asks) (sym shows)
+  stops_by call a ends asks shows was l false down =
+      still m c w n call a (λ j. record { up = (down ∙ sym ends) j; node = (was down ∙ sym (node_in l)) j }) (puts_in l) asks shows
+
+  -- a call that does nothing
+  nothing_by : (call : Call) (a : After) → runs_behind at_node.up call ≡ at_node.up → asked_at c n at_node.node.durable call ≡ [] → shown_at n at_node.node.durable call a ≡ []
+      → a ≡ quiet at_node.node → Simulated m c w n call a
+  nothing_by call a goes_on asks shows l = still m c w n call a (λ j. record { up = sym goes_on j; node = sym (node_in l) j }) (puts_in l) asks shows
+
+  -- ---- each call
+
+  unused_by : (numbers : List ℕ) → IsFresh (asked_of (items w.trace)) n at_node numbers → at_node.up ≡ true → (i : Input) → IsNew numbers i → (o : Option Token) → asked_with i ≡ o → is_unused (asked_of (items w.trace)) o ≡ true
+  unused_by numbers fresh up i new None is = refl
+  unused_by numbers fresh up i new (Some t) is = eq-eqb (times t (asked_of (items w.trace))) 0 (comes_new c (asked_of (items w.trace)) n at_node numbers fresh up i new t is)
+
+  unused_at : (numbers : List ℕ) → IsFresh (asked_of (items w.trace)) n at_node numbers → at_node.up ≡ true → (i : Input) → IsNew numbers i → is_unused (asked_of (items w.trace)) (asked_with i) ≡ true
+  unused_at numbers fresh up i new = unused_by numbers fresh up i new (asked_with i) refl
+
+  simulated : (numbers : List ℕ) → IsFresh (asked_of (items w.trace)) n at_node numbers → (call : Call) (a : After) → IsDown at_node.up at_node.node → MayCome w.packets numbers call → Does m set at_node.up at_node.node call a → Simulated m c w n call a
+  simulated numbers fresh (Open Finished) a was comes d = opened a d.0 was d.1 d.2
+  simulated numbers fresh (Open (Refused opening.Damaged)) a was comes d = open_spent a d.0 was d.1 d.2
+  simulated numbers fresh (Open (Refused opening.Full)) a was comes d = open_before a d.0 was (Open (Refused opening.Full)) refl refl refl (same_stopped a d.0 was d.1) (puts_in d.1)
+  simulated numbers fresh (Open (Refused opening.Memory)) a was comes d = open_before a d.0 was (Open (Refused opening.Memory)) refl refl refl (same_stopped a d.0 was d.1) (puts_in d.1)
+  simulated numbers fresh (Open (Refused opening.Device)) a was comes d = open_stops a d.0 was (Open (Refused opening.Device)) refl refl refl d.1
+  simulated numbers fresh (Open Cut) a was comes d = open_stops a d.0 was (Open Cut) refl refl refl d.1
+  simulated numbers fresh (Step at i Finished) a was comes d = whole at i a d.0 comes.0 (unused_at numbers fresh d.0 i comes.1) d.1
+  simulated numbers fresh (Step at i (Refused step.Failed)) a was comes d = nothing_by (Step at i (Refused step.Failed)) a refl refl refl d.1
+  simulated numbers fresh (Step at i (Refused step.Full)) a was comes d = nothing_by (Step at i (Refused step.Full)) a refl refl refl d
+  simulated numbers fresh (Step at i (Refused step.Memory)) a was comes d = nothing_by (Step at i (Refused step.Memory)) a refl refl refl d
+  simulated numbers fresh (Step at i (Refused step.Device)) a was comes d = torn at i a d.0 comes.0 (unused_at numbers fresh d.0 i comes.1) (Step at i (Refused step.Device)) refl refl refl d.1
+  simulated numbers fresh (Step at i Cut) a was comes d = torn at i a d.0 comes.0 (unused_at numbers fresh d.0 i comes.1) (Step at i Cut) refl refl refl d.1
+  simulated numbers fresh (Compact Finished) a was comes d = nothing_by (Compact Finished) a refl refl refl d
+  simulated numbers fresh (Compact (Refused journal.Damaged)) a was comes d = absurd d
+  simulated numbers fresh (Compact (Refused journal.Failed)) a was comes d = nothing_by (Compact (Refused journal.Failed)) a refl refl refl d
+  simulated numbers fresh (Compact (Refused journal.Full)) a was comes d = nothing_by (Compact (Refused journal.Full)) a refl refl refl d
+  simulated numbers fresh (Compact (Refused journal.Memory)) a was comes d = nothing_by (Compact (Refused journal.Memory)) a refl refl refl d
+  simulated numbers fresh (Compact (Refused journal.Device)) a was comes d = stops_by (Compact (Refused journal.Device)) a refl refl refl was d at_node.up refl
+  simulated numbers fresh (Compact Cut) a was comes d = stops_by (Compact Cut) a refl refl refl was d at_node.up refl
+  simulated numbers fresh Stop a was comes d = stops_by Stop a refl refl refl was d at_node.up refl
+
+-- ---- a list of calls
+
+module _ (m : EngineMeaning) (touches : TouchesOnlyHanded m) (c : Cluster) where
+  -- a world leads on to what all calls make of it
+  pub record Leads (w : World) (calls : List NodeCall) : Type 0 where
+    pub events : List WorldEvent
+    pub seen : seen_as (run m c w events) ≡ behind_all (seen_as w) calls
+
+  leads : (w : World) (numbers : ℕ → List ℕ) (calls : List NodeCall) → Orderly w.places (asked_of (items w.trace)) numbers → AreCalls m c (seen_as w) numbers calls → Leads w calls
+  leads w numbers [] o all = record { events = []; seen = refl }
+  leads w numbers (l ∷ ls) o all =
+      let is : IsCall m c (seen_as w) numbers l = all.0 in
+      let n = l.node in
+      let one = simulated m touches c w n is.inside (numbers n) (o.fresh n) l.call l.after (o.down n) is.comes is.does in
+      let v = run m c w one.events in
+      let more = all_numbers numbers l in
+      let behind_it = stays_orderly m c w.places (asked_of (items w.trace)) numbers n l.call l.after is.does o in
+      let orderly : Orderly v.places (asked_of (items v.trace)) more =
+      subst (λ (ts : List Token). Orderly v.places ts more) (sym one.asked) (subst (λ (s : Seen). Orderly s.places (asked_of (items w.trace) ++ asked_at c n (w.places n).node.durable l.call) more) (sym one.seen) behind_it) in
+      let rest = leads v more ls orderly (subst (λ (s : Seen). AreCalls m c s more ls) (sym one.seen) all.1) in
+      record {
+        events = one.events ++ rest.events;
+        seen = ap seen_as (sym (run_more m c w one.events rest.events)) ∙ rest.seen ∙ ap (λ s. behind_all s ls) one.seen;
+      }
+
+  pub are_world : (calls : List NodeCall) → AreCalls m c nothing_called (λ _. []) calls → AreWorld m c calls
+  are_world calls all =
+      let first : Orderly nothing_happened.places [] (λ _. []) = record { down = λ n off. refl; fresh = λ n up number new. refl; past = λ n boot number less. refl } in
+      let l = leads nothing_happened (λ _. []) calls first all in
+      record { events = l.events; seen = l.seen; headline = headline m touches c l.events }

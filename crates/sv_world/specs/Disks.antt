@@ -1,0 +1,152 @@
+-- All nodes over their disks, call by call: what a list of calls of running nodes makes of them, and that it is a world.
+--
+-- A call is what sv_node's `Call.antt` says of it, and no disk stands here: what a stop leaves of one is the state before a
+-- call or the state behind it. So this file says of a whole cluster what can be said of it from outside: which calls came
+-- at which node, what was kept behind each, what was put out, and what listeners were told.
+use Rattle.std.specs.Prelude.{◌≡◌, ◌<◌, ◌==◌, ℕ, Bool, true, cond, List, [], ◌∷◌, ◌++◌, ⊤}
+use Rattle.std.specs.List.{flat_map}
+use Rattle.sv_model.specs.declared.event.Told.{Told}
+use Rattle.sv_model.specs.declared.input.Input.{Input}
+use Rattle.sv_model.specs.declared.input.Input.TheVariants as input
+use Rattle.sv_model.specs.declared.output.Output.{Output}
+use Rattle.sv_model.specs.declared.packet.Packet.{Packet}
+use Rattle.sv_model.specs.Engine.{EngineMeaning}
+use Rattle.sv_model.specs.Membership.{In}
+use Rattle.sv_model.specs.Migration.{addressee}
+use Rattle.sv_model.specs.NodeState.{Durable}
+use Rattle.sv_model.specs.Outputs.{sends_in}
+use Rattle.sv_model.specs.Replay.{blank}
+use Rattle.sv_model.specs.Step.{with_mark}
+use Rattle.sv_node.specs.Call.{Call, Open, Step, Compact, Stop, Done, Refused, Cut, After, Does, runs_behind}
+use Rattle.sv_world.specs.declared.event.WorldEvent.{WorldEvent}
+use Rattle.sv_world.specs.declared.line.Line.{Line}
+use Rattle.sv_world.specs.World.{Cluster, Place, World, setting_of, set_place, stopped, nothing_happened, run}
+use Rattle.sv_world.specs.Headline.{IsHeadline}
+
+-- a call at a node, and what there is behind it
+pub record NodeCall : Type 0 where
+  pub node : ℕ
+  pub call : Call
+  pub after : After
+
+-- what a whole step shows, and since which start of which node
+pub record Shown : Type 0 where
+  pub node : ℕ
+  pub boot : ℕ
+  pub outputs : List Output
+  pub told : List Told
+
+-- what has come of all calls so far: what each node keeps and whether it runs, all packets that were put out, and what each
+-- step has shown
+pub record Seen : Type 0 where
+  pub places : ℕ → Place
+  pub packets : List Packet
+  pub shown : List Shown
+
+-- all disks are blank, and no node was opened
+abbrev pub nothing_called : Seen
+nothing_called = record { places = λ _. stopped blank; packets = []; shown = [] }
+
+-- ---- what a call may be given
+
+-- a packet was put out before
+abbrev pub WasSent : List Packet → Input → Type 0
+WasSent packets (input.Ask token r) = ⊤
+WasSent packets (input.Packet p) = In p packets
+WasSent packets input.Poke = ⊤
+WasSent packets input.Tick = ⊤
+WasSent packets (input.Move k to) = ⊤
+
+-- a request comes under a number that none of these was
+abbrev pub IsNew : List ℕ → Input → Type 0
+IsNew numbers (input.Ask number r) = ¬ In number numbers
+IsNew numbers (input.Packet p) = ⊤
+IsNew numbers input.Poke = ⊤
+IsNew numbers input.Tick = ⊤
+IsNew numbers (input.Move k to) = ⊤
+
+-- the numbers are those of the requests that came to the node since it was opened
+abbrev pub MayCome : List Packet → List ℕ → Call → Type 0
+MayCome packets numbers (Open ending) = ⊤
+MayCome packets numbers (Step at input ending) = WasSent packets input × IsNew numbers input
+MayCome packets numbers (Compact ending) = ⊤
+MayCome packets numbers Stop = ⊤
+
+-- the call is one of the nodes', was given what it may be given, and did what such a call does
+pub record IsCall (m : EngineMeaning) (c : Cluster) (s : Seen) (numbers : ℕ → List ℕ) (l : NodeCall) : Type 0 where
+  pub inside : l.node < c.nodes
+  pub comes : MayCome s.packets (numbers l.node) l.call
+  pub does : Does m (setting_of c l.node) (s.places l.node).up (s.places l.node).node l.call l.after
+
+-- ---- what comes of it
+
+-- an input that isn't a packet for another node
+abbrev pub is_own : ℕ → Input → Bool
+is_own n (input.Ask token r) = true
+is_own n (input.Packet p) = addressee p == n
+is_own n input.Poke = true
+is_own n input.Tick = true
+is_own n (input.Move k to) = true
+
+-- only a whole step shows something; a packet for another node does nothing at all
+abbrev pub shown_at : ℕ → Durable → Call → After → List Shown
+shown_at n d (Open ending) a = []
+shown_at n d (Step at input Done) a = cond (is_own n input) (record { node = n; boot = d.boot; outputs = a.outputs; told = a.told } ∷ []) []
+shown_at n d (Step at input (Refused fault)) a = []
+shown_at n d (Step at input Cut) a = []
+shown_at n d (Compact ending) a = []
+shown_at n d Stop a = []
+
+abbrev pub behind : Seen → NodeCall → Seen
+behind s l =
+    let p = s.places l.node in
+    record {
+      places = set_place s.places l.node (record { up = runs_behind p.up l.call; node = l.after.node });
+      packets = s.packets ++ sends_in l.after.outputs;
+      shown = s.shown ++ shown_at l.node p.node.durable l.call l.after;
+    }
+
+abbrev pub behind_all : Seen → List NodeCall → Seen
+behind_all s [] = s
+behind_all s (l ∷ ls) = behind_all (behind s l) ls
+
+abbrev pub with_number : Input → List ℕ → List ℕ
+with_number (input.Ask number r) numbers = number ∷ numbers
+with_number (input.Packet p) numbers = numbers
+with_number input.Poke numbers = numbers
+with_number input.Tick numbers = numbers
+with_number (input.Move k to) numbers = numbers
+
+-- an opening that was done begins anew; a request that was refused may come again under its number
+abbrev pub numbers_behind : Call → List ℕ → List ℕ
+numbers_behind (Open Done) numbers = []
+numbers_behind (Open (Refused fault)) numbers = numbers
+numbers_behind (Open Cut) numbers = numbers
+numbers_behind (Step at input Done) numbers = with_number input numbers
+numbers_behind (Step at input (Refused fault)) numbers = numbers
+numbers_behind (Step at input Cut) numbers = numbers
+numbers_behind (Compact ending) numbers = numbers
+numbers_behind Stop numbers = numbers
+
+abbrev pub all_numbers : (ℕ → List ℕ) → NodeCall → ℕ → List ℕ
+all_numbers numbers l n = cond (n == l.node) (numbers_behind l.call (numbers n)) (numbers n)
+
+-- each of them, where those before it have led
+abbrev pub AreCalls : EngineMeaning → Cluster → Seen → (ℕ → List ℕ) → List NodeCall → Type 0
+AreCalls m c s numbers [] = ⊤
+AreCalls m c s numbers (l ∷ ls) = IsCall m c s numbers l × AreCalls m c (behind s l) (all_numbers numbers l) ls
+
+-- ---- a world, seen so
+
+abbrev pub shown_by : Line → List Shown
+shown_by l = cond l.whole (record { node = l.node; boot = l.boot; outputs = l.outputs; told = with_mark l.events l.mark } ∷ []) []
+
+abbrev pub seen_as : World → Seen
+seen_as w = record { places = w.places; packets = w.packets; shown = flat_map shown_by w.trace }
+
+-- The calls are a world: some list of its events leads to just what has come of them. So the theorem holds of what the nodes
+-- keep, of what was put out and of what was told.
+pub record AreWorld (m : EngineMeaning) (c : Cluster) (calls : List NodeCall) : Type 0 where
+  pub events : List WorldEvent
+  pub seen : seen_as (run m c nothing_happened events) ≡ behind_all nothing_called calls
+  pub headline : IsHeadline m c (run m c nothing_happened events)
