@@ -30,3 +30,4 @@ pub mod MakingLemmas
 pub mod BegunLemmas
 pub mod DiskOrder
 pub mod DiskLemmas
+pub mod DiskExample
