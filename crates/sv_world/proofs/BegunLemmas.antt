@@ -1,5 +1,5 @@
 -- A world whose nodes have just started, and its engines.
-use Rattle.std.proofs.Common.{◌≡◌, ℕ, zero, suc, ◌<◌, ◌≤◌, true, false, Option, Some, None, List, [], ◌∷◌, map, get_or, length, arith, refl, sym, ap, ◌∙◌, subst}
+use Rattle.std.proofs.Common.{◌≡◌, ℕ, zero, suc, ◌<◌, ◌≤◌, true, Option, Some, None, List, [], ◌∷◌, map, length, arith, refl, sym, ap, ◌∙◌, subst}
 use Rattle.std.specs.Prelude.{is_some, is_none, IfSome, slice_get, Result, Ok, Err, IfOk}
 use Rattle.std.specs.List.{All}
 use Rattle.std.specs.Option.{option_map}
@@ -13,8 +13,8 @@ use Rattle.sv_model.specs.Replay.{blank, replayed, AllFit}
 use Rattle.sv_world.specs.declared.seat.Seat.{Seat}
 use Rattle.sv_world.specs.declared.world.World.{World as Nodes}
 use Rattle.sv_world.specs.Seat.{IsSeat, RunsOver, durable_of, engine_in, engine_by, place_of, place_by}
-use Rattle.sv_world.specs.World.{Place, World, setting_of, stopped, nothing_happened, run}
-use Rattle.sv_world.specs.Worlds.{place_in, meant_in, noted_in, settings_by, world_of, cluster_of, meanings_of, heard_of, IsWorld, AllMean}
+use Rattle.sv_world.specs.World.{stopped, nothing_happened, run}
+use Rattle.sv_world.specs.Worlds.{place_in, meant_in, noted_in, world_of, cluster_of, meanings_of, heard_of, IsWorld, AllMean}
 use Rattle.sv_world.specs.Happened.{AllAlike, AreStarted, AreBack, restarts}
 use Rattle.sv_world.specs.Making.{IsIdle, AreSeated, HaveBegun, AreOf}
 use Rattle.sv_world.proofs.MakingLemmas.{all_some}

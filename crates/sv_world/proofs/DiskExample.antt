@@ -1,6 +1,7 @@
 -- A list of calls that does something: a node is opened, answers a request, meets a failed disk when it is to hand the session
 -- over, and is opened again; the record of that stands.
-use Rattle.std.proofs.Common.{◌≡◌, ◌≢◌, ◌<◌, ℕ, true, None, [], ◌∷◌, inr, arith, refl}
+use Rattle.std.proofs.Common.{◌≢◌, ◌<◌, ℕ, [], ◌∷◌, inr, arith, refl}
+use Rattle.sv_model.specs.declared.input.Input.{Input}
 use Rattle.sv_model.specs.declared.input.Input.TheVariants as input
 use Rattle.sv_model.specs.declared.key.Moment.{Moment}
 use Rattle.sv_model.specs.declared.request.Request.{Request}
@@ -13,8 +14,8 @@ use Rattle.sv_model.specs.NodeState.{Node, last_number}
 use Rattle.sv_model.specs.Replay.{blank}
 use Rattle.sv_node.specs.Call.{Open, Step, Done, Refused, After, quiet, kept, carried_out}
 use Rattle.sv_node.specs.Opened.{restarted}
-use Rattle.sv_world.specs.Disks.{NodeCall, IsCall, AreCalls, nothing_called}
-use Rattle.sv_world.specs.World.{Cluster, setting_of}
+use Rattle.sv_world.specs.Disks.{AreCalls, nothing_called}
+use Rattle.sv_world.specs.World.{setting_of}
 use Rattle.sv_world.proofs.Example.{makes, two}
 
 module _ (response : Response) (s : Session) (r : Request) (moment : Moment) where
@@ -28,7 +29,7 @@ module _ (response : Response) (s : Session) (r : Request) (moment : Moment) whe
   abbrev answered : After
   answered = carried_out (decided m (setting_of two 0) opened moment (input.Ask 7 r))
 
-  abbrev moves : _
+  abbrev moves : Input
   moves = input.Move (record { home = 0; serial = 1 }) 1
 
   abbrev handed_over : Node
@@ -42,7 +43,10 @@ module _ (response : Response) (s : Session) (r : Request) (moment : Moment) whe
       ∷ record { node = 0; call = Step moment (input.Ask 7 r) Done; after = answered }
       ∷ record { node = 0; call = Step moment moves (Refused Device); after = quiet handed_over }
       ∷ [])
-  calls =
-      (record { inside = omega arith; comes = tt; does = (refl, low 0 (omega arith), refl) },
-      (record { inside = omega arith; comes = (tt, λ i. absurd i); does = (refl, refl) },
-      (record { inside = omega arith; comes = (tt, tt); does = (refl, inr refl) }, tt)))
+  calls = (
+    record { inside = omega arith; comes = tt; does = (refl, low 0 (omega arith), refl) },
+    (
+      record { inside = omega arith; comes = (tt, λ i. absurd i); does = (refl, refl) },
+      (record { inside = omega arith; comes = (tt, tt); does = (refl, inr refl) }, tt),
+    ),
+  )

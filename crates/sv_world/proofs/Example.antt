@@ -20,10 +20,10 @@ use Rattle.sv_world.specs.declared.event.WorldEvent.TheVariants.{Ask, Torn, Rest
 use Rattle.sv_world.specs.World.{Cluster, World, nothing_happened, run, items, records_at}
 
 -- it makes a session for each request
-abbrev makes : Response → Session → EngineMeaning
+abbrev pub makes : Response → Session → EngineMeaning
 makes response s = record { names = λ r. None; serve = λ r held now fresh. record { response = response; fate = Untouched; birth = Alive s; events = [] }; hear = λ heard t. heard }
 
-abbrev two : Cluster
+abbrev pub two : Cluster
 two = record { nodes = 2; deadline = 30 }
 
 module _ (response : Response) (s : Session) (r : Request) (moment : Moment) where

@@ -1,34 +1,32 @@
 -- An event has happened in a world in code.
 use Rattle.std.proofs.Common.{◌≡◌, ◌≢◌, ℕ, ◌<◌, ◌≤◌, ◌==◌, ◌&&◌, get_or, Bool, true, false, cond, Option, Some, None, List, [], ◌∷◌, ◌++◌, length, arith, refl, sym, ap, ◌∙◌, subst, ⊎_elim, eq-eqb, append-nil}
-use Rattle.std.specs.Prelude.{not, is_some, is_none, IfSome, slice_get, Result, Ok, Err, IfErr, OnOk, OnErr}
+use Rattle.std.specs.Prelude.{not, is_some, is_none, slice_get}
 use Rattle.std.specs.List.{All}
 use Rattle.std.specs.Option.{option_map}
 use Rattle.std.proofs.lemmas.Bool.{cases_eq, ne_eqb, cond-true, cond-false}
 use Rattle.std.proofs.lemmas.Option.{same_Some, slice_get_cases}
 use Rattle.sv_core.specs.declared.node.Core.{Core}
 use Rattle.sv_core.specs.Core.{engine_of}
-use Rattle.sv_model.specs.declared.input.Input.{Input}
 use Rattle.sv_model.specs.declared.event.Told.{Told}
 use Rattle.sv_model.specs.declared.packet.Packet.{Packet}
 use Rattle.sv_model.specs.declared.node.Setting.{Setting}
 use Rattle.sv_model.specs.Engine.{EngineMeaning, heard_all}
-use Rattle.sv_model.specs.NodeState.{Durable, last_number}
+use Rattle.sv_model.specs.NodeState.{last_number}
 use Rattle.sv_model.specs.Outputs.{sends_in}
 use Rattle.sv_model.specs.Node.{decided}
 use Rattle.sv_world.specs.declared.event.WorldEvent.{WorldEvent}
 use Rattle.sv_world.specs.declared.event.WorldEvent.TheVariants.{Ask, Deliver, Poke, Tick, Move, Crash, Torn, Restart, TornRestart}
 use Rattle.sv_world.specs.declared.line.Effect.{Effect}
-use Rattle.sv_world.specs.declared.line.Line.{Line}
 use Rattle.sv_world.specs.declared.order.Order.{Order}
 use Rattle.sv_world.specs.declared.seat.Seat.{Seat}
 use Rattle.sv_world.specs.declared.task.Task.{Task}
 use Rattle.sv_world.specs.declared.task.Task.TheVariants as task
 use Rattle.sv_world.specs.declared.world.World.{World as Nodes}
-use Rattle.sv_world.specs.Deed.{Done, deed, told_by, line_of, quiet_at, heading_at, heading_by, halted, booted, start_by, stepped, torn_by}
-use Rattle.sv_world.specs.Seat.{IsSeat, meaning_in, engine_by}
+use Rattle.sv_world.specs.Deed.{Done, deed, told_by, line_of, quiet_at, heading_at, heading_by, halted, booted}
+use Rattle.sv_world.specs.Seat.{IsSeat, engine_by}
 use Rattle.sv_world.specs.Order.{order_of}
-use Rattle.sv_world.specs.World.{Cluster, Place, World, set_place, setting_of, stopped, started, run}
-use Rattle.sv_world.specs.Worlds.{places_by, settings_by, meant_in, meanings_by, heard_by, state_by, cluster_by, world_of, cluster_of, meanings_of, heard_of, IsWorld, AllMean}
+use Rattle.sv_world.specs.World.{Place, set_place, setting_of, stopped, started}
+use Rattle.sv_world.specs.Worlds.{places_by, settings_by, meant_in, meanings_by, world_of, cluster_of, meanings_of, heard_of, IsWorld, AllMean}
 use Rattle.sv_world.specs.Happened.{HaveDone, AreUndone, HaveHappened, HasActed, IsStill, told_at, is_start}
 use Rattle.sv_world.proofs.OrderLemmas.{Goes, done_at, goes}
 

@@ -1,12 +1,9 @@
 -- Engines in the nodes of a world.
-use Rattle.std.proofs.Common.{◌≡◌, ◌≢◌, ◌⊎◌, ℕ, zero, suc, ◌+◌, ◌<◌, ◌≤◌, Bool, true, false, Option, Some, None, List, [], ◌∷◌, ◌++◌, map, take, drop, get_or, length, arith, refl, sym, ap, ◌∙◌, subst, ⊎_elim, length-append, length-drop, add-one}
-use Rattle.std.specs.Prelude.{is_some, is_none, IfSome, slice_get, slice_index_or}
+use Rattle.std.proofs.Common.{◌≡◌, ◌≢◌, ℕ, zero, suc, ◌+◌, ◌<◌, true, false, Option, Some, None, List, [], ◌∷◌, ◌++◌, map, take, drop, get_or, length, arith, refl, sym, ap, ◌∙◌, ⊎_elim, length-append, add-one}
+use Rattle.std.specs.Prelude.{is_some, IfSome, slice_get}
 use Rattle.std.specs.List.{All}
-use Rattle.std.specs.Option.{option_map}
 use Rattle.std.proofs.lemmas.Bool.{cases_eq}
-use Rattle.std.proofs.lemmas.List.{map-append, drop-drop, take_more}
-use Rattle.std.proofs.lemmas.Option.{slice_get-get_or, same_Some}
-use Rattle.sv_model.specs.Engine.{EngineMeaning}
+use Rattle.std.proofs.lemmas.List.{map-append, drop-drop}
 use Rattle.sv_world.specs.declared.seat.Seat.{Seat}
 use Rattle.sv_world.specs.Seat.{engine_in, engine_by}
 use Rattle.sv_world.specs.Worlds.{setting_in, settings_by}

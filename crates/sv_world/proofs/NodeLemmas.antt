@@ -1,11 +1,10 @@
 -- One of the nodes has changed.
-use Rattle.std.proofs.Common.{◌≡◌, ◌≢◌, ℕ, zero, suc, ◌<◌, Bool, true, false, cond, Option, Some, None, List, [], ◌∷◌, ◌++◌, length, arith, refl, sym, ap, ◌∙◌, ⊎_elim}
+use Rattle.std.proofs.Common.{◌≡◌, ◌≢◌, ℕ, zero, suc, ◌<◌, Bool, true, false, cond, Option, Some, List, [], ◌∷◌, length, arith, refl, sym, ap, ◌∙◌, ⊎_elim}
 use Rattle.std.specs.Prelude.{◌==◌, slice_get, slice_set, Result, Ok, Err, IfOk, OnErr}
 use Rattle.std.specs.Option.{option_map}
 use Rattle.std.proofs.lemmas.Bool.{cases_eq, ne_eqb, eq-eqb, eqb-true}
 use Rattle.sv_model.specs.Engine.{EngineMeaning, heard_all}
 use Rattle.sv_world.specs.declared.line.Effect.{Effect}
-use Rattle.sv_world.specs.declared.order.Order.{Order}
 use Rattle.sv_world.specs.declared.seat.Seat.{Seat}
 use Rattle.sv_world.specs.declared.task.Task.{Task}
 use Rattle.sv_world.specs.Deed.{deed, told_by, Done}

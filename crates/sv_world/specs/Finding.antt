@@ -1,6 +1,6 @@
 -- Which fault an event has, found from the node that it is about.
 use Rattle.std.specs.Option.{option_map}
-use Rattle.std.specs.Prelude.{ℕ, ◌+◌, Bool, cond, Option, Some, None, Result, Ok, Err, List, slice_get}
+use Rattle.std.specs.Prelude.{ℕ, Bool, cond, Option, Some, None, Result, Ok, Err, List, slice_get}
 use Rattle.sv_model.specs.declared.input.Input.{Input}
 use Rattle.sv_model.specs.declared.input.Input.TheVariants as input
 use Rattle.sv_model.specs.declared.key.Token.{Token}
@@ -13,7 +13,7 @@ use Rattle.sv_world.specs.declared.line.Line.{Line}
 use Rattle.sv_world.specs.declared.seat.Seat.{Seat}
 use Rattle.sv_world.specs.Seat.{place_of, boot_of}
 use Rattle.sv_world.specs.Sent.{may_come}
-use Rattle.sv_world.specs.World.{Place, items, is_unused}
+use Rattle.sv_world.specs.World.{items, is_unused}
 
 -- the number of the last start, where it runs
 abbrev pub boot_by : Option ℕ → Result ℕ WorldFault

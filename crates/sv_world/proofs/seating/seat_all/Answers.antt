@@ -1,4 +1,4 @@
-use Rattle.std.proofs.Common.{◌≡◌, ◌<◌, ◌+◌, ◌∷◌, [], ◌++◌, take, drop, length, arith, refl, sym, ap, ◌∙◌, subst, length-drop, List}
+use Rattle.std.proofs.Common.{◌≡◌, ◌<◌, ◌+◌, ◌∷◌, [], ◌++◌, take, length, arith, sym, ap, ◌∙◌, subst, length-drop, List}
 use Rattle.std.proofs.lemmas.List.{length_push}
 use Rattle.sv_world.specs.declared.seat.Seat.{Seat}
 use Rattle.sv_world.specs.Making.{AreSeated}

@@ -1,4 +1,4 @@
-use Rattle.std.proofs.Common.{◌≡◌, take, drop, length, vec_len}
+use Rattle.std.proofs.Common.{◌≡◌, take, drop, length}
 use Rattle.std.specs.Prelude.{vec_capacity}
 use Rattle.sv_world.specs.Making.{AreSeated}
 use Rattle.sv_world.proofs.seating.seat_all.Given as goal

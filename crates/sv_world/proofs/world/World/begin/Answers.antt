@@ -1,4 +1,3 @@
-use Rattle.std.proofs.Common.{◌≡◌, ap, arith}
 use Rattle.sv_world.proofs.BegunLemmas.{all_engines, are_of}
 use Rattle.sv_world.proofs.world.World.begin.Goals as goal
 

@@ -1,7 +1,5 @@
-use Rattle.std.proofs.Common.{◌≡◌, ◌<◌, ◌∙◌, ◌++◌, ◌∷◌, [], ap, sym, refl, length, Some}
-use Rattle.sv_world.specs.declared.line.Effect.{Effect}
-use Rattle.sv_world.proofs.OrderLemmas.{goes}
-use Rattle.sv_world.proofs.HappenedLemmas.{still_world, acted_world, acted_happened, acted_silent}
+use Rattle.std.proofs.Common.{◌∙◌, ◌++◌, ◌∷◌, [], ap, refl}
+use Rattle.sv_world.proofs.HappenedLemmas.{acted_world, acted_happened, acted_silent}
 use Rattle.sv_world.proofs.world.World.happen.Goals as goal
 
 pub returns-clause-world : goal.returns-clause-world

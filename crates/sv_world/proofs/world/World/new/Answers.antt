@@ -1,5 +1,5 @@
-use Rattle.std.proofs.Common.{◌≡◌, length}
-use Rattle.sv_world.specs.Happened.{AllAlike, restarts}
+use Rattle.std.proofs.Common.{length}
+use Rattle.sv_world.specs.Happened.{restarts}
 use Rattle.sv_world.proofs.BegunLemmas.{ok_both, all_mean}
 use Rattle.sv_world.proofs.RanLemmas.{ran_headline}
 use Rattle.sv_world.proofs.world.World.new.Goals as goal

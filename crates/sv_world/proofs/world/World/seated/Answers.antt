@@ -1,4 +1,3 @@
-use Rattle.std.proofs.Common.{◌≡◌}
 use Rattle.sv_world.specs.declared.world.World.{World as Nodes}
 use Rattle.sv_world.proofs.BegunLemmas.{seated_world, started, back}
 use Rattle.sv_world.proofs.world.World.seated.Goals as goal
