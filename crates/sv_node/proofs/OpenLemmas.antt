@@ -22,7 +22,7 @@ use Rattle.sv_node.specs.declared.fault.OpenFault.TheVariants.{Damaged, Device, 
 use Rattle.sv_node.specs.Fault.{open_fault, apply_fault}
 use Rattle.sv_node.specs.Records.{Spell, Replays}
 use Rattle.sv_node.specs.Stops.{Restores}
-use Rattle.sv_node.specs.Opened.{LeavesStart, restarted}
+use Rattle.sv_node.specs.Opened.{LeavesStart, LeavesUnstarted, restarted}
 use Rattle.sv_node.proofs.RecordLemmas.{one_list}
 
 pub was_damaged : (f : JournalFault) → open_fault f ≡ Damaged → f ≡ journal.Damaged
@@ -51,6 +51,10 @@ was_device f (inr device) is = device
 pub was_full : (f : JournalFault) → (f ≡ journal.Damaged) ⊎ (f ≡ journal.Device) → open_fault f ≡ Full → ⊥
 was_full f (inl damaged) is = let other : open_fault f ≡ Damaged = ap open_fault damaged in cc
 was_full f (inr device) is = let other : open_fault f ≡ Device = ap open_fault device in cc
+
+pub either_same : {P : Type 0} → P ⊎ P → P
+either_same (inl p) = p
+either_same (inr p) = p
 
 -- a call of the current disk has failed
 pub has_risen : {D : Type 0} (failed : D → ℕ) (on_a : Bool) (current other final a b : D) → failed (cond on_a current other) ≡ failed a → failed (cond on_a other current) ≡ failed b
@@ -94,10 +98,13 @@ alike set a b x y d r is o =
 module _ {D : Type 0} (tells : D → Type 0) (seen : D → List ℕ) (may_leave : D → List ℕ → Type 0) (moment : D → ℕ) (left_since : D → ℕ → List ℕ → Type 0)
     (counts_now : (disk : D) (t : ℕ) (c : List ℕ) → tells disk → t ≤ moment disk → may_leave disk c → left_since disk t c)
     (set : Setting) (a b new_a new_b : D) (told_a : tells new_a) (told_b : tells new_b) (d : Durable) (r : Restores set (seen a) (seen b) d) where
-  pub refused_left : OpensWithoutLoss seen may_leave moment left_since a b new_a new_b → LeavesStart may_leave set a b d new_a new_b
-  refused_left w x y left_x left_y =
+  pub refused_unstarted : OpensWithoutLoss seen may_leave moment left_since a b new_a new_b → LeavesUnstarted may_leave set a b d new_a new_b
+  refused_unstarted w x y left_x left_y =
       let at_x = λ (P : List ℕ → Type 0) (l : LeavesOnly moment left_since a new_a P). l.each x (counts_now new_a (moment a) x told_a l.later left_x) in
       let old_y : may_leave b y = w.of_b.each y (counts_now new_b (moment b) y told_b w.of_b.later left_y) in
       ⊎_elim (λ (only : Only (seen b) (may_leave new_b)).
-      ⊎_elim (λ old_x. inl (old_x, old_y)) (λ o. inr (inl (alike set (seen a) (seen b) x y d r (only y left_y) o))) (at_x (λ c. may_leave a c ⊎ OpensAlike (seen a) (seen b) c) w.of_a))
+      ⊎_elim (λ old_x. inl (old_x, old_y)) (λ o. inr (alike set (seen a) (seen b) x y d r (only y left_y) o)) (at_x (λ c. may_leave a c ⊎ OpensAlike (seen a) (seen b) c) w.of_a))
       (λ (still : LeavesOnly moment left_since a new_a (may_leave a)). inl (at_x (may_leave a) still, old_y)) w.apart
+
+  pub refused_left : OpensWithoutLoss seen may_leave moment left_since a b new_a new_b → LeavesStart may_leave set a b d new_a new_b
+  refused_left w x y left_x left_y = ⊎_elim (λ old. inl old) (λ gives. inr (inl gives)) (refused_unstarted w x y left_x left_y)

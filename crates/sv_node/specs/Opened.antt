@@ -28,6 +28,11 @@ abbrev pub LeavesStart : {D : Type 0} → (D → List ℕ → Type 0) → Settin
 LeavesStart may_leave set a b d new_a new_b =
     (x y : List ℕ) → may_leave new_a x → may_leave new_b y → (may_leave a x × may_leave b y) ⊎ GivesStart set d x y
 
+-- Whatever a stop now leaves of two disks, a stop could leave before, or it gives what the images gave, and no start.
+abbrev pub LeavesUnstarted : {D : Type 0} → (D → List ℕ → Type 0) → Setting → D → D → Durable → D → D → Type 0
+LeavesUnstarted may_leave set a b d new_a new_b =
+    (x y : List ℕ) → may_leave new_a x → may_leave new_b y → (may_leave a x × may_leave b y) ⊎ Restores set x y d
+
 -- What a stop at any moment leaves of two disks one of which alone is written. Of each of them it is what a stop before
 -- could leave, or, of the one that is written, an image that beside the other one, as that reads, gives what it should;
 -- and such an image is left only once the other one is synced, so that a stop leaves nothing else of that.

@@ -5,7 +5,7 @@ ghost use Rattle.sv_journal.specs.Disk.{TellsOn, HasRisen};
 ghost use Rattle.sv_journal.specs.Journal.{disk_a, disk_b};
 ghost use Rattle.sv_model.specs.NodeState.{Durable, last_number};
 ghost use Rattle.sv_model.specs.Ranges.{IsSetting};
-ghost use Rattle.sv_node.specs.Opened.{LeavesStart, StartsWithoutLoss, LacksRoom, restarted};
+ghost use Rattle.sv_node.specs.Opened.{LeavesStart, LeavesUnstarted, StartsWithoutLoss, LacksRoom, restarted};
 ghost use Rattle.sv_node.specs.Stops.{Restores};
 ghost use Rattle.sv_node.specs.declared.fault.OpenFault.TheVariants.{Damaged, Device, Full};
 
@@ -53,6 +53,8 @@ impl<E: Engine, D: Disk> Node<E, D> {
         ensures damaged { IfErr result (λ r. r.fault ≡ Damaged → D.tells a → D.tells b → (d : Durable) → Restores setting (D.seen a) (D.seen b) d → d.boot ≡ last_number) }
         // What is lost at a fault is at most the start itself.
         ensures left_err { IfErr result (λ r. D.tells a → D.tells b → (d : Durable) → Restores setting (D.seen a) (D.seen b) d → LeavesStart D.may_leave setting a b d r.a r.b) }
+        // And only where a disk has failed.
+        ensures unstarted { IfErr result (λ r. r.fault ≢ Device → D.tells a → D.tells b → (d : Durable) → Restores setting (D.seen a) (D.seen b) d → LeavesUnstarted D.may_leave setting a b d r.a r.b) }
         // A stop at any moment of the call loses nothing.
         ensures any_moment { IfOk result (λ n. D.tells a → D.tells b → (d : Durable) → Restores setting (D.seen a) (D.seen b) d
             → StartsWithoutLoss D.seen D.may_leave D.moment D.left_since setting d a b (disk_a (journal_of n)) (disk_b (journal_of n))) }

@@ -33,7 +33,7 @@ pub fn start<E: Engine, D: Disk>(
     ensures left { OnOk result ((durable_at core.old).boot ≢ last_number) }
     ensures damaged { IfErr result (λ e. e ≡ Damaged → (durable_at core.old).boot ≡ last_number) }
     ensures full { IfErr result (λ e. e ≡ Full → IsTooLong journal.old (Some (start_of (durable_at core.old)))) }
-    ensures full_unchanged { IfErr result (λ e. e ≡ Full → journal.new ≡ journal.old) }
+    ensures unchanged { IfErr result (λ e. e ≢ Device → journal.new ≡ journal.old) }
     ensures device { IfErr result (λ e. e ≡ Device → HasRisen (D.failed journal.old.current) (D.failed journal.new.current)) }
     ensures stored { OnOk result (D.tells journal.old.current → Stores D.seen D.may_leave journal.old (setting_of core.old) (durable_at core.old)
         → Stores D.seen D.may_leave journal.new (setting_of core.old) (restarted (durable_at core.old))) }

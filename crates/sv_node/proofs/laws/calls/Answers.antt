@@ -1,3 +1,4 @@
+use Rattle.sv_node.proofs.BootLemmas.{found}
 use Rattle.sv_node.proofs.CallLemmas.{opened, stepped, compacted}
 use Rattle.sv_node.proofs.laws.calls.Goals as goal
 
@@ -15,3 +16,6 @@ returns-clause-compacted g k old new answer s =
     let e = g.E.Engine in
     let d = g.D.Disk in
     compacted e.meaning e.heard d.failed old new d.tells d.seen d.may_leave d.moment d.left_since answer s
+
+pub returns-clause-found : goal.returns-clause-found
+returns-clause-found g k set d a b gives = found set d a b gives

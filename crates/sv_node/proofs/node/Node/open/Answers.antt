@@ -12,8 +12,8 @@ use Rattle.sv_journal.specs.Journal.{disk_a, disk_b}
 use Rattle.sv_node.specs.Node.{IsTooLong}
 use Rattle.sv_node.specs.Opened.{StartsWithoutLoss, start_of, restarted}
 use Rattle.sv_node.specs.Stops.{Stores, RestoresEither}
-use Rattle.sv_node.specs.declared.fault.OpenFault.TheVariants.{Damaged, Full}
-use Rattle.sv_node.proofs.OpenLemmas.{was_damaged, was_bad, current_tells, both_tell, fits_too, gives_too, recovered, restarted_ranged, at_state, refused_left}
+use Rattle.sv_node.specs.declared.fault.OpenFault.TheVariants.{Damaged, Device, Full}
+use Rattle.sv_node.proofs.OpenLemmas.{was_damaged, was_bad, current_tells, both_tell, fits_too, gives_too, recovered, restarted_ranged, at_state, refused_left, refused_unstarted, either_same}
 use Rattle.sv_node.proofs.OpeningMoments.{refused_moments, started_moments, read_then}
 use Rattle.sv_node.proofs.StopLemmas.{left_behind, reading}
 use Rattle.sv_node.proofs.node.Node.open.Goals as goal
@@ -205,7 +205,7 @@ returns-in-Err-start-clause-full g c = λ is ta tb d r.
     let fault_is : c.in-Err-start.fault ≡ Full = sym (ap (λ x. x.fault) refused) ∙ is in
     let s = c.in-Ok-read.ensures.spelled r.entries told holds in
     let gives = gives_too c.args.setting r.entries c.in-Ok-read.records.items d s r.replays ∙ ap (replayed blank) (sym c.deref.ensures.value) ∙ sym (ap (λ (n : State). n.durable) c.in-Ok-recover.ensures.ok.node) in
-    let same = c.in-Err-start.ensures.full_unchanged fault_is in
+    let same = c.in-Err-start.ensures.unchanged (λ device. let other : Full ≡ Device = sym fault_is ∙ device in absurd cc) in
     record {
       journal = i;
       on_a = sym (ap (λ z. z.a) refused ∙ ap disk_a same);
@@ -236,3 +236,50 @@ returns-clause-any_moment g c = λ ta tb d r.
     (read_then k.moment k.left_since c.args.setting (k.seen j.other) d j.current i.current last.current
     (reading k.tells k.seen k.may_leave k.moment k.left_since j i.current c.args.setting r.entries d (restarted d) holds r.replays (c.read.ensures.quiet.left told))
     (subst (λ z. LeavesOnly k.moment k.left_since i.current last.current (RestoresEither c.args.setting (k.seen z) d (restarted d))) (ap (λ z. z.other) same) moments))
+
+pub returns-in-Err-clause-unstarted : goal.returns-in-Err-clause-unstarted
+returns-in-Err-clause-unstarted g c = λ other ta tb d r.
+    let k = g.D.Disk in
+    let t = c.in-Err.ensures.tells_err in
+    refused_unstarted k.tells k.seen k.may_leave k.moment k.left_since g.met.D.Disk.counts_now c.args.setting c.args.a c.args.b c.in-Err.refused.a c.in-Err.refused.b (t.0.tells_after ta) (t.1.tells_after tb) d r (c.in-Err.ensures.any_moment_err ta tb)
+
+pub returns-in-Err-read-clause-unstarted : goal.returns-in-Err-read-clause-unstarted
+returns-in-Err-read-clause-unstarted g c = λ other ta tb d r x y left_x left_y.
+    let k = g.D.Disk in
+    let j = c.in-Ok.journal in
+    let t = c.in-Ok.ensures.tells in
+    let told = current_tells k.tells j.on_a j.current j.other (t.0.tells_after ta) (t.1.tells_after tb) in
+    let holds = c.in-Ok.ensures.holds ta tb r.entries r.opens in
+    let q = c.read.ensures.quiet in
+    let is = c.not_opened.ensures in
+    inr (either_same (left_behind k.tells k.seen k.may_leave k.moment k.left_since g.met.D.Disk.counts_now j c.read.new.journal c.args.setting d d (q.tells_after told) (ap (λ z. z.other) c.read.ensures.same) holds.other_durable
+    (reading k.tells k.seen k.may_leave k.moment k.left_since j c.read.new.journal.current c.args.setting r.entries d d holds r.replays (q.left told)) x y
+    (subst (λ z. k.may_leave z x) (ap (λ z. z.a) is) left_x) (subst (λ z. k.may_leave z y) (ap (λ z. z.b) is) left_y)))
+
+pub returns-in-Err-recover-clause-unstarted : goal.returns-in-Err-recover-clause-unstarted
+returns-in-Err-recover-clause-unstarted g c = λ other ta tb d r x y left_x left_y.
+    let k = g.D.Disk in
+    let j = c.in-Ok.journal in
+    let t = c.in-Ok.ensures.tells in
+    let told = current_tells k.tells j.on_a j.current j.other (t.0.tells_after ta) (t.1.tells_after tb) in
+    let holds = c.in-Ok.ensures.holds ta tb r.entries r.opens in
+    let q = c.read.ensures.quiet in
+    let is = c.not_opened-in-Err-recover.ensures in
+    inr (either_same (left_behind k.tells k.seen k.may_leave k.moment k.left_since g.met.D.Disk.counts_now j c.read.new.journal c.args.setting d d (q.tells_after told) (ap (λ z. z.other) c.read.ensures.same) holds.other_durable
+    (reading k.tells k.seen k.may_leave k.moment k.left_since j c.read.new.journal.current c.args.setting r.entries d d holds r.replays (q.left told)) x y
+    (subst (λ z. k.may_leave z x) (ap (λ z. z.a) is) left_x) (subst (λ z. k.may_leave z y) (ap (λ z. z.b) is) left_y)))
+
+pub returns-in-Err-start-clause-unstarted : goal.returns-in-Err-start-clause-unstarted
+returns-in-Err-start-clause-unstarted g c = λ other ta tb d r x y left_x left_y.
+    let k = g.D.Disk in
+    let j = c.in-Ok.journal in
+    let i = c.read.new.journal in
+    let t = c.in-Ok.ensures.tells in
+    let told = current_tells k.tells j.on_a j.current j.other (t.0.tells_after ta) (t.1.tells_after tb) in
+    let holds = c.in-Ok.ensures.holds ta tb r.entries r.opens in
+    let q = c.read.ensures.quiet in
+    let is = c.not_opened-in-Err-start.ensures in
+    let same = c.in-Err-start.ensures.unchanged (λ device. other (ap (λ z. z.fault) is ∙ device)) in
+    inr (either_same (left_behind k.tells k.seen k.may_leave k.moment k.left_since g.met.D.Disk.counts_now j i c.args.setting d d (q.tells_after told) (ap (λ z. z.other) c.read.ensures.same) holds.other_durable
+    (reading k.tells k.seen k.may_leave k.moment k.left_since j i.current c.args.setting r.entries d d holds r.replays (q.left told)) x y
+    (subst (λ z. k.may_leave z x) (ap (λ z. z.a) is ∙ ap disk_a same) left_x) (subst (λ z. k.may_leave z y) (ap (λ z. z.b) is ∙ ap disk_b same) left_y)))
