@@ -10,13 +10,14 @@ use sv_model::{Input, Moment, Output, Secret, Setting, Site, StepFault};
 use sv_node::{Node, NotOpened};
 use test_engine::{Counter, request};
 
-const AT: Moment = Moment {
+/// The moment of each call.
+pub const AT: Moment = Moment {
     now: 1000,
     secret: Secret([1; 16]),
 };
 
 /// How a request names the first key that node 0 hands out.
-const FIRST: [u8; 2] = [0, 1];
+pub const FIRST: [u8; 2] = [0, 1];
 
 const SETTING: Setting = Setting {
     node: 0,
@@ -24,7 +25,7 @@ const SETTING: Setting = Setting {
     deadline: 30,
 };
 
-fn open(
+pub fn open(
     alloc: Global,
     a: MemoryDisk,
     b: MemoryDisk,
@@ -38,7 +39,7 @@ fn open(
     Node::open(alloc, engine, a, b, SETTING)
 }
 
-fn opened(alloc: Global, a: MemoryDisk, b: MemoryDisk) -> Result<Node<Counter, MemoryDisk>, Fail>
+pub fn opened(alloc: Global, a: MemoryDisk, b: MemoryDisk) -> Result<Node<Counter, MemoryDisk>, Fail>
     ensures { IfOk result (λ n. ⟦<Node<Counter, MemoryDisk> as Site>⟧.site_valid n) }
 {
     match open(alloc, a, b) {
@@ -68,7 +69,7 @@ fn letter(fault: StepFault) -> char {
 }
 
 /// One more request of the first session: the digit of its count, or the letter of a fault.
-fn count<S: Site>(alloc: Global, site: &mut S) -> Result<char, AllocError>
+pub fn count<S: Site>(alloc: Global, site: &mut S) -> Result<char, AllocError>
     requires { S.site_valid site.old }
     ensures { S.site_valid site.new }
 {
