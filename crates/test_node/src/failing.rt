@@ -52,11 +52,7 @@ fn ask(
 }
 
 /// Whether an act was done.
-fn done(
-    alloc: Global,
-    node: &mut Node<Counter, MemoryDisk>,
-    act: Act,
-) -> Result<bool, AllocError>
+fn done(alloc: Global, node: &mut Node<Counter, MemoryDisk>, act: Act) -> Result<bool, AllocError>
     requires { ⟦<Node<Counter, MemoryDisk> as Site>⟧.site_valid node.old }
     ensures { ⟦<Node<Counter, MemoryDisk> as Site>⟧.site_valid node.new }
 {
@@ -148,7 +144,12 @@ fn is_expected(done: Option<u8>, stands: u8) -> bool {
 
 /// How many acts are done on disks one of which fails at its k-th call. The next opening finds them, and the one that failed
 /// or not.
-fn with_failure(rt: &impl Abort, alloc: Global, failing: Failing, k: u64) -> Result<Option<u8>, Fail> {
+fn with_failure(
+    rt: &impl Abort,
+    alloc: Global,
+    failing: Failing,
+    k: u64,
+) -> Result<Option<u8>, Fail> {
     let mut a = MemoryDisk::new(alloc);
     let mut b = MemoryDisk::new(alloc);
     match failing {
@@ -160,7 +161,10 @@ fn with_failure(rt: &impl Abort, alloc: Global, failing: Failing, k: u64) -> Res
     b.fail_at(0);
     let mut node = opened(alloc, a, b)?;
     let stands = standing(alloc, &mut node)?;
-    assert!(rt; is_expected(done, stands), "{done:?} acts, then it stands as behind {stands}, at call {k}");
+    assert!(rt;
+        is_expected(done, stands),
+        "{done:?} acts, then it stands as behind {stands}, at call {k}"
+    );
     Ok(done)
 }
 

@@ -39,7 +39,11 @@ pub fn open(
     Node::open(alloc, engine, a, b, SETTING)
 }
 
-pub fn opened(alloc: Global, a: MemoryDisk, b: MemoryDisk) -> Result<Node<Counter, MemoryDisk>, Fail>
+pub fn opened(
+    alloc: Global,
+    a: MemoryDisk,
+    b: MemoryDisk,
+) -> Result<Node<Counter, MemoryDisk>, Fail>
     ensures { IfOk result (λ n. ⟦<Node<Counter, MemoryDisk> as Site>⟧.site_valid n) }
 {
     match open(alloc, a, b) {
