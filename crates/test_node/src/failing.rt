@@ -19,14 +19,28 @@ enum Act {
     Move,
     Ack,
     Compact,
+    Other,
 }
 
-/// A session is made and used once more; it is handed to node 1, which has taken it over; then the node is compacted.
-const LIFE: [Act; 5] = [Act::First, Act::Again, Act::Move, Act::Ack, Act::Compact];
+/// A session is made and used once more; it is handed to node 1, which has taken it over; the node is compacted; then another
+/// session is made.
+const LIFE: [Act; 6] = [
+    Act::First,
+    Act::Again,
+    Act::Move,
+    Act::Ack,
+    Act::Compact,
+    Act::Other,
+];
 
-/// How a node stands by what it says: no act is done, a session has served one request, or two, it was handed over, and that
-/// was acknowledged. A compaction changes nothing.
-const LAST: u8 = 4;
+/// What is left behind so many acts, as a number: nothing, a session that has served one request, or two, that was handed over,
+/// of which that was acknowledged, and another beside it. The compaction, the fifth act, leaves nothing new.
+fn left_behind(acts: u8) -> u8 {
+    if acts < 5 { acts } else { acts - 1 }
+}
+
+/// How a request names the second key that node 0 hands out.
+const SECOND: [u8; 2] = [0, 2];
 
 const KEY: Key = Key { home: 0, serial: 1 };
 
@@ -58,6 +72,7 @@ fn done(alloc: Global, node: &mut Node<Counter, MemoryDisk>, act: Act) -> Result
 {
     match act {
         Act::First => ask(alloc, node, 1, &[]),
+        Act::Other => ask(alloc, node, 3, &[]),
         Act::Again => ask(alloc, node, 2, &FIRST),
         Act::Move => Ok(node.step(AT, Input::Move { key: KEY, to: 1 }).is_ok()),
         Act::Ack => {
@@ -73,13 +88,31 @@ fn done(alloc: Global, node: &mut Node<Counter, MemoryDisk>, act: Act) -> Result
     }
 }
 
+/// Once a disk has failed, each call does.
+fn expect_failed(
+    rt: &impl Abort,
+    alloc: Global,
+    node: &mut Node<Counter, MemoryDisk>,
+) -> Result<(), AllocError>
+    requires { ⟦<Node<Counter, MemoryDisk> as Site>⟧.site_valid node.old }
+{
+    assert_eq!(rt; count(alloc, node, 4, &FIRST)?, 'F');
+    assert!(rt; node.compact().is_err());
+    Ok(())
+}
+
 /// How many acts are done, up to the first that isn't.
-fn lived(alloc: Global, node: &mut Node<Counter, MemoryDisk>) -> Result<u8, AllocError>
+fn lived(
+    rt: &impl Abort,
+    alloc: Global,
+    node: &mut Node<Counter, MemoryDisk>,
+) -> Result<u8, AllocError>
     requires { ⟦<Node<Counter, MemoryDisk> as Site>⟧.site_valid node.old }
 {
     let mut count = 0u8;
     for act in &LIFE {
         if !done(alloc, node, *act)? {
+            expect_failed(rt, alloc, node)?;
             return Ok(count);
         }
         count = count.saturating_add(1);
@@ -102,24 +135,29 @@ fn sends_again(node: &mut Node<Counter, MemoryDisk>) -> Result<bool, Fail>
     }
 }
 
-/// How many acts have left something, by what a node says. One that doesn't have the session lets its request wait.
+/// What is left of a life, by what a node says. One that has handed a session over lets a request for it wait; a session that
+/// was never made is made.
 fn standing(alloc: Global, node: &mut Node<Counter, MemoryDisk>) -> Result<u8, Fail>
     requires { ⟦<Node<Counter, MemoryDisk> as Site>⟧.site_valid node.old }
 {
     if sends_again(node)? {
         return Ok(3);
     }
-    match count(alloc, node)? {
-        '1' => Ok(0),
-        '2' => Ok(1),
-        '3' => Ok(2),
-        '?' => Ok(LAST),
+    let of_first = count(alloc, node, 1, &FIRST)?;
+    let of_second = count(alloc, node, 2, &SECOND)?;
+    match (of_first, of_second) {
+        ('1', _) => Ok(0),
+        ('2', _) => Ok(1),
+        ('3', _) => Ok(2),
+        ('?', '1') => Ok(4),
+        ('?', '2') => Ok(5),
         _ => Err("a fault".into()),
     }
 }
 
 /// What has become of a life: how many acts were done, or none where the node was not opened; and the disks.
 fn tried(
+    rt: &impl Abort,
     alloc: Global,
     a: MemoryDisk,
     b: MemoryDisk,
@@ -127,7 +165,7 @@ fn tried(
     match open(alloc, a, b) {
         Err(refused) => Ok((None, refused.a, refused.b)),
         Ok(mut node) => {
-            let count = lived(alloc, &mut node)?;
+            let count = lived(rt, alloc, &mut node)?;
             let (_, a, b) = node.stop();
             Ok((Some(count), a, b))
         }
@@ -138,7 +176,7 @@ fn tried(
 fn is_expected(done: Option<u8>, stands: u8) -> bool {
     match done {
         None => stands == 0,
-        Some(done) => stands == done.min(LAST) || stands == done.saturating_add(1).min(LAST),
+        Some(done) => stands == left_behind(done) || stands == left_behind(done.saturating_add(1)),
     }
 }
 
@@ -156,7 +194,7 @@ fn with_failure(
         Failing::A => a.fail_at(k),
         Failing::B => b.fail_at(k),
     }
-    let (done, mut a, mut b) = tried(alloc, a, b)?;
+    let (done, mut a, mut b) = tried(rt, alloc, a, b)?;
     a.fail_at(0);
     b.fail_at(0);
     let mut node = opened(alloc, a, b)?;
@@ -171,17 +209,17 @@ fn with_failure(
 /// Every call of a disk fails in turn, until all acts are done: the number of the call that is past all of them.
 fn calls_that_matter(rt: &impl Abort, alloc: Global, failing: Failing) -> Result<u64, Fail> {
     for k in 1..200u64 {
-        if with_failure(rt, alloc, failing, k)? == Some(5) {
+        if with_failure(rt, alloc, failing, k)? == Some(6) {
             return Ok(k);
         }
     }
     Err("no end".into())
 }
 
-/// Disk A takes the start and four acts, each by two writes and two syncs; disk B takes the compaction, which writes and syncs.
+/// Disk A takes the start and four acts, each by two writes and two syncs, and disk B the compaction and one act.
 #[test]
 fn each_call_fails_in_turn(rt: HostRuntime) -> Result<(), Fail> {
     assert!(rt; calls_that_matter(&rt, rt.alloc(), Failing::A)? > 20);
-    assert!(rt; calls_that_matter(&rt, rt.alloc(), Failing::B)? > 2);
+    assert!(rt; calls_that_matter(&rt, rt.alloc(), Failing::B)? > 4);
     Ok(())
 }

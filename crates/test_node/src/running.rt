@@ -3,7 +3,6 @@
 ghost use Rattle.std.specs.Prelude.{IfOk};
 
 use std::alloc::{AllocError, Global};
-use std::process::Abort;
 use std::test::Fail;
 use sv_journal::MemoryDisk;
 use sv_model::{Input, Moment, Output, Secret, Setting, Site, StepFault};
@@ -72,13 +71,19 @@ fn letter(fault: StepFault) -> char {
     }
 }
 
-/// One more request of the first session: the digit of its count, or the letter of a fault.
-pub fn count<S: Site>(alloc: Global, site: &mut S) -> Result<char, AllocError>
+/// One more request that names a session, under its number: the digit of its count, `?` where it waits, or the letter of a
+/// fault.
+pub fn count<S: Site>(
+    alloc: Global,
+    site: &mut S,
+    token: u64,
+    named: &[u8],
+) -> Result<char, AllocError>
     requires { S.site_valid site.old }
     ensures { S.site_valid site.new }
 {
-    let request = request(alloc, &FIRST, false)?;
-    match site.step(AT, Input::Ask { token: 1, request }) {
+    let request = request(alloc, named, false)?;
+    match site.step(AT, Input::Ask { token, request }) {
         Ok(outputs) => Ok(digit(&outputs)),
         Err(fault) => Ok(letter(fault)),
     }
@@ -129,7 +134,7 @@ fn played(alloc: Global, acts: &[u8]) -> Result<String, Fail> {
     let mut told = String::new(alloc);
     for act in acts {
         if *act == b'c' {
-            told.push(count(alloc, &mut node)?)?;
+            told.push(count(alloc, &mut node, told.len() as u64, &FIRST)?)?;
         } else {
             node = changed(alloc, node, *act)?;
         }
@@ -152,105 +157,5 @@ fn a_count_goes_on_behind_a_stop(rt: HostRuntime) -> Result<(), Fail> {
     for (acts, told) in &rows {
         assert_eq!(rt; played(rt.alloc(), acts)?.as_str(), *told);
     }
-    Ok(())
-}
-
-/// The next request, before the second of which the node is compacted; `D` where that fails.
-fn next(alloc: Global, node: &mut Node<Counter, MemoryDisk>, before: u8) -> Result<char, AllocError>
-    requires { ⟦<Node<Counter, MemoryDisk> as Site>⟧.site_valid node.old }
-    ensures { ⟦<Node<Counter, MemoryDisk> as Site>⟧.site_valid node.new }
-{
-    if before == 1 && node.compact().is_err() {
-        return Ok('D');
-    }
-    count(alloc, node)
-}
-
-/// Once a disk has failed, each call does.
-fn expect_failed(
-    rt: &impl Abort,
-    alloc: Global,
-    node: &mut Node<Counter, MemoryDisk>,
-) -> Result<(), AllocError>
-    requires { ⟦<Node<Counter, MemoryDisk> as Site>⟧.site_valid node.old }
-{
-    assert_eq!(rt; count(alloc, node)?, 'F');
-    assert!(rt; node.compact().is_err());
-    Ok(())
-}
-
-/// How many of three requests are answered, with a compaction behind the first.
-fn answered(
-    rt: &impl Abort,
-    alloc: Global,
-    node: &mut Node<Counter, MemoryDisk>,
-) -> Result<u8, Fail>
-    requires { ⟦<Node<Counter, MemoryDisk> as Site>⟧.site_valid node.old }
-{
-    for before in 0..3u8 {
-        let told = next(alloc, node, before)?;
-        if told == 'D' {
-            expect_failed(rt, alloc, node)?;
-            return Ok(before);
-        }
-        assert_eq!(rt; told, (b'1' + before) as char);
-    }
-    Ok(3)
-}
-
-/// The requests that are answered, and what is left of the disks.
-fn tried(
-    rt: &impl Abort,
-    alloc: Global,
-    a: MemoryDisk,
-    b: MemoryDisk,
-) -> Result<(u8, MemoryDisk, MemoryDisk), Fail> {
-    match open(alloc, a, b) {
-        Err(refused) => Ok((0, refused.a, refused.b)),
-        Ok(mut node) => {
-            let count = answered(rt, alloc, &mut node)?;
-            let (_, a, b) = node.stop();
-            Ok((count, a, b))
-        }
-    }
-}
-
-/// How many requests are answered on disks one of which fails at its k-th call. The next opening finds each of them, and the
-/// one that failed once or not at all.
-fn with_failure(rt: &impl Abort, alloc: Global, fails_b: bool, k: u64) -> Result<u8, Fail> {
-    let mut a = MemoryDisk::new(alloc);
-    let mut b = MemoryDisk::new(alloc);
-    if fails_b {
-        b.fail_at(k);
-    } else {
-        a.fail_at(k);
-    }
-    let (answered, mut a, mut b) = tried(rt, alloc, a, b)?;
-    a.fail_at(0);
-    b.fail_at(0);
-    let mut node = opened(alloc, a, b)?;
-    let next = count(alloc, &mut node)?;
-    let once = b'1'.saturating_add(answered) as char;
-    let twice = b'2'.saturating_add(answered) as char;
-    assert!(rt; next == once || next == twice);
-    Ok(answered)
-}
-
-/// Every call of a disk fails in turn, until all requests are answered: the number of the call that is past all of them.
-fn calls_that_matter(rt: &impl Abort, alloc: Global, fails_b: bool) -> Result<u64, Fail> {
-    for k in 1..100u64 {
-        if with_failure(rt, alloc, fails_b, k)? == 3 {
-            return Ok(k);
-        }
-    }
-    Err("no end".into())
-}
-
-/// On disk A those are the start, a request and half of a compaction at least, on disk B a compaction and two requests; a
-/// start and a request are two writes and two syncs.
-#[test]
-fn each_call_of_a_disk_fails_in_turn(rt: HostRuntime) -> Result<(), Fail> {
-    assert!(rt; calls_that_matter(&rt, rt.alloc(), false)? > 8);
-    assert!(rt; calls_that_matter(&rt, rt.alloc(), true)? > 16);
     Ok(())
 }

@@ -4,4 +4,4 @@ use Rattle.sv_node.specs.Node.{IsNode}
 use Rattle.test_node.proofs.failing.lived.Given as goal
 
 abbrev pub invariant-loop-act : goal.invariant-loop-act
-invariant-loop-act l = IsNode (λ _. ⊤) tells_all disk_bytes may_be_left l.node
+invariant-loop-act g l = IsNode (λ _. ⊤) tells_all disk_bytes may_be_left l.node
