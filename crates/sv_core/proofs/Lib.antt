@@ -4,6 +4,7 @@ pub mod WaitingLemmas
 pub mod TimeLemmas
 pub mod ServingLemmas
 pub mod CoreLemmas
+pub mod CalmLemmas
 pub mod EffectLemmas
 pub mod ReplayLemmas
 pub mod WithinLemmas

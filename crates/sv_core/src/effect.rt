@@ -5,7 +5,7 @@ ghost use Rattle.sv_model.specs.NodeState.{last_number};
 ghost use Rattle.sv_model.specs.Replay.{with_named, with_born, keys_behind, applied, applied_if, stage_behind, stage_behind_if};
 ghost use Rattle.sv_core.specs.Decision.{parked_by, want_by, behind};
 ghost use Rattle.sv_core.specs.Table.{keys_of, HasRoom, HasPlace};
-ghost use Rattle.sv_core.specs.Effect.{HasSerial};
+ghost use Rattle.sv_core.specs.Effect.{HasSerial, may_bring};
 
 use crate::decision::Waiting;
 use crate::kept::Kept;
@@ -87,6 +87,21 @@ fn stage_behind(entry: &Record, stage: Stage) -> Stage
     }
 }
 
+/// Behind the record a session may be here that was not here before.
+fn may_bring(entry: &Record) -> bool
+    ensures { result ≡ may_bring entry.now }
+{
+    match entry {
+        Record::Taken { .. } | Record::State { .. } => true,
+        Record::Commit { born, .. } => !matches!(born, Change::Absent),
+        Record::Boot(_)
+        | Record::Expired(_)
+        | Record::Sent { .. }
+        | Record::Gone { .. }
+        | Record::Counters { .. } => false,
+    }
+}
+
 /// The requests that wait, behind what becomes of them.
 fn rearrange(all: &mut Vec<Parked>, setting: Setting, waiting: Waiting)
     requires { vec_len all.old < vec_capacity all.old }
@@ -108,6 +123,7 @@ impl Kept {
     ghost use Rattle.sv_core.specs.Kept.{node_of, IsReady};
 
     /// What the records give, behind one more.
+    #[tactic(auto, using(crate::proofs::CalmLemmas::calm_behind))]
     pub fn take(&mut self, entry: Record)
         requires room { HasRoom self.old.keys }
         requires serial { HasSerial entry self.old.next }
@@ -129,12 +145,13 @@ impl Kept {
             } => self.next += 1,
             _ => {}
         }
+        self.is_calm = self.is_calm && !may_bring(&entry);
         self.stage = stage_behind(&entry, self.stage);
         self.keys.take_record(entry);
     }
 
     /// What is kept behind a decision.
-    #[tactic(auto, using(crate::proofs::EffectLemmas::within_left))]
+    #[tactic(auto, using(crate::proofs::EffectLemmas::within_left, crate::proofs::CalmLemmas::calm_by))]
     pub fn follow(&mut self, entry: Option<Record>, waiting: Waiting)
         requires ready { IsReady self.old }
         requires next { (applied_if entry (node_of self.old).durable).next ≤ last_number }
@@ -143,8 +160,9 @@ impl Kept {
         ensures stage { self.new.stage ≡ stage_behind_if entry self.old.stage }
         ensures setting { self.new.setting ≡ self.old.setting }
     {
-        if let Waiting::Joins(_) = &waiting {
+        if let Waiting::Joins(parked) = &waiting {
             self.next_want += 1;
+            self.is_calm = self.is_calm && !self.is_settled(parked.key);
         }
         rearrange(&mut self.parked, self.setting, waiting);
         if let Some(entry) = entry {

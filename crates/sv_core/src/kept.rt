@@ -1,14 +1,16 @@
 //! What a core keeps beside its engine.
 
-ghost use Rattle.std.specs.Prelude.{◌≡◌, ◌==◌, ◌+◌, ◌≤◌, [], None, is_none, IfSome, OnOk, IfOk};
+ghost use Rattle.std.specs.Prelude.{◌≡◌, ◌==◌, ◌+◌, ◌≤◌, [], None, is_none, IfSome, IsTrue, OnOk, IfOk};
 ghost use Rattle.sv_model.specs.declared.record.Record.TheVariants.{Boot};
+ghost use Rattle.sv_core.specs.Calm.{IsCalm};
 ghost use Rattle.sv_core.specs.Plain.{recorded};
+ghost use Rattle.sv_core.specs.Table.{keys_of};
 ghost use Rattle.sv_model.specs.NodeState.{is_unmade, is_dead, last_number};
 
 use crate::decision::Decision;
 use crate::table::Table;
 use std::alloc::{AllocError, Global};
-use sv_model::{Key, Parked, Record, Setting, Stage};
+use sv_model::{Input, Key, Parked, Record, Setting, Stage};
 
 /// What a node keeps: what its records give, and what it forgets when it stops.
 #[derive(Drop)]
@@ -25,7 +27,10 @@ pub struct Kept {
     pub parked: Vec<Parked>,
     /// The number of the next want.
     pub next_want: u64,
+    /// No request waits whose session is here. Where this is false, nobody has looked since one may have come.
+    pub is_calm: bool,
     pub alloc: Global,
+    ghost calm: { IsTrue is_calm → IsCalm (keys_of keys) parked.items },
 }
 
 /// A number is at most the last one.
@@ -80,5 +85,18 @@ impl Kept {
     {
         self.keys.reserve()?;
         self.parked.try_reserve(1)
+    }
+
+    /// Makes room for what a decision adds. A Poke also looks whether a request can be served.
+    pub fn prepare(&mut self, input: &Input) -> Result<(), AllocError>
+        ensures node { node_of self.new ≡ node_of self.old }
+        ensures setting { self.new.setting ≡ self.old.setting }
+        ensures stage { self.new.stage ≡ self.old.stage }
+        ensures room { OnOk result (IsReady self.new) }
+    {
+        if let Input::Poke = input {
+            self.look();
+        }
+        self.reserve()
     }
 }

@@ -125,9 +125,23 @@ impl Kept {
     pub fn settled_place(&self) -> Option<usize>
         ensures { result ≡ position (λ p. is_settled (get (keys_of self.now.keys) p.key)) self.now.parked.items }
     {
+        if self.is_calm {
+            return None;
+        }
         self.parked
             .iter()
             .position(|parked| self.is_settled(parked.key))
+    }
+
+    /// Looks for a request that waits and whose session is here, unless it is known that there is none.
+    #[tactic(auto, using(crate::proofs::CalmLemmas::none_calm))]
+    pub fn look(&mut self)
+        ensures node { node_of self.new ≡ node_of self.old }
+        ensures setting { self.new.setting ≡ self.old.setting }
+        ensures stage { self.new.stage ≡ self.old.stage }
+    {
+        let place = self.settled_place();
+        self.is_calm = place.is_none();
     }
 
     /// The first request that waits for the want.
