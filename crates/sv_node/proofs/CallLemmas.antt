@@ -34,7 +34,7 @@ module _ {E D : Type 0} (meaning : E → EngineMeaning) (heard : E → List (Lis
   same_meaning : view_of meaning heard new ≡ view_of meaning heard old → meaning (engine_of new) ≡ meaning (engine_of old)
   same_meaning view = ap (λ (v : View). v.meaning) view
 
-  same_state : view_of meaning heard new ≡ view_of meaning heard old → state_of new ≡ state_of old
+  pub same_state : view_of meaning heard new ≡ view_of meaning heard old → state_of new ≡ state_of old
   same_state view = ap (λ (v : View). v.node) view
 
   same_live : journal_of new ≡ journal_of old → (journal_of new).live ≡ (journal_of old).live

@@ -1,7 +1,7 @@
 -- What an opening finds, and what a stop leaves of disks that it has handed back.
 use Rattle.std.proofs.Common.{◌≡◌, ◌⊎◌, inl, inr, ⊎_elim, ℕ, ◌≤◌, Bool, true, false, cond, List, sym, ap, ◌∙◌, subst}
 use Rattle.std.proofs.Common.{refl}
-use Rattle.sv_journal.specs.Disk.{Only, LeavesOnly, HasRisen}
+use Rattle.sv_journal.specs.Disk.{Only, LeavesOnly, TellsOn, HasRisen}
 use Rattle.sv_journal.specs.Format.{Opens, OpensAlike}
 use Rattle.sv_journal.specs.Journal.{OpensWithoutLoss}
 use Rattle.sv_journal.proofs.JournalLemmas.{one_opening}
@@ -82,8 +82,21 @@ gives_too set entries rs d s r = sym r.gives ∙ ap (replayed blank) (one_list o
 pub recovered : (set : Setting) (entries : List (List ℕ)) (rs ss : List Record) (d : Durable) → Spell entries rs → ss ≡ rs → AllFit set Blank blank ss → d ≡ replayed blank ss → Replays set entries d
 recovered set entries rs ss d s is fit gives = record { records = ss; spelled = subst (Spell entries) (sym is) s; fit = fit; gives = sym gives }
 
+pub one_state : (set : Setting) (a b : List ℕ) (d e : Durable) → Restores set a b d → Restores set a b e → d ≡ e
+one_state set a b d e r s =
+    let same : r.entries ≡ s.entries = one_opening a b r.entries s.entries r.opens s.opens in
+    gives_too set s.entries s.replays.records d s.replays.spelled (subst (λ (es : List (List ℕ)). Replays set es d) same r.replays) ∙ s.replays.gives
+
 pub restarted_ranged : (n : State) → IsRanged n → IsRanged (record n { durable = restarted n.durable })
 restarted_ranged n r = record { known = r.known; next = r.next; waiting = r.waiting; next_within = r.next_within; want_within = r.want_within }
+
+-- the disks A and B tell on, of which the current one alone is written
+pub tell_on : {D : Type 0} (tells : D → Type 0) (on_a : Bool) (current other new a b : D) → TellsOn tells a (cond on_a current other) → TellsOn tells b (cond on_a other current)
+    → TellsOn tells current new → TellsOn tells a (cond on_a new other) × TellsOn tells b (cond on_a other new)
+tell_on tells true current other new a b of_a of_b more =
+    (record { tells_after = λ t. more.tells_after (of_a.tells_after t); told_before = λ t. of_a.told_before (more.told_before t) }, of_b)
+tell_on tells false current other new a b of_a of_b more =
+    (of_a, record { tells_after = λ t. more.tells_after (of_b.tells_after t); told_before = λ t. of_b.told_before (more.told_before t) })
 
 -- a promise of one state is that of an equal one
 pub at_state : (P Q : Setting → Durable → Type 0) (s t : Setting) (x y : Durable) → s ≡ t → x ≡ y → (P s x → Q s x) → P t y → Q t y

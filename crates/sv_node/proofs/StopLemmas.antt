@@ -3,7 +3,7 @@ use Rattle.std.proofs.Common.{◌≡◌, ◌⊎◌, inl, inr, ⊎_elim, ℕ, ◌
 use Rattle.std.specs.Prelude.{Some}
 use Rattle.sv_journal.specs.Disk.{Only, LeavesOnly}
 use Rattle.sv_journal.specs.Format.{OpensOn, OpensEither}
-use Rattle.sv_journal.specs.Journal.{JournalView, Holds}
+use Rattle.sv_journal.specs.Journal.{JournalView, Holds, disk_a, disk_b}
 use Rattle.sv_model.specs.declared.node.Setting.{Setting}
 use Rattle.sv_model.specs.declared.record.Record.{Record}
 use Rattle.sv_model.specs.NodeState.{Durable}
@@ -40,6 +40,15 @@ module _ {D : Type 0} (tells : D → Type 0) (seen : D → List ℕ) (may_leave 
 
   restores_on : (journal : JournalView D) (set : Setting) (d : Durable) → Stores seen may_leave journal set d → RestoresOn set (seen journal.current) (seen journal.other) d
   restores_on journal set d s = record { entries = s.entries; opens = opens_on journal s.entries s.holds; replays = s.replays }
+
+  -- what is left while nothing is called
+  pub stores_left : (journal : JournalView D) (set : Setting) (d : Durable) → Stores seen may_leave journal set d
+      → (a b : List ℕ) → may_leave (disk_a journal) a → may_leave (disk_b journal) b → Restores set a b d
+  stores_left journal set d s a b left_a left_b =
+      let p = pick may_leave journal.on_a journal.current journal.other a b left_a left_b in
+      oriented journal.on_a set a b (seen journal.other) d
+      (subst (λ (c : List ℕ). RestoresOn set c (seen journal.other) d) (sym (s.holds.keeps.durable (cond journal.on_a a b) p.0)) (restores_on journal set d s))
+      (s.holds.other_durable (cond journal.on_a b a) p.1)
 
   -- nothing is called
   pub still : ((disk : D) (c : List ℕ) → tells disk → left_since disk (moment disk) c → may_leave disk c)

@@ -62,6 +62,7 @@ impl<E: Engine, D: Disk> Node<E, D> {
             → StartsWithoutLoss D.seen D.may_leave D.moment D.left_since setting d a b r.a r.b) }
         ensures full { IfErr result (λ r. r.fault ≡ Full → D.tells a → D.tells b → (d : Durable) → Restores setting (D.seen a) (D.seen b) d → LacksRoom D.seen D.may_leave setting d r.a r.b) }
         ensures device { IfErr result (λ r. r.fault ≡ Device → HasRisen (D.failed a) (D.failed r.a) ⊎ HasRisen (D.failed b) (D.failed r.b)) }
+        ensures tells { IfOk result (λ n. TellsOn D.tells a (disk_a (journal_of n)) × TellsOn D.tells b (disk_b (journal_of n))) }
         ensures engine { IfErr result (λ r. r.engine ≡ engine) }
         ensures tells_err { IfErr result (λ r. TellsOn D.tells a r.a × TellsOn D.tells b r.b) }
     {

@@ -1,6 +1,6 @@
-use Rattle.std.proofs.Common.{◌≡◌, inr, ◌∙◌, List, Some, ap, sym, subst}
+use Rattle.std.proofs.Common.{◌≡◌, inr, ◌∙◌, Bool, cond, List, Some, ap, sym, subst}
 use Rattle.sv_core.specs.Core.{node_at, durable_at, setting_of as core_setting}
-use Rattle.sv_journal.specs.Disk.{LeavesOnly}
+use Rattle.sv_journal.specs.Disk.{LeavesOnly, TellsOn}
 use Rattle.sv_model.specs.NodeState.{Durable, Node as State}
 use Rattle.std.specs.List.{AllByRecursion}
 use Rattle.sv_model.specs.Ranges.{IsSetting, IsRanged, IsRecord}
@@ -13,7 +13,7 @@ use Rattle.sv_node.specs.Node.{IsTooLong}
 use Rattle.sv_node.specs.Opened.{StartsWithoutLoss, start_of, restarted}
 use Rattle.sv_node.specs.Stops.{Stores, RestoresEither}
 use Rattle.sv_node.specs.declared.fault.OpenFault.TheVariants.{Damaged, Device, Full}
-use Rattle.sv_node.proofs.OpenLemmas.{was_damaged, was_bad, current_tells, both_tell, fits_too, gives_too, recovered, restarted_ranged, at_state, refused_left, refused_unstarted, either_same}
+use Rattle.sv_node.proofs.OpenLemmas.{was_damaged, was_bad, current_tells, both_tell, fits_too, gives_too, recovered, restarted_ranged, tell_on, at_state, refused_left, refused_unstarted, either_same}
 use Rattle.sv_node.proofs.OpeningMoments.{refused_moments, started_moments, read_then}
 use Rattle.sv_node.proofs.StopLemmas.{left_behind, reading}
 use Rattle.sv_node.proofs.node.Node.open.Goals as goal
@@ -138,6 +138,22 @@ returns-clause-restarted g c = λ ta tb.
     let found = c.in-Ok-recover.ensures.ok in
     let replays = recovered c.args.setting o.0 c.in-Ok-read.records.items c.deref.result.now (durable_at core) (c.in-Ok-read.ensures.spelled o.0 told holds) c.deref.ensures.value found.fit (ap (λ (n : State). n.durable) found.node) in
     (durable_at core, record { entries = o.0; opens = o.1; replays = replays }, c.in_default.ensures.left, ap (λ (n : State). n.durable) c.in_default.ensures.node)
+
+pub returns-clause-tells : goal.returns-clause-tells
+returns-clause-tells g c =
+    let k = g.D.Disk in
+    let j = c.in-Ok.journal in
+    let last = c.start.new.journal in
+    let a = c.args.a in
+    let b = c.args.b in
+    let t = c.in-Ok.ensures.tells in
+    let q = c.read.ensures.quiet in
+    let s = c.start.ensures in
+    let more : TellsOn k.tells j.current last.current =
+    record { tells_after = λ told. s.tells.tells_after (q.tells_after told); told_before = λ told. q.told_before (s.tells.told_before told) } in
+    subst (λ (on_a : Bool). TellsOn k.tells a (cond on_a last.current last.other) × TellsOn k.tells b (cond on_a last.other last.current)) (sym (s.on_a ∙ ap (λ z. z.on_a) c.read.ensures.same))
+    (subst (λ z. TellsOn k.tells a (cond j.on_a last.current z) × TellsOn k.tells b (cond j.on_a z last.current)) (sym (s.other ∙ ap (λ z. z.other) c.read.ensures.same))
+    (tell_on k.tells j.on_a j.current j.other last.current a b t.0 t.1 more))
 
 pub returns-in-Err-clause-any_moment_err : goal.returns-in-Err-clause-any_moment_err
 returns-in-Err-clause-any_moment_err g c = λ ta tb d r.
