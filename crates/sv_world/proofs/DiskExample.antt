@@ -1,6 +1,7 @@
 -- A list of calls that does something: a node is opened, answers a request, meets a failed disk when it is to hand the session
 -- over, and is opened again; the record of that stands.
-use Rattle.std.proofs.Common.{◌≢◌, ◌<◌, ℕ, [], ◌∷◌, inr, arith, refl}
+use Rattle.std.proofs.Common.{◌≢◌, ◌<◌, ℕ, List, [], ◌∷◌, inr, arith, refl}
+use Rattle.std.specs.Prelude.{zero, suc}
 use Rattle.sv_model.specs.declared.input.Input.{Input}
 use Rattle.sv_model.specs.declared.input.Input.TheVariants as input
 use Rattle.sv_model.specs.declared.key.Moment.{Moment}
@@ -14,7 +15,9 @@ use Rattle.sv_model.specs.NodeState.{Node, last_number}
 use Rattle.sv_model.specs.Replay.{blank}
 use Rattle.sv_node.specs.Call.{Open, Step, Done, Refused, After, quiet, kept, carried_out}
 use Rattle.sv_node.specs.Opened.{restarted}
-use Rattle.sv_world.specs.Disks.{AreCalls, nothing_called}
+use Rattle.sv_node.specs.History.{AreTurns, Rise, halted}
+use Rattle.sv_world.specs.Disks.{NodeCall, AreCalls, nothing_called}
+use Rattle.sv_world.specs.Processes.{turns_at, AreOfProcesses}
 use Rattle.sv_world.specs.World.{setting_of}
 use Rattle.sv_world.proofs.Example.{makes, two}
 
@@ -38,11 +41,14 @@ module _ (response : Response) (s : Session) (r : Request) (moment : Moment) whe
   low : (n : ℕ) → n < 9 → n ≢ last_number
   low n less e = absurd (omega (arith, less, e))
 
-  calls : AreCalls m two nothing_called (λ _. [])
-      (record { node = 0; call = Open Done; after = quiet opened }
+  abbrev list : List NodeCall
+  list =
+      record { node = 0; call = Open Done; after = quiet opened }
       ∷ record { node = 0; call = Step moment (input.Ask 7 r) Done; after = answered }
       ∷ record { node = 0; call = Step moment moves (Refused Device); after = quiet handed_over }
-      ∷ [])
+      ∷ []
+
+  calls : AreCalls m two nothing_called (λ _. []) list
   calls = (
     record { inside = omega arith; comes = tt; does = (refl, low 0 (omega arith), refl) },
     (
@@ -50,3 +56,17 @@ module _ (response : Response) (s : Session) (r : Request) (moment : Moment) whe
       (record { inside = omega arith; comes = (tt, tt); does = (refl, inr refl) }, tt),
     ),
   )
+
+  -- the same, by what is known of each node by itself
+  own : (n : ℕ) → n < 2 → AreTurns m (setting_of two n) (halted blank) (turns_at n list)
+  own zero less = ((refl, low 0 (omega arith), refl), ((refl, refl), ((refl, inr refl), tt)))
+  own (suc zero) less = tt
+  own (suc (suc n)) less = absurd (omega (arith, less))
+
+  numbers : (n : ℕ) → n < 2 → (high : ℕ) × Rise 0 high (turns_at n list)
+  numbers zero less = (7, (tt, (omega arith, (tt, omega arith))))
+  numbers (suc zero) less = (0, omega arith)
+  numbers (suc (suc n)) less = absurd (omega (arith, less))
+
+  of_processes : AreOfProcesses m two list
+  of_processes = record { inside = (omega arith, (omega arith, (omega arith, tt))); turns = own; rise = numbers; sent = (tt, (tt, (tt, tt))) }

@@ -31,3 +31,4 @@ pub mod BegunLemmas
 pub mod DiskOrder
 pub mod DiskLemmas
 pub mod DiskExample
+pub mod ProcessLemmas

@@ -6,6 +6,7 @@ ghost use Rattle.sv_world.specs.declared.event.WorldEvent.{WorldEvent};
 ghost use Rattle.sv_world.specs.World.{Cluster, World, run, nothing_happened};
 ghost use Rattle.sv_world.specs.Faults.{IsFaulty};
 ghost use Rattle.sv_world.specs.Disks.{NodeCall, AreCalls, AreWorld, nothing_called};
+ghost use Rattle.sv_world.specs.Processes.{AreOfProcesses};
 ghost use Rattle.sv_world.specs.Headline.{AtMostOne, Agree, IsOneContainer, IsAcknowledged, IsTold, IsReplay, IsHeadline};
 
 /// Over every list of events one copy of each session lives at most, and opening values agree.
@@ -55,4 +56,10 @@ pub fn faults()
 /// was put out and of what listeners were told.
 pub fn over_disks()
     ensures { (m : EngineMeaning) → TouchesOnlyHanded m → (c : Cluster) (calls : List NodeCall) → AreCalls m c nothing_called (λ _. []) calls → AreWorld m c calls }
+{}
+
+/// What each node does by itself, call by call, is what such calls do, and the network brings no packet that no node has put
+/// out: then all of them hold of all nodes together, however their calls fall between one another.
+pub fn processes()
+    ensures { (m : EngineMeaning) → TouchesOnlyHanded m → (c : Cluster) (calls : List NodeCall) → AreOfProcesses m c calls → AreWorld m c calls }
 {}

@@ -1,0 +1,140 @@
+-- What each process does by itself, and a network that makes no packet up, are calls of nodes over their disks.
+use Rattle.std.proofs.Common.{◌≡◌, ⊎_elim, ℕ, ◌<◌, ◌≤◌, ◌==◌, Bool, true, false, cond, List, [], ◌∷◌, refl, subst, eq-eqb, arith}
+use Rattle.std.specs.List.{AllByRecursion}
+use Rattle.std.proofs.lemmas.Bool.{eqb-true, cond-true}
+use Rattle.sv_model.specs.declared.input.Input.{Input}
+use Rattle.sv_model.specs.declared.input.Input.TheVariants as input
+use Rattle.sv_model.specs.declared.node.Setting.{Setting}
+use Rattle.sv_model.specs.declared.packet.Packet.{Packet}
+use Rattle.sv_model.specs.Engine.{EngineMeaning}
+use Rattle.sv_model.specs.Membership.{In}
+use Rattle.sv_node.specs.Call.{Call, Open, Step, Compact, Stop, Done, Refused, Cut, runs_behind}
+use Rattle.sv_node.specs.History.{Turn, Stand, AreTurns, IsAbove, number_in, RisesAt, lowest_behind, Rise}
+use Rattle.sv_world.specs.Disks.{NodeCall, Seen, IsNew, MayCome, IsCall, AreCalls, with_number, numbers_behind, all_numbers, behind, nothing_called}
+use Rattle.sv_world.specs.Processes.{turn_of, turns_at, BringsSent, BringSent, AreOfProcesses}
+use Rattle.sv_world.specs.World.{Cluster, Place, setting_of}
+
+-- ---- numbers
+
+-- none of these is greater
+abbrev UpTo : ℕ → List ℕ → Type 0
+UpTo low numbers = (x : ℕ) → In x numbers → x ≤ low
+
+no_number : UpTo 0 []
+no_number x i = absurd i
+
+is_new : (low : ℕ) (numbers : List ℕ) (i : Input) → UpTo low numbers → IsAbove low i → IsNew numbers i
+is_new low numbers (input.Ask number r) upto above = λ there. let le = upto number there in omega (arith, le, above)
+is_new low numbers (input.Packet p) upto above = tt
+is_new low numbers input.Poke upto above = tt
+is_new low numbers input.Tick upto above = tt
+is_new low numbers (input.Move k to) upto above = tt
+
+upto_input : (low : ℕ) (numbers : List ℕ) (i : Input) → UpTo low numbers → IsAbove low i → UpTo (number_in low i) numbers
+upto_input low numbers (input.Ask number r) upto above = λ x there. let le = upto x there in omega (arith, le, above)
+upto_input low numbers (input.Packet p) upto above = upto
+upto_input low numbers input.Poke upto above = upto
+upto_input low numbers input.Tick upto above = upto
+upto_input low numbers (input.Move k to) upto above = upto
+
+upto_with : (low : ℕ) (numbers : List ℕ) (i : Input) → UpTo low numbers → IsAbove low i → UpTo (number_in low i) (with_number i numbers)
+upto_with low numbers (input.Ask number r) upto above = λ x there. ⊎_elim
+    (λ (is : number ≡ x). omega (arith, is))
+    (λ (more : In x numbers). let le = upto x more in omega (arith, le, above))
+    there
+upto_with low numbers (input.Packet p) upto above = upto
+upto_with low numbers input.Poke upto above = upto
+upto_with low numbers input.Tick upto above = upto
+upto_with low numbers (input.Move k to) upto above = upto
+
+upto_behind : (low : ℕ) (numbers : List ℕ) (c : Call) → UpTo low numbers → RisesAt low c → UpTo (lowest_behind low c) (numbers_behind c numbers)
+upto_behind low numbers (Open Done) upto rises = no_number
+upto_behind low numbers (Open (Refused fault)) upto rises = upto
+upto_behind low numbers (Open Cut) upto rises = upto
+upto_behind low numbers (Step at i Done) upto rises = upto_with low numbers i upto rises
+upto_behind low numbers (Step at i (Refused fault)) upto rises = upto_input low numbers i upto rises
+upto_behind low numbers (Step at i Cut) upto rises = upto_input low numbers i upto rises
+upto_behind low numbers (Compact ending) upto rises = upto
+upto_behind low numbers Stop upto rises = upto
+
+may_come : (packets : List Packet) (low : ℕ) (numbers : List ℕ) (c : Call) → UpTo low numbers → RisesAt low c → BringsSent packets c → MayCome packets numbers c
+may_come packets low numbers (Open ending) upto rises sent = tt
+may_come packets low numbers (Step at i ending) upto rises sent = (sent, is_new low numbers i upto rises)
+may_come packets low numbers (Compact ending) upto rises sent = tt
+may_come packets low numbers Stop upto rises sent = tt
+
+-- ---- one node, where the call is its own or another's
+
+abbrev stand_in : Place → Stand
+stand_in p = record { up = p.up; node = p.node }
+
+abbrev place_behind : Place → Turn → Place
+place_behind p t = record { up = runs_behind p.up t.call; node = t.after.node }
+
+turns_on : (b : Bool) (m : EngineMeaning) (set : Setting) (p q : Place) (t : Turn) (ts : List Turn) → (b ≡ true → p ≡ q)
+    → AreTurns m set (stand_in p) (cond b (t ∷ ts) ts) → AreTurns m set (stand_in (cond b (place_behind q t) p)) ts
+turns_on true m set p q t ts same are = subst (λ (x : Place). AreTurns m set (stand_in (place_behind x t)) ts) (same refl) are.1
+turns_on false m set p q t ts same are = are
+
+rise_on : (b : Bool) (low high : ℕ) (t : Turn) (ts : List Turn) → Rise low high (cond b (t ∷ ts) ts) → Rise (cond b (lowest_behind low t.call) low) high ts
+rise_on true low high t ts rise = rise.1
+rise_on false low high t ts rise = rise
+
+upto_on : (b : Bool) (low high : ℕ) (numbers : List ℕ) (t : Turn) (ts : List Turn) → UpTo low numbers → Rise low high (cond b (t ∷ ts) ts)
+    → UpTo (cond b (lowest_behind low t.call) low) (cond b (numbers_behind t.call numbers) numbers)
+upto_on true low high numbers t ts upto rise = upto_behind low numbers t.call upto rise.0
+upto_on false low high numbers t ts upto rise = upto
+
+-- ---- all of them
+
+module _ (m : EngineMeaning) (c : Cluster) where
+  -- what is known of the calls that are left
+  record AreLeft (s : Seen) (numbers : ℕ → List ℕ) (low : ℕ → ℕ) (calls : List NodeCall) : Type 0 where
+    inside : AllByRecursion (λ (l : NodeCall). l.node < c.nodes) calls
+    turns : (n : ℕ) → n < c.nodes → AreTurns m (setting_of c n) (stand_in (s.places n)) (turns_at n calls)
+    rise : (n : ℕ) → n < c.nodes → (high : ℕ) × Rise (low n) high (turns_at n calls)
+    upto : (n : ℕ) → n < c.nodes → UpTo (low n) (numbers n)
+    sent : BringSent s.packets calls
+
+  module _ (s : Seen) (numbers : ℕ → List ℕ) (low : ℕ → ℕ) (l : NodeCall) (ls : List NodeCall) (left : AreLeft s numbers low (l ∷ ls)) where
+    abbrev low_behind : ℕ → ℕ
+    low_behind n = cond (n == l.node) (lowest_behind (low n) l.call) (low n)
+
+    own : turns_at l.node (l ∷ ls) ≡ turn_of l ∷ turns_at l.node ls
+    own = cond-true (l.node == l.node) (turn_of l ∷ turns_at l.node ls) (turns_at l.node ls) (eq-eqb l.node l.node refl)
+
+    is_call : IsCall m c s numbers l
+    is_call =
+        let inside = left.inside.0 in
+        let turns : AreTurns m (setting_of c l.node) (stand_in (s.places l.node)) (turn_of l ∷ turns_at l.node ls) =
+        subst (λ (ts : List Turn). AreTurns m (setting_of c l.node) (stand_in (s.places l.node)) ts) own (left.turns l.node inside) in
+        let r = left.rise l.node inside in
+        let rise : Rise (low l.node) r.0 (turn_of l ∷ turns_at l.node ls) = subst (λ (ts : List Turn). Rise (low l.node) r.0 ts) own r.1 in
+        record {
+          inside = inside;
+          comes = may_come s.packets (low l.node) (numbers l.node) l.call (left.upto l.node inside) rise.0 left.sent.0;
+          does = turns.0;
+        }
+
+    left_behind : AreLeft (behind s l) (all_numbers numbers l) low_behind ls
+    left_behind = record {
+      inside = left.inside.1;
+      turns = λ n inside.
+          turns_on (n == l.node) m (setting_of c n) (s.places n) (s.places l.node) (turn_of l) (turns_at n ls) (λ is i. s.places (eqb-true n l.node is i)) (left.turns n inside);
+      rise = λ n inside. let r = left.rise n inside in (r.0, rise_on (n == l.node) (low n) r.0 (turn_of l) (turns_at n ls) r.1);
+      upto = λ n inside. let r = left.rise n inside in upto_on (n == l.node) (low n) r.0 (numbers n) (turn_of l) (turns_at n ls) (left.upto n inside) r.1;
+      sent = left.sent.1;
+    }
+
+  are_calls : (s : Seen) (numbers : ℕ → List ℕ) (low : ℕ → ℕ) (calls : List NodeCall) → AreLeft s numbers low calls → AreCalls m c s numbers calls
+  are_calls s numbers low [] left = tt
+  are_calls s numbers low (l ∷ ls) left = (is_call s numbers low l ls left, are_calls (behind s l) (all_numbers numbers l) (low_behind s numbers low l ls left) ls (left_behind s numbers low l ls left))
+
+  pub of_processes : (calls : List NodeCall) → AreOfProcesses m c calls → AreCalls m c nothing_called (λ _. []) calls
+  of_processes calls are = are_calls nothing_called (λ _. []) (λ _. 0) calls (record {
+    inside = are.inside;
+    turns = are.turns;
+    rise = are.rise;
+    upto = λ n inside. no_number;
+    sent = are.sent;
+  })

@@ -1,0 +1,39 @@
+-- All nodes over their disks, as their processes call them: what is known of each node by itself, and of the network.
+use Rattle.std.specs.Prelude.{◌<◌, ◌==◌, ℕ, cond, List, [], ◌∷◌, ◌++◌, ⊤}
+use Rattle.std.specs.List.{AllByRecursion}
+use Rattle.sv_model.specs.declared.packet.Packet.{Packet}
+use Rattle.sv_model.specs.Engine.{EngineMeaning}
+use Rattle.sv_model.specs.Outputs.{sends_in}
+use Rattle.sv_model.specs.Replay.{blank}
+use Rattle.sv_node.specs.Call.{Call, Open, Step, Compact, Stop}
+use Rattle.sv_node.specs.History.{Turn, AreTurns, Rise, halted}
+use Rattle.sv_world.specs.Disks.{NodeCall, WasSent}
+use Rattle.sv_world.specs.World.{Cluster, setting_of}
+
+abbrev pub turn_of : NodeCall → Turn
+turn_of l = record { call = l.call; after = l.after }
+
+-- the calls at one node, in turn
+abbrev pub turns_at : ℕ → List NodeCall → List Turn
+turns_at n [] = []
+turns_at n (l ∷ ls) = cond (n == l.node) (turn_of l ∷ turns_at n ls) (turns_at n ls)
+
+-- a packet that comes is one of these
+abbrev pub BringsSent : List Packet → Call → Type 0
+BringsSent packets (Open ending) = ⊤
+BringsSent packets (Step at input ending) = WasSent packets input
+BringsSent packets (Compact ending) = ⊤
+BringsSent packets Stop = ⊤
+
+-- each packet that comes is one of these, or was put out by an earlier call
+abbrev pub BringSent : List Packet → List NodeCall → Type 0
+BringSent packets [] = ⊤
+BringSent packets (l ∷ ls) = BringsSent packets l.call × BringSent (packets ++ sends_in l.after.outputs) ls
+
+-- Each node by itself does what such calls do, from blank disks on, and is asked under numbers that rise from each opening on; the
+-- network brings no packet that no node has put out.
+pub record AreOfProcesses (m : EngineMeaning) (c : Cluster) (calls : List NodeCall) : Type 0 where
+  pub inside : AllByRecursion (λ (l : NodeCall). l.node < c.nodes) calls
+  pub turns : (n : ℕ) → n < c.nodes → AreTurns m (setting_of c n) (halted blank) (turns_at n calls)
+  pub rise : (n : ℕ) → n < c.nodes → (high : ℕ) × Rise 0 high (turns_at n calls)
+  pub sent : BringSent [] calls
