@@ -1,13 +1,11 @@
 -- What a node puts out can be sent.
-use Rattle.std.proofs.Common.{◌≡◌, ℕ, List, [], ◌∷◌, Result, Ok, Err, Option, Bool, inl, inr, sym, subst}
-use Rattle.std.specs.Prelude.{⊤}
+use Rattle.std.proofs.Common.{ℕ, List, ◌∷◌, Result, Ok, Err, Option, Bool, inl, inr, sym, subst}
 use Rattle.sv_model.specs.declared.key.Moment.{Moment}
 use Rattle.sv_model.specs.declared.input.Input.{Input}
 use Rattle.sv_model.specs.declared.input.Input.TheVariants.{Ask}
 use Rattle.sv_model.specs.declared.output.Output.{Output}
 use Rattle.sv_model.specs.declared.output.Output.TheVariants.{Answer, Refuse, Send, Moved, MoveRefused}
 use Rattle.sv_model.specs.declared.site.StepFault.{StepFault}
-use Rattle.sv_model.specs.declared.site.StepFault.TheVariants.{Failed, Full, Device, Memory}
 use Rattle.sv_model.specs.Engine.{EngineMeaning, KeepsLimits, NamesKeys}
 use Rattle.sv_model.specs.Ranges.{IsInput}
 use Rattle.sv_model.proofs.RangeLemmas.{ranged}

@@ -1,3 +1,5 @@
 pub mod Outputs
 pub mod Place
 pub mod Secrets
+pub mod Host
+pub mod Ending

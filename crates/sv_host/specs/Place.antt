@@ -1,5 +1,5 @@
 -- Where a node stands in its cluster.
-use Rattle.std.specs.Prelude.{◌≡◌, ◌⊎◌, ◌<◌, ◌≤◌, ℕ, List, length, ⊤}
+use Rattle.std.specs.Prelude.{◌≡◌, ◌⊎◌, ◌<◌, ◌≤◌, ℕ, length, ⊤}
 use Rattle.sv_config.specs.declared.deployment.Cluster.{Cluster}
 use Rattle.sv_model.specs.declared.key.TheConstants.{NODE_LIMIT}
 use Rattle.sv_model.specs.declared.node.Setting.{Setting}

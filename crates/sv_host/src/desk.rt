@@ -1,8 +1,10 @@
 //! What a running node keeps beside its journal: its clients, its peers, its secrets, and the time.
 
-ghost use Rattle.std.specs.Prelude.{◌≡◌, OnOk};
+ghost use Rattle.std.specs.Prelude.{◌≡◌, ℕ, false, OnOk, IsTrue};
 ghost use Rattle.sv_model.specs.Ranges.{IsInput};
-ghost use Rattle.sv_node.specs.Node.{IsNode};
+ghost use Rattle.sv_node.specs.Call.{step_ends};
+ghost use Rattle.sv_node.specs.History.{IsAbove, number_in, HasGone};
+ghost use Rattle.sv_node.specs.Node.{IsNode, journal_of};
 ghost use Rattle.sv_host.specs.Outputs.{AreSendable, IsSendable};
 
 use crate::fault::{HostFault, Stop};
@@ -51,6 +53,16 @@ fn sum_up(outputs: &[Output]) -> Taken {
     }
 }
 
+/// What comes of a step that was refused: a node goes on, unless its disk has failed.
+fn refused(fault: StepFault) -> Result<Taken, Stop>
+    ensures { OnOk result (step_ends fault ≡ false) }
+{
+    match fault {
+        StepFault::Full | StepFault::Memory => Ok(Taken::Refused),
+        StepFault::Device | StepFault::Failed => Err(Stop::Fault(HostFault::Device)),
+    }
+}
+
 impl Desk {
     /// The moment of a step: the machine's clock, and a secret that no step has had.
     pub fn moment(&mut self, machine: &impl Machine) -> Result<Moment, Stop> {
@@ -89,8 +101,10 @@ impl Desk {
         input: Input,
     ) -> Result<Taken, Stop>
         requires valid { IsNode E.valid D.tells D.seen D.may_leave node.old }
+        requires live { IsTrue (journal_of node.old).live }
         requires input { IsInput input }
         ensures valid { IsNode E.valid D.tells D.seen D.may_leave node.new }
+        ensures gone { (low : ℕ) → IsAbove low input → HasGone E.meaning E.heard D.tells D.may_leave low (number_in low input) node.old node.new result }
     {
         let moment = self.moment(machine)?;
         match node.step(moment, input) {
@@ -99,8 +113,7 @@ impl Desk {
                 self.hand_on(machine, outputs, moment.now);
                 Ok(taken)
             }
-            Err(StepFault::Full | StepFault::Memory) => Ok(Taken::Refused),
-            Err(StepFault::Device | StepFault::Failed) => Err(Stop::Fault(HostFault::Device)),
+            Err(fault) => refused(fault),
         }
     }
 }

@@ -2,15 +2,17 @@
 //!
 //! The floor between a node and the machine that it runs on. A program hands in an engine and says where it stands in its
 //! cluster ([`Place`]); [`run_node`] opens the journal, listens, and serves until it is told to stop. What a socket, a clock
-//! or a file does is outside what contracts can say, so those here say what is handed on: each input of the node is within
-//! the ranges of the formats, each packet that it puts out is sent once to its addressee, and nothing is stepped but by what
-//! has come.
+//! or a file does is outside what contracts can say. What they say is what a process makes of its node whatever comes: from
+//! the opening of its disks to its end it makes calls of the node and nothing else ([`Host::run`]), by inputs within the
+//! ranges of the formats, and each packet that is put out can be sent.
 #![tactic(auto)]
 
+mod attend;
 mod deadline;
 mod desk;
 mod fault;
 mod frames;
+mod host;
 mod lobby;
 mod machine;
 mod peers;
@@ -20,6 +22,7 @@ mod secrets;
 mod serve;
 
 pub use fault::HostFault;
+pub use host::{Ended, Host};
 pub use machine::Machine;
 pub use place::{Place, PlaceFault};
 pub use run::run_node;

@@ -1,7 +1,10 @@
 //! One connection.
 
+ghost use Rattle.std.specs.Prelude.{◌≡◌, ◌<◌, ℕ, IsTrue};
 ghost use Rattle.sv_model.specs.Ranges.{IsInput};
-ghost use Rattle.sv_node.specs.Node.{IsNode};
+ghost use Rattle.sv_node.specs.History.{IsAbove, number_in, HasGone};
+ghost use Rattle.sv_node.specs.Node.{IsNode, journal_of};
+ghost use Rattle.sv_host.specs.Ending.{has_failed};
 
 use crate::deadline::{hurry, part, set_patience};
 use crate::desk::{Desk, Taken};
@@ -69,8 +72,10 @@ fn serve_peer<M: Machine, E: Engine, D: Disk>(
     node: &mut Node<E, D>,
     stream: &TcpStream,
 ) -> Result<(), Stop>
-    requires { IsNode E.valid D.tells D.seen D.may_leave node.old }
-    ensures { IsNode E.valid D.tells D.seen D.may_leave node.new }
+    requires valid { IsNode E.valid D.tells D.seen D.may_leave node.old }
+    requires live { IsTrue (journal_of node.old).live }
+    ensures valid { IsNode E.valid D.tells D.seen D.may_leave node.new }
+    ensures gone { (low : ℕ) → HasGone E.meaning E.heard D.tells D.may_leave low low node.old node.new result }
 {
     let Ok(mut reader) = hurry(machine, stream) else {
         return Ok(());
@@ -89,9 +94,11 @@ fn obey<M: Machine, E: Engine, D: Disk>(
     stream: &TcpStream,
     input: Input,
 ) -> Result<(), Stop>
-    requires node { IsNode E.valid D.tells D.seen D.may_leave node.old }
+    requires valid { IsNode E.valid D.tells D.seen D.may_leave node.old }
+    requires live { IsTrue (journal_of node.old).live }
     requires input { IsInput input }
-    ensures { IsNode E.valid D.tells D.seen D.may_leave node.new }
+    ensures valid { IsNode E.valid D.tells D.seen D.may_leave node.new }
+    ensures gone { (low : ℕ) → IsAbove low input → HasGone E.meaning E.heard D.tells D.may_leave low (number_in low input) node.old node.new result }
 {
     let taken = desk.step(machine, node, input)?;
     reply(stream, answer_byte(taken));
@@ -105,8 +112,10 @@ fn serve_controller<M: Machine, E: Engine, D: Disk>(
     node: &mut Node<E, D>,
     stream: &TcpStream,
 ) -> Result<(), Stop>
-    requires { IsNode E.valid D.tells D.seen D.may_leave node.old }
-    ensures { IsNode E.valid D.tells D.seen D.may_leave node.new }
+    requires valid { IsNode E.valid D.tells D.seen D.may_leave node.old }
+    requires live { IsTrue (journal_of node.old).live }
+    ensures valid { IsNode E.valid D.tells D.seen D.may_leave node.new }
+    ensures gone { (low : ℕ) → HasGone E.meaning E.heard D.tells D.may_leave low low node.old node.new result }
 {
     let Ok(mut reader) = hurry(machine, stream) else {
         return Ok(());
@@ -122,6 +131,37 @@ fn serve_controller<M: Machine, E: Engine, D: Disk>(
     }
 }
 
+/// The node has failed under the request.
+fn has_failed(outcome: Outcome) -> bool
+    ensures { result ≡ has_failed outcome }
+{
+    matches!(outcome, Outcome::Failed)
+}
+
+/// Keeps a client whose request waits, and closes the connection of any other.
+fn see_off(
+    desk: &mut Desk,
+    connection: Connection,
+    stream: TcpStream,
+    token: u64,
+    outcome: Outcome,
+) {
+    match outcome {
+        Outcome::Parked { head_only } => desk.lobby.add(Client {
+            token,
+            connection,
+            stream,
+            head_only,
+        }),
+        Outcome::Refused(_) => part(&stream),
+        Outcome::Answered
+        | Outcome::Closed
+        | Outcome::ReadFailed
+        | Outcome::WriteFailed
+        | Outcome::Failed => {}
+    }
+}
+
 /// Serves one request of a client.
 fn serve_client<M: Machine, E: Engine, D: Disk>(
     machine: &M,
@@ -130,8 +170,10 @@ fn serve_client<M: Machine, E: Engine, D: Disk>(
     stream: TcpStream,
     token: u64,
 ) -> Result<(), Stop>
-    requires { IsNode E.valid D.tells D.seen D.may_leave node.old }
-    ensures { IsNode E.valid D.tells D.seen D.may_leave node.new }
+    requires valid { IsNode E.valid D.tells D.seen D.may_leave node.old }
+    requires live { IsTrue (journal_of node.old).live }
+    ensures valid { IsNode E.valid D.tells D.seen D.may_leave node.new }
+    ensures gone { (low : ℕ) → low < token → HasGone E.meaning E.heard D.tells D.may_leave low token node.old node.new result }
 {
     let moment = desk.moment(machine)?;
     let mut connection = Connection::new(desk.alloc, true);
@@ -144,17 +186,10 @@ fn serve_client<M: Machine, E: Engine, D: Disk>(
         desk.hand_on(machine, served.outputs, moment.now);
         served.outcome
     };
-    match outcome {
-        Outcome::Parked { head_only } => desk.lobby.add(Client {
-            token,
-            connection,
-            stream,
-            head_only,
-        }),
-        Outcome::Failed => return Err(Stop::Fault(HostFault::Device)),
-        Outcome::Refused(_) => part(&stream),
-        Outcome::Answered | Outcome::Closed | Outcome::ReadFailed | Outcome::WriteFailed => {}
+    if has_failed(outcome) {
+        return Err(Stop::Fault(HostFault::Device));
     }
+    see_off(desk, connection, stream, token, outcome);
     Ok(())
 }
 
@@ -166,8 +201,10 @@ pub fn serve<M: Machine, E: Engine, D: Disk>(
     stream: TcpStream,
     number: u64,
 ) -> Result<(), Stop>
-    requires { IsNode E.valid D.tells D.seen D.may_leave node.old }
-    ensures { IsNode E.valid D.tells D.seen D.may_leave node.new }
+    requires valid { IsNode E.valid D.tells D.seen D.may_leave node.old }
+    requires live { IsTrue (journal_of node.old).live }
+    ensures valid { IsNode E.valid D.tells D.seen D.may_leave node.new }
+    ensures gone { (low : ℕ) → low < number → HasGone E.meaning E.heard D.tells D.may_leave low number node.old node.new result }
 {
     if set_patience(&stream).is_err() {
         return Ok(());

@@ -1,0 +1,123 @@
+//! A node on its machine, from its start to its end.
+
+ghost use Rattle.std.specs.Prelude.{◌≡◌, IfOk, IfErr, IsTrue};
+ghost use Rattle.sv_model.specs.Ranges.{IsSetting};
+ghost use Rattle.sv_node.specs.History.{HasEnded, IsLife};
+ghost use Rattle.sv_node.specs.Node.{IsNode, journal_of};
+
+use crate::attend::attend;
+use crate::desk::Desk;
+use crate::fault::{HostFault, Stop};
+use crate::lobby::Lobby;
+use crate::machine::{Machine, seconds};
+use crate::peers::loopback;
+use crate::place::Place;
+use crate::secrets::Secrets;
+use std::net::{OpenListener, TcpListener};
+use sv_journal::Disk;
+use sv_model::{Engine, Setting};
+use sv_node::{Node, NotOpened};
+
+/// What a node has of its machine beside its disks: the port at which it listens, and its secrets.
+#[derive(Drop)]
+pub struct Host {
+    setting: Setting,
+    listener: TcpListener,
+    desk: Desk,
+    ghost inside: { IsSetting setting },
+}
+
+/// What a node that has run leaves behind.
+#[derive(Drop)]
+pub struct Ended<E, D> {
+    pub engine: E,
+    pub a: D,
+    pub b: D,
+    /// Why it ended; none where it was told to.
+    pub fault: Option<HostFault>,
+}
+
+/// Says that the node of this number is ready, and serves until it is told to stop.
+fn serve_all<M: Machine, E: Engine, D: Disk>(
+    machine: &M,
+    desk: &mut Desk,
+    node: &mut Node<E, D>,
+    listener: &TcpListener,
+    number: u8,
+) -> Option<HostFault>
+    requires valid { IsNode E.valid D.tells D.seen D.may_leave node.old }
+    requires live { IsTrue (journal_of node.old).live }
+    ensures valid { IsNode E.valid D.tells D.seen D.may_leave node.new }
+    ensures ended { HasEnded E.meaning E.heard D.tells D.may_leave node.old node.new }
+{
+    if println!(machine; "ready {number}").is_err() {
+        return Some(HostFault::Output);
+    }
+    match attend(machine, desk, node, listener) {
+        Stop::Done => None,
+        Stop::Fault(fault) => Some(fault),
+    }
+}
+
+impl Host {
+    ghost use Rattle.sv_host.specs.Host.{setting_of};
+
+    /// Opens the file of secrets, and listens at the node's port. Faults are found in this order.
+    pub fn at(machine: &impl Machine, place: Place) -> Result<Host, HostFault>
+        ensures { IfOk result (λ h. setting_of h ≡ place.setting) }
+    {
+        let Place {
+            setting,
+            ports,
+            secrets,
+        } = place;
+        let secrets = Secrets::open(machine, secrets.as_ref())?;
+        let port = ports.get(usize::from(setting.node)).copied().unwrap_or(0);
+        let Ok(listener) = TcpListener::bind(machine, loopback(port)) else {
+            return Err(HostFault::Socket);
+        };
+        let alloc = machine.alloc();
+        Ok(Host {
+            setting,
+            listener,
+            desk: Desk {
+                ports,
+                secrets,
+                lobby: Lobby::new(alloc),
+                ticked: seconds(machine),
+                compacted: 0,
+                alloc,
+            },
+        })
+    }
+
+    /// Runs the node over its disks A and B: opens them, says by the line `ready` with the node's number that it listens, and
+    /// serves until a command stops it, or a fault does. The engine and the disks come back.
+    pub fn run<M: Machine, E: Engine, D: Disk>(
+        self,
+        machine: &M,
+        engine: E,
+        a: D,
+        b: D,
+    ) -> Result<Ended<E, D>, NotOpened<E, D>>
+        requires { E.valid engine }
+        // What the disks give behind it is what some calls of the node lead to, from what they gave before it.
+        ensures life { IfOk result (λ r. IsLife E.meaning E.heard D.tells D.seen D.may_leave (setting_of self) engine a b r.engine r.a r.b) }
+        ensures engine { IfErr result (λ r. r.engine ≡ engine) }
+    {
+        let Host {
+            setting,
+            listener,
+            mut desk,
+        } = self;
+        let mut node = Node::open(desk.alloc, engine, a, b, setting)?;
+        let fault = serve_all(machine, &mut desk, &mut node, &listener, setting.node);
+        let (engine, a, b) = node.stop();
+        Ok(Ended {
+            engine,
+            a,
+            b,
+            fault,
+        })
+    }
+}
