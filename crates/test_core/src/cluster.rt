@@ -4,8 +4,8 @@ use crate::member::{Member, NOW};
 use crate::step::{KeyName, Step};
 use std::alloc::{AllocError, Global};
 use std::test::Fail;
-use sv_model::{Input, Key, Output, Packet};
-use test_engine::{numbered, output_text, packet_text, request, state_text};
+use sv_model::{Input, Key, Output, Packet, Request};
+use test_engine::{hello, numbered, output_text, packet_text, request, state_text};
 
 /// All nodes, and all packets in order of sending.
 #[derive(Drop)]
@@ -88,16 +88,16 @@ impl Cluster {
     }
 
     /// A request under the next token.
-    fn ask(&mut self, body: &[u8], close: bool) -> Result<Input, Fail> {
+    fn ask(&mut self, request: Request) -> Input {
         self.token = self.token.saturating_add(1);
-        Ok(Input::Ask {
+        Input::Ask {
             token: self.token,
-            request: request(self.alloc, body, close)?,
-        })
+            request,
+        }
     }
 
     fn again(&mut self, named: KeyName) -> Result<Input, Fail> {
-        self.ask(&[named.0, named.1], false)
+        Ok(self.ask(request(self.alloc, &[named.0, named.1])?))
     }
 
     fn deliver(&mut self, place: usize) -> Result<String, Fail> {
@@ -124,11 +124,11 @@ impl Cluster {
     fn requested(&mut self, step: Step) -> Result<String, Fail> {
         match step {
             Step::First(node) => {
-                let input = self.ask(&[], false)?;
+                let input = self.ask(request(self.alloc, &[])?);
                 self.step(node, NOW, input)
             }
             Step::Hello(node) => {
-                let input = self.ask(&[], true)?;
+                let input = self.ask(hello(self.alloc)?);
                 self.step(node, NOW, input)
             }
             Step::Again(node, named) => {

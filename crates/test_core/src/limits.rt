@@ -6,9 +6,9 @@ use std::process::Abort;
 use std::test::Fail;
 use sv_core::{ApplyFault, Core};
 use sv_model::{
-    Attributes, Change, Input, KEY_LIMIT, Key, KeyState, Moment, Packet, Record, Session,
+    Attributes, Change, Input, KEY_LIMIT, Key, KeyState, Moment, Packet, Record, Request, Session,
 };
-use test_engine::{Counter, output_text, request, state_text};
+use test_engine::{Counter, hello, output_text, request, state_text};
 
 fn key((home, serial): (u8, u64)) -> Key {
     Key { home, serial }
@@ -63,12 +63,8 @@ fn taken(core: &mut Core<Counter>, alloc: Global, input: Input) -> Result<String
     Ok(text)
 }
 
-fn asked(core: &mut Core<Counter>, alloc: Global, touches: bool) -> Result<String, Fail> {
-    let input = Input::Ask {
-        token: 1,
-        request: request(alloc, &[], !touches)?,
-    };
-    taken(core, alloc, input)
+fn asked(core: &mut Core<Counter>, alloc: Global, request: Request) -> Result<String, Fail> {
+    taken(core, alloc, Input::Ask { token: 1, request })
 }
 
 fn granted(core: &mut Core<Counter>, alloc: Global, epoch: u64) -> Result<String, Fail> {
@@ -105,8 +101,11 @@ fn full(alloc: Global) -> Result<Vec<Record>, Fail> {
 
 /// The core is as full as it was, and takes nothing more.
 fn expect_full(rt: &impl Abort, core: &mut Core<Counter>, alloc: Global) -> Result<(), Fail> {
-    assert_eq!(rt; asked(core, alloc, false)?.as_str(), "answer 0;");
-    assert_eq!(rt; asked(core, alloc, true)?.as_str(), "refuse TableFull;");
+    assert_eq!(rt; asked(core, alloc, hello(alloc)?)?.as_str(), "answer 0;");
+    assert_eq!(rt;
+        asked(core, alloc, request(alloc, &[])?)?.as_str(),
+        "refuse TableFull;"
+    );
     assert_eq!(rt; granted(core, alloc, 2)?.as_str(), "");
     assert_eq!(rt;
         state_text(alloc, core.state(key((0, 65_536))))?.as_str(),
@@ -134,9 +133,12 @@ fn a_full_table(rt: HostRuntime) -> Result<(), Fail> {
 
 fn expect_no_serial(rt: &impl Abort, alloc: Global) -> Result<(), Fail> {
     let mut core = recovered(alloc, 0, &[counters(1, u64::MAX)])?;
-    assert_eq!(rt; asked(&mut core, alloc, false)?.as_str(), "answer 0;");
     assert_eq!(rt;
-        asked(&mut core, alloc, true)?.as_str(),
+        asked(&mut core, alloc, hello(alloc)?)?.as_str(),
+        "answer 0;"
+    );
+    assert_eq!(rt;
+        asked(&mut core, alloc, request(alloc, &[])?)?.as_str(),
         "refuse SerialsSpent;"
     );
     Ok(())

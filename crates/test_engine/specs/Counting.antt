@@ -11,6 +11,7 @@ use Rattle.sv_model.specs.declared.outcome.Fate.TheVariants.{Untouched, Kept, En
 use Rattle.sv_model.specs.declared.outcome.Birth.TheVariants.{Absent, Alive}
 use Rattle.sv_model.specs.declared.event.Event.TheVariants.{Destroyed}
 use Rattle.sv_model.specs.declared.event.Told.{Told}
+use Rattle.sv_model.specs.Method.{is_head}
 use Rattle.sv_model.specs.Session.{is_expired}
 use Rattle.sv_model.specs.Engine.{EngineMeaning}
 use Rattle.sv_model.specs.NodeState.{last_number}
@@ -51,11 +52,11 @@ counts_at (Some (k, s)) now fresh =
     cond (is_expired s now) (begun Ended now fresh (record { context = 0; event = Destroyed k } ∷ [])) (kept now s)
 
 abbrev pub untouched : Outcome
-untouched = record { response = digit 0; fate = Untouched; birth = Absent; events = [] }
+untouched = record { response = record (digit 0) { head_only = true }; fate = Untouched; birth = Absent; events = [] }
 
--- a request that closes its connection touches nothing, and is answered 0
+-- a HEAD touches nothing, and is answered 0
 abbrev pub count : Request → Option (Key × Session) → ℕ → Key × Secret → Outcome
-count r held now fresh = cond r.close untouched (counts_at held now fresh)
+count r held now fresh = cond (is_head r.method) untouched (counts_at held now fresh)
 
 abbrev pub counts : Secret → EngineMeaning
 counts secret = record { names = λ r. named_by secret r.body; serve = count; hear = λ heard told. heard }

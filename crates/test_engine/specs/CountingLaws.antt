@@ -13,6 +13,7 @@ use Rattle.sv_model.specs.declared.outcome.Fate.TheVariants.{Untouched}
 use Rattle.sv_model.specs.Keys.{IsKey}
 use Rattle.sv_model.specs.declared.event.Told.{Told}
 use Rattle.sv_model.specs.Engine.{heard_all, TouchesOnlyHanded, KeepsLimits, KeepsWithin, BringsWithin, NamesKeys}
+use Rattle.sv_model.specs.Method.{is_head}
 use Rattle.sv_model.specs.Session.{IsWithinLimits, is_expired}
 use Rattle.sv_model.proofs.AttributesLemmas.{attributes_size-nil}
 use Rattle.test_engine.specs.Counting.{named_by, first_at, again_at, counts_at, counts}
@@ -38,10 +39,10 @@ counts_within None now fresh within = (tt, first_within now fresh)
 counts_within (Some (k, s)) now fresh within = cond_both (is_expired s now) _ _ (λ o. IsWithin o) (λ _. (tt, first_within now fresh)) (λ _. (again_within now s within, tt))
 
 pub keeps_limits : (secret : Secret) → KeepsLimits (counts secret)
-keeps_limits secret r held now fresh within = cond_both r.close _ _ (λ o. IsWithin o) (λ _. (tt, tt)) (λ _. counts_within held now fresh within)
+keeps_limits secret r held now fresh within = cond_both (is_head r.method) _ _ (λ o. IsWithin o) (λ _. (tt, tt)) (λ _. counts_within held now fresh within)
 
 pub touches_only_handed : (secret : Secret) → TouchesOnlyHanded (counts secret)
-touches_only_handed secret r now fresh = cond_both r.close _ _ (λ (o : Outcome). o.fate ≡ Untouched) (λ _. refl) (λ _. refl)
+touches_only_handed secret r now fresh = cond_both (is_head r.method) _ _ (λ (o : Outcome). o.fate ≡ Untouched) (λ _. refl) (λ _. refl)
 
 both : (home serial : ℕ) → (nat_lt home 8 && nat_lt 0 serial) ≡ true → (home < 8) × (0 < serial)
 both home serial is = ⊎_elim

@@ -8,7 +8,7 @@ use http::StatusCode;
 use std::alloc::{AllocError, Global};
 use sv_model::{
     Attributes, Birth, Engine, EngineFault, Event, Fate, Key, Outcome, Request, Response, Secret,
-    Sequence, Session, Told,
+    Sequence, Session, Told, is_head,
 };
 
 /// It makes a session where none is handed in, or an expired one, which it ends; and answers the last digit of the count.
@@ -111,12 +111,14 @@ fn kept(alloc: Global, now: u64, session: &Session) -> Result<Outcome, AllocErro
     })
 }
 
-/// A request that touches no session.
+/// A HEAD, which touches no session.
 fn untouched(alloc: Global) -> Result<Outcome, AllocError>
     ensures { IfOk result (λ outcome. outcome ≡ untouched) }
 {
+    let mut response = digit(alloc, 0)?;
+    response.head_only = true;
     Ok(Outcome {
-        response: digit(alloc, 0)?,
+        response,
         fate: Fate::Untouched,
         birth: Birth::Absent,
         events: Sequence::new(alloc),
@@ -156,7 +158,7 @@ impl Engine for Counter {
         now: u64,
         fresh: (Key, Secret),
     ) -> Result<Outcome, EngineFault> {
-        if request.close {
+        if is_head(&request.method) {
             return Ok(untouched(self.alloc)?);
         }
         match session {

@@ -7,6 +7,6 @@ mod asking;
 mod counter;
 mod texts;
 
-pub use asking::request;
+pub use asking::{hello, request};
 pub use counter::Counter;
 pub use texts::{numbered, output_text, packet_text, state_text};

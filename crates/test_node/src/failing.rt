@@ -61,7 +61,7 @@ fn ask(
     requires { ⟦<Node<Counter, MemoryDisk> as Site>⟧.site_valid node.old }
     ensures { ⟦<Node<Counter, MemoryDisk> as Site>⟧.site_valid node.new }
 {
-    let request = request(alloc, body, false)?;
+    let request = request(alloc, body)?;
     Ok(node.step(AT, Input::Ask { token, request }).is_ok())
 }
 

@@ -82,7 +82,7 @@ pub fn count<S: Site>(
     requires { S.site_valid site.old }
     ensures { S.site_valid site.new }
 {
-    let request = request(alloc, named, false)?;
+    let request = request(alloc, named)?;
     match site.step(AT, Input::Ask { token, request }) {
         Ok(outputs) => Ok(digit(&outputs)),
         Err(fault) => Ok(letter(fault)),

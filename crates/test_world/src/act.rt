@@ -1,9 +1,9 @@
 //! What happens to a world, an event each.
 
 use std::alloc::{AllocError, Global};
-use sv_model::{Input, Key, Moment, Secret};
+use sv_model::{Input, Key, Moment, Request, Secret};
 use sv_world::WorldEvent;
-use test_engine::request;
+use test_engine::{hello, request};
 
 /// A key, by its home and its serial, of one byte each.
 pub type KeyName = (u8, u8);
@@ -80,17 +80,17 @@ pub fn ask(
         node,
         moment: at(now),
         token,
-        request: request(alloc, body, false)?,
+        request: request(alloc, body)?,
     })
 }
 
 /// A request that touches nothing.
-fn hello(alloc: Global, token: u64, node: u8) -> Result<WorldEvent, AllocError> {
+fn ask_hello(alloc: Global, token: u64, node: u8) -> Result<WorldEvent, AllocError> {
     Ok(WorldEvent::Ask {
         node,
         moment: at(NOW),
         token,
-        request: request(alloc, &[], true)?,
+        request: hello(alloc)?,
     })
 }
 
@@ -104,17 +104,9 @@ pub fn torn(node: u8, input: Input, kept: bool) -> WorldEvent {
     }
 }
 
-/// A request that a stop cuts; one that closes its connection touches nothing.
-fn torn_ask(
-    alloc: Global,
-    token: u64,
-    node: u8,
-    body: &[u8],
-    close: bool,
-    kept: bool,
-) -> Result<WorldEvent, AllocError> {
-    let request = request(alloc, body, close)?;
-    Ok(torn(node, Input::Ask { token, request }, kept))
+/// A request that a stop cuts.
+fn torn_ask(token: u64, node: u8, request: Request, kept: bool) -> WorldEvent {
+    torn(node, Input::Ask { token, request }, kept)
 }
 
 fn torn_move(node: u8, named: KeyName, to: u8, kept: bool) -> WorldEvent {
@@ -129,7 +121,7 @@ pub fn event(alloc: Global, token: u64, act: Act) -> Result<WorldEvent, AllocErr
         Act::FirstAt(node, now) => ask(alloc, token, node, now, &[]),
         Act::Again(node, named) => ask(alloc, token, node, NOW, &[named.0, named.1]),
         Act::AgainAt(node, named, now) => ask(alloc, token, node, now, &[named.0, named.1]),
-        Act::Hello(node) => hello(alloc, token, node),
+        Act::Hello(node) => ask_hello(alloc, token, node),
         Act::Deliver(place) => Ok(WorldEvent::Deliver {
             moment: at(NOW),
             place,
@@ -151,9 +143,10 @@ pub fn event(alloc: Global, token: u64, act: Act) -> Result<WorldEvent, AllocErr
         Act::Crash(node) => Ok(WorldEvent::Crash(node)),
         Act::Restart(node) => Ok(WorldEvent::Restart(node)),
         Act::TornAgain(node, named, kept) => {
-            torn_ask(alloc, token, node, &[named.0, named.1], false, kept)
+            let request = request(alloc, &[named.0, named.1])?;
+            Ok(torn_ask(token, node, request, kept))
         }
-        Act::TornHello(node, kept) => torn_ask(alloc, token, node, &[], true, kept),
+        Act::TornHello(node, kept) => Ok(torn_ask(token, node, hello(alloc)?, kept)),
         Act::TornMove(node, named, to, kept) => Ok(torn_move(node, named, to, kept)),
         Act::TornRestart(node, kept) => Ok(WorldEvent::TornRestart { node, kept }),
     }

@@ -1,0 +1,15 @@
+//! Tests of a node on its machine, as a program calls it: over real sockets, from its start to its end.
+//!
+//! A node serves its callers in the order in which they connect, and a caller who has connected waits to be served. So a test
+//! needs one thread: each caller connects and says all that it will say, the last one that the node is to stop; then the
+//! node runs; and then each caller reads what it was told. Frames are spelled byte by byte.
+#![tactic(auto)]
+
+#[cfg(test)]
+mod callers;
+#[cfg(test)]
+mod faults;
+#[cfg(test)]
+mod lives;
+#[cfg(test)]
+mod town;
