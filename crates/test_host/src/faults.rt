@@ -3,7 +3,7 @@
 use crate::town::{Town, answer, counter, live};
 use std::test::Fail;
 use std::{env, fs, process};
-use sv_host::{Host, HostFault, run_node};
+use sv_host::{Host, HostFault, Place, run_node};
 use sv_journal::MemoryDisk;
 
 /// Where no file can be.
@@ -17,6 +17,11 @@ fn own_path(rt: &HostRuntime, name: &str) -> Result<String, Fail> {
     Ok(format!(in rt.alloc(); "{}/sv_host-{id}-{name}", folder.to_string_lossy())?)
 }
 
+/// Why a node at this place ends, over the journal at this path.
+fn fault_of(rt: &HostRuntime, place: Place, journal: &str) -> Option<HostFault> {
+    run_node(rt, counter(rt.alloc()), place, journal).err()
+}
+
 fn nowhere(rt: &HostRuntime) -> Result<Option<String>, Fail> {
     Ok(Some(String::from_str(rt.alloc(), NOWHERE)?))
 }
@@ -27,21 +32,12 @@ fn faults_are_found_in_their_order(rt: HostRuntime) -> Result<(), Fail> {
     let town = Town::new(&rt)?;
     let taken = town.squat(&rt)?;
     let place = town.place_with(&rt, nowhere(&rt)?)?;
-    assert_eq!(rt;
-        run_node(&rt, counter(rt.alloc()), place, NOWHERE),
-        Err(HostFault::Secrets)
-    );
+    assert_eq!(rt; fault_of(&rt, place, NOWHERE), Some(HostFault::Secrets));
     let place = town.place(&rt)?;
-    assert_eq!(rt;
-        run_node(&rt, counter(rt.alloc()), place, NOWHERE),
-        Err(HostFault::Socket)
-    );
+    assert_eq!(rt; fault_of(&rt, place, NOWHERE), Some(HostFault::Socket));
     drop(taken);
     let place = town.place(&rt)?;
-    assert_eq!(rt;
-        run_node(&rt, counter(rt.alloc()), place, NOWHERE),
-        Err(HostFault::Device)
-    );
+    assert_eq!(rt; fault_of(&rt, place, NOWHERE), Some(HostFault::Device));
     Ok(())
 }
 
@@ -52,10 +48,7 @@ fn a_foreign_file_is_no_journal(rt: HostRuntime) -> Result<(), Fail> {
     let journal = own_path(&rt, "foreign")?;
     fs::write(&rt, &journal, b"a letter to a friend")?;
     let place = town.place(&rt)?;
-    assert_eq!(rt;
-        run_node(&rt, counter(rt.alloc()), place, &journal),
-        Err(HostFault::Damaged)
-    );
+    assert_eq!(rt; fault_of(&rt, place, &journal), Some(HostFault::Damaged));
     assert_eq!(rt;
         fs::read(&rt, &journal)?.as_slice(),
         b"a letter to a friend".as_slice()
