@@ -109,11 +109,6 @@ impl Town {
         Ok(Place::new(rt.alloc(), &cluster, 0)?)
     }
 
-    /// Somebody else who listens at the node's port.
-    pub fn squat(&self, rt: &HostRuntime) -> io::Result<TcpListener> {
-        listen(rt, self.port)
-    }
-
     /// Somebody who has connected to the node, and said this.
     pub fn call(&self, rt: &HostRuntime, said: &[u8]) -> io::Result<TcpStream> {
         let stream = TcpStream::connect(rt, local(self.port))?;
