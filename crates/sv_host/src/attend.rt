@@ -9,7 +9,8 @@ use crate::desk::{Desk, Taken};
 use crate::fault::{HostFault, Stop};
 use crate::machine::{Machine, seconds};
 use crate::serve::serve;
-use std::net::{OpenListener, TcpListener};
+use std::io::ErrorKind;
+use std::net::{OpenListener, TcpListener, TcpStream};
 use sv_journal::{Disk, JournalFault};
 use sv_model::{Engine, Input, PARK_LIMIT};
 use sv_node::Node;
@@ -106,6 +107,26 @@ fn look_after<M: Machine, E: Engine, D: Disk>(
     compact(desk, node)
 }
 
+/// Accepts a connection; none where nobody has come for a while, or one couldn't be accepted. `failed` counts those in turn
+/// that couldn't.
+fn accept(listener: &TcpListener, failed: &mut u32) -> Result<Option<TcpStream>, HostFault> {
+    match listener.accept() {
+        Ok((stream, _)) => {
+            *failed = 0;
+            Ok(Some(stream))
+        }
+        Err(fault) if fault.kind() == ErrorKind::WouldBlock => Ok(None),
+        Err(_) => {
+            *failed = failed.saturating_add(1);
+            if *failed == TRIES {
+                Err(HostFault::Socket)
+            } else {
+                Ok(None)
+            }
+        }
+    }
+}
+
 /// Serves one connection after the other.
 pub fn attend<M: Machine, E: Engine, D: Disk>(
     machine: &M,
@@ -120,14 +141,11 @@ pub fn attend<M: Machine, E: Engine, D: Disk>(
 {
     let mut failed: u32 = 0;
     for count in 0..u64::MAX {
-        let Ok((stream, _)) = listener.accept() else {
-            failed = failed.saturating_add(1);
-            if failed == TRIES {
-                return Stop::Fault(HostFault::Socket);
-            }
-            continue;
+        let stream = match accept(listener, &mut failed) {
+            Ok(Some(stream)) => stream,
+            Ok(None) => continue,
+            Err(fault) => return Stop::Fault(fault),
         };
-        failed = 0;
         if let Err(stop) = serve(machine, desk, node, stream, count + 1) {
             return stop;
         }

@@ -6,7 +6,8 @@
 use crate::machine::Machine;
 use std::io;
 use std::io::{ErrorKind, Read};
-use std::net::{OpenStream, Shutdown, SocketAddr, TcpStream};
+use std::net::{OpenStream, Shutdown, SocketAddr, TcpListener, TcpStream};
+use std::os::fd::OwnedFd;
 use std::time::Duration;
 
 /// In seconds. A peer is on the same machine: it answers at once, or is not there.
@@ -28,8 +29,17 @@ pub fn connect(machine: &impl Machine, addr: SocketAddr) -> io::Result<TcpStream
     Ok(stream)
 }
 
+/// Listens at an address of this machine. The connections that are accepted there have the listener's own timeouts: Linux
+/// hands them on. So `accept` too ends after a while, with `WouldBlock`.
+pub fn listen(machine: &impl Machine, addr: SocketAddr) -> io::Result<TcpListener> {
+    let listener = TcpListener::bind(machine, addr)?;
+    let socket = TcpStream::from(OwnedFd::from(listener));
+    set_patience(&socket)?;
+    Ok(TcpListener::from(OwnedFd::from(socket)))
+}
+
 /// Sets how long one read or write may take.
-pub fn set_patience(stream: &TcpStream) -> io::Result<()> {
+fn set_patience(stream: &TcpStream) -> io::Result<()> {
     let waiting = Duration::from_secs(WAITING);
     stream.set_read_timeout(Some(waiting))?;
     stream.set_write_timeout(Some(waiting))

@@ -1,11 +1,15 @@
 //! A node on its machine, from its start to its end.
 
 ghost use Rattle.std.specs.Prelude.{◌≡◌, IfOk, IfErr, IsTrue};
+ghost use Rattle.sv_model.specs.NodeState.{Durable};
 ghost use Rattle.sv_model.specs.Ranges.{IsSetting};
 ghost use Rattle.sv_node.specs.History.{HasEnded, IsLife};
 ghost use Rattle.sv_node.specs.Node.{IsNode, journal_of};
+ghost use Rattle.sv_node.specs.Opened.{LeavesStart};
+ghost use Rattle.sv_node.specs.Stops.{Restores};
 
 use crate::attend::attend;
+use crate::deadline::listen;
 use crate::desk::Desk;
 use crate::fault::{HostFault, Stop};
 use crate::lobby::Lobby;
@@ -13,7 +17,7 @@ use crate::machine::{Machine, seconds};
 use crate::peers::loopback;
 use crate::place::Place;
 use crate::secrets::Secrets;
-use std::net::{OpenListener, TcpListener};
+use std::net::TcpListener;
 use sv_journal::Disk;
 use sv_model::{Engine, Setting};
 use sv_node::{Node, NotOpened};
@@ -73,7 +77,7 @@ impl Host {
         } = place;
         let secrets = Secrets::open(machine, secrets.as_ref())?;
         let port = ports.get(usize::from(setting.node)).copied().unwrap_or(0);
-        let Ok(listener) = TcpListener::bind(machine, loopback(port)) else {
+        let Ok(listener) = listen(machine, loopback(port)) else {
             return Err(HostFault::Socket);
         };
         let alloc = machine.alloc();
@@ -103,6 +107,8 @@ impl Host {
         requires { E.valid engine }
         // What the disks give behind it is what some calls of the node lead to, from what they gave before it.
         ensures life { IfOk result (λ r. IsLife E.meaning E.heard D.tells D.seen D.may_leave (setting_of self) engine a b r.engine r.a r.b) }
+        // Where it isn't opened, what is lost is at most the start itself.
+        ensures unopened { IfErr result (λ r. D.tells a → D.tells b → (d : Durable) → Restores (setting_of self) (D.seen a) (D.seen b) d → LeavesStart D.may_leave (setting_of self) a b d r.a r.b) }
         ensures engine { IfErr result (λ r. r.engine ≡ engine) }
     {
         let Host {

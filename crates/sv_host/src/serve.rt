@@ -6,38 +6,55 @@ ghost use Rattle.sv_node.specs.History.{IsAbove, number_in, HasGone};
 ghost use Rattle.sv_node.specs.Node.{IsNode, journal_of};
 ghost use Rattle.sv_host.specs.Ending.{has_failed};
 
-use crate::deadline::{hurry, part, set_patience};
+use crate::deadline::{Hurried, hurry, part};
 use crate::desk::{Desk, Taken};
 use crate::fault::{HostFault, Stop};
 use crate::frames::receive;
 use crate::lobby::Client;
 use crate::machine::Machine;
-use std::io::Write;
-use std::net::{OpenStream, TcpStream};
+use std::io;
+use std::io::{Chain, ErrorKind, Read, Write};
+use std::net::TcpStream;
 use sv_connection::{Connection, Outcome};
 use sv_journal::Disk;
 use sv_model::{Engine, Input, MoveRefusal};
 use sv_node::Node;
 use sv_record::{CONTROL, Frame, PEER};
 
-/// Who has connected, by the first byte.
+/// So many bytes of a connection are read before it is known what they are: more than most requests and packets have.
+const FIRST_READ: usize = 4_096;
+
+/// What a connection brings: the bytes that were read first, and those behind them.
+type Bytes<'a, M> = Chain<&'a [u8], Hurried<'a, M>>;
+
+/// Who has connected.
 enum Caller {
     Peer,
     Controller,
     Client,
-    /// The connection broke off, or nothing came.
-    Nobody,
 }
 
-/// Who has connected. The byte stays to be read.
-fn caller_on(stream: &TcpStream) -> Caller {
-    let mut first = [0u8; 1];
-    match stream.peek(&mut first) {
-        Ok(1) if first[0] == PEER => Caller::Peer,
-        Ok(1) if first[0] == CONTROL => Caller::Controller,
-        Ok(1) => Caller::Client,
-        _ => Caller::Nobody,
+/// Who sends this byte first.
+fn caller_of(first: u8) -> Caller {
+    match first {
+        PEER => Caller::Peer,
+        CONTROL => Caller::Controller,
+        _ => Caller::Client,
     }
+}
+
+/// What is left to be done with a connection.
+#[derive(Drop)]
+enum Left {
+    /// It is closed.
+    Nothing,
+    /// It is kept for the answer.
+    Waiting {
+        connection: Connection,
+        head_only: bool,
+    },
+    /// It is closed once the client has sent what it is still sending.
+    Parting,
 }
 
 /// What a command that isn't done is answered with.
@@ -70,17 +87,14 @@ fn serve_peer<M: Machine, E: Engine, D: Disk>(
     machine: &M,
     desk: &mut Desk,
     node: &mut Node<E, D>,
-    stream: &TcpStream,
+    bytes: &mut Bytes<'_, M>,
 ) -> Result<(), Stop>
     requires valid { IsNode E.valid D.tells D.seen D.may_leave node.old }
     requires live { IsTrue (journal_of node.old).live }
     ensures valid { IsNode E.valid D.tells D.seen D.may_leave node.new }
     ensures gone { (low : ℕ) → HasGone E.meaning E.heard D.tells D.may_leave low low node.old node.new result }
 {
-    let Ok(mut reader) = hurry(machine, stream) else {
-        return Ok(());
-    };
-    if let Some(Frame::Peer(packet)) = receive(desk.alloc, &mut reader) {
+    if let Some(Frame::Peer(packet)) = receive(desk.alloc, bytes) {
         desk.step(machine, node, Input::Packet(packet))?;
     }
     Ok(())
@@ -110,6 +124,7 @@ fn serve_controller<M: Machine, E: Engine, D: Disk>(
     machine: &M,
     desk: &mut Desk,
     node: &mut Node<E, D>,
+    bytes: &mut Bytes<'_, M>,
     stream: &TcpStream,
 ) -> Result<(), Stop>
     requires valid { IsNode E.valid D.tells D.seen D.may_leave node.old }
@@ -117,10 +132,7 @@ fn serve_controller<M: Machine, E: Engine, D: Disk>(
     ensures valid { IsNode E.valid D.tells D.seen D.may_leave node.new }
     ensures gone { (low : ℕ) → HasGone E.meaning E.heard D.tells D.may_leave low low node.old node.new result }
 {
-    let Ok(mut reader) = hurry(machine, stream) else {
-        return Ok(());
-    };
-    match receive(desk.alloc, &mut reader) {
+    match receive(desk.alloc, bytes) {
         Some(Frame::Move { key, to }) => obey(machine, desk, node, stream, Input::Move { key, to }),
         Some(Frame::Tick) => obey(machine, desk, node, stream, Input::Tick),
         Some(Frame::Halt) => {
@@ -138,27 +150,19 @@ fn has_failed(outcome: Outcome) -> bool
     matches!(outcome, Outcome::Failed)
 }
 
-/// Keeps a client whose request waits, and closes the connection of any other.
-fn see_off(
-    desk: &mut Desk,
-    connection: Connection,
-    stream: TcpStream,
-    token: u64,
-    outcome: Outcome,
-) {
+/// What is left to be done for a client, by what came of its request.
+fn left_for(connection: Connection, outcome: Outcome) -> Left {
     match outcome {
-        Outcome::Parked { head_only } => desk.lobby.add(Client {
-            token,
+        Outcome::Parked { head_only } => Left::Waiting {
             connection,
-            stream,
             head_only,
-        }),
-        Outcome::Refused(_) => part(&stream),
+        },
+        Outcome::Refused(_) => Left::Parting,
         Outcome::Answered
         | Outcome::Closed
         | Outcome::ReadFailed
         | Outcome::WriteFailed
-        | Outcome::Failed => {}
+        | Outcome::Failed => Left::Nothing,
     }
 }
 
@@ -167,9 +171,10 @@ fn serve_client<M: Machine, E: Engine, D: Disk>(
     machine: &M,
     desk: &mut Desk,
     node: &mut Node<E, D>,
-    stream: TcpStream,
+    bytes: &mut Bytes<'_, M>,
+    stream: &TcpStream,
     token: u64,
-) -> Result<(), Stop>
+) -> Result<Left, Stop>
     requires valid { IsNode E.valid D.tells D.seen D.may_leave node.old }
     requires live { IsTrue (journal_of node.old).live }
     ensures valid { IsNode E.valid D.tells D.seen D.may_leave node.new }
@@ -177,20 +182,74 @@ fn serve_client<M: Machine, E: Engine, D: Disk>(
 {
     let moment = desk.moment(machine)?;
     let mut connection = Connection::new(desk.alloc, true);
-    let outcome = {
-        let Ok(mut reader) = hurry(machine, &stream) else {
-            return Ok(());
-        };
-        let mut writer = &stream;
-        let served = connection.serve_next(&mut reader, &mut writer, node, moment, token);
-        desk.hand_on(machine, served.outputs, moment.now);
-        served.outcome
-    };
-    if has_failed(outcome) {
+    let mut writer = stream;
+    let served = connection.serve_next(bytes, &mut writer, node, moment, token);
+    desk.hand_on(machine, served.outputs, moment.now);
+    if has_failed(served.outcome) {
         return Err(Stop::Fault(HostFault::Device));
     }
-    see_off(desk, connection, stream, token, outcome);
-    Ok(())
+    Ok(left_for(connection, served.outcome))
+}
+
+/// Reads the first bytes of a connection: the first of all, and what it brings, that byte among it.
+fn begin<'a, M: Machine>(
+    machine: &'a M,
+    stream: &'a TcpStream,
+    piece: &'a mut [u8; FIRST_READ],
+) -> io::Result<(u8, Bytes<'a, M>)> {
+    let mut rest = hurry(machine, stream)?;
+    let count = rest.read(piece)?;
+    match &piece[..count] {
+        [] => Err(ErrorKind::UnexpectedEof.into()),
+        first @ [byte, ..] => Ok((*byte, first.chain(rest))),
+    }
+}
+
+/// Serves whoever has connected; nobody where the connection breaks off, or nothing comes.
+fn serve_caller<M: Machine, E: Engine, D: Disk>(
+    machine: &M,
+    desk: &mut Desk,
+    node: &mut Node<E, D>,
+    stream: &TcpStream,
+    number: u64,
+) -> Result<Left, Stop>
+    requires valid { IsNode E.valid D.tells D.seen D.may_leave node.old }
+    requires live { IsTrue (journal_of node.old).live }
+    ensures valid { IsNode E.valid D.tells D.seen D.may_leave node.new }
+    ensures gone { (low : ℕ) → low < number → HasGone E.meaning E.heard D.tells D.may_leave low number node.old node.new result }
+{
+    let mut piece = [0u8; FIRST_READ];
+    let Ok((first, mut bytes)) = begin(machine, stream, &mut piece) else {
+        return Ok(Left::Nothing);
+    };
+    match caller_of(first) {
+        Caller::Peer => {
+            serve_peer(machine, desk, node, &mut bytes)?;
+            Ok(Left::Nothing)
+        }
+        Caller::Controller => {
+            serve_controller(machine, desk, node, &mut bytes, stream)?;
+            Ok(Left::Nothing)
+        }
+        Caller::Client => serve_client(machine, desk, node, &mut bytes, stream, number),
+    }
+}
+
+/// Keeps a client whose request waits, and closes the connection of any other.
+fn see_off(desk: &mut Desk, stream: TcpStream, token: u64, left: Left) {
+    match left {
+        Left::Waiting {
+            connection,
+            head_only,
+        } => desk.lobby.add(Client {
+            token,
+            connection,
+            stream,
+            head_only,
+        }),
+        Left::Parting => part(&stream),
+        Left::Nothing => {}
+    }
 }
 
 /// Serves a connection, the one with this number since the node's start. Whatever its other end does, the node goes on.
@@ -206,13 +265,7 @@ pub fn serve<M: Machine, E: Engine, D: Disk>(
     ensures valid { IsNode E.valid D.tells D.seen D.may_leave node.new }
     ensures gone { (low : ℕ) → low < number → HasGone E.meaning E.heard D.tells D.may_leave low number node.old node.new result }
 {
-    if set_patience(&stream).is_err() {
-        return Ok(());
-    }
-    match caller_on(&stream) {
-        Caller::Peer => serve_peer(machine, desk, node, &stream),
-        Caller::Controller => serve_controller(machine, desk, node, &stream),
-        Caller::Client => serve_client(machine, desk, node, stream, number),
-        Caller::Nobody => Ok(()),
-    }
+    let left = serve_caller(machine, desk, node, &stream, number)?;
+    see_off(desk, stream, number, left);
+    Ok(())
 }

@@ -93,3 +93,17 @@ fn commands_are_answered_by_a_byte(rt: HostRuntime) -> Result<(), Fail> {
     assert_eq!(rt; answer(rt.alloc(), &client)?, Some('1'));
     Ok(())
 }
+
+/// A caller that says nothing, and doesn't go away, holds up those behind it for a while, and not for ever.
+#[test]
+fn those_behind_a_silent_caller_are_served(rt: HostRuntime) -> Result<(), Fail> {
+    let town = Town::new(&rt)?;
+    let host = Host::at(&rt, town.place(&rt)?)?;
+    let silent = town.call(&rt, b"")?;
+    let client = town.ask(&rt, [0, 9])?;
+    town.call(&rt, HALT)?;
+    assert_eq!(rt; serve_all(&rt, host)?, None);
+    assert!(rt; heard(rt.alloc(), &silent)?.is_empty());
+    assert_eq!(rt; answer(rt.alloc(), &client)?, Some('1'));
+    Ok(())
+}

@@ -21,9 +21,9 @@ fn life(
     Ok((client, live(rt, host, a, b)?))
 }
 
-/// A session outlives the process that made it, whose port can be listened at again at once.
+/// A session outlives the node that made it, whose port can be listened at again at once.
 #[test]
-fn a_session_outlives_its_process(rt: HostRuntime) -> Result<(), Fail> {
+fn a_session_outlives_its_node(rt: HostRuntime) -> Result<(), Fail> {
     let town = Town::new(&rt)?;
     let (a, b) = (MemoryDisk::new(rt.alloc()), MemoryDisk::new(rt.alloc()));
     let (first, ended) = life(&rt, &town, a, b, [0, 9])?;

@@ -12,8 +12,8 @@ loop-count-init g c =
       goes = goes_nowhere e.meaning e.heard d.tells d.may_leave d.moment d.left_since 0 0 c.args.node.now (omega arith) c.requires.live;
     }
 
-pub loop-count-preserved-in_default : goal.loop-count-preserved-in_default
-loop-count-preserved-in_default g c =
+pub loop-count-preserved-in-Ok-None : goal.loop-count-preserved-in-Ok-None
+loop-count-preserved-in-Ok-None g c =
     let e = g.E.Engine in
     let d = g.D.Disk in
     let l = c.loop-count in
@@ -24,13 +24,13 @@ loop-count-preserved-in_default g c =
           (goes_nowhere e.meaning e.heard d.tells d.may_leave d.moment d.left_since l.count more l.node (omega arith) l.invariant.goes.live);
     }
 
-pub returns-in-Err-clause-ended : goal.returns-in-Err-clause-ended
-returns-in-Err-clause-ended g c =
+pub returns-in-Err-serve-clause-ended : goal.returns-in-Err-serve-clause-ended
+returns-in-Err-serve-clause-ended g c =
     let e = g.E.Engine in
     let d = g.D.Disk in
     let l = c.loop-count in
     let more = l.count + 1 in
-    (more, gone_join e.meaning e.heard d.tells d.may_leave d.moment d.left_since 0 l.count more c.args.node.now l.node c.serve.new.node l.invariant.goes {T = ⊤} {F = ⊤} (Err tt) (c.in-Err.ensures.gone l.count (omega arith)))
+    (more, gone_join e.meaning e.heard d.tells d.may_leave d.moment d.left_since 0 l.count more c.args.node.now l.node c.serve.new.node l.invariant.goes {T = ⊤} {F = ⊤} (Err tt) (c.in-Err-serve.ensures.gone l.count (omega arith)))
 
 pub returns-in-Err-look_after-clause-ended : goal.returns-in-Err-look_after-clause-ended
 returns-in-Err-look_after-clause-ended g c =
@@ -38,7 +38,7 @@ returns-in-Err-look_after-clause-ended g c =
     let d = g.D.Disk in
     let l = c.loop-count in
     let more = l.count + 1 in
-    let served = goes_join e.meaning e.heard d.tells d.may_leave d.moment d.left_since 0 l.count more c.args.node.now l.node c.serve.new.node l.invariant.goes (c.in_default-serve.ensures.gone l.count (omega arith)) in
+    let served = goes_join e.meaning e.heard d.tells d.may_leave d.moment d.left_since 0 l.count more c.args.node.now l.node c.serve.new.node l.invariant.goes (c.in_default.ensures.gone l.count (omega arith)) in
     (more, gone_join e.meaning e.heard d.tells d.may_leave d.moment d.left_since 0 more more c.args.node.now c.serve.new.node c.look_after.new.node served {T = ⊤} {F = ⊤} (Err tt) (c.in-Err-look_after.ensures.gone more))
 
 pub loop-count-preserved : goal.loop-count-preserved
@@ -47,7 +47,7 @@ loop-count-preserved g c =
     let d = g.D.Disk in
     let l = c.loop-count in
     let more = l.count + 1 in
-    let served = goes_join e.meaning e.heard d.tells d.may_leave d.moment d.left_since 0 l.count more c.args.node.now l.node c.serve.new.node l.invariant.goes (c.in_default-serve.ensures.gone l.count (omega arith)) in
+    let served = goes_join e.meaning e.heard d.tells d.may_leave d.moment d.left_since 0 l.count more c.args.node.now l.node c.serve.new.node l.invariant.goes (c.in_default.ensures.gone l.count (omega arith)) in
     record {
       valid = c.look_after.ensures.valid;
       goes = goes_join e.meaning e.heard d.tells d.may_leave d.moment d.left_since 0 more more c.args.node.now c.serve.new.node c.look_after.new.node served (c.in_default-look_after.ensures.gone more);

@@ -21,12 +21,6 @@ returns-in_err-moment-clause-gone g c = λ low below.
     gone_on e.meaning e.heard d.tells d.may_leave d.moment d.left_since low c.args.token node node c.from_residual.result
     (goes_nowhere e.meaning e.heard d.tells d.may_leave d.moment d.left_since low c.args.token node (omega (arith, below)) c.requires.live)
 
-pub returns-in_default-clause-gone : goal.returns-in_default-clause-gone
-returns-in_default-clause-gone g c = λ low below.
-    let e = g.E.Engine in
-    let d = g.D.Disk in
-    goes_nowhere e.meaning e.heard d.tells d.may_leave d.moment d.left_since low c.args.token c.args.node.now (omega (arith, below)) c.requires.live
-
 pub returns-then-has_failed-clause-gone : goal.returns-then-has_failed-clause-gone
 returns-then-has_failed-clause-gone g c = λ low below.
     let e = g.E.Engine in

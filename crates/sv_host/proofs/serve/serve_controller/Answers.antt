@@ -2,12 +2,6 @@ use Rattle.std.proofs.Common.{inl, arith}
 use Rattle.sv_node.proofs.HistoryLemmas.{goes_nowhere, gone_on}
 use Rattle.sv_host.proofs.serve.serve_controller.Goals as goal
 
-pub returns-in_default-clause-gone : goal.returns-in_default-clause-gone
-returns-in_default-clause-gone g c = λ low.
-    let e = g.E.Engine in
-    let d = g.D.Disk in
-    goes_nowhere e.meaning e.heard d.tells d.may_leave d.moment d.left_since low low c.args.node.now (omega arith) c.requires.live
-
 pub returns-in-Some-Move-clause-gone : goal.returns-in-Some-Move-clause-gone
 returns-in-Some-Move-clause-gone g c = λ low. c.obey.ensures.gone low tt
 

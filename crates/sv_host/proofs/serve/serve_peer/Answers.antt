@@ -2,14 +2,8 @@ use Rattle.std.proofs.Common.{arith}
 use Rattle.sv_node.proofs.HistoryLemmas.{goes_nowhere}
 use Rattle.sv_host.proofs.serve.serve_peer.Goals as goal
 
-pub returns-in_default-clause-gone : goal.returns-in_default-clause-gone
-returns-in_default-clause-gone g c = λ low.
-    let e = g.E.Engine in
-    let d = g.D.Disk in
-    goes_nowhere e.meaning e.heard d.tells d.may_leave d.moment d.left_since low low c.args.node.now (omega arith) c.requires.live
-
-pub returns-in-Ok : goal.returns-in-Ok
-returns-in-Ok g c =
+pub returns : goal.returns
+returns g c =
     let e = g.E.Engine in
     let d = g.D.Disk in
     record {
@@ -17,8 +11,8 @@ returns-in-Ok g c =
       gone = λ low. goes_nowhere e.meaning e.heard d.tells d.may_leave d.moment d.left_since low low c.args.node.now (omega arith) c.requires.live;
     }
 
-pub returns-in-Ok-2-clause-gone : goal.returns-in-Ok-2-clause-gone
-returns-in-Ok-2-clause-gone g c = λ low.
+pub returns-2-clause-gone : goal.returns-2-clause-gone
+returns-2-clause-gone g c = λ low.
     let e = g.E.Engine in
     let d = g.D.Disk in
     goes_nowhere e.meaning e.heard d.tells d.may_leave d.moment d.left_since low low c.args.node.now (omega arith) c.requires.live
