@@ -8,7 +8,7 @@ ghost use Rattle.sv_node.specs.Node.{IsNode, journal_of};
 use crate::desk::{Desk, Taken};
 use crate::fault::{HostFault, Stop};
 use crate::machine::{Machine, seconds};
-use crate::serve::serve;
+use crate::serve::{FIRST_READ, serve};
 use std::io::ErrorKind;
 use std::net::{OpenListener, TcpListener, TcpStream};
 use sv_journal::{Disk, JournalFault};
@@ -140,13 +140,14 @@ pub fn attend<M: Machine, E: Engine, D: Disk>(
     ensures ended { HasEnded E.meaning E.heard D.tells D.may_leave node.old node.new }
 {
     let mut failed: u32 = 0;
+    let mut piece = [0u8; FIRST_READ];
     for count in 0..u64::MAX {
         let stream = match accept(listener, &mut failed) {
             Ok(Some(stream)) => stream,
             Ok(None) => continue,
             Err(fault) => return Stop::Fault(fault),
         };
-        if let Err(stop) = serve(machine, desk, node, stream, count + 1) {
+        if let Err(stop) = serve(machine, desk, node, stream, &mut piece, count + 1) {
             return stop;
         }
         if let Err(stop) = look_after(machine, desk, node) {

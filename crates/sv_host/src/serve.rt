@@ -22,7 +22,7 @@ use sv_node::Node;
 use sv_record::{CONTROL, Frame, PEER};
 
 /// So many bytes of a connection are read before it is known what they are: more than most requests and packets have.
-const FIRST_READ: usize = 4_096;
+pub const FIRST_READ: usize = 4_096;
 
 /// What a connection brings: the bytes that were read first, and those behind them.
 type Bytes<'a, M> = Chain<&'a [u8], Hurried<'a, M>>;
@@ -211,6 +211,7 @@ fn serve_caller<M: Machine, E: Engine, D: Disk>(
     desk: &mut Desk,
     node: &mut Node<E, D>,
     stream: &TcpStream,
+    piece: &mut [u8; FIRST_READ],
     number: u64,
 ) -> Result<Left, Stop>
     requires valid { IsNode E.valid D.tells D.seen D.may_leave node.old }
@@ -218,8 +219,7 @@ fn serve_caller<M: Machine, E: Engine, D: Disk>(
     ensures valid { IsNode E.valid D.tells D.seen D.may_leave node.new }
     ensures gone { (low : ℕ) → low < number → HasGone E.meaning E.heard D.tells D.may_leave low number node.old node.new result }
 {
-    let mut piece = [0u8; FIRST_READ];
-    let Ok((first, mut bytes)) = begin(machine, stream, &mut piece) else {
+    let Ok((first, mut bytes)) = begin(machine, stream, piece) else {
         return Ok(Left::Nothing);
     };
     match caller_of(first) {
@@ -252,12 +252,14 @@ fn see_off(desk: &mut Desk, stream: TcpStream, token: u64, left: Left) {
     }
 }
 
-/// Serves a connection, the one with this number since the node's start. Whatever its other end does, the node goes on.
+/// Serves a connection, under a number that no earlier one has had since the node's start. Whatever its other end does, the
+/// node goes on. What is read first is read into the piece.
 pub fn serve<M: Machine, E: Engine, D: Disk>(
     machine: &M,
     desk: &mut Desk,
     node: &mut Node<E, D>,
     stream: TcpStream,
+    piece: &mut [u8; FIRST_READ],
     number: u64,
 ) -> Result<(), Stop>
     requires valid { IsNode E.valid D.tells D.seen D.may_leave node.old }
@@ -265,7 +267,7 @@ pub fn serve<M: Machine, E: Engine, D: Disk>(
     ensures valid { IsNode E.valid D.tells D.seen D.may_leave node.new }
     ensures gone { (low : ℕ) → low < number → HasGone E.meaning E.heard D.tells D.may_leave low number node.old node.new result }
 {
-    let left = serve_caller(machine, desk, node, &stream, number)?;
+    let left = serve_caller(machine, desk, node, &stream, piece, number)?;
     see_off(desk, stream, number, left);
     Ok(())
 }
