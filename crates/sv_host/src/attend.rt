@@ -21,7 +21,8 @@ const COMPACTING: u64 = 4_194_304;
 /// So many connections in turn can't be accepted before the node gives up its socket.
 const TRIES: u32 = 1_000;
 
-/// Serves waiting requests whose sessions have come, until none is left.
+/// Serves waiting requests whose sessions have come, until none is left. Where nobody waits there is nothing to look for, and no
+/// secret is drawn for it.
 fn settle<M: Machine, E: Engine, D: Disk>(
     machine: &M,
     desk: &mut Desk,
@@ -32,6 +33,9 @@ fn settle<M: Machine, E: Engine, D: Disk>(
     ensures valid { IsNode E.valid D.tells D.seen D.may_leave node.new }
     ensures gone { (low : ℕ) → HasGone E.meaning E.heard D.tells D.may_leave low low node.old node.new result }
 {
+    if !desk.lobby.may_wait() {
+        return Ok(());
+    }
     for _ in 0..=PARK_LIMIT {
         match desk.step(machine, node, Input::Poke)? {
             Taken::Quiet | Taken::Refused => return Ok(()),

@@ -20,6 +20,8 @@ pub struct Client {
 #[derive(Drop)]
 pub struct Lobby {
     clients: Vec<Client>,
+    /// Memory was refused for a client, so that its request waits and it doesn't.
+    has_lost: bool,
     alloc: Global,
 }
 
@@ -27,6 +29,7 @@ impl Lobby {
     pub fn new(alloc: Global) -> Lobby {
         Lobby {
             clients: Vec::new(alloc),
+            has_lost: false,
             alloc,
         }
     }
@@ -34,7 +37,15 @@ impl Lobby {
     /// Keeps a client until its answer is there. Where memory is refused its connection is closed: the node serves its
     /// request, as that of a client which has gone away.
     pub fn add(&mut self, client: Client) {
-        let _: Result<(), AllocFailed<Client>> = self.clients.push(client);
+        let kept: Result<(), AllocFailed<Client>> = self.clients.push(client);
+        if kept.is_err() {
+            self.has_lost = true;
+        }
+    }
+
+    /// A request may be waiting at the node.
+    pub fn may_wait(&self) -> bool {
+        self.has_lost || !self.clients.is_empty()
     }
 
     /// The client that waits under a token, which waits no longer.

@@ -23,10 +23,12 @@ fn secrets_come_to_an_end(rt: HostRuntime) -> Result<(), Fail> {
     let copy = String::from_str(rt.alloc(), &secrets)?;
     let host = Host::at(&rt, town.place_with(&rt, Some(copy))?)?;
     let client = town.ask(&rt, [0, 9])?;
+    let late = town.ask(&rt, [0, 9])?;
     let (a, b) = (MemoryDisk::new(rt.alloc()), MemoryDisk::new(rt.alloc()));
     let ended = live(&rt, host, a, b)?;
     assert_eq!(rt; ended.fault, Some(HostFault::Secrets));
     assert_eq!(rt; answer(rt.alloc(), &client)?, Some('1'));
+    assert_eq!(rt; answer(rt.alloc(), &late)?, None);
     fs::remove_file(&rt, &secrets)?;
     Ok(())
 }

@@ -2,6 +2,12 @@ use Rattle.std.proofs.Common.{arith}
 use Rattle.sv_node.proofs.HistoryLemmas.{goes_nowhere, goes_join, gone_join, gone_in, gone_out}
 use Rattle.sv_host.proofs.attend.settle.Goals as goal
 
+pub returns-then-not-may_wait-clause-gone : goal.returns-then-not-may_wait-clause-gone
+returns-then-not-may_wait-clause-gone g c = λ low.
+    let e = g.E.Engine in
+    let d = g.D.Disk in
+    goes_nowhere e.meaning e.heard d.tells d.may_leave d.moment d.left_since low low c.args.node.now (omega arith) c.requires.live
+
 pub loop-init : goal.loop-init
 loop-init g c =
     let e = g.E.Engine in
