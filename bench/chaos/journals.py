@@ -34,11 +34,19 @@ class State:
         return self.held[key].epoch if key in self.held else 0
 
 
+# How many bytes the length of an attribute's value takes, by the version of its record.
+VALUE_LENGTH = {1: 2, 2: 4}
+
+
 class Bytes:
-    """The bytes of a record that aren't read yet."""
+    """The bytes of a record that aren't read yet. The first of them is its version."""
 
     def __init__(self, data):
         self.data, self.at = data, 0
+        version = self.number(1)
+        if version not in VALUE_LENGTH:
+            raise Damaged("another version")
+        self.value_length = VALUE_LENGTH[version]
 
     def take(self, count):
         if self.at + count > len(self.data):
@@ -58,7 +66,7 @@ class Bytes:
         attributes = {}
         for _ in range(self.number(2)):
             name = self.take(self.number(2)).decode()
-            attributes[name] = self.take(self.number(2))
+            attributes[name] = self.take(self.number(self.value_length))
         return attributes
 
 
@@ -112,9 +120,7 @@ def replay_state(state, record):
 
 def replay_record(state, payload):
     record = Bytes(payload)
-    version, kind = record.number(1), record.number(1)
-    if version != 1:
-        raise Damaged("another version")
+    kind = record.number(1)
     if kind == 1:
         state.boot = record.number(8)
     elif kind == 2:

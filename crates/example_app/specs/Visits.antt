@@ -1,7 +1,7 @@
 -- What the listener notes.
 use Rattle.std.specs.Prelude.{ℕ, ◌+◌, ◌-◌, ◌^◌, min, List, map}
 use Rattle.sv_model.specs.declared.event.Event.{Event}
-use Rattle.sv_model.specs.declared.event.Event.TheVariants.{ContextUp, ContextDown, RequestIn, RequestOut, Created, Destroyed, Added, Removed, Replaced, Passivate, Activate}
+use Rattle.sv_model.specs.declared.event.Event.TheVariants.{ContextUp, ContextDown, RequestIn, RequestOut, Created, Destroyed, Added, Removed, Replaced, Passivate, Activate, IdChanged}
 
 -- a request that comes in is one more; the greatest number stays
 abbrev pub counted : Event → List ℕ → List ℕ
@@ -16,3 +16,4 @@ counted (Removed key name old) numbers = numbers
 counted (Replaced key name old) numbers = numbers
 counted (Passivate key) numbers = numbers
 counted (Activate key) numbers = numbers
+counted (IdChanged key old) numbers = numbers

@@ -6,8 +6,6 @@
 mod latch;
 mod serve;
 mod start;
-#[cfg(test)]
-mod tests;
 mod visits;
 mod welcome;
 

@@ -1,3 +1,2 @@
 mod RequestLemmas
-mod ScriptLemmas
 mod SessionLemmas

@@ -1,4 +1,3 @@
 pub mod Fault
 pub mod Request
-pub mod Script
 pub mod Words

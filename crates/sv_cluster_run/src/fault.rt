@@ -4,9 +4,9 @@ ghost use Rattle.std.specs.Prelude.{◌≡◌};
 ghost use Rattle.sv_cluster_run.specs.Fault.{status_of};
 ghost use Rattle.sv_cluster_run.specs.declared.fault.Fault.TheVariants.{Arguments, Script};
 
-use crate::script::ScriptFault;
 use crate::words::Arguments as BadWords;
 use sv_config::ConfigFault;
+use sv_script::ScriptFault;
 use thiserror::Error;
 
 /// Why the program ends before its script does. Its text is its name, which the program prints.

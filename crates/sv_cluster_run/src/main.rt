@@ -19,15 +19,11 @@ mod fault;
 mod files;
 mod machine;
 mod nodes;
-mod number;
 mod perform;
 mod process;
 mod reply;
 mod request;
-mod script;
 mod session;
-#[cfg(test)]
-mod tests;
 mod words;
 
 use fault::Fault;

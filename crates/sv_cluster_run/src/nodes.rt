@@ -5,7 +5,6 @@ ghost use Rattle.std.specs.Prelude.{◌<◌, IfSome, vec_len};
 use crate::exchange::{Address, command, exchange};
 use crate::fault::Fault;
 use crate::machine::Machine;
-use crate::number::NodeNumber;
 use crate::process::{await_end, kill, start};
 use crate::reply::read_reply;
 use crate::request::write_request;
@@ -14,6 +13,7 @@ use crate::words::Words;
 use std::process::Child;
 use sv_config::Cluster as Described;
 use sv_record::Frame;
+use sv_script::NodeNumber;
 
 /// So many seconds beyond its deadline a node may take for an answer.
 const SLACK: u64 = 10;
@@ -102,16 +102,19 @@ impl<'a, M: Machine> Nodes<'a, M> {
         }
     }
 
-    /// Asks a node for a path, with the cookie of the session. The answer's status and body are given.
-    pub fn ask(&mut self, node: NodeNumber, path: &str) -> Result<(u16, Vec<u8>), Fault> {
-        let alloc = self.machine.alloc();
-        let address = self.address_of(node)?;
-        let mut request = Vec::new(alloc);
-        if write_request(path, self.session.as_ref(), &mut request).is_err() {
-            return Err(Fault::Socket);
+    /// The request for a path, with the cookie of the session.
+    fn request_for(&self, path: &str) -> Result<Vec<u8>, Fault> {
+        let mut request = Vec::new(self.machine.alloc());
+        match write_request(path, self.session.as_ref(), &mut request) {
+            Ok(()) => Ok(request),
+            Err(_) => Err(Fault::Socket),
         }
-        let answer = exchange(self.machine, address, request.as_slice())?;
-        let Some(reply) = read_reply(alloc, answer.as_slice()) else {
+    }
+
+    /// The status and the body of an answer, whose session is the one that is followed from now on.
+    fn heard(&mut self, answer: &[u8]) -> Result<(u16, Vec<u8>), Fault> {
+        let alloc = self.machine.alloc();
+        let Some(reply) = read_reply(alloc, answer) else {
             return Err(Fault::Socket);
         };
         self.session = reply.session.or(self.session);
@@ -119,6 +122,14 @@ impl<'a, M: Machine> Nodes<'a, M> {
             Ok(body) => Ok((reply.status, body)),
             Err(_) => Err(Fault::Socket),
         }
+    }
+
+    /// Asks a node for a path, with the cookie of the session. The answer's status and body are given.
+    pub fn ask(&mut self, node: NodeNumber, path: &str) -> Result<(u16, Vec<u8>), Fault> {
+        let address = self.address_of(node)?;
+        let request = self.request_for(path)?;
+        let answer = exchange(self.machine, address, request.as_slice())?;
+        self.heard(answer.as_slice())
     }
 
     /// Has a node hand the session over to another. The node's answer is given: 0, or why it refuses.

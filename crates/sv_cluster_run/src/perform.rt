@@ -4,11 +4,12 @@ use crate::fault::Fault;
 use crate::files::{read_cluster, read_text};
 use crate::machine::Machine;
 use crate::nodes::Nodes;
-use crate::script::{Act, Line, read_script};
 use crate::words::Words;
 use std::alloc::{AllocError, Global};
 use std::io;
 use std::io::Write;
+use sv_config::Cluster;
+use sv_script::{Act, Line, NodeNumber, read_script};
 
 /// The bytes of a text.
 fn text(alloc: Global, text: &str) -> Result<Vec<u8>, AllocError> {
@@ -40,6 +41,58 @@ fn printed(said: Result<Vec<u8>, AllocError>) -> Result<Vec<u8>, Fault> {
     }
 }
 
+/// `start N`.
+fn start<M: Machine>(
+    alloc: Global,
+    nodes: &mut Nodes<'_, M>,
+    node: NodeNumber,
+) -> Result<Vec<u8>, Fault> {
+    nodes.start(node)?;
+    printed(text(alloc, "ready"))
+}
+
+/// `ask N PATH`.
+fn ask<M: Machine>(
+    alloc: Global,
+    nodes: &mut Nodes<'_, M>,
+    node: NodeNumber,
+    path: &str,
+) -> Result<Vec<u8>, Fault> {
+    let (status, body) = nodes.ask(node, path)?;
+    printed(page(alloc, status, body.as_slice()))
+}
+
+/// `move N TO`.
+fn hand_over<M: Machine>(
+    alloc: Global,
+    nodes: &Nodes<'_, M>,
+    node: NodeNumber,
+    to: NodeNumber,
+) -> Result<Vec<u8>, Fault> {
+    let byte = nodes.hand_over(node, to)?;
+    printed(verdict(alloc, byte, "moved"))
+}
+
+/// `tick N`.
+fn tick<M: Machine>(
+    alloc: Global,
+    nodes: &Nodes<'_, M>,
+    node: NodeNumber,
+) -> Result<Vec<u8>, Fault> {
+    let byte = nodes.tick(node)?;
+    printed(verdict(alloc, byte, "done"))
+}
+
+/// `halt N`.
+fn halt<M: Machine>(
+    alloc: Global,
+    nodes: &mut Nodes<'_, M>,
+    node: NodeNumber,
+) -> Result<Vec<u8>, Fault> {
+    nodes.halt(node)?;
+    printed(text(alloc, "done"))
+}
+
 /// Does what a line asks for. What is to be printed of it is given.
 fn perform<M: Machine>(
     alloc: Global,
@@ -47,26 +100,11 @@ fn perform<M: Machine>(
     act: Act<'_>,
 ) -> Result<Vec<u8>, Fault> {
     match act {
-        Act::Start(node) => {
-            nodes.start(node)?;
-            printed(text(alloc, "ready"))
-        }
-        Act::Ask { node, path } => {
-            let (status, body) = nodes.ask(node, path)?;
-            printed(page(alloc, status, body.as_slice()))
-        }
-        Act::Move { node, to } => {
-            let byte = nodes.hand_over(node, to)?;
-            printed(verdict(alloc, byte, "moved"))
-        }
-        Act::Tick(node) => {
-            let byte = nodes.tick(node)?;
-            printed(verdict(alloc, byte, "done"))
-        }
-        Act::Halt(node) => {
-            nodes.halt(node)?;
-            printed(text(alloc, "done"))
-        }
+        Act::Start(node) => start(alloc, nodes, node),
+        Act::Ask { node, path } => ask(alloc, nodes, node, path),
+        Act::Move { node, to } => hand_over(alloc, nodes, node, to),
+        Act::Tick(node) => tick(alloc, nodes, node),
+        Act::Halt(node) => halt(alloc, nodes, node),
     }
 }
 
@@ -101,14 +139,29 @@ fn run_lines<M: Machine>(
     Ok(())
 }
 
-/// Runs a script over the cluster of a descriptor. Nodes that still run behind its last line, or behind a fault, are halted.
-pub fn run_script(machine: &impl Machine, words: Words<'_>) -> Result<(), Fault> {
-    let alloc = machine.alloc();
-    let described = read_cluster(machine, words.config)?;
-    let text = read_text(machine, words.script)?;
-    let lines = read_script(alloc, text.as_str())?;
+/// Runs these lines over a cluster. Nodes that still run behind the last line, or behind a fault, are halted.
+fn run_over(
+    machine: &impl Machine,
+    words: Words<'_>,
+    described: Cluster,
+    lines: &[Line<'_>],
+) -> Result<(), Fault> {
     let mut nodes = Nodes::new(machine, words, described);
-    let ran = run_lines(machine, &mut nodes, lines.as_slice());
+    let ran = run_lines(machine, &mut nodes, lines);
     let halted = nodes.halt_all();
     ran.and(halted)
+}
+
+/// What CONFIG describes, and the text of SCRIPT.
+fn read_files(machine: &impl Machine, words: Words<'_>) -> Result<(Cluster, String), Fault> {
+    let described = read_cluster(machine, words.config)?;
+    let text = read_text(machine, words.script)?;
+    Ok((described, text))
+}
+
+/// Runs a script over the cluster of a descriptor.
+pub fn run_script(machine: &impl Machine, words: Words<'_>) -> Result<(), Fault> {
+    let (described, text) = read_files(machine, words)?;
+    let lines = read_script(machine.alloc(), text.as_str())?;
+    run_over(machine, words, described, lines.as_slice())
 }

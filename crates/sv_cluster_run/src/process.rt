@@ -2,11 +2,37 @@
 
 use crate::fault::Fault;
 use crate::machine::Machine;
-use crate::number::NodeNumber;
 use crate::words::Words;
+use std::alloc::Global;
 use std::io;
 use std::io::{ErrorKind, Read};
 use std::process::{Child, Command, OpenProcess, Stdio};
+use sv_script::NodeNumber;
+
+/// Adds words behind those of a command.
+fn add_words(command: &mut Command, words: &[&str]) -> io::Result<()> {
+    for word in words {
+        command.arg(word)?;
+    }
+    Ok(())
+}
+
+/// The program with these words.
+fn command_of(alloc: Global, program: &str, words: &[&str]) -> io::Result<Command> {
+    let mut command = Command::new(alloc, program)?;
+    match add_words(&mut command, words) {
+        Ok(()) => Ok(command),
+        Err(error) => Err(error),
+    }
+}
+
+/// Starts a command, with nothing to read; what it prints is heard.
+fn launch<M: Machine>(machine: &M, mut command: Command) -> io::Result<Child<M::Started>> {
+    command
+        .stdin(Stdio::null())
+        .stdout(Stdio::piped())
+        .spawn(machine)
+}
 
 /// Starts the program as a node.
 fn spawn<M: Machine>(
@@ -18,14 +44,12 @@ fn spawn<M: Machine>(
     let number = node.value;
     let journal = format!(in alloc; "{}/j{number}", words.folder)?;
     let number = format!(in alloc; "{number}")?;
-    let mut command = Command::new(alloc, words.node)?;
-    command
-        .arg(words.config)?
-        .arg(journal.as_str())?
-        .arg(number.as_str())?
-        .stdin(Stdio::null())
-        .stdout(Stdio::piped())
-        .spawn(machine)
+    let command = command_of(
+        alloc,
+        words.node,
+        &[words.config, journal.as_str(), number.as_str()],
+    )?;
+    launch(machine, command)
 }
 
 /// Waits for the line `ready` with the node's number.

@@ -2,7 +2,7 @@
 
 ghost use Rattle.std.specs.Prelude.{◌≡◌, IfOk, map, codes, string_bytes};
 ghost use Rattle.toml.specs.View.{table_view};
-ghost use Rattle.sv_config.specs.Document.{tables_at};
+ghost use Rattle.sv_config.specs.Document.{tables_at, column};
 ghost use Rattle.sv_config.specs.Values as spec;
 
 use crate::columns::{column, tables_at};
@@ -35,23 +35,54 @@ fn contexts_of(alloc: Global, tables: &[&Table]) -> Result<Vec<Context>, AllocEr
     Ok(contexts)
 }
 
-#[tactic(auto, unfolding(crate::specs::Values::context_of))]
 fn context_of(alloc: Global, table: &Table) -> Result<Context, AllocError>
     ensures { IfOk result (λ context. spec.context_data context ≡ spec.context_of (table_view table.now)) }
 {
     let servlets = column(alloc, table, "servlet", "name")?;
     let filters = column(alloc, table, "filter", "name")?;
     let listeners = column(alloc, table, "listener", "name")?;
+    context_with(alloc, table, &servlets, &filters, &listeners)
+}
+
+/// The context of these servlets, filters and listeners.
+#[tactic(auto, unfolding(crate::specs::Values::context_of))]
+fn context_with(
+    alloc: Global,
+    table: &Table,
+    servlets: &[&str],
+    filters: &[&str],
+    listeners: &[&str],
+) -> Result<Context, AllocError>
+    requires servlets { map (λ name. name.now) servlets.now ≡ column (codes "servlet") (codes "name") (table_view table.now) }
+    requires filters { map (λ name. name.now) filters.now ≡ column (codes "filter") (codes "name") (table_view table.now) }
+    requires listeners { map (λ name. name.now) listeners.now ≡ column (codes "listener") (codes "name") (table_view table.now) }
+    ensures { IfOk result (λ context. spec.context_data context ≡ spec.context_of (table_view table.now)) }
+{
+    let (servlet_names, filter_names) = owned_both(alloc, servlets, filters)?;
     Ok(Context {
         path: String::from_str(alloc, text_or_empty(table, "path"))?,
         interval: interval_of(table),
-        servlets: owned(alloc, &servlets)?,
-        mappings: read_mappings(alloc, table)?,
-        filters: owned(alloc, &filters)?,
-        filter_mappings: read_filter_mappings(alloc, table, &filters, &servlets)?,
-        listeners: owned(alloc, &listeners)?,
+        servlets: servlet_names,
+        filters: filter_names,
+        filter_mappings: read_filter_mappings(alloc, table, filters, servlets)?,
+        listeners: owned(alloc, listeners)?,
         error_pages: read_pages(alloc, table)?,
+        mappings: read_mappings(alloc, table)?,
     })
+}
+
+/// Two lists of texts as strings of their own.
+fn owned_both(
+    alloc: Global,
+    some: &[&str],
+    others: &[&str],
+) -> Result<(Vec<String>, Vec<String>), AllocError>
+    ensures some { IfOk result (λ both. map string_bytes both.0.items ≡ map (λ text. text.now) some.now) }
+    ensures others { IfOk result (λ both. map string_bytes both.1.items ≡ map (λ text. text.now) others.now) }
+{
+    let some = owned(alloc, some)?;
+    let others = owned(alloc, others)?;
+    Ok((some, others))
 }
 
 /// The texts as strings of their own.

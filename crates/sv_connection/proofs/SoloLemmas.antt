@@ -173,9 +173,9 @@ module _ (m : EngineMeaning) (xs : List (Option Session)) (moment : Moment) (r :
   stands_at zs named place same names at = subst (λ n. IsPlace xs n place) names (subst (λ ys. IsPlace ys named place) same at)
 
 -- the sessions behind an outcome, as the code has made them
-pub made_of : (xs us zs ys : List (Option Session)) (place : Option ℕ) (fate : Fate) (b : Birth) → us ≡ xs → zs ≡ fated_at place fate us → ys ≡ born_behind b zs
+pub made_of : (xs us ys : List (Option Session)) (place : Option ℕ) (fate : Fate) (b : Birth) → us ≡ xs → ys ≡ born_behind b (fated_at place fate us)
     → ys ≡ born_behind b (fated_at place fate xs)
-made_of xs us zs ys place fate b same fated born = born ∙ ap (born_behind b) (fated ∙ ap (fated_at place fate) same)
+made_of xs us ys place fate b same kept = kept ∙ ap (λ (zs : List (Option Session)). born_behind b (fated_at place fate zs)) same
 
 -- one output, put into an empty list
 pub put_one : (os ps : List Output) (o : Output) → os ≡ [] → ps ≡ os ++ o ∷ [] → ps ≡ o ∷ []

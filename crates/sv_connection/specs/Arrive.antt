@@ -1,10 +1,12 @@
 -- What one read, and the reads of one call, make of the unread bytes: those that the reader of requests holds,
 -- and behind them those that are still to come.
-use Rattle.std.specs.Prelude.{◌≡◌, ℕ, List, Option, false, IfSome, ⊤}
+use Rattle.std.specs.Prelude.{◌≡◌, ℕ, List, ◌++◌, Option, Some, None, Result, Ok, Err, false, IfSome, ⊤}
 use Rattle.std.specs.Io.KnownBytes.{Keeps, Consumes, IsAtEnd, prepend_known}
 use Rattle.sv_message.specs.Stream.{Stream}
 use Rattle.sv_message.specs.Message.{IsMessage}
 use Rattle.sv_message.specs.Fault.{IsFaultAt, HasNoMessage}
+use Rattle.sv_message.specs.declared.fault.ReadFault.{ReadFault}
+use Rattle.sv_message.specs.declared.request.RawRequest.{RawRequest}
 use Rattle.sv_message.specs.declared.fault.ReadFault.TheVariants.{BadHead, HeadTooLong, BadHost, BadFraming, BodyTooLong, Coding, Expectation, Memory, Closed}
 use Rattle.sv_connection.specs.declared.arrive.Fed.{Fed}
 use Rattle.sv_connection.specs.declared.arrive.Fed.TheVariants.{More, End, Broken, Starved}
@@ -32,3 +34,9 @@ Arrives old new after (Fault Memory) = ⊤
 Arrives old new after (Fault Closed) = ⊥
 Arrives old new after Ended = IfSome old HasNoMessage
 Arrives old new after Failed = ⊤
+
+-- what bytes bring that were put behind those that were read: no whole message yet, which is kept, or what then stands at the front
+abbrev pub Brings : Stream → List ℕ → Result (Option RawRequest) ReadFault → Stream → Type 0
+Brings old piece (Ok None) new = HasNoMessage (old.rest ++ piece) × (new.rest ≡ old.rest ++ piece) × (new.closed ≡ false)
+Brings old piece (Ok (Some raw)) new = Arrives (Some (old.rest ++ piece)) (Some new.rest) new (Request raw)
+Brings old piece (Err fault) new = Arrives (Some (old.rest ++ piece)) (Some new.rest) new (Fault fault)

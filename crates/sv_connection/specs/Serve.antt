@@ -203,3 +203,22 @@ pub record IsTaken {S : Type 0} (steps : S → Moment → Input → Result (List
 -- one call: no request was taken, or one was
 abbrev pub IsServed : {S : Type 0} → (S → Moment → Input → Result (List Output) StepFault → S → Type 0) → How → Sight S → Sight S → Served → Type 0
 IsServed steps how old new served = IsIdle how old new served ⊎ IsTaken steps how old new served
+
+-- the bytes that have come are no whole message yet, and more can make them one: they are kept, and nothing else was done
+pub record IsHeld {S : Type 0} (old new : Sight S) : Type 0 where
+  pub unfinished : IfSome old.unread HasNoMessage
+  pub unread : new.unread ≡ old.unread
+  pub written : new.written ≡ old.written
+  pub site : new.site ≡ old.site
+  pub was_open : old.closed ≡ false
+  pub still_open : new.closed ≡ false
+
+-- one call with bytes that have come: there was no whole message yet, or it did what a call does
+abbrev pub IsFed : {S : Type 0} → (S → Moment → Input → Result (List Output) StepFault → S → Type 0) → How → Sight S → Sight S → Option Served → Type 0
+IsFed steps how old new None = IsHeld old new
+IsFed steps how old new (Some served) = IsServed steps how old new served
+
+-- the site will answer later
+abbrev pub parks : Option Served → Bool
+parks None = false
+parks (Some served) = is_parked served.outcome

@@ -2,7 +2,7 @@
 
 ghost use Rattle.std.specs.Prelude.{◌≡◌, false};
 ghost use Rattle.std.specs.Io.KnownBytes.{prepend_known};
-ghost use Rattle.sv_connection.specs.Arrive.{Feeds, Arrives};
+ghost use Rattle.sv_connection.specs.Arrive.{Feeds, Arrives, Brings};
 
 use std::io::Read;
 use sv_message::fault::ReadFault;
@@ -72,4 +72,15 @@ pub fn arrive<R: Read>(requests: &mut RequestReader, reader: &mut R) -> Arrived
         }
     }
     Arrived::Broken
+}
+
+/// Puts bytes behind those that were read, and takes the message that then stands at the front; none where it isn't whole yet.
+pub fn take_in(requests: &mut RequestReader, piece: &[u8]) -> Result<Option<RawRequest>, ReadFault>
+    requires { requests.old.closed ≡ false }
+    ensures { Brings requests.old piece.now result requests.new }
+{
+    match requests.feed(piece) {
+        Ok(()) => requests.next(),
+        Err(_) => Err(ReadFault::Memory),
+    }
 }

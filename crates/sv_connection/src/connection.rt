@@ -1,9 +1,10 @@
 //! Serves requests from a reader to a writer, over a site.
 
 ghost use Rattle.std.specs.Prelude.{◌≡◌, true, []};
+ghost use Rattle.sv_connection.specs.Serve.{parks};
 
 use crate::answer::{manner_of, outputs_of, request_of, say_step};
-use crate::arrive::{Arrived, arrive};
+use crate::arrive::{Arrived, arrive, take_in};
 use crate::outcome::{Outcome, Served};
 use crate::request::{ReadRequest, read_request};
 use crate::speak::{say, say_read_fault, say_target_fault};
@@ -38,11 +39,21 @@ fn unserved(alloc: Global, outcome: Outcome) -> Served
     }
 }
 
+/// The site will answer later.
+fn parks(served: &Option<Served>) -> bool
+    ensures { result ≡ parks served.now }
+{
+    match served {
+        Some(served) => served.outcome.is_parked(),
+        None => false,
+    }
+}
+
 impl Connection {
-    ghost use Rattle.std.specs.Prelude.{◌≡◌, true, false, []};
+    ghost use Rattle.std.specs.Prelude.{◌≡◌, true, false, [], Some};
     ghost use Rattle.sv_target.specs.Cookies.{cookies_of};
     ghost use Rattle.sv_connection.specs.Request.{params_in};
-    ghost use Rattle.sv_connection.specs.Serve.{how, is_parked, IsAnswered, IsDirected, IsLateAnswer, IsServed};
+    ghost use Rattle.sv_connection.specs.Serve.{how, is_parked, IsAnswered, IsDirected, IsFed, IsLateAnswer, IsServed, parks};
     ghost use Rattle.sv_connection.specs.Connection.{IsFresh, held_by, is_closed, is_single, is_waiting, sight_of};
     ghost use Rattle.sv_connection.specs.declared.outcome.Outcome.TheVariants.{Closed};
 
@@ -116,6 +127,37 @@ impl Connection {
         served
     }
 
+    /// Takes bytes that have come, and serves the request that then is whole, as `serve_next` does; none where it isn't whole
+    /// yet, and the bytes are kept. It never waits. Not called while an earlier request waits.
+    ///
+    /// Where bytes behind a request came along, a call with no bytes serves the next.
+    pub fn feed<W: Write, S: Site>(
+        &mut self,
+        piece: &[u8],
+        writer: &mut W,
+        site: &mut S,
+        moment: Moment,
+        token: u64,
+    ) -> Option<Served>
+        requires valid { S.site_valid site.old }
+        requires answered { is_waiting self.old ≡ false }
+        ensures valid { S.site_valid site.new }
+        ensures single { is_single self.new ≡ is_single self.old }
+        ensures waiting { is_waiting self.new ≡ parks result }
+        ensures fed { IsFed S.steps (how moment token (is_single self.old)) (sight_of self.old (Some piece.now) (W.contents writer.old) site.old) (sight_of self.new (Some []) (W.contents writer.new) site.new) result }
+    {
+        let served = self.hear(piece, writer, site, moment, token);
+        self.waiting = parks(&served);
+        served
+    }
+
+    /// Nothing is read or served any more.
+    pub fn closed(&self) -> bool
+        ensures { result ≡ is_closed self.now }
+    {
+        self.closed
+    }
+
     /// Its request was parked, and is not yet answered.
     pub fn waiting(&self) -> bool
         ensures { result ≡ is_waiting self.now }
@@ -179,6 +221,34 @@ impl Connection {
             Arrived::Broken => {
                 self.closed = true;
                 unserved(self.alloc, Outcome::ReadFailed)
+            }
+        }
+    }
+
+    /// One call of `feed`, but for what waits behind it.
+    fn hear<W: Write, S: Site>(
+        &mut self,
+        piece: &[u8],
+        writer: &mut W,
+        site: &mut S,
+        moment: Moment,
+        token: u64,
+    ) -> Option<Served>
+        requires { S.site_valid site.old }
+        ensures valid { S.site_valid site.new }
+        ensures single { is_single self.new ≡ is_single self.old }
+        ensures fed { IsFed S.steps (how moment token (is_single self.old)) (sight_of self.old (Some piece.now) (W.contents writer.old) site.old) (sight_of self.new (Some []) (W.contents writer.new) site.new) result }
+    {
+        if self.closed() {
+            return Some(unserved(self.alloc, Outcome::Closed));
+        }
+        match take_in(&mut self.requests, piece) {
+            Ok(None) => None,
+            Ok(Some(raw)) => Some(self.direct(writer, site, moment, token, raw)),
+            Err(fault) => {
+                self.closed = true;
+                let page = say_read_fault(self.alloc, &mut self.buffer, writer, fault, moment.now);
+                Some(unserved(self.alloc, page.outcome))
             }
         }
     }

@@ -8,13 +8,11 @@ ghost use Rattle.sv_model.specs.declared.state.TheConstants.{KEY_LIMIT};
 ghost use Rattle.std.specs.FinMap.{get};
 ghost use Rattle.sv_connection.specs.Table.{own_key, keys_of, node_of, refusal_for};
 
-use crate::table::{
-    add_born, expire, is_birth, make_room, named_place, session_at, settle, state_at,
-};
+use crate::table::{expire, is_birth, keep, make_room, named_place, session_at, state_at};
 use std::alloc::Global;
 use sv_model::{
-    Birth, Cause, Engine, Input, KEY_LIMIT, Key, Moment, MoveRefusal, Outcome, Output, Request,
-    Secret, Session, Site, StepFault,
+    Birth, Cause, Engine, Input, KEY_LIMIT, Key, Moment, MoveRefusal, Output, Request, Secret,
+    Session, Site, StepFault,
 };
 
 /// One node that stands alone and keeps its sessions in memory.
@@ -90,31 +88,24 @@ impl<E: Engine> Solo<E> {
         &mut self,
         moment: Moment,
         token: u64,
-        request: Request,
+        request: &Request,
     ) -> Result<Vec<Output>, StepFault>
         requires { E.valid self.old.engine }
         ensures valid { E.valid self.new.engine }
-        ensures step { solo_steps E.meaning E.heard self.old moment (Ask token request) (with_list vec_items result) self.new }
+        ensures step { solo_steps E.meaning E.heard self.old moment (Ask token request.now) (with_list vec_items result) self.new }
     {
         let mut outputs = Vec::with_capacity(self.alloc, 1)?;
-        let named = self.engine.names(&request);
+        let named = self.engine.names(request);
         let place = named_place(self.sessions.as_slice(), named);
         let fresh = fresh_of(self.sessions.as_slice(), moment);
         let held = session_at(self.sessions.as_slice(), named, place);
-        let outcome = self.engine.serve(&request, held, moment.now, fresh)?;
+        let outcome = self.engine.serve(request, held, moment.now, fresh)?;
         if let Some(cause) = no_birth(self.sessions.as_slice(), &outcome.birth) {
             outputs.push_reserved(Output::Refuse { token, cause });
             return Ok(outputs);
         }
         make_room(&mut self.sessions, &outcome.birth)?;
-        let Outcome {
-            response,
-            fate,
-            birth,
-            events,
-        } = outcome;
-        settle(&mut self.sessions, place, fate);
-        add_born(&mut self.sessions, birth);
+        let (response, events) = keep(&mut self.sessions, place, outcome);
         self.engine.tell(events.as_slice());
         outputs.push_reserved(Output::Answer { token, response });
         Ok(outputs)
@@ -143,7 +134,7 @@ impl<E: Engine> Site for Solo<E> {
 
     fn step(&mut self, moment: Moment, input: Input) -> Result<Vec<Output>, StepFault> {
         match input {
-            Input::Ask { token, request } => self.ask(moment, token, request),
+            Input::Ask { token, request } => self.ask(moment, token, &request),
             Input::Tick => Ok(self.tick(moment)),
             Input::Packet(_) | Input::Poke => Ok(Vec::new(self.alloc)),
             Input::Move { key, to: _ } => {

@@ -7,7 +7,7 @@ ghost use Rattle.sv_model.specs.Serving.{held_in, is_birth};
 ghost use Rattle.sv_connection.specs.Table.{IsPlace, IsMade, keys_of, state_of, active_in, if_active, fated_at, born_behind, is_past, without_at, end_at};
 
 use std::alloc::AllocError;
-use sv_model::{Birth, Event, Fate, Key, Secret, Session, Told};
+use sv_model::{Birth, Event, Fate, Key, Outcome, Response, Secret, Sequence, Session, Told};
 
 /// The place of a key among so many that were made here.
 fn place_of(key: Key, made: usize) -> Option<usize>
@@ -98,7 +98,7 @@ pub fn session_at(
 }
 
 /// What becomes of the session that was named.
-pub fn settle(sessions: &mut Vec<Option<Session>>, place: Option<usize>, fate: Fate)
+fn settle(sessions: &mut Vec<Option<Session>>, place: Option<usize>, fate: Fate)
     requires { IfSome place (λ at. at < length sessions.old.items) }
     ensures items { sessions.new.items ≡ fated_at place fate sessions.old.items }
     ensures len { vec_len sessions.new ≡ vec_len sessions.old }
@@ -136,7 +136,7 @@ pub fn make_room(sessions: &mut Vec<Option<Session>>, birth: &Birth) -> Result<(
 }
 
 /// Adds the session that was made.
-pub fn add_born(sessions: &mut Vec<Option<Session>>, birth: Birth)
+fn add_born(sessions: &mut Vec<Option<Session>>, birth: Birth)
     requires { is_birth birth ≡ true → vec_len sessions.old < vec_capacity sessions.old }
     ensures { sessions.new.items ≡ born_behind birth sessions.old.items }
 {
@@ -145,6 +145,24 @@ pub fn add_born(sessions: &mut Vec<Option<Session>>, birth: Birth)
         Birth::Alive(session) => sessions.push_reserved(Some(session)),
         Birth::Ended => sessions.push_reserved(None),
     }
+}
+
+/// What becomes of the session that was named, and the one that was made; the response and the events are handed on.
+pub fn keep(
+    sessions: &mut Vec<Option<Session>>,
+    place: Option<usize>,
+    outcome: Outcome,
+) -> (Response, Sequence<Told>)
+    requires place { IfSome place (λ at. at < length sessions.old.items) }
+    requires room { is_birth outcome.birth ≡ true → vec_len sessions.old < vec_capacity sessions.old }
+    ensures items { sessions.new.items ≡ born_behind outcome.birth (fated_at place outcome.fate sessions.old.items) }
+    ensures response { result.0 ≡ outcome.response }
+    ensures events { result.1 ≡ outcome.events }
+{
+    let (response, fate, birth, events) = outcome.into_parts();
+    settle(sessions, place, fate);
+    add_born(sessions, birth);
+    (response, events)
 }
 
 /// The place of the least key whose session has expired.

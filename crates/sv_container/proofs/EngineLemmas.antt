@@ -21,13 +21,12 @@ use Rattle.std.proofs.lemmas.List.{length-map}
 use Rattle.sv_servlet.specs.Filter.{Filters}
 use Rattle.sv_servlet.specs.Servlet.{Serves}
 use Rattle.sv_servlet.specs.declared.servlet.Phase.{Phase}
-use Rattle.sv_container.specs.declared.admission.Admission.{Admission}
 use Rattle.sv_container.specs.declared.application.Application.{Application}
 use Rattle.sv_container.specs.declared.container.Container.{Container}
 use Rattle.sv_container.specs.Application.{App, IsSoundApp, app_of, apps_of}
 use Rattle.sv_container.specs.Laws.{place_is}
 use Rattle.sv_container.specs.Listening.{heard_by_all, heard_of}
-use Rattle.sv_container.specs.Serving.{Deployed, IsSound, container_meaning, deployed, named_by, place_for, served, served_in}
+use Rattle.sv_container.specs.Serving.{Deployed, IsSound, container_meaning, deployed, named_by, place_for, served, served_by, served_in}
 
 -- the context has the path, and there is an application, which is in service
 pub record IsPlace (d : Deployed) (path : List ℕ) (place : ℕ) (a : App) : Type 0 where
@@ -88,12 +87,6 @@ module _ {S F : Type 0} (serves : S → Serves) (servlet_phase : S → Phase) (f
 
 -- ---- the container of the code
 
-same_there : {X : Type 0} (xs : List X) (i : ℕ) (a b : X) → i < length xs → a ≡ get_or xs i a → b ≡ get_or xs i b → b ≡ a
-same_there xs i a b h e f =
-    let x = slice_get-get_or xs i a h in
-    let y = slice_get-get_or xs i b h in
-    cc
-
 pub context_there : {X : Type 0} (f : X → List ℕ) (xs : List X) (i : ℕ) (x : X) → i < length xs → x ≡ get_or xs i x → f x ≡ context_at (map f xs) i
 context_there f xs i x h e = ap f e ∙ sym (get_or-map f xs i x [] h)
 
@@ -139,25 +132,14 @@ module _ {S F L : Type 0} (serves : S → Serves) (servlet_phase : S → Phase) 
       ap (λ ks. session_cookie ks a.number) same ∙ sym (named_is D r place (A a) at_path (there_is path place a h e))
 
   -- what the application at a place answers is what the container answers
-  pub served_one : (r : Request) (handed : Option (Key × Session)) (now : ℕ) (fresh : Key × Secret) (path whole context inner : List ℕ) (place : ℕ)
-      (a b : Application S F) (cookies : List Cookie) (named : Option (Key × Secret)) (j : Admission) (o : Outcome)
-      → Some place ≡ place_for D path → path ≡ r.path → a ≡ get_or c.applications.items place a → b ≡ get_or c.applications.items place b
+  pub served_one : (r : Request) (handed : Option (Key × Session)) (now : ℕ) (fresh : Key × Secret) (path whole context inner : List ℕ) (place : ℕ) (a : Application S F) (o : Outcome)
+      → Some place ≡ place_for D path → path ≡ r.path → a ≡ get_or c.applications.items place a
       → context ≡ context_at D.paths place → whole ≡ r.path → inner ≡ path_in_context context whole
-      → cookies ≡ r.cookies → named ≡ session_cookie cookies b.number → j ≡ admission b.number named handed now
-      → o ≡ served_in (A a) r inner j now fresh → o ≡ served D r handed now fresh
-  served_one r handed now fresh path whole context inner place a b cookies named j o h is e f context_is whole_is inner_is cookies_are names joins answers =
-      let within = app_within path place h in
-      let same : b ≡ a = same_there c.applications.items place a b within e f in
+      → o ≡ served_by (Some (A a)) r inner handed now fresh → o ≡ served D r handed now fresh
+  served_one r handed now fresh path whole context inner place a o h is e context_is whole_is inner_is answers =
       let at_path : place_for D r.path ≡ Some place = sym (h ∙ ap (place_for D) is) in
-      let behind : List ℕ = path_in_context (context_at D.paths place) r.path in
-      let p : inner ≡ behind = inner_is ∙ (ap (λ k. path_in_context k whole) context_is ∙ ap (path_in_context (context_at D.paths place)) whole_is) in
-      let n : named ≡ session_cookie r.cookies a.number =
-      names ∙ (ap (λ ks. session_cookie ks b.number) cookies_are ∙ ap (λ (x : Application S F). session_cookie r.cookies x.number) same) in
-      let q : j ≡ admission a.number (session_cookie r.cookies a.number) handed now =
-      joins ∙ (ap (λ (x : Application S F). admission x.number named handed now) same ∙ ap (λ m. admission a.number m handed now) n) in
-      answers ∙ (ap (λ x. served_in (A a) r x j now fresh) p
-      ∙ (ap (λ y. served_in (A a) r behind y now fresh) q
-      ∙ sym (served_is D r place (A a) handed now fresh at_path (there_is path place a h e))))
+      let p : inner ≡ path_in_context (context_at D.paths place) r.path = inner_is ∙ (ap (λ k. path_in_context k whole) context_is ∙ ap (path_in_context (context_at D.paths place)) whole_is) in
+      answers ∙ (ap (λ x. served_by (Some (A a)) r x handed now fresh) p ∙ sym (served_is D r place (A a) handed now fresh at_path (there_is path place a h e)))
 
   -- an application that is changed into an equal one leaves the container sound, and its meaning as it was
   pub sound_kept : (place : ℕ) (m n : Application S F) → IsSound D → A m ≡ A n → n ≡ get_or c.applications.items place n

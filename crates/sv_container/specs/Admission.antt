@@ -31,6 +31,12 @@ expired_of Without = None
 expired_of (Expired key) = Some key
 expired_of (Joined key s) = None
 
+-- the key of one that is joined
+abbrev pub joined_of : Admission → Option Key
+joined_of Without = None
+joined_of (Expired key) = None
+joined_of (Joined key s) = Some key
+
 -- the session with which the edit begins
 abbrev pub held_of : Admission → Option (Key × Session)
 held_of Without = None

@@ -1,7 +1,6 @@
--- What comes of a request in a context: the events in order, what became of sessions, and the cookie.
+-- What comes of a request in a context: the events in order, and what became of sessions.
 use Rattle.std.specs.Prelude.{ℕ, List, [], ◌∷◌, ◌++◌, Option, Some, None}
 use Rattle.sv_model.specs.declared.key.Key.{Key}
-use Rattle.sv_model.specs.declared.key.Secret.{Secret}
 use Rattle.sv_model.specs.declared.request.Request.{Request}
 use Rattle.sv_model.specs.declared.response.Response.{Response}
 use Rattle.sv_model.specs.declared.event.Event.{Event}
@@ -14,7 +13,6 @@ use Rattle.sv_model.specs.declared.outcome.Birth.{Birth}
 use Rattle.sv_model.specs.declared.outcome.Birth.TheVariants.{Absent}
 use Rattle.sv_model.specs.Method.{is_head}
 use Rattle.sv_model.specs.Page.{plain_page}
-use Rattle.sv_container.specs.SetCookie.{with_cookie}
 
 -- an event of a context
 abbrev pub told : ℕ → Event → Told
@@ -34,11 +32,10 @@ abbrev pub fate_for : Option Key → Fate → Fate
 fate_for None fate = fate
 fate_for (Some key) fate = Ended
 
--- what comes of a request to a context of a number and a path, by the session that had expired, the key and secret of a
--- birth, the response, and what the edit left
-abbrev pub outcome_of : ℕ → List ℕ → Option Key → Key × Secret → Response → Fate → Birth → List Told → Outcome
-outcome_of context path expired fresh response fate birth events =
-    record { response = with_cookie context path birth fresh response; fate = fate_for expired fate; birth = birth; events = events_for context expired events }
+-- what comes of a request to a context of a number, by the session that had expired, the response, and what the edit left
+abbrev pub outcome_of : ℕ → Option Key → Response → Fate → Birth → List Told → Outcome
+outcome_of context expired response fate birth events =
+    record { response = response; fate = fate_for expired fate; birth = birth; events = events_for context expired events }
 
 -- the plain page where no context serves
 abbrev pub missing_page : Request → Response

@@ -26,10 +26,11 @@ use Rattle.sv_dispatch.specs.declared.request.Ended.{Ended}
 use Rattle.sv_dispatch.specs.declared.request.Ended.TheVariants.{Normal, ErrorPage, Plain}
 use Rattle.sv_container.specs.declared.admission.Admission.{Admission}
 use Rattle.sv_container.specs.declared.container.Container.{Container}
-use Rattle.sv_container.specs.Admission.{admission, expired_of, held_of}
+use Rattle.sv_container.specs.Admission.{admission, expired_of, held_of, joined_of}
 use Rattle.sv_container.specs.Application.{App, IsSoundApp, apps_of}
 use Rattle.sv_container.specs.Listening.{Ear, ears_of, heard_by_all}
 use Rattle.sv_container.specs.Outcome.{outcome_of, served_outside}
+use Rattle.sv_container.specs.SetCookie.{announced, with_cookie}
 
 -- what is deployed: the context path of each application by its number, the applications, and the listeners
 pub record Deployed : Type 0 where
@@ -117,13 +118,18 @@ answered_by a r path e = answered_with r (served_by_table a.table (asked a r pat
 
 -- ---- the request
 
-abbrev pub outcome_by : App → Option Key → Key × Secret → Answered → Outcome
-outcome_by a expired fresh w = outcome_of a.number a.path expired fresh w.response w.edit.fate w.edit.birth w.edit.events
+-- the session that the client has to know of
+abbrev pub announced_by : Admission → Key × Secret → Edit → Option (Key × Secret)
+announced_by joined fresh e = announced (joined_of joined) fresh e.fate e.birth e.id_changed
+
+abbrev pub outcome_by : App → Admission → Key × Secret → Answered → Outcome
+outcome_by a joined fresh w =
+    outcome_of a.number (expired_of joined) (with_cookie a.number a.path (announced_by joined fresh w.edit) w.response) w.edit.fate w.edit.birth w.edit.events
 
 -- a request for a path within an application's context, with what became of the session that was handed in
 unfoldable pub served_in : App → Request → List ℕ → Admission → ℕ → Key × Secret → Outcome
 served_in a r path joined now fresh =
-    outcome_by a (expired_of joined) fresh (answered_by a r path (begun (held_of joined) a.number a.interval now fresh))
+    outcome_by a joined fresh (answered_by a r path (begun (held_of joined) a.number a.interval now fresh))
 
 abbrev pub served_by : Option App → Request → List ℕ → Option (Key × Session) → ℕ → Key × Secret → Outcome
 served_by None r path handed now fresh = served_outside r
@@ -135,7 +141,7 @@ served_at d r handed now fresh (Some place) =
     served_by (slice_get d.apps place) r (path_in_context (context_at d.paths place) r.path) handed now fresh
 
 -- what comes of a request, with the session that it names where that is at hand, at `now`, and the key and the secret of
--- a session that is made
+-- a session that is made; one whose id is changed takes the secret alone
 abbrev pub served : Deployed → Request → Option (Key × Session) → ℕ → Key × Secret → Outcome
 served d r handed now fresh = served_at d r handed now fresh (place_for d r.path)
 

@@ -1,5 +1,6 @@
--- The field that names a new session to the client (RFC 6265, section 4.1; Jakarta Servlet 6.0, section "Cookies").
-use Rattle.std.specs.Prelude.{ℕ, Bool, List, [], ◌∷◌, ◌++◌, codes}
+-- The field that names a session to the client: one that is new, or one whose id was changed (RFC 6265, section 4.1;
+-- Jakarta Servlet 6.0, section "Cookies").
+use Rattle.std.specs.Prelude.{ℕ, Bool, true, false, Option, Some, None, List, [], ◌∷◌, ◌++◌, codes}
 use Rattle.std.specs.List.{list_all}
 use Rattle.http_header.specs.FieldValue.{plain_value}
 use Rattle.sv_model.specs.declared.key.Key.{Key}
@@ -7,7 +8,9 @@ use Rattle.sv_model.specs.declared.key.Secret.{Secret}
 use Rattle.sv_model.specs.declared.field.Field.{Field}
 use Rattle.sv_model.specs.declared.response.Response.{Response}
 use Rattle.sv_model.specs.declared.outcome.Birth.{Birth}
-use Rattle.sv_model.specs.declared.outcome.Birth.TheVariants.{Absent, Alive, Ended}
+use Rattle.sv_model.specs.declared.outcome.Birth.TheVariants.{Absent, Alive, Ended as BirthEnded}
+use Rattle.sv_model.specs.declared.outcome.Fate.{Fate}
+use Rattle.sv_model.specs.declared.outcome.Fate.TheVariants.{Untouched, Kept, Ended as FateEnded}
 use Rattle.sv_mapping.specs.Pattern.{is_printed}
 use Rattle.sv_target.specs.SessionCookie.{cookie_text}
 
@@ -27,11 +30,29 @@ cookie_value context path named = codes "JSESSIONID=" ++ cookie_text context nam
 abbrev pub cookie_field : ℕ → List ℕ → Key × Secret → Field
 cookie_field context path named = record { name = codes "set-cookie"; value = plain_value (cookie_value context path named) }
 
--- a session that was made and lives on is named behind the application's fields; no other is named
-abbrev pub fields_with : ℕ → List ℕ → Birth → Key × Secret → List Field → List Field
-fields_with context path Absent named fields = fields
-fields_with context path (Alive s) named fields = fields ++ cookie_field context path named ∷ []
-fields_with context path Ended named fields = fields
+-- the session of this key, where it is kept, with the secret that it has now
+abbrev pub kept_session : Option Key → Fate → Option (Key × Secret)
+kept_session None fate = None
+kept_session (Some key) Untouched = None
+kept_session (Some key) (Kept s) = Some (key, s.secret)
+kept_session (Some key) FateEnded = None
 
-abbrev pub with_cookie : ℕ → List ℕ → Birth → Key × Secret → Response → Response
-with_cookie context path birth named r = record r { fields = fields_with context path birth named r.fields }
+-- and where its id was changed
+abbrev pub changed_session : Option Key → Fate → Bool → Option (Key × Secret)
+changed_session key fate true = kept_session key fate
+changed_session key fate false = None
+
+-- The session that the client has to know of, by the key of the one that was joined, the key and secret of a birth, and
+-- what the edit left: one that was made and lives on, or the one that was joined, where its id was changed and it is kept.
+abbrev pub announced : Option Key → Key × Secret → Fate → Birth → Bool → Option (Key × Secret)
+announced joined fresh fate Absent id_changed = changed_session joined fate id_changed
+announced joined fresh fate (Alive s) id_changed = Some fresh
+announced joined fresh fate BirthEnded id_changed = changed_session joined fate id_changed
+
+-- the session is named behind the application's fields; no other is named
+abbrev pub fields_with : ℕ → List ℕ → Option (Key × Secret) → List Field → List Field
+fields_with context path None fields = fields
+fields_with context path (Some named) fields = fields ++ cookie_field context path named ∷ []
+
+abbrev pub with_cookie : ℕ → List ℕ → Option (Key × Secret) → Response → Response
+with_cookie context path named r = record r { fields = fields_with context path named r.fields }

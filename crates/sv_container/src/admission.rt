@@ -3,7 +3,7 @@
 
 ghost use Rattle.std.specs.Prelude.{◌≡◌, IfOk, option_map};
 ghost use Rattle.sv_session.specs.Expiry.{joined};
-ghost use Rattle.sv_container.specs.Admission.{admission, expired_of, held_of, is_turned_away};
+ghost use Rattle.sv_container.specs.Admission.{admission, expired_of, held_of, is_turned_away, joined_of};
 ghost use Rattle.sv_container.specs.declared.admission.Admission.TheVariants.{Joined};
 
 use std::alloc::{AllocError, Global};
@@ -22,6 +22,16 @@ pub enum Admission {
 }
 
 impl Admission {
+    /// The key of a session that is joined.
+    pub fn joined(&self) -> Option<Key>
+        ensures { result ≡ joined_of self.now }
+    {
+        match *self {
+            Admission::Without | Admission::Expired(_) => None,
+            Admission::Joined(key, _) => Some(key),
+        }
+    }
+
     /// The key of a session that has expired, and the session with which the edit begins.
     pub fn into_parts(self) -> (Option<Key>, Option<(Key, Session)>)
         ensures expired { result.0 ≡ expired_of self }

@@ -1,22 +1,26 @@
 //! What an application answers to a request: the dispatch, and the response that comes of it.
 
-ghost use Rattle.std.specs.Prelude.{◌≡◌, IfOk, true, option_map};
+ghost use Rattle.std.specs.Prelude.{◌≡◌, IfOk, Some, true, option_map};
 ghost use Rattle.sv_dispatch.specs.Pages.{ran, served as served_by_table};
 ghost use Rattle.sv_dispatch.specs.Place.{place_of};
 ghost use Rattle.sv_dispatch.specs.Stages.{lent_of};
 ghost use Rattle.sv_container.specs.Application.{IsSoundApp, app_of};
-ghost use Rattle.sv_container.specs.Serving.{answered, answered_by, asked, replied, served_in};
+ghost use Rattle.sv_container.specs.Serving.{answered, answered_by, asked, replied, served_by, served_in};
+ghost use Rattle.sv_container.specs.Admission as spec;
+ghost use Rattle.sv_target.specs.SessionCookie.{session_cookie};
 
-use crate::admission::Admission;
+use crate::admission::{Admission, admit};
 use crate::application::{Application, idle_edit, idle_reply};
 use crate::outcome::outcome_of;
+use crate::set_cookie::{announced, with_cookie};
 use std::alloc::{AllocError, Global};
 use std::mem;
 use sv_dispatch::{Ended, run};
 use sv_mapping::Mappings;
-use sv_model::{Key, Outcome, Request, Response, Secret, is_head, plain_page};
+use sv_model::{Key, Outcome, Request, Response, Secret, Session, is_head, plain_page};
 use sv_servlet::{Call, Filter, Replied, Reply, RequestAttributes, Servlet};
 use sv_session::SessionEdit;
+use sv_target::session_cookie;
 
 /// The servlet path and the path info of a path within a context; without a servlet, as the default one sees them.
 fn shown<'a>(patterns: &Mappings, path: &'a str) -> (&'a str, Option<&'a str>)
@@ -110,9 +114,9 @@ impl<S: Servlet, F: Filter> Application<S, F> {
         Ok((response, edit))
     }
 
-    /// Serves a request for a path within the context.
+    /// Serves a request for a path within the context, with what became of the session that was handed in.
     #[tactic(auto, unfolding(crate::specs::Serving::served_in))]
-    pub fn serve(
+    fn serve_admitted(
         &mut self,
         alloc: Global,
         request: &Request,
@@ -126,17 +130,46 @@ impl<S: Servlet, F: Filter> Application<S, F> {
         ensures same { app_of S.serves S.servlet_phase F.filtering F.filter_phase self.new ≡ app_of S.serves S.servlet_phase F.filtering F.filter_phase self.old }
         ensures outcome { IfOk result (λ o. o ≡ served_in (app_of S.serves S.servlet_phase F.filtering F.filter_phase self.old) request.now path.now admission now fresh) }
     {
+        let joined = admission.joined();
         let (expired, held) = admission.into_parts();
         let edit = SessionEdit::begin(alloc, held, self.number, self.interval, now, fresh);
         let (response, edit) = self.answer(alloc, request, path, edit)?;
-        outcome_of(
-            alloc,
-            self.number,
-            self.path.as_str(),
-            expired,
-            fresh,
-            response,
-            edit.finish(),
-        )
+        let edited = edit.finish();
+        let announced = announced(joined, fresh, &edited);
+        let response = with_cookie(alloc, self.number, self.path.as_str(), announced, response)?;
+        outcome_of(alloc, self.number, expired, response, edited)
+    }
+
+    /// What becomes of the session that is handed in with a request.
+    fn admit(
+        &self,
+        alloc: Global,
+        request: &Request,
+        handed: Option<(Key, &Session)>,
+        now: u64,
+    ) -> Result<Admission, AllocError>
+        ensures { IfOk result (λ a. a ≡ spec.admission self.now.number (session_cookie request.now.cookies self.now.number) (option_map (λ s. (s.0, s.1.now)) handed.entry) now) }
+    {
+        let named = session_cookie(request.cookies.as_slice(), self.number);
+        admit(alloc, self.number, named, handed, now)
+    }
+
+    /// Serves a request for a path within the context, with the session that is handed in.
+    pub fn serve(
+        &mut self,
+        alloc: Global,
+        request: &Request,
+        path: &str,
+        handed: Option<(Key, &Session)>,
+        now: u64,
+        fresh: (Key, Secret),
+    ) -> Result<Outcome, AllocError>
+        requires sound { IsSoundApp (app_of S.serves S.servlet_phase F.filtering F.filter_phase self.old) }
+        requires serving { self.old.is_in_service ≡ true }
+        ensures same { app_of S.serves S.servlet_phase F.filtering F.filter_phase self.new ≡ app_of S.serves S.servlet_phase F.filtering F.filter_phase self.old }
+        ensures outcome { IfOk result (λ o. o ≡ served_by (Some (app_of S.serves S.servlet_phase F.filtering F.filter_phase self.old)) request.now path.now (option_map (λ s. (s.0, s.1.now)) handed.entry) now fresh) }
+    {
+        let admission = self.admit(alloc, request, handed, now)?;
+        self.serve_admitted(alloc, request, path, admission, now, fresh)
     }
 }

@@ -10,8 +10,7 @@ ghost use Rattle.sv_container.specs.Listening.{ears_of};
 
 use crate::application::Application;
 use crate::named::Named;
-use crate::outcome::told;
-use crate::tell::tell;
+use crate::tell::announce;
 use std::vec::IntoIter;
 use sv_dispatch::Hosted;
 use sv_model::{Event, Text};
@@ -87,7 +86,7 @@ pub fn assemble_all<S: Servlet, F: Filter, L: Listener>(
     let mut servlets = servlets.into_iter();
     let mut filters = filters.into_iter();
     for at in 0..applications.len() {
-        tell(listeners, &told(applications[at].number, Event::ContextUp));
+        announce(listeners, applications[at].number, Event::ContextUp);
         applications[at].assemble(&mut servlets, &mut filters);
     }
 }

@@ -12,9 +12,8 @@ use crate::arrange::arrange;
 use crate::assemble::assemble_all;
 use crate::life::{destroy_filters, destroy_servlets};
 use crate::named::{Named, NotStarted, StartFault};
-use crate::outcome::told;
 use crate::prepare::prepare;
-use crate::tell::tell;
+use crate::tell::announce;
 use std::alloc::Global;
 use sv_config::Deployment;
 use sv_model::Event;
@@ -117,10 +116,7 @@ impl<S: Servlet, F: Filter, L: Listener> Container<S, F, L> {
                 &mut applications[at].stage.servlets,
             ));
             filters = filters.saturating_add(destroy_filters(&mut applications[at].stage.filters));
-            tell(
-                &mut listeners,
-                &told(applications[at].number, Event::ContextDown),
-            );
+            announce(&mut listeners, applications[at].number, Event::ContextDown);
         }
         Stopped { servlets, filters }
     }

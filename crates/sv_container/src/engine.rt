@@ -3,7 +3,6 @@
 ghost use Rattle.std.specs.Prelude.{◌≡◌};
 ghost use Rattle.sv_container.specs.Serving.{deployed, place_for};
 
-use crate::admission::admit;
 use crate::container::Container;
 use crate::outcome::served_outside;
 use crate::tell::tell_all;
@@ -54,11 +53,8 @@ impl<S: Servlet, F: Filter, L: Listener> Engine for Container<S, F, L> {
         let Some(place) = self.place_of(request.path.as_str()) else {
             return Ok(served_outside(self.alloc, request)?);
         };
-        let number = self.applications[place].number;
-        let named = session_cookie(request.cookies.as_slice(), number);
-        let admission = admit(self.alloc, number, named, session, now)?;
         let path = path_in_context(self.paths[place].as_str(), request.path.as_str());
-        Ok(self.applications[place].serve(self.alloc, request, path, admission, now, fresh)?)
+        Ok(self.applications[place].serve(self.alloc, request, path, session, now, fresh)?)
     }
 
     fn tell(&mut self, told: &[Told]) {

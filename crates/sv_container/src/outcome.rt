@@ -1,15 +1,12 @@
-//! What comes of a request: the response with its cookie, what became of sessions, and the events in order.
+//! What comes of a request: the response, what became of sessions, and the events in order.
 
-ghost use Rattle.std.specs.Prelude.{◌≡◌, IfOk, IsTrue};
-ghost use Rattle.sv_container.specs.SetCookie.{is_sendable};
+ghost use Rattle.std.specs.Prelude.{◌≡◌, IfOk};
 ghost use Rattle.sv_container.specs.Outcome.{events_for, fate_for, missing_page, outcome_of, served_outside, told};
 
-use crate::set_cookie::with_cookie;
 use http::StatusCode;
 use std::alloc::{AllocError, Global};
 use sv_model::{
-    Birth, Event, Fate, Key, Outcome, Request, Response, Secret, Sequence, Told, is_head,
-    plain_page,
+    Birth, Event, Fate, Key, Outcome, Request, Response, Sequence, Told, is_head, plain_page,
 };
 use sv_session::Edited;
 
@@ -80,22 +77,20 @@ fn fate_for(expired: Option<Key>, fate: Fate) -> Fate
 pub fn outcome_of(
     alloc: Global,
     context: u8,
-    path: &str,
     expired: Option<Key>,
-    fresh: (Key, Secret),
     response: Response,
     edited: Edited,
 ) -> Result<Outcome, AllocError>
-    requires { IsTrue (is_sendable path.now) }
-    ensures { IfOk result (λ o. o ≡ outcome_of context path.now expired fresh response edited.fate edited.birth edited.events) }
+    ensures { IfOk result (λ o. o ≡ outcome_of context expired response edited.fate edited.birth edited.events) }
 {
     let Edited {
         fate,
         birth,
+        id_changed: _,
         events,
     } = edited;
     Ok(Outcome {
-        response: with_cookie(alloc, context, path, &birth, fresh, response)?,
+        response,
         fate: fate_for(expired, fate),
         birth,
         events: events_for(alloc, context, expired, events)?,

@@ -1,12 +1,13 @@
 //! Applications before their objects are put into them: all that takes memory.
 
-ghost use Rattle.std.specs.Prelude.{◌≡◌, IfOk, All, map, min, string_bytes};
+ghost use Rattle.std.specs.Prelude.{◌≡◌, [], IfOk, All, length, map, min, string_bytes};
+ghost use Rattle.std.specs.Vec.{vec_capacity};
 ghost use Rattle.sv_container.specs.Deployment as spec;
 
 use crate::application::{Application, idle_edit, idle_reply};
 use std::alloc::{AllocError, Global};
 use sv_config::Context;
-use sv_dispatch::{ErrorPage, PageFor, Stage};
+use sv_dispatch::{ErrorPage, Hosted, PageFor, Stage};
 use sv_model::Text;
 
 /// The applications of a deployment, with the context path of each by its number.
@@ -58,6 +59,31 @@ fn number_of(place: usize) -> u8
     place.min(255) as u8
 }
 
+/// The path of a context, and its error pages.
+fn shown_by(alloc: Global, context: &Context) -> Result<(Text, Vec<ErrorPage>), AllocError>
+    ensures path { IfOk result (λ r. r.0 ≡ string_bytes context.now.path) }
+    ensures pages { IfOk result (λ r. r.1.items ≡ map spec.page_of context.now.error_pages.items) }
+{
+    let path = Text::from_str(alloc, context.path.as_str())?;
+    let pages = pages_of(alloc, context.error_pages.as_slice())?;
+    Ok((path, pages))
+}
+
+/// Room for the servlets and the filters of a context.
+fn room_for<S: Drop, F: Drop>(
+    alloc: Global,
+    context: &Context,
+) -> Result<(Vec<Hosted<S>>, Vec<Hosted<F>>), AllocError>
+    ensures servlets { IfOk result (λ r. vec_capacity r.0 ≡ length context.now.servlets.items) }
+    ensures filters { IfOk result (λ r. vec_capacity r.1 ≡ length context.now.filters.items) }
+    ensures no_servlets { IfOk result (λ r. r.0.items ≡ []) }
+    ensures no_filters { IfOk result (λ r. r.1.items ≡ []) }
+{
+    let servlets = Vec::with_capacity(alloc, context.servlets.len())?;
+    let filters = Vec::with_capacity(alloc, context.filters.len())?;
+    Ok((servlets, filters))
+}
+
 /// An application with room for its objects, which is not in service yet.
 fn prepare_one<S: Drop, F: Drop>(
     alloc: Global,
@@ -67,10 +93,8 @@ fn prepare_one<S: Drop, F: Drop>(
     ensures frame { IfOk result (λ a. spec.frame_of a ≡ spec.frame_of_context place context) }
     ensures empty { IfOk result (spec.IsEmpty) }
 {
-    let pages = pages_of(alloc, context.error_pages.as_slice())?;
-    let path = Text::from_str(alloc, context.path.as_str())?;
-    let servlets = Vec::with_capacity(alloc, context.servlets.len())?;
-    let filters = Vec::with_capacity(alloc, context.filters.len())?;
+    let (path, pages) = shown_by(alloc, &context)?;
+    let (servlets, filters) = room_for(alloc, &context)?;
     let Context {
         path: _,
         interval,

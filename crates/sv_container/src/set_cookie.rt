@@ -1,11 +1,13 @@
-//! The field that names a new session to the client (RFC 6265, section 4.1; Jakarta Servlet 6.0, section "Cookies").
+//! The field that names a session to the client: one that is new, or one whose id was changed (RFC 6265, section 4.1;
+//! Jakarta Servlet 6.0, section "Cookies").
 
 ghost use Rattle.std.specs.Prelude.{◌≡◌, IfOk, IsTrue};
-ghost use Rattle.sv_container.specs.SetCookie.{cookie_field, cookie_path, cookie_value, is_sendable, with_cookie};
+ghost use Rattle.sv_container.specs.SetCookie.{announced, cookie_field, cookie_path, cookie_value, is_sendable, with_cookie};
 
 use http_header::{HeaderName, HeaderValue, HeaderValueError};
 use std::alloc::{AllocError, Global};
-use sv_model::{Birth, Field, Key, Response, Secret};
+use sv_model::{Birth, Fate, Field, Key, Response, Secret};
+use sv_session::Edited;
 use sv_target::{SESSION_COOKIE as NAME, cookie_text};
 
 /// The paths of a context: the context path, or `/` for the context at the root.
@@ -56,20 +58,35 @@ fn cookie_field(
     }
 }
 
-/// Names a session that was made and lives on, behind the application's fields.
+/// The session that the client has to know of, by the key of the one that was joined, and the key and secret of a
+/// session that was made.
+pub fn announced(
+    joined: Option<Key>,
+    fresh: (Key, Secret),
+    edited: &Edited,
+) -> Option<(Key, Secret)>
+    ensures { result ≡ announced joined fresh edited.now.fate edited.now.birth edited.now.id_changed }
+{
+    match (&edited.birth, &edited.fate, joined) {
+        (Birth::Alive(_), _, _) => Some(fresh),
+        (_, Fate::Kept(session), Some(key)) if edited.id_changed => Some((key, session.secret)),
+        _ => None,
+    }
+}
+
+/// Names the session, if one has to be known, behind the application's fields.
 pub fn with_cookie(
     alloc: Global,
     context: u8,
     path: &str,
-    birth: &Birth,
-    named: (Key, Secret),
+    announced: Option<(Key, Secret)>,
     response: Response,
 ) -> Result<Response, AllocError>
     requires { IsTrue (is_sendable path.now) }
-    ensures { IfOk result (λ r. r ≡ with_cookie context path.now birth.now named response) }
+    ensures { IfOk result (λ r. r ≡ with_cookie context path.now announced response) }
 {
     let mut response = response;
-    if let Birth::Alive(_) = birth {
+    if let Some(named) = announced {
         let field = cookie_field(alloc, context, path, named)?;
         response.fields.push(field)?;
     }

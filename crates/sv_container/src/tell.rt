@@ -2,8 +2,10 @@
 
 ghost use Rattle.std.specs.Prelude.{◌≡◌};
 ghost use Rattle.sv_container.specs.Listening.{ear_of, ears_of, heard_by, heard_by_all, heard_of, noted_of};
+ghost use Rattle.sv_container.specs.Outcome.{told};
 
 use crate::named::Named;
+use crate::outcome::told;
 use sv_model::{Event, Told};
 use sv_servlet::Listener;
 
@@ -43,7 +45,7 @@ fn tell_in_reverse<L: Listener>(listeners: &mut Vec<Named<L>>, told: &Told)
 }
 
 /// Tells an event to the listeners of its context.
-pub fn tell<L: Listener>(listeners: &mut Vec<Named<L>>, told: &Told)
+fn tell<L: Listener>(listeners: &mut Vec<Named<L>>, told: &Told)
     ensures same { ears_of L.hears listeners.new.items ≡ ears_of L.hears listeners.old.items }
     ensures noted { noted_of L.noted listeners.new.items ≡ heard_by_all (ears_of L.hears listeners.old.items) (noted_of L.noted listeners.old.items) told.now }
 {
@@ -52,6 +54,14 @@ pub fn tell<L: Listener>(listeners: &mut Vec<Named<L>>, told: &Told)
     } else {
         tell_in_order(listeners, told);
     }
+}
+
+/// Tells an event to the listeners of a context of a number.
+pub fn announce<L: Listener>(listeners: &mut Vec<Named<L>>, context: u8, event: Event)
+    ensures same { ears_of L.hears listeners.new.items ≡ ears_of L.hears listeners.old.items }
+    ensures noted { noted_of L.noted listeners.new.items ≡ heard_by_all (ears_of L.hears listeners.old.items) (noted_of L.noted listeners.old.items) (told context event) }
+{
+    tell(listeners, &told(context, event));
 }
 
 /// Tells events in order.

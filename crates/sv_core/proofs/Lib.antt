@@ -1,4 +1,6 @@
 pub mod OrderLemmas
+pub mod PlaceLemmas
+pub mod SentLemmas
 pub mod TableLemmas
 pub mod WaitingLemmas
 pub mod TimeLemmas

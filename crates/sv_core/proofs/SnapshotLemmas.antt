@@ -1,11 +1,11 @@
 -- The records of a snapshot may stand behind one another, and give what the node keeps.
-use Rattle.std.proofs.Common.{◌≡◌, ℕ, suc, ◌+◌, ◌<◌, ◌≤◌, false, cond, Some, None, List, [], ◌∷◌, ◌++◌, map, length, arith, refl, sym, ap, ◌∙◌, subst, inl, inr}
+use Rattle.std.proofs.Common.{◌≡◌, ℕ, suc, ◌+◌, ◌<◌, ◌≤◌, false, cond, Some, None, List, [], ◌∷◌, ◌++◌, map, length, get_or, take, arith, refl, sym, ap, ◌∙◌, subst, inl, inr}
 use Rattle.std.specs.Prelude.{T, not, ◌&&◌, is_none, nat_lt}
 use Rattle.std.specs.Ordering.{is_eq}
 use Rattle.std.specs.declared.cmp.Ordering.TheVariants.{Less}
 use Rattle.std.specs.FinMap.{empty, insert, len, entries, find, put, same_entries_map, get-entries, len-entries, entries-insert, entries_sorted}
 use Rattle.std.specs.FinMap.Entries.{below_all, by_order}
-use Rattle.std.proofs.lemmas.List.{append-nil, append_assoc, length-append}
+use Rattle.std.proofs.lemmas.List.{append-nil, append_assoc, length-append, map-append}
 use Rattle.sv_model.specs.declared.key.Key.{Key}
 use Rattle.sv_model.specs.declared.state.KeyState.{KeyState}
 use Rattle.sv_model.specs.declared.state.TheConstants.{KEY_LIMIT}
@@ -21,7 +21,10 @@ use Rattle.sv_model.proofs.EntryLemmas.{no_entries, known}
 use Rattle.sv_core.specs.Order.{Entry}
 use Rattle.sv_core.specs.Snapshot.{staged, state_record, snapshot_of}
 use Rattle.sv_core.proofs.SoundLemmas.{IsSound}
-use Rattle.sv_core.proofs.OrderLemmas.{Rises, first, second, less, reversed}
+use Rattle.sv_core.specs.Places.{Place, Rises, state_at, seen}
+use Rattle.sv_model.specs.declared.record.Record.{Record}
+use Rattle.sv_core.proofs.PlaceLemmas.{seen_more}
+use Rattle.sv_core.proofs.OrderLemmas.{first, second, less, reversed}
 use Rattle.sv_core.proofs.KeptLemmas.{lower_is}
 
 -- ---- an entry above all others
@@ -100,3 +103,10 @@ snapshot_fits set stage d s = (
 
 pub snapshot_stage : (d : Durable) → staged Blank (snapshot_of d) ≡ Snapshot
 snapshot_stage d = stays (entries d.keys)
+
+-- a record of one key more
+pub recorded_more : (states : List KeyState) (ps qs : List Place) (i : ℕ) (d : Place) (st : KeyState) (before outs new : List Record) → qs ≡ ps → i < length qs → st ≡ state_at states (get_or qs i d).1
+    → outs ≡ before ++ map state_record (seen states (take i ps)) → new ≡ outs ++ state_record ((get_or qs i d).0, st) ∷ [] → new ≡ before ++ map state_record (seen states (take (i + 1) ps))
+recorded_more states ps qs i d st before outs new same is there so more =
+    more ∙ ap (λ l. l ++ state_record ((get_or qs i d).0, st) ∷ []) so ∙ append_assoc before (map state_record (seen states (take i ps))) (state_record ((get_or qs i d).0, st) ∷ [])
+    ∙ ap (λ l. before ++ l) (sym (ap (map state_record) (seen_more states ps qs i d st same is there) ∙ map-append state_record (seen states (take i ps)) (((get_or qs i d).0, st) ∷ [])))

@@ -15,12 +15,16 @@ use Rattle.sv_model.specs.Decision.{Decision}
 use Rattle.sv_model.specs.Serving.{ended_at}
 use Rattle.sv_model.proofs.KeyLemmas.{keys_total}
 use Rattle.sv_core.specs.Order.{Entry}
+use Rattle.sv_core.specs.Places.{Place, Rises, state_at, seen, is_handed_over, sent_among}
 use Rattle.sv_core.specs.Plain.{expiring, ticked}
 use Rattle.sv_core.specs.Decision.{decision_of}
-use Rattle.sv_core.proofs.OrderLemmas.{Rises, first, second, less, reversed, find_low, one_key}
-use Rattle.std.proofs.Common.{◌≡◌, ℕ, Bool, true, false, cond, Option, Some, None, List, [], ◌∷◌, ◌++◌, refl, sym, ap, ◌∙◌, subst}
+use Rattle.sv_core.proofs.PlaceLemmas.{seen_more}
+use Rattle.sv_core.proofs.OrderLemmas.{first, second, less, reversed, find_low, one_key}
+use Rattle.std.proofs.Common.{◌≡◌, ℕ, ◌+◌, ◌<◌, Bool, true, false, cond, Option, Some, None, List, [], ◌∷◌, ◌++◌, length, get_or, take, refl, sym, ap, ◌∙◌, subst}
 use Rattle.std.specs.Prelude.{not, T}
 use Rattle.std.specs.List.{filter, filter_map, flat_map}
+use Rattle.std.specs.Option.{option_to_list}
+use Rattle.std.proofs.lemmas.List.{append_assoc}
 use Rattle.std.proofs.lemmas.List.Concat.{flat_map-append}
 use Rattle.std.proofs.lemmas.List.Elements.{filter-append, filter_map-append}
 use Rattle.sv_model.specs.declared.node.Setting.{Setting}
@@ -142,3 +146,36 @@ module _ (set : Setting) (keys : Keys) (boot next : ℕ) (parked : List Parked) 
 -- three lists, one behind the other
 pub put_three : (a b c d x y z : List Output) → a ≡ [] → b ≡ a ++ x → c ≡ b ++ y → d ≡ c ++ z → d ≡ x ++ y ++ z
 put_three a b c d x y z one two three four = four ∙ ap (λ l. l ++ z) (three ∙ ap (λ l. l ++ y) (two ∙ ap (λ l. l ++ x) one))
+
+-- ---- a walk over the keys
+
+granted_one : (set : Setting) (e : Entry) → filter_map (grant_again set) (e ∷ []) ≡ option_to_list (grant_again set e)
+granted_one set (k, Active e s) = refl
+granted_one set (k, Sent e s to) = refl
+granted_one set (k, Gone e) = refl
+granted_one set (k, Ended e) = refl
+
+-- one session more is handed over again
+pub granted_more : (set : Setting) (states : List KeyState) (ps qs : List Place) (i : ℕ) (d : Place) (st : KeyState) (before outs new : List Output) → qs ≡ ps → i < length qs → st ≡ state_at states (get_or qs i d).1
+    → outs ≡ before ++ filter_map (grant_again set) (seen states (take i ps)) → new ≡ outs ++ option_to_list (grant_again set ((get_or qs i d).0, st)) → new ≡ before ++ filter_map (grant_again set) (seen states (take (i + 1) ps))
+granted_more set states ps qs i d st before outs new same is there so more =
+    let e : Entry = ((get_or qs i d).0, st) in
+    more ∙ ap (λ l. l ++ option_to_list (grant_again set e)) so ∙ append_assoc before (filter_map (grant_again set) (seen states (take i ps))) (option_to_list (grant_again set e))
+    ∙ ap (λ l. before ++ l) (ap (λ l. filter_map (grant_again set) (seen states (take i ps)) ++ l) (sym (granted_one set e))
+    ∙ sym (ap (filter_map (grant_again set)) (seen_more states ps qs i d st same is there) ∙ filter_map-append (grant_again set) (seen states (take i ps)) (e ∷ [])))
+
+granted_if : (set : Setting) (states : List KeyState) (p : Place) (l : List Place) (st : KeyState) → state_at states p.1 ≡ st
+    → filter_map (grant_again set) (seen states (cond (is_handed_over st) (p ∷ l) l)) ≡ filter_map (grant_again set) ((p.0, st) ∷ seen states l)
+granted_if set states p l (Active e s) is = refl
+granted_if set states p l (Sent e s to) is = ap (λ (st : KeyState). filter_map (grant_again set) ((p.0, st) ∷ seen states l)) is
+granted_if set states p l (Gone e) is = refl
+granted_if set states p l (Ended e) is = refl
+
+-- the others are not handed over again
+pub granted_sent : (set : Setting) (states : List KeyState) (ps : List Place) → filter_map (grant_again set) (seen states (sent_among states ps)) ≡ filter_map (grant_again set) (seen states ps)
+granted_sent set states [] = refl
+granted_sent set states (p ∷ ps) =
+    let e : Entry = (p.0, state_at states p.1) in
+    granted_if set states p (sent_among states ps) (state_at states p.1) refl
+    ∙ filter_map-append (grant_again set) (e ∷ []) (seen states (sent_among states ps)) ∙ ap (λ l. filter_map (grant_again set) (e ∷ []) ++ l) (granted_sent set states ps)
+    ∙ sym (filter_map-append (grant_again set) (e ∷ []) (seen states ps))

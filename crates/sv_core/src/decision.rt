@@ -22,13 +22,25 @@ pub enum Waiting {
 }
 
 /// What a step does.
-#[derive(Drop)]
 pub struct Decision {
     pub(crate) entry: Option<Record>,
     pub(crate) commit: Option<Commit>,
     pub(crate) told: Sequence<Told>,
     pub(crate) outputs: Sequence<Output>,
     pub(crate) waiting: Waiting,
+}
+
+/// By hand, so that the proof of a caller has one step for it and not one for each variant of its parts.
+impl Drop for Decision {
+    fn drop(self) {
+        let Decision {
+            entry: _,
+            commit: _,
+            told: _,
+            outputs: _,
+            waiting: _,
+        } = self;
+    }
 }
 
 /// What others may read of it.
@@ -64,6 +76,23 @@ impl Decision {
         ensures { result.now ≡ outputs_in self.now }
     {
         self.outputs.as_slice()
+    }
+
+    /// The record, what listeners are told, what is put out, and what becomes of the requests that wait.
+    pub(crate) fn into_parts(self) -> (Option<Record>, Sequence<Told>, Sequence<Output>, Waiting)
+        ensures entry { result.0 ≡ self.entry }
+        ensures told { result.1 ≡ self.told }
+        ensures outputs { result.2 ≡ self.outputs }
+        ensures waiting { result.3 ≡ self.waiting }
+    {
+        let Decision {
+            entry,
+            commit: _,
+            told,
+            outputs,
+            waiting,
+        } = self;
+        (entry, told, outputs, waiting)
     }
 }
 

@@ -193,13 +193,7 @@ impl<E: Engine> Core<E> {
         ensures stage { stage_of self.new ≡ stage_behind_if (entry_in decision) (stage_of self.old) }
         ensures setting { setting_of self.new ≡ setting_of self.old }
     {
-        let Decision {
-            entry,
-            commit: _,
-            told,
-            outputs,
-            waiting,
-        } = decision;
+        let (entry, told, outputs, waiting) = decision.into_parts();
         self.kept.follow(entry, waiting);
         self.engine.tell(told.as_slice());
         outputs.into_vec()

@@ -165,12 +165,6 @@ impl Kept {
     ) -> Result<Decision, AllocError>
         ensures { (m : EngineMeaning) → named ≡ m.names request.now → handed ≡ is_some (held_in (keys_of self.now.keys) named) → IfOk result (λ d. decision_of self.now.setting (node_of self.now) d ≡ answered m self.now.setting (node_of self.now) moment token request.now outcome (parked_without leaving self.now.parked.items)) }
     {
-        let Outcome {
-            response,
-            fate,
-            birth,
-            events,
-        } = outcome;
         let fresh = self.fresh(moment);
         let commit = Commit::Served {
             token: self.token(token),
@@ -179,6 +173,7 @@ impl Kept {
             handed,
             fresh,
         };
+        let (response, fate, birth, events) = outcome.into_parts();
         let outputs = one_output(self.alloc, Output::Answer { token, response })?;
         Ok(Decision {
             entry: entry_of(named_change(named, fate), born_change(fresh.0, birth)),

@@ -1,24 +1,35 @@
 //! All that a node keeps durably, as records that give it again.
 
-ghost use Rattle.std.specs.Prelude.{◌≡◌, ◌++◌, IfOk, OnOk, map};
+ghost use Rattle.std.specs.Prelude.{◌≡◌, ◌++◌, ◌∷◌, [], IfOk, OnOk, map};
 ghost use Rattle.std.specs.FinMap.{entries};
 ghost use Rattle.sv_core.specs.Kept.{node_of};
 ghost use Rattle.sv_core.specs.Snapshot.{state_record, snapshot_of};
 
 use crate::kept::Kept;
-use crate::order::Wanted;
 use std::alloc::AllocError;
-use sv_model::Record;
+use sv_model::{Key, KeyState, Record};
 
 impl Kept {
+    /// A record of what is known of the key.
+    fn add_state(
+        &self,
+        records: &mut Vec<Record>,
+        key: Key,
+        state: &KeyState,
+    ) -> Result<(), AllocError>
+        ensures { OnOk result (records.new.items ≡ records.old.items ++ state_record (key, state.now) ∷ []) }
+    {
+        let state = state.copy(self.alloc)?;
+        records.push(Record::State { key, state })?;
+        Ok(())
+    }
+
     /// A record of what is known of each key, in order of the keys.
     fn add_states(&self, records: &mut Vec<Record>) -> Result<(), AllocError>
         ensures { OnOk result (records.new.items ≡ records.old.items ++ map state_record (entries (node_of self.now).durable.keys)) }
     {
-        let ordered = self.keys.in_order(self.alloc, Wanted::Every)?;
-        for (key, state) in ordered {
-            let state = state.copy(self.alloc)?;
-            records.push(Record::State { key, state })?;
+        for &(key, place) in self.keys.in_order() {
+            self.add_state(records, key, self.keys.state(place))?;
         }
         Ok(())
     }

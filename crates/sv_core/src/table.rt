@@ -1,19 +1,28 @@
 //! The keys that a node knows.
 
-ghost use Rattle.std.specs.Prelude.{◌≡◌, ◌+◌, ◌≤◌, OnOk, option_copied};
-ghost use Rattle.std.specs.HashMap.{IsEmpty, spare};
+ghost use Rattle.std.specs.Prelude.{◌≡◌, ◌<◌, OnOk, [], length, option_copied};
 ghost use Rattle.std.specs.FinMap.{get, insert, len};
+ghost use Rattle.sv_core.specs.Places.{Rises, AreWithin, AreApart, state_at, sent_among, is_handed_over};
 ghost use Rattle.sv_model.specs.Serving.{kept_at, ended_at};
 ghost use Rattle.sv_model.specs.Keys.{same_key};
 
+use crate::places::{add, mark, place_of};
 use std::alloc::{AllocError, Global};
-use std::collections::HashMap;
 use sv_model::{Key, KeyState, Session};
 
 /// What a node knows of each key.
 #[derive(Drop)]
 pub struct Table {
-    pub states: HashMap<Key, KeyState>,
+    /// The keys in their order, each with the place of its state.
+    places: Vec<(Key, usize)>,
+    /// What is known of the keys, in the order in which they came. Since no key is forgotten, each keeps its place.
+    states: Vec<KeyState>,
+    /// Of the places those whose session was handed over, and not yet acknowledged.
+    sent: Vec<(Key, usize)>,
+    ghost rises: { Rises places.items },
+    ghost within: { AreWithin (length states.items) places.items },
+    ghost apart: { AreApart places.items },
+    ghost walked: { sent.items ≡ sent_among states.items places.items },
 }
 
 /// The two are one key.
@@ -23,15 +32,25 @@ pub fn is_same(key: Key, other: Key) -> bool
     key.home == other.home && key.serial == other.serial
 }
 
+/// The session was handed over, and not yet acknowledged.
+fn is_handed_over(state: &KeyState) -> bool
+    ensures { result ≡ is_handed_over state.now }
+{
+    matches!(state, KeyState::Sent { .. })
+}
+
 impl Table {
     ghost use Rattle.sv_core.specs.Table.{keys_of, HasRoom, HasPlace};
 
     /// No keys.
     pub fn new(alloc: Global) -> Self
-        ensures { IsEmpty result.states }
+        ensures places { result.places.items ≡ [] }
+        ensures states { result.states.items ≡ [] }
     {
         Table {
-            states: HashMap::new(alloc),
+            places: Vec::new(alloc),
+            states: Vec::new(alloc),
+            sent: Vec::new(alloc),
         }
     }
 
@@ -39,14 +58,37 @@ impl Table {
     pub fn len(&self) -> usize
         ensures { result ≡ len (keys_of self.now) }
     {
-        self.states.len()
+        self.places.len()
     }
 
     /// What is known of a key.
     pub fn get(&self, key: Key) -> Option<&KeyState>
         ensures { option_copied result ≡ get (keys_of self.now) key }
     {
-        self.states.get(&key)
+        let place = place_of(&self.places, key)?;
+        Some(&self.states[place])
+    }
+
+    /// The keys in their order, each with the place of its state.
+    pub fn in_order(&self) -> &[(Key, usize)]
+        ensures { result.now ≡ self.now.places.items }
+    {
+        self.places.as_slice()
+    }
+
+    /// The keys whose session was handed over, and not yet acknowledged, in their order.
+    pub fn handed_over(&self) -> &[(Key, usize)]
+        ensures { result.now ≡ self.now.sent.items }
+    {
+        self.sent.as_slice()
+    }
+
+    /// The state at a place.
+    pub fn state(&self, place: usize) -> &KeyState
+        requires { place < length self.now.states.items }
+        ensures { result.now ≡ state_at self.now.states.items place }
+    {
+        &self.states[place]
     }
 
     /// Makes room for what one record says of keys.
@@ -55,17 +97,30 @@ impl Table {
         ensures room { OnOk result (HasRoom self.new) }
     {
         // a record names two keys at most: the one of a request, and the one of a session that was made
-        self.states.reserve(2)
+        self.places.try_reserve(2)?;
+        self.sent.try_reserve(2)?;
+        self.states.try_reserve(2)
     }
 
     /// Puts down what is known of a key from now on.
     pub fn put(&mut self, key: Key, state: KeyState)
         requires { HasPlace self.old }
         ensures keys { keys_of self.new ≡ insert (keys_of self.old) key state }
-        ensures room { spare self.old.states ≤ spare self.new.states + 1 }
+        ensures room { HasRoom self.old → HasPlace self.new }
     {
-        // there is a place, so this takes no memory
-        let _ = self.states.insert(key, state);
+        let is_sent = is_handed_over(&state);
+        match place_of(&self.places, key) {
+            Some(place) => {
+                mark(&mut self.sent, key, place, is_sent);
+                self.states[place] = state;
+            }
+            None => {
+                let place = self.states.len();
+                add(&mut self.places, key, place);
+                mark(&mut self.sent, key, place, is_sent);
+                self.states.push_reserved(state);
+            }
+        }
     }
 
     /// The session stays active, and is this from now on.

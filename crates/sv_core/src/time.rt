@@ -10,7 +10,6 @@ ghost use Rattle.sv_model.specs.Time.{is_late, deadlines, grant_again, first_ove
 
 use crate::decision::{Decision, Waiting};
 use crate::kept::Kept;
-use crate::order::Wanted;
 use std::alloc::AllocError;
 use sv_model::{
     Cause, Commit, Event, Key, KeyState, Output, Packet, Parked, Record, Setting, Told,
@@ -97,9 +96,8 @@ impl Kept {
     fn add_grants_again(&self, outputs: &mut Vec<Output>) -> Result<(), AllocError>
         ensures { OnOk result (outputs.new.items ≡ outputs.old.items ++ filter_map (grant_again self.now.setting) (entries (node_of self.now).durable.keys)) }
     {
-        let ordered = self.keys.in_order(self.alloc, Wanted::HandedOver)?;
-        for (key, state) in ordered {
-            self.add_grant_of(outputs, key, state)?;
+        for &(key, place) in self.keys.handed_over() {
+            self.add_grant_of(outputs, key, self.keys.state(place))?;
         }
         Ok(())
     }

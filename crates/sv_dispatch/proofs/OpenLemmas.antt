@@ -1,12 +1,12 @@
 -- The filters before a servlet, and the servlet that is found.
-use Rattle.std.proofs.Common.{◌≡◌, ◌≢◌, ℕ, suc, List, [], ◌∷◌, arith, sym, ◌∙◌, ap, refl, Some, None, Option, subst, All}
+use Rattle.std.proofs.Common.{◌≡◌, ◌≢◌, ℕ, suc, List, [], ◌∷◌, arith, sym, ◌∙◌, ap, refl, Some, None, Option, Result, Ok, Err, IfOk, subst, All}
 use Rattle.std.proofs.lemmas.List.Elements.{All-cons, All-nil}
 use Rattle.sv_servlet.specs.Call.{Asked}
 use Rattle.sv_servlet.specs.Filter.{Filters}
 use Rattle.sv_servlet.specs.Servlet.{Lent}
 use Rattle.sv_servlet.specs.declared.filter.Before.{Before}
 use Rattle.sv_servlet.specs.declared.filter.Before.TheVariants.{Pass, Stop, SendError, Fault}
-use Rattle.sv_dispatch.specs.Dispatching.{Table, outcome, Begun, begun, befores, afters, begun_after, begun_by, chain_of, closed, dispatched, performed, placed, sent, serving, entered, bad_path, visit_of}
+use Rattle.sv_dispatch.specs.Dispatching.{Table, Outcome, outcome, Begun, begun, befores, afters, begun_after, begun_by, chain_of, closed, dispatched, found_or_sent, performed, placed, serving, entered, bad_path, to_serve, visit_of}
 use Rattle.sv_dispatch.specs.Rows.{Row, IsReadyAt, labels_of_rows, ready_at}
 use Rattle.sv_dispatch.specs.Sight.{call_of}
 use Rattle.sv_dispatch.specs.Stack.{opened, IsOpen}
@@ -41,48 +41,38 @@ unfolding performed
 performed_by t e v left l m ps b h =
     ap (λ (g : Begun). closed t.filters g.passed (call_of v.view 0) (begun_by (dispatched t e) t.servlets v left g.lent g.before)) h
 
--- the filters passed, and there is a servlet
-pub opens_at : (t u : Table) (e : ℕ) (v : Visit) (left : ℕ) (l m : Lent) (b : Before) (o : Open) → begun o.passed.items b m ≡ began t v l → b ≡ Pass →
-    o.view ≡ v.view → o.resume ≡ 0 → u ≡ t → Some o.servlet ≡ ready_at (labels_of_rows u.servlets) v.servlet →
+-- a dispatch from its servlet on, or its end without one
+abbrev continued : Table → ℕ → Visit → ℕ → Lent → Result ℕ Ending → Outcome
+continued t e v left m (Ok k) = serving (dispatched t e) t.servlets left k v.view 0 left m
+continued t e v left m (Err ended) = outcome ended left m
+
+placed_on : (t : Table) (e : ℕ) (v : Visit) (left : ℕ) (m : Lent) (found : Option ℕ) → placed (dispatched t e) t.servlets v.view left m found ≡ continued t e v left m (found_or_sent v.view found)
+placed_on t e v left m None = refl
+placed_on t e v left m (Some k) = refl
+
+begun_on : (t : Table) (e : ℕ) (v : Visit) (left : ℕ) (m : Lent) (b : Before) → begun_by (dispatched t e) t.servlets v left m b ≡ continued t e v left m (to_serve t.servlets v b)
+begun_on t e v left m Pass = placed_on t e v left m (ready_at (labels_of_rows t.servlets) v.servlet)
+begun_on t e v left m Stop = refl
+begun_on t e v left m (SendError code text) = refl
+begun_on t e v left m (Fault name) = refl
+
+-- what follows the filters
+opens_on : (t u : Table) (e : ℕ) (v : Visit) (left : ℕ) (l m : Lent) (ps : List ℕ) (b : Before) (r : Result ℕ Ending) → begun ps b m ≡ began t v l → u ≡ t → r ≡ to_serve u.servlets v b →
+    closed t.filters ps (call_of v.view 0) (continued t e v left m r) ≡ performed t (dispatched t e) v left l
+opens_on t u e v left l m ps b r h w q =
+    ap (closed t.filters ps (call_of v.view 0)) (ap (continued t e v left m) (q ∙ ap (λ (x : Table). to_serve x.servlets v b) w) ∙ sym (begun_on t e v left m b)) ∙ performed_by t e v left l m ps b h
+
+-- there is a servlet
+pub opens_at : (t u : Table) (e : ℕ) (v : Visit) (left : ℕ) (l m : Lent) (b : Before) (o : Open) → begun o.passed.items b m ≡ began t v l → o.view ≡ v.view → o.resume ≡ 0 → u ≡ t → Ok o.servlet ≡ to_serve u.servlets v b →
     opened t e o left m ≡ performed t (dispatched t e) v left l
 unfolding opened
-opens_at t u e v left l m b o h p w r x q =
-    let q' : Some o.servlet ≡ ready_at (labels_of_rows t.servlets) v.servlet = q ∙ ap (λ (y : Table). ready_at (labels_of_rows y.servlets) v.servlet) x in
-    let pass : begun_by (dispatched t e) t.servlets v left m b ≡ serving (dispatched t e) t.servlets left o.servlet v.view 0 left m =
-    ap (begun_by (dispatched t e) t.servlets v left m) p ∙ ap (placed (dispatched t e) t.servlets v.view left m) (sym q') in
-    rw (w, r) (ap (closed t.filters o.passed.items (call_of v.view 0)) (sym pass) ∙ performed_by t e v left l m o.passed.items b h)
+opens_at t u e v left l m b o h w r x q = rw (w, r) (opens_on t u e v left l m o.passed.items b (Ok o.servlet) h x q)
 
--- the filters decided, or there is no servlet
-pub opens_not : (t u : Table) (e : ℕ) (v : Visit) (left : ℕ) (l m : Lent) (ps : List ℕ) (b c : Before) (ended : Ending) → begun ps b m ≡ began t v l → b ≡ c → u ≡ t →
-    outcome ended left m ≡ begun_by (dispatched t e) t.servlets v left m c →
+-- or there is none to be called
+pub opens_not : (t u : Table) (e : ℕ) (v : Visit) (left : ℕ) (l m : Lent) (ps : List ℕ) (b : Before) (ended : Ending) → begun ps b m ≡ began t v l → u ≡ t → Err ended ≡ to_serve u.servlets v b →
     closed u.filters ps (call_of v.view 0) (outcome ended left m) ≡ performed t (dispatched t e) v left l
-opens_not t u e v left l m ps b c ended h p w q =
-    ap (λ (x : Table). closed x.filters ps (call_of v.view 0) (outcome ended left m)) w
-    ∙ (ap (closed t.filters ps (call_of v.view 0)) (q ∙ ap (begun_by (dispatched t e) t.servlets v left m) (sym p)) ∙ performed_by t e v left l m ps b h)
-
--- a servlet that is missing
-pub nowhere : (t u : Table) (e : ℕ) (v : Visit) (left : ℕ) (m : Lent) → u ≡ t → None ≡ ready_at (labels_of_rows u.servlets) v.servlet →
-    outcome (sent v.view 404 []) left m ≡ begun_by (dispatched t e) t.servlets v left m Pass
-nowhere t u e v left m w q =
-    ap (placed (dispatched t e) t.servlets v.view left m) (q ∙ ap (λ (y : Table). ready_at (labels_of_rows y.servlets) v.servlet) w)
-
-pub opens_nowhere : (t u : Table) (e : ℕ) (v : Visit) (left : ℕ) (l m : Lent) (ps : List ℕ) (b : Before) (ended : Ending) (text : List ℕ) → begun ps b m ≡ began t v l → b ≡ Pass → u ≡ t →
-    ended ≡ sent v.view 404 text → text ≡ [] → None ≡ ready_at (labels_of_rows u.servlets) v.servlet →
-    closed u.filters ps (call_of v.view 0) (outcome ended left m) ≡ performed t (dispatched t e) v left l
-opens_nowhere t u e v left l m ps b ended text h p w s z q =
-    opens_not t u e v left l m ps b Pass ended h p w (ap (λ (x : Ending). outcome x left m) (s ∙ ap (sent v.view 404) z) ∙ nowhere t u e v left m w q)
-
-pub opens_stop : (t u : Table) (e : ℕ) (v : Visit) (left : ℕ) (l m : Lent) (ps : List ℕ) (b : Before) → begun ps b m ≡ began t v l → b ≡ Stop → u ≡ t →
-    closed u.filters ps (call_of v.view 0) (outcome Finished left m) ≡ performed t (dispatched t e) v left l
-opens_stop t u e v left l m ps b h p w = opens_not t u e v left l m ps b Stop Finished h p w refl
-
-pub opens_error : (t u : Table) (e : ℕ) (v : Visit) (left : ℕ) (l m : Lent) (ps : List ℕ) (b : Before) (ended : Ending) (code : ℕ) (text : List ℕ) → begun ps b m ≡ began t v l → b ≡ SendError code text → u ≡ t →
-    ended ≡ sent v.view code text → closed u.filters ps (call_of v.view 0) (outcome ended left m) ≡ performed t (dispatched t e) v left l
-opens_error t u e v left l m ps b ended code text h p w s = opens_not t u e v left l m ps b (SendError code text) ended h p w (ap (λ (x : Ending). outcome x left m) s)
-
-pub opens_fault : (t u : Table) (e : ℕ) (v : Visit) (left : ℕ) (l m : Lent) (ps : List ℕ) (b : Before) (name : List ℕ) → begun ps b m ≡ began t v l → b ≡ Fault name → u ≡ t →
-    closed u.filters ps (call_of v.view 0) (outcome (Faulted name) left m) ≡ performed t (dispatched t e) v left l
-opens_fault t u e v left l m ps b name h p w = opens_not t u e v left l m ps b (Fault name) (Faulted name) h p w refl
+opens_not t u e v left l m ps b ended h w q =
+    ap (λ (x : Table). closed x.filters ps (call_of v.view 0) (outcome ended left m)) w ∙ opens_on t u e v left l m ps b (Err ended) h w q
 
 -- the path of a dispatch was read, or refused
 pub enters : (t : Table) (e : ℕ) (a : Ask) (v : Visit) (left : ℕ) (l : Lent) → Some v ≡ visit_of t a → performed t (dispatched t e) v left l ≡ dispatched t (suc e) a left l
@@ -115,9 +105,19 @@ passed_ready fs gs call ks ps l m b e a h =
 pub chain_ready : (t : Table) (ks : List ℕ) (v : Visit) → IsSound t → ks ≡ chain_of t v → All (IsReadyAt t.filters) ks
 chain_ready t ks v s e = subst (All (IsReadyAt t.filters)) (sym e) (chain_all (IsReadyAt t.filters) t.chains v.path v.servlet v.dispatcher s.filters)
 
+found_ready : (t : Table) (v : Visit) (found : Option ℕ) → IsSound t → ready_at (labels_of_rows t.servlets) v.servlet ≡ found → IfOk (found_or_sent v.view found) (IsReadyAt t.servlets)
+found_ready t v None s h = tt
+found_ready t v (Some k) s h = servlet_ready t.servlets v.servlet k s.servlets h
+
+to_serve_ready : (t : Table) (v : Visit) (b : Before) → IsSound t → IfOk (to_serve t.servlets v b) (IsReadyAt t.servlets)
+to_serve_ready t v Pass s = found_ready t v (ready_at (labels_of_rows t.servlets) v.servlet) s refl
+to_serve_ready t v Stop s = tt
+to_serve_ready t v (SendError code text) s = tt
+to_serve_ready t v (Fault name) s = tt
+
 -- a sound table's servlet is ready, and so are the filters that passed
-pub opens : (t u : Table) (servlet : Option ℕ) (o : Open) → IsSound t → u ≡ t → Some o.servlet ≡ ready_at (labels_of_rows u.servlets) servlet → All (IsReadyAt u.filters) o.passed.items → IsOpen t o
-opens t u servlet o s w q a = record {
-  servlet = servlet_ready t.servlets servlet o.servlet s.servlets (sym (q ∙ ap (λ (v : Table). ready_at (labels_of_rows v.servlets) servlet) w));
-  passed = subst (λ (v : Table). All (IsReadyAt v.filters) o.passed.items) w a;
+pub opens : (t u : Table) (v : Visit) (b : Before) (o : Open) → IsSound t → u ≡ t → Ok o.servlet ≡ to_serve u.servlets v b → All (IsReadyAt u.filters) o.passed.items → IsOpen t o
+opens t u v b o s w q a = record {
+  servlet = subst (λ (r : Result ℕ Ending). IfOk r (IsReadyAt t.servlets)) (sym (q ∙ ap (λ (x : Table). to_serve x.servlets v b) w)) (to_serve_ready t v b s);
+  passed = subst (λ (x : Table). All (IsReadyAt x.filters) o.passed.items) w a;
 }

@@ -6,7 +6,7 @@ use Rattle.sv_servlet.specs.Call.{Asked}
 use Rattle.sv_servlet.specs.ReplyState.{ReplyState}
 use Rattle.sv_servlet.specs.Servlet.{Lent, lent}
 use Rattle.sv_dispatch.specs.Dispatching.{Table, outcome, ask, dispatched}
-use Rattle.sv_dispatch.specs.Pages.{first_page, servlet_name, path_of, paged, shown_by, shown_page, readied, readied_reply, ran, served, settled, settled_all}
+use Rattle.sv_dispatch.specs.Pages.{first_page, servlet_name, path_of, paged, shown_page, readied, readied_reply, ran, served, settled, settled_all}
 use Rattle.sv_dispatch.specs.Place.{place_of}
 use Rattle.sv_dispatch.specs.Rows.{Label, labels_of_rows, name_at}
 use Rattle.sv_dispatch.specs.Sight.{Sight, errored, first_sight}
@@ -35,18 +35,23 @@ name_is t call ls place text path name n l p s r =
     n ∙ (ap (λ (x : List Label). name_at x place.servlet) (sym l) ∙ ap (λ (x : Place). name_at (labels_of_rows t.servlets) x.servlet) (p ∙ ap (place_of t.patterns) (s ∙ r)))
 
 -- an error dispatch that ended
-pub page_shown : (t u : Table) (call : Asked) (status : ℕ) (message : List ℕ) (left left' : ℕ) (l m : Lent) (reply : ReplyState) (path : List ℕ) (page : Option (List ℕ)) (view : Sight) (ended known : Ending) → page ≡ Some path →
-    u ≡ t → view ≡ errored (first_sight call) status message (servlet_name u call) → reply ≡ readied_reply l.reply status → outcome ended left' m ≡ dispatched u 16 (ask Error view path) left (lent l.edit reply) → ended ≡ known →
-    shown_by status (outcome known left' m) known ≡ paged t call status message left l page
-page_shown t u call status message left left' l m reply path page view ended known g w v r o k =
+pub page_shown : (t u : Table) (call : Asked) (status : ℕ) (message : List ℕ) (left left' : ℕ) (l m : Lent) (reply : ReplyState) (path : List ℕ) (page : Option (List ℕ)) (view : Sight) (ended : Ending) → page ≡ Some path →
+    u ≡ t → view ≡ errored (first_sight call) status message (servlet_name u call) → reply ≡ readied_reply l.reply status → outcome ended left' m ≡ dispatched u 16 (ask Error view path) left (lent l.edit reply) →
+    shown_page status (outcome ended left' m) ≡ paged t call status message left l page
+page_shown t u call status message left left' l m reply path page view ended g w v r o =
     let o' : outcome ended left' m ≡ dispatched u 16 (ask Error (errored (first_sight call) status message (servlet_name u call)) path) left (readied status l) =
     o ∙ (ap (λ (x : Sight). dispatched u 16 (ask Error x path) left (lent l.edit reply)) v ∙ ap (λ (x : ReplyState). dispatched u 16 (ask Error (errored (first_sight call) status message (servlet_name u call)) path) left (lent l.edit x)) r) in
-    ap (λ (x : Ending). shown_page status (outcome x left' m)) (sym k) ∙ (ap (shown_page status) o' ∙ (ap (λ (x : Table). paged x call status message left l (Some path)) w ∙ ap (paged t call status message left l) (sym g)))
+    ap (shown_page status) o' ∙ (ap (λ (x : Table). paged x call status message left l (Some path)) w ∙ ap (paged t call status message left l) (sym g))
 
 -- a request that is settled by a page
-pub run_paged : {E : Type 0} (r : Result Ended E) (t u : Table) (call : Asked) (view : Sight) (path : List ℕ) (left : ℕ) (l m n : Lent) (ended known : Ending) (status : ℕ) (message : List ℕ) (page : Option (List ℕ)) → IfOk r (λ e. ran e n ≡ paged u call status message left m page) →
-    u ≡ t → view ≡ first_sight call → path ≡ path_of call → outcome ended left m ≡ dispatched t 16 (ask Request view path) 64 l → ended ≡ known → paged t call status message left m page ≡ settled t call (outcome known left m) known → IfOk r (λ e. ran e n ≡ served t call l)
-run_paged (Ok e) t u call view path left l m n ended known status message page h w v p o k s =
-    h ∙ (ap (λ (x : Table). paged x call status message left m page) w ∙ (s ∙ (ap (λ (x : Ending). settled_all t call (outcome x left m)) (sym k)
-    ∙ ap (settled_all t call) (o ∙ (λ i. dispatched t 16 (ask Request (v i) (p i)) 64 l)))))
-run_paged (Err x) t u call view path left l m n ended known status message page h w v p o k s = tt
+pub settled_paged : {E : Type 0} (r : Result Ended E) (t : Table) (call : Asked) (left : ℕ) (m n : Lent) (ended known : Ending) (status : ℕ) (message : List ℕ) (page : Option (List ℕ)) → IfOk r (λ e. ran e n ≡ paged t call status message left m page) →
+    ended ≡ known → paged t call status message left m page ≡ settled t call (outcome known left m) known → IfOk r (λ e. ran e n ≡ settled_all t call (outcome ended left m))
+settled_paged (Ok e) t call left m n ended known status message page h k s = h ∙ (s ∙ ap (λ (x : Ending). settled_all t call (outcome x left m)) (sym k))
+settled_paged (Err x) t call left m n ended known status message page h k s = tt
+
+-- a request that is settled by how its dispatch ended
+pub run_settled : {E : Type 0} (r : Result Ended E) (t u : Table) (call : Asked) (view : Sight) (path : List ℕ) (left : ℕ) (l m n : Lent) (ended : Ending) → IfOk r (λ e. ran e n ≡ settled_all u call (outcome ended left m)) →
+    u ≡ t → view ≡ first_sight call → path ≡ path_of call → outcome ended left m ≡ dispatched t 16 (ask Request view path) 64 l → IfOk r (λ e. ran e n ≡ served t call l)
+run_settled (Ok e) t u call view path left l m n ended h w v p o =
+    h ∙ (ap (λ (x : Table). settled_all x call (outcome ended left m)) w ∙ ap (settled_all t call) (o ∙ (λ i. dispatched t 16 (ask Request (v i) (p i)) 64 l)))
+run_settled (Err x) t u call view path left l m n ended h w v p o = tt

@@ -1,5 +1,5 @@
 -- One call of a servlet, and one return from a dispatch that was asked for.
-use Rattle.std.proofs.Common.{◌≡◌, ℕ, zero, suc, ◌≤◌, ◌+◌, ◌-◌, true, List, arith, add-one, sym, ◌∙◌, ap, refl, Result, Ok, Err, IfOk, OnOk}
+use Rattle.std.proofs.Common.{◌≡◌, ℕ, zero, suc, ◌≤◌, ◌+◌, ◌-◌, true, List, arith, add-one, sym, ◌∙◌, ap, refl, subst, Result, Ok, Err, IfOk, OnOk}
 use Rattle.sv_mapping.specs.declared.dispatcher.Dispatcher.{Dispatcher}
 use Rattle.sv_mapping.specs.declared.dispatcher.Dispatcher.TheVariants.{Forward as ByForward, Include as ByInclude}
 use Rattle.sv_servlet.specs.Call.{Asked}
@@ -8,10 +8,10 @@ use Rattle.sv_servlet.specs.ReplyState.{ReplyState}
 use Rattle.sv_servlet.specs.Servlet.{Lent, lent, Answer, answer}
 use Rattle.sv_servlet.specs.declared.servlet.Next.{Next}
 use Rattle.sv_servlet.specs.declared.servlet.Next.TheVariants.{Forward, Include, SendError}
-use Rattle.sv_dispatch.specs.Dispatching.{Table, Outcome, outcome, ask, answered, closed, dispatched, holding, let_go, resumed, sent, serving}
+use Rattle.sv_dispatch.specs.Dispatching.{Table, Outcome, outcome, ask, closed, dispatched, holding, let_go, resumed, sent, serving}
 use Rattle.sv_dispatch.specs.Rows.{served}
 use Rattle.sv_dispatch.specs.Sight.{call_of}
-use Rattle.sv_dispatch.specs.Stack.{current, opened, reentered, closed_open, serving_open, nesting}
+use Rattle.sv_dispatch.specs.Stack.{current, opened, followed, reentered, closed_open, serving_open, nesting, IsOpen, IsModeOf}
 use Rattle.sv_dispatch.proofs.TurnLemmas.{dispatched_left, serving_turns, resumed_same}
 use Rattle.sv_dispatch.specs.declared.mode.Open.{Open}
 use Rattle.sv_dispatch.specs.declared.mode.Then.{Then}
@@ -32,22 +32,18 @@ unfolding opened serving closed
 serve_none t e o zero l h = refl
 serve_none t e o (suc n) l h = absurd (omega arith)
 
--- what the servlet's answer makes of its dispatch
-abbrev pub after_answer : Table → ℕ → Open → ℕ → Lent → Next → Outcome
-after_answer t e o n m next = closed_open t o (answered (dispatched t e) (λ r left' l'. serving_open t e o n r left' l') o.view n m next)
-
-pub serve_one : (t : Table) (e : ℕ) (o : Open) (left n : ℕ) (l m : Lent) (next : Next) (seen : Asked) → left ≡ n + 1 →
-    answer m next ≡ served t.servlets o.servlet seen l → seen ≡ call_of o.view o.resume → after_answer t e o n m next ≡ opened t e o left l
+serve_one : (t : Table) (e : ℕ) (o : Open) (left n : ℕ) (l m : Lent) (next : Next) (seen : Asked) → left ≡ n + 1 →
+    answer m next ≡ served t.servlets o.servlet seen l → seen ≡ call_of o.view o.resume → followed t e o n m next ≡ opened t e o left l
 unfolding opened serving
 serve_one t e o left n l m next seen h a v =
-    rw (h, add-one) (ap (λ (x : Answer). after_answer t e o n x.lent x.next) (a ∙ ap (λ (x : Asked). served t.servlets o.servlet x l) v))
+    rw (h, add-one) (ap (λ (x : Answer). followed t e o n x.lent x.next) (a ∙ ap (λ (x : Asked). served t.servlets o.servlet x l) v))
 
 abbrev pub frame : Open → Then → Frame
 frame o then = record { held = o; then = then }
 
 -- an included dispatch is awaited
 nest_include : (t : Table) (e : ℕ) (o : Open) (n : ℕ) (m : Lent) (path : List ℕ) (r : ℕ) →
-    reentered t e (frame o (Resume r)) (dispatched t e (ask ByInclude o.view path) n (holding true m)) ≡ after_answer t e o n m (Include path r)
+    reentered t e (frame o (Resume r)) (dispatched t e (ask ByInclude o.view path) n (holding true m)) ≡ followed t e o n m (Include path r)
 unfolding reentered resumed
 nest_include t e o n m path r =
     let w = dispatched t e (ask ByInclude o.view path) n (holding true m) in
@@ -58,48 +54,49 @@ nest_include t e o n m path r =
     (serving_turns (dispatched t e) t.servlets (dispatched_left t e) w.left n o.servlet o.view r w.left (holding o.view.is_included w.lent) z s))
 
 nest_forward : (t : Table) (e : ℕ) (o : Open) (n : ℕ) (m : Lent) (path : List ℕ) →
-    reentered t e (frame o Return) (dispatched t e (ask ByForward o.view path) n (lent m.edit (cleared m.reply))) ≡ after_answer t e o n m (Forward path)
+    reentered t e (frame o Return) (dispatched t e (ask ByForward o.view path) n (lent m.edit (cleared m.reply))) ≡ followed t e o n m (Forward path)
 unfolding reentered
 nest_forward t e o n m path = refl
 
 -- a servlet that waits for another dispatch
-pub serve_forward : (t : Table) (e : ℕ) (o : Open) (left n : ℕ) (l m : Lent) (next : Next) (seen : Asked) (path : List ℕ) (reply : ReplyState) → left ≡ n + 1 →
-    answer m next ≡ served t.servlets o.servlet seen l → seen ≡ call_of o.view o.resume → next ≡ Forward path → reply ≡ cleared m.reply →
-    reentered t e (frame o Return) (dispatched t e (ask ByForward o.view path) n (lent m.edit reply)) ≡ opened t e o left l
-serve_forward t e o left n l m next seen path reply h a v f z =
+pub follow_forward : (t : Table) (e : ℕ) (o : Open) (n : ℕ) (m : Lent) (next : Next) (path : List ℕ) (reply : ReplyState) → next ≡ Forward path → reply ≡ cleared m.reply →
+    reentered t e (frame o Return) (dispatched t e (ask ByForward o.view path) n (lent m.edit reply)) ≡ followed t e o n m next
+follow_forward t e o n m next path reply f z =
     ap (λ (x : ReplyState). reentered t e (frame o Return) (dispatched t e (ask ByForward o.view path) n (lent m.edit x))) z
-    ∙ (nest_forward t e o n m path ∙ (ap (after_answer t e o n m) (sym f) ∙ serve_one t e o left n l m next seen h a v))
+    ∙ (nest_forward t e o n m path ∙ ap (followed t e o n m) (sym f))
 
-pub serve_include : (t : Table) (e : ℕ) (o : Open) (left n : ℕ) (l m : Lent) (next : Next) (seen : Asked) (path : List ℕ) (r : ℕ) (reply : ReplyState) → left ≡ n + 1 →
-    answer m next ≡ served t.servlets o.servlet seen l → seen ≡ call_of o.view o.resume → next ≡ Include path r → reply ≡ held m.reply true →
-    reentered t e (frame o (Resume r)) (dispatched t e (ask ByInclude o.view path) n (lent m.edit reply)) ≡ opened t e o left l
-serve_include t e o left n l m next seen path r reply h a v f z =
+pub follow_include : (t : Table) (e : ℕ) (o : Open) (n : ℕ) (m : Lent) (next : Next) (path : List ℕ) (r : ℕ) (reply : ReplyState) → next ≡ Include path r → reply ≡ held m.reply true →
+    reentered t e (frame o (Resume r)) (dispatched t e (ask ByInclude o.view path) n (lent m.edit reply)) ≡ followed t e o n m next
+follow_include t e o n m next path r reply f z =
     ap (λ (x : ReplyState). reentered t e (frame o (Resume r)) (dispatched t e (ask ByInclude o.view path) n (lent m.edit x))) z
-    ∙ (nest_include t e o n m path r ∙ (ap (after_answer t e o n m) (sym f) ∙ serve_one t e o left n l m next seen h a v))
+    ∙ (nest_include t e o n m path r ∙ ap (followed t e o n m) (sym f))
 
 -- a servlet that ended its dispatch
-pub serve_end : (t u : Table) (e : ℕ) (o : Open) (left n : ℕ) (l m : Lent) (ended : Ending) (next last : Next) (seen : Asked) → u ≡ t → left ≡ n + 1 →
-    answer m next ≡ served t.servlets o.servlet seen l → seen ≡ call_of o.view o.resume → next ≡ last →
-    outcome ended n m ≡ answered (dispatched t e) (λ r left' l'. serving_open t e o n r left' l') o.view n m last →
-    closed_open u o (outcome ended n m) ≡ opened t e o left l
-serve_end t u e o left n l m ended next last seen w h a v f g =
-    ap (λ (x : Table). closed_open x o (outcome ended n m)) w
-    ∙ (ap (closed_open t o) g ∙ (ap (after_answer t e o n m) (sym f) ∙ serve_one t e o left n l m next seen h a v))
+pub follow_end : (t : Table) (e : ℕ) (o : Open) (n : ℕ) (m : Lent) (ended : Ending) (next last : Next) → next ≡ last → closed_open t o (outcome ended n m) ≡ followed t e o n m last →
+    closed_open t o (outcome ended n m) ≡ followed t e o n m next
+follow_end t e o n m ended next last f g = g ∙ ap (followed t e o n m) (sym f)
 
-pub serve_error : (t u : Table) (e : ℕ) (o : Open) (left n : ℕ) (l m : Lent) (ended : Ending) (next : Next) (seen : Asked) (code : ℕ) (text : List ℕ) → u ≡ t → left ≡ n + 1 →
-    answer m next ≡ served t.servlets o.servlet seen l → seen ≡ call_of o.view o.resume → next ≡ SendError code text → ended ≡ sent o.view code text →
-    closed_open u o (outcome ended n m) ≡ opened t e o left l
-serve_error t u e o left n l m ended next seen code text w h a v f s =
-    serve_end t u e o left n l m ended next (SendError code text) seen w h a v f (ap (λ (x : Ending). outcome x n m) s)
+pub follow_error : (t : Table) (e : ℕ) (o : Open) (n : ℕ) (m : Lent) (ended : Ending) (next : Next) (code : ℕ) (text : List ℕ) → next ≡ SendError code text → ended ≡ sent o.view code text →
+    closed_open t o (outcome ended n m) ≡ followed t e o n m next
+follow_error t e o n m ended next code text f s =
+    follow_end t e o n m ended next (SendError code text) f (ap (λ (x : Ending). closed_open t o (outcome x n m)) s)
+
+-- one call less is left behind what follows the answer
+pub serves : {E : Type 0} (r : Result Mode E) (t u : Table) (o : Open) (left n : ℕ) (l m k : Lent) (next : Next) (seen : Asked) →
+    IfOk r (λ mode. (e left' : ℕ) → current u (suc e) mode left' k ≡ followed u e o left' m next) → u ≡ t → left ≡ n + 1 → answer m next ≡ served t.servlets o.servlet seen l → seen ≡ call_of o.view o.resume →
+    IfOk r (λ mode. (e : ℕ) → current t (suc e) mode n k ≡ opened t e o left l)
+serves (Ok mode) t u o left n l m k next seen f w h a v =
+    λ e. subst (λ (x : Table). (e left' : ℕ) → current x (suc e) mode left' k ≡ followed x e o left' m next) w f e n ∙ serve_one t e o left n l m next seen h a v
+serves (Err x) t u o left n l m k next seen f w h a v = tt
+
+-- an open dispatch stays open
+pub stays_open : (t u : Table) (o : Open) → u ≡ t → IsOpen t o → IsOpen u o
+stays_open t u o w h = subst (λ (x : Table). IsOpen x o) (sym w) h
+
+pub stays_mode : {E : Type 0} (r : Result Mode E) (t u : Table) → u ≡ t → IfOk r (IsModeOf u) → IfOk r (IsModeOf t)
+stays_mode r t u w h = subst (λ (x : Table). IfOk r (IsModeOf x)) w h
 
 -- what leaves a dispatch is its result
-pub left_at : {E P : Type 0} (r : Result Mode E) (t : Table) (ended : Ending) (left : ℕ) (m : Lent) (target : ℕ → Outcome) →
-    IfOk r (λ mode. mode ≡ Leave ended) → OnOk r P → (P → (e : ℕ) → outcome ended left m ≡ target e) →
-    IfOk r (λ mode. (e : ℕ) → current t (suc e) mode left m ≡ target e)
-left_at (Ok mode) t ended left m target h p f = λ e. ap (λ (x : Mode). current t (suc e) x left m) h ∙ f p e
-left_at (Err x) t ended left m target h p f = tt
-
--- the same, where the service calls that are left don't matter
 pub left_by : {E P : Type 0} (r : Result Mode E) (t : Table) (ended : Ending) (m : Lent) (target : ℕ → ℕ → Outcome) →
     IfOk r (λ mode. mode ≡ Leave ended) → OnOk r P → (P → (e left : ℕ) → outcome ended left m ≡ target e left) →
     IfOk r (λ mode. (e left : ℕ) → current t (suc e) mode left m ≡ target e left)
@@ -107,11 +104,11 @@ left_by (Ok mode) t ended m target h p f = λ e left. ap (λ (x : Mode). current
 left_by (Err x) t ended m target h p f = tt
 
 -- a dispatch that waits for the one that it asks for
-pub nests : {E : Type 0} (r : Result Mode E) (t : Table) (left : ℕ) (m : Lent) (target : ℕ → Outcome) (o : Open) (then : Then) (d : Dispatcher) (path : List ℕ) →
-    IfOk r (λ mode. mode ≡ nesting o then d path) → ((e : ℕ) → reentered t e (frame o then) (dispatched t e (ask d o.view path) left m) ≡ target e) →
-    IfOk r (λ mode. (e : ℕ) → current t (suc e) mode left m ≡ target e)
-nests (Ok mode) t left m target o then d path h f = λ e. ap (λ (x : Mode). current t (suc e) x left m) h ∙ f e
-nests (Err x) t left m target o then d path h f = tt
+pub nests : {E : Type 0} (r : Result Mode E) (t : Table) (m : Lent) (target : ℕ → ℕ → Outcome) (o : Open) (then : Then) (d : Dispatcher) (path : List ℕ) →
+    IfOk r (λ mode. mode ≡ nesting o then d path) → ((e left : ℕ) → reentered t e (frame o then) (dispatched t e (ask d o.view path) left m) ≡ target e left) →
+    IfOk r (λ mode. (e left : ℕ) → current t (suc e) mode left m ≡ target e left)
+nests (Ok mode) t m target o then d path h f = λ e left. ap (λ (x : Mode). current t (suc e) x left m) h ∙ f e left
+nests (Err x) t m target o then d path h f = tt
 
 -- ---- a dispatch that waited
 

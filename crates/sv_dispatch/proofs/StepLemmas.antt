@@ -1,10 +1,10 @@
 -- One step of a run: what all of it gives stays.
-use Rattle.std.proofs.Common.{◌≡◌, ℕ, zero, suc, ◌<◌, ◌≤◌, ◌+◌, ◌-◌, List, [], ◌∷◌, ◌++◌, length, length-append, reverse, arith, sym, ◌∙◌, ap, refl, subst, All, Some, Result, Ok, Err, IfOk}
+use Rattle.std.proofs.Common.{◌≡◌, ℕ, zero, suc, ◌<◌, ◌≤◌, ◌+◌, ◌-◌, List, [], ◌∷◌, ◌++◌, length, length-append, reverse, arith, sym, ◌∙◌, ap, refl, subst, All, Some, Result, Ok, Err, IfOk, OnOk}
 use Rattle.std.proofs.lemmas.List.{reverse-append}
 use Rattle.std.proofs.lemmas.List.Elements.{All-nil, All-push, All-pop}
 use Rattle.sv_servlet.specs.Servlet.{Lent}
 use Rattle.sv_dispatch.specs.Dispatching.{Table, Outcome, outcome, dispatched}
-use Rattle.sv_dispatch.specs.Stack.{current, reentered, plugged, whole, IsRunning, IsOpen, IsModeOf, need}
+use Rattle.sv_dispatch.specs.Stack.{current, reentered, plugged, whole, work, weight, IsRunning, IsOpen, IsModeOf, need}
 use Rattle.sv_dispatch.specs.declared.visit.Ask.{Ask}
 use Rattle.sv_dispatch.specs.declared.mode.Frame.{Frame}
 use Rattle.sv_dispatch.specs.declared.mode.Mode.{Mode}
@@ -28,7 +28,7 @@ too_deep t fs m a left l i h =
     rw (i, room)
 
 -- a dispatch is put on the stack
-pub pushes : (t : Table) (fs gs : List Frame) (f : Frame) (m : Mode) (a : Ask) (left : ℕ) (l : Lent) → m ≡ Nest f a → gs ≡ fs ++ f ∷ [] → length fs < 16 →
+pushes : (t : Table) (fs gs : List Frame) (f : Frame) (m : Mode) (a : Ask) (left : ℕ) (l : Lent) → m ≡ Nest f a → gs ≡ fs ++ f ∷ [] → length fs < 16 →
     whole t 16 gs (Enter a) left l ≡ whole t 16 fs m left l
 unfolding whole plugged
 pushes t fs gs f m a left l i p h =
@@ -36,6 +36,12 @@ pushes t fs gs f m a left l i p h =
     let room : 16 - length fs ≡ suc (15 - length fs) = omega arith in
     let turned : reverse gs ≡ f ∷ reverse fs = ap reverse p ∙ reverse-append fs (f ∷ []) in
     rw (i, below, room, turned)
+
+-- and so it is where memory is given for it
+pub pushes_over : {E : Type 0} (r : Result Mode E) (t : Table) (fs gs : List Frame) (f : Frame) (m : Mode) (a : Ask) (left : ℕ) (l : Lent) → m ≡ Nest f a → OnOk r (gs ≡ fs ++ f ∷ []) → IfOk r (λ next. next ≡ Enter a) → length fs < 16 →
+    IfOk r (λ next. whole t 16 gs next left l ≡ whole t 16 fs m left l)
+pushes_over (Ok next) t fs gs f m a left l i p n h = ap (λ (x : Mode). whole t 16 gs x left l) n ∙ pushes t fs gs f m a left l i p h
+pushes_over (Err x) t fs gs f m a left l i p n h = tt
 
 -- a dispatch is taken from the stack
 pub pops : (t : Table) (fs gs : List Frame) (f : Frame) (m m' : Mode) (ended : Ending) (left : ℕ) (l l' : Lent) → m ≡ Leave ended → fs ≡ gs ++ f ∷ [] → length fs ≤ 16 →
@@ -47,7 +53,7 @@ pops t fs gs f m m' ended left l l' i p h k =
     let turned : reverse fs ≡ f ∷ reverse gs = ap reverse p ∙ reverse-append gs (f ∷ []) in
     rw (i, below, room, turned) (ap (plugged t (suc (15 - length gs)) (reverse gs)) (k (15 - length gs) left))
 
-pub pushes_running : (t : Table) (fs gs : List Frame) (f : Frame) (m : Mode) (a : Ask) → m ≡ Nest f a → gs ≡ fs ++ f ∷ [] → IsRunning t fs m → IsRunning t gs (Enter a)
+pushes_running : (t : Table) (fs gs : List Frame) (f : Frame) (m : Mode) (a : Ask) → m ≡ Nest f a → gs ≡ fs ++ f ∷ [] → IsRunning t fs m → IsRunning t gs (Enter a)
 pushes_running t fs gs f m a i p h =
     let there : IsOpen t f.held = subst (IsModeOf t) i h.mode in
     let room : length fs + 1 ≤ 16 = omega (arith, h.room, ap need i) in
@@ -56,6 +62,16 @@ pushes_running t fs gs f m a i p h =
       frames = subst (All (λ (x : Frame). IsOpen t x.held)) (sym p) (All-push (λ (x : Frame). IsOpen t x.held) fs f h.frames there);
       room = omega (arith, room, ap length p, length-append fs (f ∷ []));
     }
+
+pub pushes_running_over : {E : Type 0} (r : Result Mode E) (t : Table) (fs gs : List Frame) (f : Frame) (m : Mode) (a : Ask) → m ≡ Nest f a → OnOk r (gs ≡ fs ++ f ∷ []) → IfOk r (λ next. next ≡ Enter a) → IsRunning t fs m → IfOk r (IsRunning t gs)
+pushes_running_over (Ok next) t fs gs f m a i p n h = subst (IsRunning t gs) (sym n) (pushes_running t fs gs f m a i p h)
+pushes_running_over (Err x) t fs gs f m a i p n h = tt
+
+-- a dispatch that waits takes less than the one that asked for it
+pub pushes_less : {E : Type 0} (r : Result Mode E) (fs gs : List Frame) (f : Frame) (m : Mode) (a : Ask) (left : ℕ) → m ≡ Nest f a → OnOk r (gs ≡ fs ++ f ∷ []) → IfOk r (λ next. next ≡ Enter a) →
+    IfOk r (λ next. work gs next left < work fs m left)
+pushes_less (Ok next) fs gs f m a left i p n = omega (arith, ap weight i, ap weight n, ap length p, length-append fs (f ∷ []))
+pushes_less (Err x) fs gs f m a left i p n = tt
 
 pub pops_running : {E : Type 0} (r : Result Mode E) (t : Table) (fs gs : List Frame) (f : Frame) (m : Mode) → fs ≡ gs ++ f ∷ [] → IsRunning t fs m → IfOk r (IsModeOf t) → IfOk r (λ mode. need mode ≤ 1) → IfOk r (IsRunning t gs)
 pops_running (Ok mode) t fs gs f m p h held small = record {

@@ -1,6 +1,6 @@
 -- What a dispatch gives: a big step, by recursion on what the servlets answer (Jakarta Servlet 6.0, chapters
 -- "Dispatching Requests" and "Filtering").
-use Rattle.std.specs.Prelude.{ℕ, zero, suc, Bool, true, List, [], ◌∷◌, Option, Some, None, codes, if◌then◌else◌}
+use Rattle.std.specs.Prelude.{ℕ, zero, suc, Bool, true, List, [], ◌∷◌, Option, Some, None, Result, Ok, Err, codes, if◌then◌else◌}
 use Rattle.sv_mapping.specs.Filter.{chain}
 use Rattle.sv_mapping.specs.Mappings as mappings
 use Rattle.sv_mapping.specs.declared.dispatcher.Dispatcher.{Dispatcher}
@@ -145,6 +145,17 @@ begun_by inner rs v left l Stop = outcome Finished left l
 begun_by inner rs v left l (RefuseBy code text) = outcome (sent v.view code text) left l
 begun_by inner rs v left l (RefuseFor name) = outcome (Faulted name) left l
 
+abbrev pub found_or_sent : Sight → Option ℕ → Result ℕ Ending
+found_or_sent s None = Err (sent s 404 [])
+found_or_sent s (Some k) = Ok k
+
+-- the servlet that is to be called behind the filters, or how the dispatch ends without it
+abbrev pub to_serve : List (Row Serves) → Visit → Before → Result ℕ Ending
+to_serve rs v Pass = found_or_sent v.view (ready_at (labels_of_rows rs) v.servlet)
+to_serve rs v Stop = Err Finished
+to_serve rs v (RefuseBy code text) = Err (sent v.view code text)
+to_serve rs v (RefuseFor name) = Err (Faulted name)
+
 -- ---- the dispatch
 
 abbrev pub chain_of : Table → Visit → List ℕ
@@ -159,11 +170,15 @@ performed t inner v left l =
 abbrev pub visit : Dispatcher → Sight → List ℕ → Option ℕ → Visit
 visit dispatcher s path servlet = record { dispatcher = dispatcher; view = s; path = path; servlet = servlet }
 
+-- what a dispatch to a target shows
+abbrev pub shown_at : Dispatcher → Sight → Destination → Place → Sight
+shown_at Request s target p = s
+shown_at ByForward s target p = forwarded s target p.servlet_path p.path_info
+shown_at ByInclude s target p = included s target p.servlet_path p.path_info
+shown_at Error s target p = forwarded s target p.servlet_path p.path_info
+
 abbrev pub visit_at : Ask → Destination → Place → Dispatcher → Visit
-visit_at a target p Request = visit Request a.view target.path p.servlet
-visit_at a target p ByForward = visit ByForward (forwarded a.view target p.servlet_path p.path_info) target.path p.servlet
-visit_at a target p ByInclude = visit ByInclude (included a.view target p.servlet_path p.path_info) target.path p.servlet
-visit_at a target p Error = visit Error (forwarded a.view target p.servlet_path p.path_info) target.path p.servlet
+visit_at a target p dispatcher = visit dispatcher (shown_at dispatcher a.view target p) target.path p.servlet
 
 abbrev pub visit_to : Table → Ask → Option Destination → Option Visit
 visit_to t a None = None

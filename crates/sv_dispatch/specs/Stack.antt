@@ -2,7 +2,8 @@
 use Rattle.std.specs.Prelude.{ℕ, zero, suc, ◌+◌, ◌-◌, ◌*◌, ◌≤◌, List, [], ◌∷◌, All, length, reverse}
 use Rattle.sv_mapping.specs.declared.dispatcher.Dispatcher.{Dispatcher}
 use Rattle.sv_servlet.specs.Servlet.{Lent}
-use Rattle.sv_dispatch.specs.Dispatching.{Table, Outcome, outcome, dispatched, performed, serving, closed, resumed}
+use Rattle.sv_servlet.specs.declared.servlet.Next.{Next}
+use Rattle.sv_dispatch.specs.Dispatching.{Table, Outcome, outcome, answered, dispatched, performed, serving, closed, resumed}
 use Rattle.sv_dispatch.specs.Rows.{IsReadyAt}
 use Rattle.sv_dispatch.specs.Sight.{call_of}
 use Rattle.sv_dispatch.specs.declared.mode.Ending.TheVariants.{Abandoned}
@@ -45,6 +46,10 @@ current t e (Begin v) left l = at_depth e left l (λ e'. performed t (dispatched
 current t e (Serve o) left l = at_depth e left l (λ e'. opened t e' o left l)
 current t e (Nest f a) left l = at_depth e left l (λ e'. reentered t e' f (dispatched t e' a left l))
 current t e (Leave ended) left l = outcome ended left l
+
+-- what the servlet's answer makes of its dispatch
+abbrev pub followed : Table → ℕ → Open → ℕ → Lent → Next → Outcome
+followed t e o left l next = closed_open t o (answered (dispatched t e) (λ r left' l'. serving_open t e o left r left' l') o.view left l next)
 
 -- a dispatch waits for the one that its servlet asks for
 abbrev pub nesting : Open → Then → Dispatcher → List ℕ → Mode

@@ -1,7 +1,7 @@
 //! What a forward, an include and an error put over what a dispatch shows.
 
 ghost use Rattle.std.specs.Prelude.{◌≡◌, IfOk, OnOk, option_map};
-ghost use Rattle.sv_dispatch.specs.Sight.{forwarded, included, joined, errored, with_params, with_forward_values};
+ghost use Rattle.sv_dispatch.specs.Sight.{forwarded, query_over, included, joined, errored, with_params, with_forward_values};
 
 use crate::attributes::{Group, Values, set_error, set_values};
 use crate::destination::Destination;
@@ -69,17 +69,23 @@ impl<'a> View<'a> {
         ensures { IfOk result (λ view. view ≡ forwarded self.entry target servlet_path path_info) }
     {
         let mut view = self;
-        let Destination {
-            request_uri,
-            path: _,
-            query,
-            params,
-        } = target;
-        view.with_params(alloc, &params)?;
+        view.with_params(alloc, &target.params)?;
         view.with_forward_values(alloc)?;
-        if let Some(query) = query {
-            view.query = Some(shared(alloc, query)?);
-        }
+        view.showing(alloc, target, servlet_path, path_info)
+    }
+
+    /// The paths and the query of a target in the place of the request's.
+    fn showing(
+        self,
+        alloc: Global,
+        target: Destination,
+        servlet_path: Text,
+        path_info: Option<Text>,
+    ) -> Result<View<'a>, AllocError>
+        ensures { IfOk result (λ view. view ≡ record self.entry { query = query_over target.query self.entry.query; shown = record { request_uri = target.request_uri; servlet_path = servlet_path; path_info = path_info } }) }
+    {
+        let mut view = self;
+        let (request_uri, query) = target.into_shown();
         view.shown = Some(shared(
             alloc,
             Shown {
@@ -88,6 +94,9 @@ impl<'a> View<'a> {
                 path_info,
             },
         )?);
+        if let Some(query) = query {
+            view.query = Some(shared(alloc, query)?);
+        }
         Ok(view)
     }
 

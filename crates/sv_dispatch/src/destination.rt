@@ -8,7 +8,6 @@ use sv_model::{Param, Sequence, Text};
 use sv_target::{Target, TargetFault, params};
 
 /// What a dispatch path names, as the dispatch shows it.
-#[derive(Drop)]
 pub struct Destination {
     /// The context path and the dispatch path before its first `?`, as written.
     pub request_uri: Text,
@@ -18,6 +17,34 @@ pub struct Destination {
     pub query: Option<Text>,
     /// The parameters of the query.
     pub params: Sequence<Param>,
+}
+
+impl Destination {
+    /// The path as written, and the query.
+    pub fn into_shown(self) -> (Text, Option<Text>)
+        ensures request_uri { result.0 ≡ self.request_uri }
+        ensures query { result.1 ≡ self.query }
+    {
+        let Destination {
+            request_uri,
+            path: _,
+            query,
+            params: _,
+        } = self;
+        (request_uri, query)
+    }
+}
+
+/// By hand, so that the proof of a caller has one step for it and not one for each part that may be there.
+impl Drop for Destination {
+    fn drop(self) {
+        let Destination {
+            request_uri: _,
+            path: _,
+            query: _,
+            params: _,
+        } = self;
+    }
 }
 
 /// The parameters of a query, if there is one.

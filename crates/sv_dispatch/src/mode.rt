@@ -28,7 +28,7 @@ pub struct Open<'a> {
 }
 
 /// What a servlet waits for while another dispatch runs.
-#[derive(Drop)]
+#[derive(Clone, Copy)]
 pub enum Then {
     /// A forward: its own dispatch ends as that one does.
     Return,

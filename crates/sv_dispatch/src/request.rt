@@ -1,6 +1,7 @@
 //! The dispatch of a request, and of an error that comes of it to an error page (Jakarta Servlet 6.0, section 10.9).
 
-ghost use Rattle.std.specs.Prelude.{◌≡◌, ◌≤◌, IfOk};
+ghost use Rattle.std.specs.Prelude.{◌≡◌, ℕ, ◌≤◌, IfOk};
+ghost use Rattle.sv_dispatch.specs.Dispatching.{outcome};
 ghost use Rattle.sv_dispatch.specs.Pages as spec;
 ghost use Rattle.sv_dispatch.specs.Sight.{errored, first_sight};
 ghost use Rattle.sv_dispatch.specs.Stages.{table_of, lent_of, IsSound};
@@ -83,6 +84,28 @@ fn error_view<'a, S: Servlet, F: Filter>(
     )
 }
 
+/// The plain page of 500 stands at the end.
+fn give_plain<S: Servlet, F: Filter>(stage: &mut Stage<S, F>) -> Ended
+    ensures same { table_of S.serves S.servlet_phase F.filtering F.filter_phase stage.new ≡ table_of S.serves S.servlet_phase F.filtering F.filter_phase stage.old }
+    ensures ran { spec.ran result (lent_of stage.new) ≡ spec.plain 500 (lent_of stage.old) }
+{
+    make_ready(&mut stage.reply, 500);
+    Ended::Plain(500)
+}
+
+/// How a request ends behind the dispatch to its error page.
+fn page_ended<S: Servlet, F: Filter>(stage: &mut Stage<S, F>, status: u16, ended: Ending) -> Ended
+    ensures same { table_of S.serves S.servlet_phase F.filtering F.filter_phase stage.new ≡ table_of S.serves S.servlet_phase F.filtering F.filter_phase stage.old }
+    ensures ran { (left : ℕ) → spec.ran result (lent_of stage.new) ≡ spec.shown_page status (outcome ended left (lent_of stage.old)) }
+{
+    match ended {
+        Ending::Finished => Ended::ErrorPage(status),
+        Ending::Failed { code: _, text: _ } => give_plain(stage),
+        Ending::Faulted(_) => give_plain(stage),
+        Ending::Abandoned => give_plain(stage),
+    }
+}
+
 /// An error dispatch to a page from the request as it came.
 fn show_page<'a, S: Servlet, F: Filter>(
     alloc: Global,
@@ -115,21 +138,34 @@ fn show_page<'a, S: Servlet, F: Filter>(
             path,
         },
     )?;
-    match ended {
-        Ending::Finished => Ok(Ended::ErrorPage(status)),
-        Ending::Failed { code: _, text: _ } => Ok(give_plain(stage)),
-        Ending::Faulted(_) => Ok(give_plain(stage)),
-        Ending::Abandoned => Ok(give_plain(stage)),
-    }
+    Ok(page_ended(stage, status, ended))
 }
 
-/// The plain page of 500 stands at the end.
-fn give_plain<S: Servlet, F: Filter>(stage: &mut Stage<S, F>) -> Ended
+/// Settles a request by how its dispatch ended: an error goes to the context's error page.
+fn settle<'a, S: Servlet, F: Filter>(
+    alloc: Global,
+    stage: &mut Stage<S, F>,
+    left: u32,
+    call: &'a Call<'a>,
+    ended: Ending,
+) -> Result<Ended, AllocError>
+    requires { IsSound (table_of S.serves S.servlet_phase F.filtering F.filter_phase stage.old) }
     ensures same { table_of S.serves S.servlet_phase F.filtering F.filter_phase stage.new ≡ table_of S.serves S.servlet_phase F.filtering F.filter_phase stage.old }
-    ensures ran { spec.ran result (lent_of stage.new) ≡ spec.plain 500 (lent_of stage.old) }
+    ensures ran { IfOk result (λ given. spec.ran given (lent_of stage.new) ≡ spec.settled_all (table_of S.serves S.servlet_phase F.filtering F.filter_phase stage.old) call.now (outcome ended left (lent_of stage.old))) }
 {
-    make_ready(&mut stage.reply, 500);
-    Ended::Plain(500)
+    match ended {
+        Ending::Finished => Ok(Ended::Normal),
+        Ending::Failed { code, text } => {
+            let status = status_of(code);
+            let page = page_of_error(alloc, stage.pages.as_slice(), status)?;
+            show_page(alloc, stage, left, call, status, text.as_str(), page)
+        }
+        Ending::Faulted(name) => {
+            let page = page_of_fault(alloc, stage.pages.as_slice(), name.as_str())?;
+            show_page(alloc, stage, left, call, 500, name.as_str(), page)
+        }
+        Ending::Abandoned => Ok(give_plain(stage)),
+    }
 }
 
 /// Dispatches a request, and an error that comes of it to the context's error page.
@@ -151,17 +187,5 @@ pub fn run<S: Servlet, F: Filter>(
         path: path_of(alloc, &call)?,
     };
     let ended = dispatch(alloc, stage, &mut left, ask)?;
-    match ended {
-        Ending::Finished => Ok(Ended::Normal),
-        Ending::Failed { code, text } => {
-            let status = status_of(code);
-            let page = page_of_error(alloc, stage.pages.as_slice(), status)?;
-            show_page(alloc, stage, left, &call, status, text.as_str(), page)
-        }
-        Ending::Faulted(name) => {
-            let page = page_of_fault(alloc, stage.pages.as_slice(), name.as_str())?;
-            show_page(alloc, stage, left, &call, 500, name.as_str(), page)
-        }
-        Ending::Abandoned => Ok(give_plain(stage)),
-    }
+    settle(alloc, stage, left, &call, ended)
 }

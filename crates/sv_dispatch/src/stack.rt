@@ -1,9 +1,10 @@
 //! The dispatches that wait for one another, on a stack of their own.
 
-ghost use Rattle.std.specs.Prelude.{◌≡◌, ◌<◌, IfOk};
+ghost use Rattle.std.specs.Prelude.{◌≡◌, ◌<◌, ◌++◌, ◌∷◌, [], IfOk, OnOk};
 ghost use Rattle.sv_dispatch.specs.Dispatching.{outcome, dispatched};
 ghost use Rattle.sv_dispatch.specs.Stack.{IsRunning, IsOn, whole, work};
 ghost use Rattle.sv_dispatch.specs.Stages.{table_of, lent_of, IsSound};
+ghost use Rattle.sv_dispatch.specs.declared.mode.Mode.TheVariants.{Enter};
 
 use crate::mode::{Ending, Frame, Mode};
 use crate::stage::Stage;
@@ -14,6 +15,19 @@ use sv_servlet::{Filter, Servlet};
 
 /// The dispatches that may be nested.
 const DEPTH: usize = 16;
+
+/// The dispatch that is asked for comes next, and the one that asks waits.
+fn nest<'a>(
+    frames: &mut Vec<Frame<'a>>,
+    frame: Frame<'a>,
+    ask: Ask<'a>,
+) -> Result<Mode<'a>, AllocError>
+    ensures frames { OnOk result (frames.new.items ≡ frames.old.items ++ frame.entry ∷ []) }
+    ensures mode { IfOk result (λ mode. mode ≡ Enter ask.entry) }
+{
+    frames.push(frame)?;
+    Ok(Mode::Enter(ask))
+}
 
 /// One step of a run that is not over.
 fn step<'a, S: Servlet, F: Filter>(
@@ -41,10 +55,7 @@ fn step<'a, S: Servlet, F: Filter>(
         }
         Mode::Begin(visit) => open(alloc, stage, visit),
         Mode::Serve(held) => serve(stage, left, held),
-        Mode::Nest(frame, ask) => {
-            frames.push(frame)?;
-            Ok(Mode::Enter(ask))
-        }
+        Mode::Nest(frame, ask) => nest(frames, frame, ask),
         Mode::Leave(ended) => match frames.pop() {
             None => Ok(Mode::Leave(ended)),
             Some(frame) => leave(stage, frame, ended),

@@ -1,10 +1,10 @@
 //! The steps of a dispatch that leave the stack alone.
 
-ghost use Rattle.std.specs.Prelude.{◌≡◌, ◌≢◌, ℕ, ◌+◌, ◌*◌, ◌<◌, ◌≤◌, suc, IfOk, All, OnOk};
-ghost use Rattle.sv_dispatch.specs.Dispatching.{outcome, closed, dispatched, performed, sent};
+ghost use Rattle.std.specs.Prelude.{◌≡◌, ◌≢◌, ℕ, ◌+◌, ◌*◌, ◌<◌, ◌≤◌, suc, IfOk, IfErr, All, OnOk};
+ghost use Rattle.sv_dispatch.specs.Dispatching.{outcome, closed, dispatched, performed, sent, to_serve};
 ghost use Rattle.sv_dispatch.specs.Rows.{IsReadyAt};
 ghost use Rattle.sv_dispatch.specs.Sight.{call_of};
-ghost use Rattle.sv_dispatch.specs.Stack.{current, opened, reentered, closed_open, nesting, IsOpen, IsModeOf, need, weight};
+ghost use Rattle.sv_dispatch.specs.Stack.{current, opened, followed, reentered, closed_open, nesting, IsOpen, IsModeOf, need, weight};
 ghost use Rattle.sv_dispatch.specs.Stages.{table_of, lent_of, IsSound};
 ghost use Rattle.sv_dispatch.specs.declared.mode.Ending.TheVariants.{Abandoned};
 ghost use Rattle.sv_dispatch.specs.declared.mode.Mode.TheVariants.{Leave};
@@ -68,6 +68,27 @@ fn finish<'a, S: Servlet, F: Filter>(
     Ok(Mode::Leave(ended))
 }
 
+/// The servlet that is to be called behind the filters, or how the dispatch ends without it.
+fn to_serve<S: Servlet, F: Filter>(
+    alloc: Global,
+    stage: &Stage<S, F>,
+    visit: &Visit<'_>,
+    before: Before,
+) -> Result<usize, Ending>
+    ensures servlet { result ≡ to_serve (table_of S.serves S.servlet_phase F.filtering F.filter_phase stage.now).servlets visit.now before }
+    ensures kept { IfErr result (λ ended. ended ≢ Abandoned) }
+{
+    match before {
+        Before::Pass => match servlet_at(stage, visit.servlet) {
+            Some(servlet) => Ok(servlet),
+            None => Err(sent(&visit.view, 404, Text::new(alloc))),
+        },
+        Before::Stop => Err(Ending::Finished),
+        Before::SendError { code, text } => Err(sent(&visit.view, code, text)),
+        Before::Fault(name) => Err(Ending::Faulted(name)),
+    }
+}
+
 /// Calls the filters of a dispatch, up to the one that does not pass.
 pub fn open<'a, S: Servlet, F: Filter>(
     alloc: Global,
@@ -82,31 +103,14 @@ pub fn open<'a, S: Servlet, F: Filter>(
     ensures current { IfOk result (λ mode. (e left : ℕ) → current (table_of S.serves S.servlet_phase F.filtering F.filter_phase stage.old) (suc e) mode left (lent_of stage.new) ≡ performed (table_of S.serves S.servlet_phase F.filtering F.filter_phase stage.old) (dispatched (table_of S.serves S.servlet_phase F.filtering F.filter_phase stage.old) e) visit.entry left (lent_of stage.old)) }
 {
     let (passed, before) = begin(alloc, stage, &visit)?;
-    let Visit {
-        dispatcher: _,
-        view,
-        path: _,
-        servlet,
-    } = visit;
-    match before {
-        Before::Pass => match servlet_at(stage, servlet) {
-            Some(servlet) => Ok(Mode::Serve(Open {
-                view,
-                passed,
-                servlet,
-                resume: 0,
-            })),
-            None => {
-                let ended = sent(&view, 404, Text::new(alloc));
-                finish(stage, view, passed, ended)
-            }
-        },
-        Before::Stop => finish(stage, view, passed, Ending::Finished),
-        Before::SendError { code, text } => {
-            let ended = sent(&view, code, text);
-            finish(stage, view, passed, ended)
-        }
-        Before::Fault(name) => finish(stage, view, passed, Ending::Faulted(name)),
+    match to_serve(alloc, stage, &visit, before) {
+        Ok(servlet) => Ok(Mode::Serve(Open {
+            view: visit.view,
+            passed,
+            servlet,
+            resume: 0,
+        })),
+        Err(ended) => finish(stage, visit.view, passed, ended),
     }
 }
 
@@ -151,6 +155,37 @@ fn nest<'a>(
     ))
 }
 
+/// What follows a servlet's answer.
+fn follow<'a, S: Servlet, F: Filter>(
+    stage: &mut Stage<S, F>,
+    held: Open<'a>,
+    next: Next,
+) -> Result<Mode<'a>, AllocError>
+    requires { IsOpen (table_of S.serves S.servlet_phase F.filtering F.filter_phase stage.old) held }
+    ensures same { table_of S.serves S.servlet_phase F.filtering F.filter_phase stage.new ≡ table_of S.serves S.servlet_phase F.filtering F.filter_phase stage.old }
+    ensures held { IfOk result (IsModeOf (table_of S.serves S.servlet_phase F.filtering F.filter_phase stage.old)) }
+    ensures need { IfOk result (λ mode. need mode ≤ 1) }
+    ensures less { IfOk result (λ mode. weight mode ≤ 6) }
+    ensures current { IfOk result (λ mode. (e left : ℕ) → current (table_of S.serves S.servlet_phase F.filtering F.filter_phase stage.old) (suc e) mode left (lent_of stage.new) ≡ followed (table_of S.serves S.servlet_phase F.filtering F.filter_phase stage.old) e held.entry left (lent_of stage.old) next) }
+{
+    match next {
+        Next::Done => close(stage, held, Ending::Finished),
+        Next::SendError { code, text } => {
+            let ended = sent(&held.view, code, text);
+            close(stage, held, ended)
+        }
+        Next::Fault(name) => close(stage, held, Ending::Faulted(name)),
+        Next::Forward(path) => {
+            stage.reply.clear_body();
+            nest(held, Then::Return, Dispatcher::Forward, path)
+        }
+        Next::Include { path, resume } => {
+            stage.reply.hold(true);
+            nest(held, Then::Resume(resume), Dispatcher::Include, path)
+        }
+    }
+}
+
 /// Calls the servlet of a dispatch.
 pub fn serve<'a, S: Servlet, F: Filter>(
     stage: &mut Stage<S, F>,
@@ -175,22 +210,7 @@ pub fn serve<'a, S: Servlet, F: Filter>(
         &mut stage.edit,
         &mut stage.reply,
     )?;
-    match next {
-        Next::Done => close(stage, held, Ending::Finished),
-        Next::SendError { code, text } => {
-            let ended = sent(&held.view, code, text);
-            close(stage, held, ended)
-        }
-        Next::Fault(name) => close(stage, held, Ending::Faulted(name)),
-        Next::Forward(path) => {
-            stage.reply.clear_body();
-            nest(held, Then::Return, Dispatcher::Forward, path)
-        }
-        Next::Include { path, resume } => {
-            stage.reply.hold(true);
-            nest(held, Then::Resume(resume), Dispatcher::Include, path)
-        }
-    }
+    follow(stage, held, next)
 }
 
 /// The servlet of a dispatch is called once more, with a number.

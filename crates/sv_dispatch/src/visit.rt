@@ -1,8 +1,10 @@
 //! A dispatch that is asked for, and where its path leads.
 
 ghost use Rattle.std.specs.Prelude.{◌≡◌, IfOk};
-ghost use Rattle.sv_dispatch.specs.Dispatching.{visit_at, visit_of};
+ghost use Rattle.sv_dispatch.specs.Dispatching.{shown_at, visit, visit_at, visit_of};
+ghost use Rattle.sv_dispatch.specs.Place.{place_of};
 ghost use Rattle.sv_dispatch.specs.Stages.{table_of};
+ghost use Rattle.sv_mapping.specs.declared.dispatcher.Dispatcher.TheVariants.{Request};
 
 use crate::destination::{Destination, destination_of};
 use crate::place::{Place, place_of};
@@ -34,36 +36,64 @@ pub struct Visit<'a> {
     pub servlet: Option<usize>,
 }
 
-/// The dispatch to a target.
-fn visit_at<'a>(
+/// What the dispatch to a target shows.
+fn shown<'a>(
     alloc: Global,
-    ask: Ask<'a>,
+    dispatcher: Dispatcher,
+    view: View<'a>,
     target: Destination,
     place: Place,
-) -> Result<Visit<'a>, AllocError>
-    ensures { IfOk result (λ visit. visit ≡ visit_at ask.entry target place ask.entry.dispatcher) }
+) -> Result<View<'a>, AllocError>
+    ensures { IfOk result (λ shown. shown ≡ shown_at dispatcher view.entry target place) }
 {
-    let Ask {
-        dispatcher,
-        view,
-        path: _,
-    } = ask;
-    let Place {
-        servlet,
-        servlet_path,
-        path_info,
-    } = place;
+    match dispatcher {
+        Dispatcher::Request => Ok(view),
+        Dispatcher::Include => {
+            view.included(alloc, &target, &place.servlet_path, &place.path_info)
+        }
+        Dispatcher::Forward | Dispatcher::Error => {
+            let (servlet_path, path_info) = place.into_shown();
+            view.forwarded(alloc, target, servlet_path, path_info)
+        }
+    }
+}
+
+/// The dispatch to a target.
+fn visit_at<'a, S: Servlet, F: Filter>(
+    alloc: Global,
+    stage: &Stage<S, F>,
+    ask: Ask<'a>,
+    target: Destination,
+) -> Result<Visit<'a>, AllocError>
+    ensures { IfOk result (λ visit. visit ≡ visit_at ask.entry target (place_of (table_of S.serves S.servlet_phase F.filtering F.filter_phase stage.now).patterns target.path) ask.entry.dispatcher) }
+{
+    let place = place_of(alloc, &stage.patterns, target.path.as_str())?;
     let path = target.path.copy(alloc)?;
-    let view = match dispatcher {
-        Dispatcher::Request => view,
-        Dispatcher::Include => view.included(alloc, &target, &servlet_path, &path_info)?,
-        Dispatcher::Forward => view.forwarded(alloc, target, servlet_path, path_info)?,
-        Dispatcher::Error => view.forwarded(alloc, target, servlet_path, path_info)?,
-    };
+    let servlet = place.servlet;
+    let dispatcher = ask.dispatcher;
+    let view = shown(alloc, dispatcher, ask.view, target, place)?;
     Ok(Visit {
         dispatcher,
         view,
         path,
+        servlet,
+    })
+}
+
+/// The dispatch of a request, whose path is as it came.
+fn visit_as_it_came<'a, S: Servlet, F: Filter>(
+    alloc: Global,
+    stage: &Stage<S, F>,
+    ask: Ask<'a>,
+) -> Result<Visit<'a>, AllocError>
+    ensures { IfOk result (λ v. v ≡ visit Request ask.entry.view ask.entry.path (place_of (table_of S.serves S.servlet_phase F.filtering F.filter_phase stage.now).patterns ask.entry.path).servlet) }
+{
+    let place = place_of(alloc, &stage.patterns, ask.path.as_str())?;
+    let servlet = place.servlet;
+    Ok(Visit {
+        dispatcher: Dispatcher::Request,
+        view: ask.view,
+        path: ask.path,
         servlet,
     })
 }
@@ -78,19 +108,10 @@ pub fn visit_of<'a, S: Servlet, F: Filter>(
     ensures { IfOk result (λ visit. visit ≡ visit_of (table_of S.serves S.servlet_phase F.filtering F.filter_phase stage.now) ask.entry) }
 {
     if let Dispatcher::Request = ask.dispatcher {
-        let place = place_of(alloc, &stage.patterns, ask.path.as_str())?;
-        return Ok(Some(Visit {
-            dispatcher: Dispatcher::Request,
-            view: ask.view,
-            path: ask.path,
-            servlet: place.servlet,
-        }));
+        return Ok(Some(visit_as_it_came(alloc, stage, ask)?));
     }
     match destination_of(alloc, ask.view.context_path(), ask.path.as_str())? {
-        Some(target) => {
-            let place = place_of(alloc, &stage.patterns, target.path.as_str())?;
-            Ok(Some(visit_at(alloc, ask, target, place)?))
-        }
+        Some(target) => Ok(Some(visit_at(alloc, stage, ask, target)?)),
         None => Ok(None),
     }
 }

@@ -1,6 +1,6 @@
 -- What a call that a node was told to make has made of it, whatever its fault becomes.
 use Rattle.std.proofs.Common.{◌≡◌, ◌≢◌, inl, inr, ⊎_elim, ℕ, ◌<◌, ◌≤◌, true, false, cond, IsTrue, Result, Ok, Err, Option, Bool, List, ap, refl, sym, subst, arith}
-use Rattle.std.specs.Prelude.{◌||◌, OnOk}
+use Rattle.std.specs.Prelude.{◌||◌, OnOk, ⊤}
 use Rattle.sv_model.specs.Method.{is_head}
 use Rattle.sv_journal.specs.declared.journal_fault.JournalFault.{JournalFault}
 use Rattle.sv_journal.specs.declared.journal_fault.JournalFault.TheVariants as journal
@@ -15,7 +15,7 @@ use Rattle.sv_connection.specs.declared.outcome.Outcome.TheVariants.{Failed as S
 use Rattle.sv_connection.specs.declared.outcome.Outcome.{Outcome}
 use Rattle.sv_connection.specs.declared.outcome.Served.{Served as Called}
 use Rattle.sv_connection.specs.Request.{request_of}
-use Rattle.sv_connection.specs.Serve.{How, Sight, IsServed, Follows, verdict}
+use Rattle.sv_connection.specs.Serve.{How, Sight, IsHeld, IsServed, Follows, verdict}
 use Rattle.sv_model.specs.declared.request.Request.{Request}
 use Rattle.sv_host.specs.Ending.{has_failed}
 use Rattle.sv_node.specs.Call.{step_ends, compaction_ends}
@@ -135,3 +135,7 @@ module _ {E D : Type 0} (meaning : E → EngineMeaning) (heard : E → List (Lis
       let a = asked.answered in
       by_answer how low below old.site new.site live old.written new.written new.closed called.outcome (request_of how.single taken.raw asked.target) (is_head taken.raw.method) (taken.raw.close || how.single) a.answer given a.step a.follows goes)
       taken.directed
+
+  -- of one that has kept what has come, and has done nothing else
+  pub held : (how : How) (low : ℕ) (old new : Sight (Node E D)) → low < how.token → IsTrue (journal_of old.site).live → IsHeld old new → GoesOn meaning heard tells low how.token old.site new.site
+  held how low old new below live is = stays how low below old.site new.site live old.written new.written new.closed SiteFailed {U = ⊤} {G = ⊤} (Ok tt) is.site

@@ -7,19 +7,17 @@ ghost use Rattle.sv_node.specs.Node.{IsNode, journal_of};
 
 use crate::desk::{Desk, Taken};
 use crate::fault::{HostFault, Stop};
+use crate::line::Line;
 use crate::machine::{Machine, seconds};
-use crate::serve::{FIRST_READ, serve};
-use std::io::ErrorKind;
-use std::net::{OpenListener, TcpListener, TcpStream};
+use crate::porch::Porch;
+use crate::serve::{PIECE, serve};
+use crate::stage::Stage;
 use sv_journal::{Disk, JournalFault};
 use sv_model::{Engine, Input, PARK_LIMIT};
 use sv_node::Node;
 
 /// The journal is written anew where it is longer than this, and twice as long as when it was last written anew.
 const COMPACTING: u64 = 4_194_304;
-
-/// So many connections in turn can't be accepted before the node gives up its socket.
-const TRIES: u32 = 1_000;
 
 /// Serves waiting requests whose sessions have come, until none is left. Where nobody waits there is nothing to look for, and no
 /// secret is drawn for it.
@@ -111,50 +109,121 @@ fn look_after<M: Machine, E: Engine, D: Disk>(
     compact(desk, node)
 }
 
-/// Accepts a connection; none where nobody has come for a while, or one couldn't be accepted. `failed` counts those in turn
-/// that couldn't.
-fn accept(listener: &TcpListener, failed: &mut u32) -> Result<Option<TcpStream>, HostFault> {
-    match listener.accept() {
-        Ok((stream, _)) => {
-            *failed = 0;
-            Ok(Some(stream))
-        }
-        Err(fault) if fault.kind() == ErrorKind::WouldBlock => Ok(None),
-        Err(_) => {
-            *failed = failed.saturating_add(1);
-            if *failed == TRIES {
-                Err(HostFault::Socket)
-            } else {
-                Ok(None)
-            }
-        }
+/// Goes on with one connection, and does what is done behind that.
+fn serve_one<M: Machine, E: Engine, D: Disk>(
+    machine: &M,
+    desk: &mut Desk,
+    node: &mut Node<E, D>,
+    place: usize,
+    piece: &mut [u8; PIECE],
+    numbers: &mut u64,
+) -> Result<(), Stop>
+    requires valid { IsNode E.valid D.tells D.seen D.may_leave node.old }
+    requires live { IsTrue (journal_of node.old).live }
+    ensures valid { IsNode E.valid D.tells D.seen D.may_leave node.new }
+    ensures gone { HasGone E.meaning E.heard D.tells D.may_leave numbers.old numbers.new node.old node.new result }
+{
+    serve(machine, desk, node, place, piece, numbers)?;
+    look_after(machine, desk, node)
+}
+
+/// Goes on with all connections that have been reported.
+fn serve_reported<M: Machine, E: Engine, D: Disk>(
+    machine: &M,
+    desk: &mut Desk,
+    node: &mut Node<E, D>,
+    porch: &Porch,
+    piece: &mut [u8; PIECE],
+    numbers: &mut u64,
+) -> Result<(), Stop>
+    requires valid { IsNode E.valid D.tells D.seen D.may_leave node.old }
+    requires live { IsTrue (journal_of node.old).live }
+    ensures valid { IsNode E.valid D.tells D.seen D.may_leave node.new }
+    ensures gone { HasGone E.meaning E.heard D.tells D.may_leave numbers.old numbers.new node.old node.new result }
+{
+    for place in porch.reported() {
+        serve_one(machine, desk, node, *place, piece, numbers)?;
+    }
+    Ok(())
+}
+
+/// Accepts one who stands at the door, and goes on with that one.
+fn serve_new<M: Machine, E: Engine, D: Disk>(
+    machine: &M,
+    desk: &mut Desk,
+    node: &mut Node<E, D>,
+    porch: &mut Porch,
+    piece: &mut [u8; PIECE],
+    numbers: &mut u64,
+) -> Result<(), Stop>
+    requires valid { IsNode E.valid D.tells D.seen D.may_leave node.old }
+    requires live { IsTrue (journal_of node.old).live }
+    ensures valid { IsNode E.valid D.tells D.seen D.may_leave node.new }
+    ensures gone { HasGone E.meaning E.heard D.tells D.may_leave numbers.old numbers.new node.old node.new result }
+{
+    if !porch.may_accept() {
+        return Ok(());
+    }
+    match admit(machine, desk, porch)? {
+        Some(place) => serve_one(machine, desk, node, place, piece, numbers),
+        None => Ok(()),
     }
 }
 
-/// Serves one connection after the other.
+/// Accepts somebody who stands at the door, and gives them a place; none where nobody stands there, or there is no memory.
+fn admit<M: Machine>(
+    machine: &M,
+    desk: &mut Desk,
+    porch: &mut Porch,
+) -> Result<Option<usize>, Stop> {
+    match porch.accept() {
+        Ok(Some(stream)) => {
+            desk.hall.look_at_clock(machine);
+            Ok(desk.hall.admit(Line::new(stream), Stage::New))
+        }
+        Ok(None) => Ok(None),
+        Err(fault) => Err(Stop::Fault(fault)),
+    }
+}
+
+/// Waits until somebody is to be looked after, and goes on with all of them.
+fn take_turn<M: Machine, E: Engine, D: Disk>(
+    machine: &M,
+    desk: &mut Desk,
+    node: &mut Node<E, D>,
+    porch: &mut Porch,
+    piece: &mut [u8; PIECE],
+    numbers: &mut u64,
+) -> Result<(), Stop>
+    requires valid { IsNode E.valid D.tells D.seen D.may_leave node.old }
+    requires live { IsTrue (journal_of node.old).live }
+    ensures valid { IsNode E.valid D.tells D.seen D.may_leave node.new }
+    ensures gone { HasGone E.meaning E.heard D.tells D.may_leave numbers.old numbers.new node.old node.new result }
+{
+    porch.wait(desk.hall.is_empty());
+    desk.hall.look_at_clock(machine);
+    desk.hall.look_round();
+    serve_reported(machine, desk, node, porch, piece, numbers)?;
+    serve_new(machine, desk, node, porch, piece, numbers)?;
+    look_after(machine, desk, node)
+}
+
+/// Serves whoever connects, until the node is to stop.
 pub fn attend<M: Machine, E: Engine, D: Disk>(
     machine: &M,
     desk: &mut Desk,
     node: &mut Node<E, D>,
-    listener: &TcpListener,
+    porch: &mut Porch,
 ) -> Stop
     requires valid { IsNode E.valid D.tells D.seen D.may_leave node.old }
     requires live { IsTrue (journal_of node.old).live }
     ensures valid { IsNode E.valid D.tells D.seen D.may_leave node.new }
     ensures ended { HasEnded E.meaning E.heard D.tells D.may_leave node.old node.new }
 {
-    let mut failed: u32 = 0;
-    let mut piece = [0u8; FIRST_READ];
-    for count in 0..u64::MAX {
-        let stream = match accept(listener, &mut failed) {
-            Ok(Some(stream)) => stream,
-            Ok(None) => continue,
-            Err(fault) => return Stop::Fault(fault),
-        };
-        if let Err(stop) = serve(machine, desk, node, stream, &mut piece, count + 1) {
-            return stop;
-        }
-        if let Err(stop) = look_after(machine, desk, node) {
+    let mut numbers: u64 = 0;
+    let mut piece = [0u8; PIECE];
+    for _ in 0..u64::MAX {
+        if let Err(stop) = take_turn(machine, desk, node, porch, &mut piece, &mut numbers) {
             return stop;
         }
     }

@@ -8,9 +8,10 @@ ghost use Rattle.sv_node.specs.Node.{IsNode, journal_of};
 ghost use Rattle.sv_host.specs.Outputs.{AreSendable, IsSendable};
 
 use crate::fault::{HostFault, Stop};
+use crate::hall::Hall;
 use crate::lobby::Lobby;
 use crate::machine::{Machine, seconds};
-use crate::peers::send;
+use crate::peers::address_of;
 use crate::secrets::Secrets;
 use std::alloc::Global;
 use sv_journal::Disk;
@@ -23,7 +24,12 @@ pub struct Desk {
     /// The port of each node, by its number.
     pub ports: Vec<u16>,
     pub secrets: Secrets,
+    pub hall: Hall,
     pub lobby: Lobby,
+    /// A text on its way to whom it is for; empty between two steps.
+    pub text: Vec<u8>,
+    /// A connection closes behind its first answer.
+    pub single: bool,
     /// When the node last looked at the time, in seconds since 1970.
     pub ticked: u64,
     /// The length of the journal behind its last compaction; 0 before the first.
@@ -77,9 +83,21 @@ impl Desk {
         requires { IsSendable output }
     {
         match output {
-            Output::Send(packet) => send(machine, self.ports.as_slice(), packet),
-            Output::Answer { token, response } => self.lobby.answer(token, &response, now),
-            Output::Refuse { token, cause } => self.lobby.refuse(token, cause, now),
+            Output::Send(packet) => {
+                if let Some(addr) = address_of(self.ports.as_slice(), &packet) {
+                    self.hall.send(machine, addr, packet);
+                }
+            }
+            Output::Answer { token, response } => {
+                if let Some(place) = self.lobby.take(token) {
+                    self.hall.answer(place, &response, now);
+                }
+            }
+            Output::Refuse { token, cause } => {
+                if let Some(place) = self.lobby.take(token) {
+                    self.hall.refuse(place, cause, now);
+                }
+            }
             Output::Moved | Output::MoveRefused(_) => {}
         }
     }

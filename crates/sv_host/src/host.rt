@@ -12,12 +12,14 @@ use crate::attend::attend;
 use crate::deadline::listen;
 use crate::desk::Desk;
 use crate::fault::{HostFault, Stop};
+use crate::hall::Hall;
 use crate::lobby::Lobby;
 use crate::machine::{Machine, seconds};
 use crate::peers::loopback;
 use crate::place::Place;
+use crate::porch::Porch;
 use crate::secrets::Secrets;
-use std::net::TcpListener;
+use std::alloc::Global;
 use sv_journal::Disk;
 use sv_model::{Engine, Setting};
 use sv_node::{Node, NotOpened};
@@ -26,7 +28,7 @@ use sv_node::{Node, NotOpened};
 #[derive(Drop)]
 pub struct Host {
     setting: Setting,
-    listener: TcpListener,
+    porch: Porch,
     desk: Desk,
     ghost inside: { IsSetting setting },
 }
@@ -46,7 +48,7 @@ fn serve_all<M: Machine, E: Engine, D: Disk>(
     machine: &M,
     desk: &mut Desk,
     node: &mut Node<E, D>,
-    listener: &TcpListener,
+    porch: &mut Porch,
     number: u8,
 ) -> Option<HostFault>
     requires valid { IsNode E.valid D.tells D.seen D.may_leave node.old }
@@ -57,7 +59,7 @@ fn serve_all<M: Machine, E: Engine, D: Disk>(
     if println!(machine; "ready {number}").is_err() {
         return Some(HostFault::Output);
     }
-    match attend(machine, desk, node, listener) {
+    match attend(machine, desk, node, porch) {
         Stop::Done => None,
         Stop::Fault(fault) => Some(fault),
     }
@@ -80,14 +82,18 @@ impl Host {
         let Ok(listener) = listen(machine, loopback(port)) else {
             return Err(HostFault::Socket);
         };
-        let alloc = machine.alloc();
+        let alloc: Global = machine.alloc();
+        let (porch, registry) = Porch::new(machine, listener)?;
         Ok(Host {
             setting,
-            listener,
+            porch,
             desk: Desk {
                 ports,
                 secrets,
+                hall: Hall::new(registry, alloc),
                 lobby: Lobby::new(alloc),
+                text: Vec::new(alloc),
+                single: true,
                 ticked: seconds(machine),
                 compacted: 0,
                 alloc,
@@ -113,11 +119,11 @@ impl Host {
     {
         let Host {
             setting,
-            listener,
+            mut porch,
             mut desk,
         } = self;
         let mut node = Node::open(desk.alloc, engine, a, b, setting)?;
-        let fault = serve_all(machine, &mut desk, &mut node, &listener, setting.node);
+        let fault = serve_all(machine, &mut desk, &mut node, &mut porch, setting.node);
         let (engine, a, b) = node.stop();
         Ok(Ended {
             engine,

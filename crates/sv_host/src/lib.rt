@@ -12,14 +12,18 @@ mod deadline;
 mod desk;
 mod fault;
 mod frames;
+mod hall;
 mod host;
+mod line;
 mod lobby;
 mod machine;
 mod peers;
 mod place;
+mod porch;
 mod run;
 mod secrets;
 mod serve;
+mod stage;
 
 pub use fault::HostFault;
 pub use host::{Ended, Host};

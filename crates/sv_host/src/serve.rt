@@ -1,60 +1,50 @@
-//! One connection.
+//! What comes on one connection.
 
 ghost use Rattle.std.specs.Prelude.{◌≡◌, ◌<◌, ℕ, IsTrue};
 ghost use Rattle.sv_model.specs.Ranges.{IsInput};
+ghost use Rattle.sv_record.specs.Frame.{IsFrame};
 ghost use Rattle.sv_node.specs.History.{IsAbove, number_in, HasGone};
 ghost use Rattle.sv_node.specs.Node.{IsNode, journal_of};
 ghost use Rattle.sv_host.specs.Ending.{has_failed};
 
-use crate::deadline::{Hurried, hurry, part};
 use crate::desk::{Desk, Taken};
 use crate::fault::{HostFault, Stop};
-use crate::frames::receive;
-use crate::lobby::Client;
+use crate::frames::take_in;
+use crate::line::Line;
+use crate::lobby::Guest;
 use crate::machine::Machine;
-use std::io;
-use std::io::{Chain, ErrorKind, Read, Write};
-use std::net::TcpStream;
+use crate::stage::{Next, Open, Stage};
+use std::io::ErrorKind;
+use std::time::Duration;
 use sv_connection::{Connection, Outcome};
 use sv_journal::Disk;
 use sv_model::{Engine, Input, MoveRefusal};
 use sv_node::Node;
-use sv_record::{CONTROL, Frame, PEER};
+use sv_record::Frame;
 
-/// So many bytes of a connection are read before it is known what they are: more than most requests and packets have.
-pub const FIRST_READ: usize = 4_096;
+/// So many bytes of a connection are read at once: more than most requests and packets have.
+pub const PIECE: usize = 16_384;
 
-/// What a connection brings: the bytes that were read first, and those behind them.
-type Bytes<'a, M> = Chain<&'a [u8], Hurried<'a, M>>;
+/// So many pieces of a connection are read in turn, before others come in.
+const PIECES: u32 = 16;
 
-/// Who has connected.
-enum Caller {
-    Peer,
-    Controller,
-    Client,
-}
-
-/// Who sends this byte first.
-fn caller_of(first: u8) -> Caller {
-    match first {
-        PEER => Caller::Peer,
-        CONTROL => Caller::Controller,
-        _ => Caller::Client,
-    }
-}
-
-/// What is left to be done with a connection.
+/// What is to be done with a connection, by what has come on it.
 #[derive(Drop)]
-enum Left {
-    /// It is closed.
-    Nothing,
-    /// It is kept for the answer.
-    Waiting {
+enum Heard {
+    /// More has to come.
+    More(Stage),
+    /// The desk's text is said, and this follows.
+    Say(Next),
+    /// It is kept for the answer to its request.
+    Wait {
         connection: Connection,
         head_only: bool,
+        token: u64,
     },
-    /// It is closed once the client has sent what it is still sending.
-    Parting,
+    /// It is told this byte, once the packet is sent or lost that the command has put out.
+    Tell(u8),
+    /// It is closed.
+    Nothing,
 }
 
 /// What a command that isn't done is answered with.
@@ -76,70 +66,79 @@ fn answer_byte(taken: Taken) -> u8 {
     }
 }
 
-/// Writes the answer to a command. Whoever gave it may have gone away.
-fn reply(stream: &TcpStream, byte: u8) {
-    let mut writer = stream;
-    let _ = writer.write_all(&[byte]);
+/// Tells a byte at once. Whoever gave the command may have gone away.
+fn tell(desk: &Desk, line: &mut Line, byte: u8) {
+    let mut text = Vec::new(desk.alloc);
+    if text.push(byte).is_ok() {
+        let _ = line.write(&mut text);
+    }
 }
 
-/// Takes the packet that a peer sends.
-fn serve_peer<M: Machine, E: Engine, D: Disk>(
+/// Takes the packet of a peer, or does what a command says.
+fn serve_frame<M: Machine, E: Engine, D: Disk>(
     machine: &M,
     desk: &mut Desk,
     node: &mut Node<E, D>,
-    bytes: &mut Bytes<'_, M>,
-) -> Result<(), Stop>
+    line: &mut Line,
+    frame: Frame,
+) -> Result<Heard, Stop>
     requires valid { IsNode E.valid D.tells D.seen D.may_leave node.old }
     requires live { IsTrue (journal_of node.old).live }
+    requires frame { IsFrame frame }
     ensures valid { IsNode E.valid D.tells D.seen D.may_leave node.new }
     ensures gone { (low : ℕ) → HasGone E.meaning E.heard D.tells D.may_leave low low node.old node.new result }
 {
-    if let Some(Frame::Peer(packet)) = receive(desk.alloc, bytes) {
-        desk.step(machine, node, Input::Packet(packet))?;
+    match frame {
+        Frame::Peer(packet) => {
+            desk.step(machine, node, Input::Packet(packet))?;
+            Ok(Heard::Nothing)
+        }
+        Frame::Move { key, to } => obey(machine, desk, node, Input::Move { key, to }),
+        Frame::Tick => obey(machine, desk, node, Input::Tick),
+        Frame::Halt => {
+            tell(desk, line, 0);
+            Err(Stop::Done)
+        }
     }
-    Ok(())
 }
 
-/// Has the node take the step of a command, and answers that by one byte.
+/// Has the node take the step of a command.
 fn obey<M: Machine, E: Engine, D: Disk>(
     machine: &M,
     desk: &mut Desk,
     node: &mut Node<E, D>,
-    stream: &TcpStream,
     input: Input,
-) -> Result<(), Stop>
+) -> Result<Heard, Stop>
     requires valid { IsNode E.valid D.tells D.seen D.may_leave node.old }
     requires live { IsTrue (journal_of node.old).live }
     requires input { IsInput input }
     ensures valid { IsNode E.valid D.tells D.seen D.may_leave node.new }
     ensures gone { (low : ℕ) → IsAbove low input → HasGone E.meaning E.heard D.tells D.may_leave low (number_in low input) node.old node.new result }
 {
+    desk.hall.forget_call();
     let taken = desk.step(machine, node, input)?;
-    reply(stream, answer_byte(taken));
-    Ok(())
+    Ok(Heard::Tell(answer_byte(taken)))
 }
 
-/// Does what a command says.
-fn serve_controller<M: Machine, E: Engine, D: Disk>(
+/// Puts a piece of a frame behind what came of it before, and does what the frame says that is then whole.
+fn serve_framer<M: Machine, E: Engine, D: Disk>(
     machine: &M,
     desk: &mut Desk,
     node: &mut Node<E, D>,
-    bytes: &mut Bytes<'_, M>,
-    stream: &TcpStream,
-) -> Result<(), Stop>
+    line: &mut Line,
+    bytes: Vec<u8>,
+    piece: &[u8],
+) -> Result<Heard, Stop>
     requires valid { IsNode E.valid D.tells D.seen D.may_leave node.old }
     requires live { IsTrue (journal_of node.old).live }
     ensures valid { IsNode E.valid D.tells D.seen D.may_leave node.new }
     ensures gone { (low : ℕ) → HasGone E.meaning E.heard D.tells D.may_leave low low node.old node.new result }
 {
-    match receive(desk.alloc, bytes) {
-        Some(Frame::Move { key, to }) => obey(machine, desk, node, stream, Input::Move { key, to }),
-        Some(Frame::Tick) => obey(machine, desk, node, stream, Input::Tick),
-        Some(Frame::Halt) => {
-            reply(stream, 0);
-            Err(Stop::Done)
-        }
-        Some(Frame::Peer(_)) | None => Ok(()),
+    let mut bytes = bytes;
+    match take_in(desk.alloc, &mut bytes, piece) {
+        Ok(Some(frame)) => serve_frame(machine, desk, node, line, frame),
+        Ok(None) => Ok(Heard::More(Stage::Framing(bytes))),
+        Err(_) => Ok(Heard::Nothing),
     }
 }
 
@@ -150,124 +149,247 @@ fn has_failed(outcome: Outcome) -> bool
     matches!(outcome, Outcome::Failed)
 }
 
-/// What is left to be done for a client, by what came of its request.
-fn left_for(connection: Connection, outcome: Outcome) -> Left {
+/// What is to be done for a client, by what came of its request.
+fn heard_of(connection: Connection, outcome: Outcome, token: u64) -> Heard {
     match outcome {
-        Outcome::Parked { head_only } => Left::Waiting {
+        Outcome::Parked { head_only } => Heard::Wait {
             connection,
             head_only,
+            token,
         },
-        Outcome::Refused(_) => Left::Parting,
-        Outcome::Answered
-        | Outcome::Closed
-        | Outcome::ReadFailed
-        | Outcome::WriteFailed
-        | Outcome::Failed => Left::Nothing,
+        Outcome::Refused(_) => Heard::Say(Next::Part),
+        Outcome::Answered if connection.closed() => Heard::Say(Next::Close),
+        Outcome::Answered => Heard::Say(Next::Listen(connection)),
+        Outcome::Closed | Outcome::ReadFailed | Outcome::WriteFailed | Outcome::Failed => {
+            Heard::Nothing
+        }
     }
 }
 
-/// Serves one request of a client.
+/// Hands a client's bytes to its connection, which has the node asked under a number where the request is then whole.
 fn serve_client<M: Machine, E: Engine, D: Disk>(
     machine: &M,
     desk: &mut Desk,
     node: &mut Node<E, D>,
-    bytes: &mut Bytes<'_, M>,
-    stream: &TcpStream,
+    connection: Connection,
+    piece: &[u8],
     token: u64,
-) -> Result<Left, Stop>
+) -> Result<Heard, Stop>
     requires valid { IsNode E.valid D.tells D.seen D.may_leave node.old }
     requires live { IsTrue (journal_of node.old).live }
     ensures valid { IsNode E.valid D.tells D.seen D.may_leave node.new }
     ensures gone { (low : ℕ) → low < token → HasGone E.meaning E.heard D.tells D.may_leave low token node.old node.new result }
 {
+    let mut connection = connection;
+    if connection.waiting() {
+        return Ok(Heard::Nothing);
+    }
     let moment = desk.moment(machine)?;
-    let mut connection = Connection::new(desk.alloc, true);
-    let mut writer = stream;
-    let served = connection.serve_next(bytes, &mut writer, node, moment, token);
-    desk.hand_on(machine, served.outputs, moment.now);
-    if has_failed(served.outcome) {
-        return Err(Stop::Fault(HostFault::Device));
-    }
-    Ok(left_for(connection, served.outcome))
-}
-
-/// Reads the first bytes of a connection: the first of all, and what it brings, that byte among it.
-fn begin<'a, M: Machine>(
-    machine: &'a M,
-    stream: &'a TcpStream,
-    piece: &'a mut [u8; FIRST_READ],
-) -> io::Result<(u8, Bytes<'a, M>)> {
-    let mut rest = hurry(machine, stream)?;
-    let count = rest.read(piece)?;
-    match &piece[..count] {
-        [] => Err(ErrorKind::UnexpectedEof.into()),
-        first @ [byte, ..] => Ok((*byte, first.chain(rest))),
+    desk.text.clear();
+    match connection.feed(piece, &mut desk.text, node, moment, token) {
+        None => Ok(Heard::More(Stage::Asking(connection))),
+        Some(served) => {
+            desk.hand_on(machine, served.outputs, moment.now);
+            if has_failed(served.outcome) {
+                return Err(Stop::Fault(HostFault::Device));
+            }
+            Ok(heard_of(connection, served.outcome, token))
+        }
     }
 }
 
-/// Serves whoever has connected; nobody where the connection breaks off, or nothing comes.
-fn serve_caller<M: Machine, E: Engine, D: Disk>(
+/// Takes what has come on a connection that is at a stage.
+fn serve_stage<M: Machine, E: Engine, D: Disk>(
     machine: &M,
     desk: &mut Desk,
     node: &mut Node<E, D>,
-    stream: &TcpStream,
-    piece: &mut [u8; FIRST_READ],
-    number: u64,
-) -> Result<Left, Stop>
+    line: &mut Line,
+    stage: Stage,
+    piece: &[u8],
+    token: u64,
+) -> Result<Heard, Stop>
     requires valid { IsNode E.valid D.tells D.seen D.may_leave node.old }
     requires live { IsTrue (journal_of node.old).live }
     ensures valid { IsNode E.valid D.tells D.seen D.may_leave node.new }
-    ensures gone { (low : ℕ) → low < number → HasGone E.meaning E.heard D.tells D.may_leave low number node.old node.new result }
+    ensures gone { (low : ℕ) → low < token → HasGone E.meaning E.heard D.tells D.may_leave low token node.old node.new result }
 {
-    let Ok((first, mut bytes)) = begin(machine, stream, piece) else {
-        return Ok(Left::Nothing);
-    };
-    match caller_of(first) {
-        Caller::Peer => {
-            serve_peer(machine, desk, node, &mut bytes)?;
-            Ok(Left::Nothing)
+    match stage {
+        Stage::Asking(connection) | Stage::Asked(connection) => {
+            serve_client(machine, desk, node, connection, piece, token)
         }
-        Caller::Controller => {
-            serve_controller(machine, desk, node, &mut bytes, stream)?;
-            Ok(Left::Nothing)
-        }
-        Caller::Client => serve_client(machine, desk, node, &mut bytes, stream, number),
+        Stage::Framing(bytes) => serve_framer(machine, desk, node, line, bytes, piece),
+        other => Ok(Heard::More(other)),
     }
 }
 
-/// Keeps a client whose request waits, and closes the connection of any other.
-fn see_off(desk: &mut Desk, stream: TcpStream, token: u64, left: Left) {
-    match left {
-        Left::Waiting {
+/// The stage of a connection on which this comes.
+fn begun(desk: &Desk, stage: Stage, piece: &[u8]) -> Stage {
+    match (stage, piece) {
+        (Stage::New, [first, ..]) => Stage::begin(desk.alloc, desk.single, *first),
+        (other, _) => other,
+    }
+}
+
+/// Does with a connection what is to be done; whether more of it is to be read.
+fn see_off(desk: &mut Desk, place: usize, line: Line, heard: Heard, begun: Duration) -> bool {
+    match heard {
+        Heard::More(stage) => {
+            desk.hall.put(place, line, stage, begun);
+            true
+        }
+        Heard::Say(next) => {
+            desk.hall.say(place, line, &mut desk.text, next);
+            true
+        }
+        Heard::Wait {
             connection,
             head_only,
-        } => desk.lobby.add(Client {
             token,
-            connection,
-            stream,
-            head_only,
-        }),
-        Left::Parting => part(&stream),
-        Left::Nothing => {}
+        } => {
+            if desk.lobby.add(Guest { token, place }) {
+                desk.hall.begin(
+                    place,
+                    line,
+                    Stage::Waiting {
+                        connection,
+                        head_only,
+                    },
+                );
+            } else {
+                desk.hall.leave(place);
+            }
+            false
+        }
+        Heard::Tell(byte) => {
+            if desk.hall.hold(place) {
+                desk.hall.begin(place, line, Stage::Holding(byte));
+            } else {
+                desk.hall.tell(place, line, byte);
+            }
+            false
+        }
+        Heard::Nothing => {
+            desk.hall.leave(place);
+            false
+        }
     }
 }
 
-/// Serves a connection, under a number that no earlier one has had since the node's start. Whatever its other end does, the
-/// node goes on. What is read first is read into the piece.
+/// Reads once what has come on a connection, and does what it leads to; whether more is to be read.
+fn listen_once<M: Machine, E: Engine, D: Disk>(
+    machine: &M,
+    desk: &mut Desk,
+    node: &mut Node<E, D>,
+    place: usize,
+    open: Open,
+    piece: &mut [u8; PIECE],
+    token: u64,
+) -> Result<bool, Stop>
+    requires valid { IsNode E.valid D.tells D.seen D.may_leave node.old }
+    requires live { IsTrue (journal_of node.old).live }
+    ensures valid { IsNode E.valid D.tells D.seen D.may_leave node.new }
+    ensures gone { (low : ℕ) → low < token → HasGone E.meaning E.heard D.tells D.may_leave low token node.old node.new result }
+{
+    let mut open = open;
+    let count = match open.line.read(piece) {
+        Ok(0) => {
+            desk.hall.leave(place);
+            return Ok(false);
+        }
+        Ok(count) => count,
+        Err(fault) => {
+            if fault.kind() == ErrorKind::WouldBlock {
+                desk.hall.keep(place, open);
+            } else {
+                desk.hall.leave(place);
+            }
+            return Ok(false);
+        }
+    };
+    take(machine, desk, node, place, open, &piece[..count], token)
+}
+
+/// Takes what has come on a connection, and does what it leads to; whether more is to be read.
+fn take<M: Machine, E: Engine, D: Disk>(
+    machine: &M,
+    desk: &mut Desk,
+    node: &mut Node<E, D>,
+    place: usize,
+    open: Open,
+    piece: &[u8],
+    token: u64,
+) -> Result<bool, Stop>
+    requires valid { IsNode E.valid D.tells D.seen D.may_leave node.old }
+    requires live { IsTrue (journal_of node.old).live }
+    ensures valid { IsNode E.valid D.tells D.seen D.may_leave node.new }
+    ensures gone { (low : ℕ) → low < token → HasGone E.meaning E.heard D.tells D.may_leave low token node.old node.new result }
+{
+    let Open {
+        line,
+        stage,
+        begun: since,
+        heard: _,
+    } = open;
+    let mut line = line;
+    let stage = begun(desk, stage, piece);
+    let heard = serve_stage(machine, desk, node, &mut line, stage, piece, token)?;
+    Ok(see_off(desk, place, line, heard, since))
+}
+
+/// Goes on with a connection by one read or write; whether more is to be read.
+fn go_on<M: Machine, E: Engine, D: Disk>(
+    machine: &M,
+    desk: &mut Desk,
+    node: &mut Node<E, D>,
+    place: usize,
+    piece: &mut [u8; PIECE],
+    token: u64,
+) -> Result<bool, Stop>
+    requires valid { IsNode E.valid D.tells D.seen D.may_leave node.old }
+    requires live { IsTrue (journal_of node.old).live }
+    ensures valid { IsNode E.valid D.tells D.seen D.may_leave node.new }
+    ensures gone { (low : ℕ) → low < token → HasGone E.meaning E.heard D.tells D.may_leave low token node.old node.new result }
+{
+    let Some(open) = desk.hall.take(place) else {
+        return Ok(false);
+    };
+    match open.stage {
+        Stage::Asked(_) => take(machine, desk, node, place, open, &[], token),
+        Stage::New | Stage::Asking(_) | Stage::Framing(_) => {
+            listen_once(machine, desk, node, place, open, piece, token)
+        }
+        _ => {
+            desk.hall.keep(place, open);
+            desk.hall.go_on(place);
+            Ok(false)
+        }
+    }
+}
+
+/// Goes on with a connection as far as it has come. Whatever its other end does, the node goes on. Requests are asked under
+/// numbers that rise. What is read is read into the piece.
 pub fn serve<M: Machine, E: Engine, D: Disk>(
     machine: &M,
     desk: &mut Desk,
     node: &mut Node<E, D>,
-    stream: TcpStream,
-    piece: &mut [u8; FIRST_READ],
-    number: u64,
+    place: usize,
+    piece: &mut [u8; PIECE],
+    numbers: &mut u64,
 ) -> Result<(), Stop>
     requires valid { IsNode E.valid D.tells D.seen D.may_leave node.old }
     requires live { IsTrue (journal_of node.old).live }
     ensures valid { IsNode E.valid D.tells D.seen D.may_leave node.new }
-    ensures gone { (low : ℕ) → low < number → HasGone E.meaning E.heard D.tells D.may_leave low number node.old node.new result }
+    ensures gone { HasGone E.meaning E.heard D.tells D.may_leave numbers.old numbers.new node.old node.new result }
 {
-    let left = serve_caller(machine, desk, node, &stream, piece, number)?;
-    see_off(desk, stream, number, left);
+    for _ in 0..PIECES {
+        if *numbers == u64::MAX {
+            return Err(Stop::Done);
+        }
+        *numbers += 1;
+        if !go_on(machine, desk, node, place, piece, *numbers)? {
+            return Ok(());
+        }
+    }
+    desk.hall.call_again(place);
     Ok(())
 }

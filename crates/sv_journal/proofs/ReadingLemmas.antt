@@ -19,7 +19,7 @@ module _ (piece rest : List ℕ) (left remaining : ℕ) (before after : List (Li
   pub piece_shut : IsShut rest → (bytes more : List ℕ) → Begins bytes before (piece ++ more) → HasEntries bytes after
   piece_shut shut bytes more b = ends bytes after (rest ++ more) (begins bytes more b) (shut_front rest (rest ++ more) shut (front more))
 
-  pub piece_on : (n : ℕ) (p next : List ℕ) (grown : List (List ℕ)) → IsHead rest n → n ≤ 131072 → 5 + n ≤ length rest → p ≡ take n (drop 5 rest) → next ≡ drop n (drop 5 rest) → grown ≡ after ++ p ∷ []
+  pub piece_on : (n : ℕ) (p next : List ℕ) (grown : List (List ℕ)) → IsHead rest n → n ≤ 524288 → 5 + n ≤ length rest → p ≡ take n (drop 5 rest) → next ≡ drop n (drop 5 rest) → grown ≡ after ++ p ∷ []
       → (bytes more : List ℕ) → Begins bytes before (piece ++ more) → Begins bytes grown (next ++ more)
   piece_on n p next grown head fits room p_is next_is grown_is bytes more b =
       let e = head_entry rest rest n head (sym (take-length rest)) room in

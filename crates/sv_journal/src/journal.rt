@@ -49,7 +49,7 @@ impl<D: Disk> Journal<D> {
     /// the disks are handed back.
     ///
     /// Damaged: an open disk has other letters or another format's number; both disks are open with one generation;
-    /// the disk that is read ends at the gate of an entry, or has an open entry that is cut off or longer than 131,072
+    /// the disk that is read ends at the gate of an entry, or has an open entry that is cut off or longer than 524,288
     /// bytes; or no disk is open while A has more than 17 bytes or B more than 1.
     pub fn open(alloc: Global, mut a: D, mut b: D) -> Result<Journal<D>, NotOpened<D>>
         // It holds the entries with which the images open.
@@ -77,7 +77,7 @@ impl<D: Disk> Journal<D> {
         }
     }
 
-    /// Adds an entry of at most 131,072 bytes behind the others: two writes and two syncs. After Device all calls but
+    /// Adds an entry of at most 524,288 bytes behind the others: two writes and two syncs. After Device all calls but
     /// `len` and `into_disks` answer Failed until the disks are opened again, and whether the entry is there shows
     /// then; after the other faults the journal is as it was. Full where the file would be longer than
     /// 1,073,741,824 bytes.
@@ -119,7 +119,7 @@ impl<D: Disk> Journal<D> {
         Ok(())
     }
 
-    /// Puts these entries, each of at most 131,072 bytes, in the place of all others: they are written to the other
+    /// Puts these entries, each of at most 524,288 bytes, in the place of all others: they are written to the other
     /// disk with the next generation, and that disk is current from then on. After Device all calls but `len` and
     /// `into_disks` answer Failed until the disks are opened again, and which entries are there shows then; after the
     /// other faults the journal is as it was. Full where the file would be longer than 1,073,741,824 bytes, and at the

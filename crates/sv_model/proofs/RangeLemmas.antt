@@ -4,7 +4,7 @@ use Rattle.std.specs.Prelude.{not, ◌==◌, ◌||◌, ◌&&◌, is_none, nat_le
 use Rattle.std.specs.Option.{option_map}
 use Rattle.std.specs.List.{AllByRecursion, filter, filter_map, flat_map}
 use Rattle.std.specs.FinMap.{get, insert, len, entries, get-insert}
-use Rattle.std.proofs.lemmas.Bool.{eqb-false, cond_both}
+use Rattle.std.proofs.lemmas.Bool.{eqb-false, leb-false, cond_both}
 use Rattle.std.proofs.lemmas.Option.{same_Some}
 use Rattle.std.proofs.lemmas.List.Elements.{filter_map-append}
 use Rattle.sv_model.specs.declared.key.Key.{Key}
@@ -296,13 +296,18 @@ module _ (set : Setting) (is : IsSetting set) (n : Node) (r : IsRanged n) where
     ours (Ack from to k e) h = acked k e (get n.durable.keys k) h.2 h.3
     ours (No from to k boot want) h = either (boot == n.durable.boot) _ _ (λ _. parked (is_wanted k want)) (λ _. nothing)
 
-    moves : (k : Key) (to : ℕ) (st : Option KeyState) → get n.durable.keys k ≡ st → IsNode to → IsRangedStep (on_move set n k to st)
-    moves k to None at there = still _ tt
-    moves k to (Some (Active e s)) at there = either ((to == set.node) || nat_le set.nodes to) _ _ (λ _. still _ tt)
-        (λ _. either (e == last_number) _ (hands_over set n k e s to (Moved ∷ [])) (λ _. still _ tt) (λ _. sends k e s to (Moved ∷ []) at there tt))
-    moves k to (Some (Sent e s away)) at there = still _ tt
-    moves k to (Some (Gone e)) at there = still _ tt
-    moves k to (Some (Ended e)) at there = still _ tt
+    inside : (itself : Bool) (to : ℕ) → (itself || nat_le set.nodes to) ≡ false → IsNode to
+    inside true to apart = absurd (cc)
+    inside false to apart = let below : to < set.nodes = leb-false set.nodes to apart in omega (arith, is.few, below)
+
+    moves : (k : Key) (to : ℕ) (st : Option KeyState) → get n.durable.keys k ≡ st → IsRangedStep (on_move set n k to st)
+    moves k to None at = still _ tt
+    moves k to (Some (Active e s)) at = either ((to == set.node) || nat_le set.nodes to) _ _ (λ _. still _ tt)
+        (λ there. either (e == last_number) _ (hands_over set n k e s to (Moved ∷ [])) (λ _. still _ tt)
+        (λ _. sends k e s to (Moved ∷ []) at (inside (to == set.node) to there) tt))
+    moves k to (Some (Sent e s away)) at = still _ tt
+    moves k to (Some (Gone e)) at = still _ tt
+    moves k to (Some (Ended e)) at = still _ tt
 
     -- ---- time
 
@@ -342,4 +347,4 @@ module _ (set : Setting) (is : IsSetting set) (n : Node) (r : IsRanged n) where
     ranged (Incoming p) h = either (is_ours set p) _ _ (λ _. ours p h) (λ _. nothing)
     ranged Poke h = parked (λ p. is_settled (get n.durable.keys p.key))
     ranged Tick h = ticks
-    ranged (Move k to) h = moves k to (get n.durable.keys k) refl h.1
+    ranged (Move k to) h = moves k to (get n.durable.keys k) refl

@@ -82,7 +82,8 @@ IsInput (Ask token request) = ⊤
 IsInput (Incoming p) = IsPacket p
 IsInput Poke = ⊤
 IsInput Tick = ⊤
-IsInput (Move k to) = IsKey k × IsNode to
+-- an order for a key or to a node that there can't be is refused by the step itself
+IsInput (Move k to) = ⊤
 
 -- what a node keeps
 pub record IsRanged (n : Node) : Type 0 where

@@ -28,7 +28,8 @@ use Rattle.sv_model.specs.Engine.{EngineMeaning}
 use Rattle.sv_model.specs.NodeState.{Setting, Keys, Durable, Parked, Node, last_number, session_in}
 use Rattle.sv_model.specs.Decision.{Decision, idle}
 
--- the key and the secret of a session that is made; the serial is 0 where none is left
+-- the key and the secret of a session that is made, and the secret of one whose id is changed; the serial is 0 where
+-- none is left
 abbrev pub fresh_of : Setting → Durable → Moment → Key × Secret
 fresh_of set d moment = (record { home = set.node; serial = cond (d.next == last_number) 0 d.next }, moment.secret)
 

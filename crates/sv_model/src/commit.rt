@@ -16,7 +16,7 @@ pub enum Commit {
         now: u64,
         /// It was served with the session that it names.
         handed: bool,
-        /// The key and secret of a session that is made.
+        /// The key and secret of a session that is made; the secret is also that of a session whose id is changed.
         fresh: (Key, Secret),
     },
     /// A session was ended because nothing had named it for its interval.

@@ -45,8 +45,8 @@ pub trait Engine {
 
     /// Serves a request, with the session that it names where that is at hand, at `now` in whole seconds.
     ///
-    /// `fresh` is the key and the secret of a session that is made. After want of memory the engine answers as
-    /// before, and its listeners have been told nothing.
+    /// `fresh` is the key and the secret of a session that is made; its secret is also that of the session where its
+    /// id is changed. After want of memory the engine answers as before, and its listeners have been told nothing.
     fn serve(
         &mut self,
         request: &Request,

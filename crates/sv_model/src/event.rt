@@ -3,7 +3,7 @@
 ghost use Rattle.std.specs.Prelude.{◌≡◌, IfOk};
 
 use crate::copied::Copied;
-use crate::key::Key;
+use crate::key::{Key, Secret};
 use crate::sequence::Sequence;
 use crate::text::Text;
 use std::alloc::{AllocError, Global};
@@ -45,6 +45,11 @@ pub enum Event {
     Passivate(Key),
     /// Event 11: a session has come to this node.
     Activate(Key),
+    /// Event 12: a session was given another secret, with the secret that it had.
+    IdChanged {
+        key: Key,
+        old: Secret,
+    },
 }
 
 /// An event and the number of the context whose listeners are told it.
@@ -95,6 +100,7 @@ impl Event {
             },
             Event::Passivate(key) => Event::Passivate(key),
             Event::Activate(key) => Event::Activate(key),
+            Event::IdChanged { key, old } => Event::IdChanged { key, old },
         };
         Ok(copy)
     }

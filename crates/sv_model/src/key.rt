@@ -21,7 +21,7 @@ pub struct Secret(pub [u8; 16]);
 pub struct Moment {
     /// Whole seconds since the beginning of 1970.
     pub now: u64,
-    /// The secret of a session that is made in this step.
+    /// The secret of a session that is made in this step, or whose id is changed in it.
     pub secret: Secret,
 }
 

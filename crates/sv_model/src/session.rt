@@ -18,10 +18,10 @@ pub const ATTRIBUTE_LIMIT: usize = 64;
 pub const NAME_LIMIT: usize = 128;
 
 /// The bytes of an attribute's value, at most.
-pub const VALUE_LIMIT: usize = 4_096;
+pub const VALUE_LIMIT: usize = 65_536;
 
 /// The bytes of a session's names and values together, at most.
-pub const SESSION_LIMIT: usize = 32_768;
+pub const SESSION_LIMIT: usize = 131_072;
 
 /// An HTTP session.
 #[derive(Drop)]

@@ -67,7 +67,8 @@ pub trait Site {
 
     /// Takes one input, and puts out what follows once all of it is durable.
     ///
-    /// The keys and the node numbers of a packet, and of an order to move a session, are within the ranges of the formats.
+    /// The keys and the node numbers of a packet are within the ranges of the formats. An order to move a session may name
+    /// any key and any node: the step itself refuses what there can't be.
     fn step(&mut self, moment: Moment, input: Input) -> Result<Vec<Output>, StepFault>
         requires valid { site_valid self.old }
         requires input { IsInput input }

@@ -1,35 +1,37 @@
 -- The number of a start that records give is one of 64 bits, so a start stands only behind one that isn't the last.
 use Rattle.std.proofs.Common.{inl, inr, ℕ, ◌≤◌, List, [], ◌∷◌, arith, refl, subst}
-use Rattle.std.specs.List.{AllByRecursion}
 use Rattle.sv_model.specs.declared.node.Setting.{Setting}
 use Rattle.sv_model.specs.declared.record.Record.{Record}
 use Rattle.sv_model.specs.declared.record.Record.TheVariants.{Boot, Commit, Expired, Sent, Taken, Gone, State, Counters}
 use Rattle.sv_model.specs.NodeState.{Durable, last_number}
 use Rattle.sv_model.specs.Replay.{blank, applied, boot_behind, replayed}
+use Rattle.sv_record.specs.declared.version.Version.{Version}
 use Rattle.sv_record.specs.Field.{long, counting}
-use Rattle.sv_record.specs.Record.{record_format, HasSpelling}
+use Rattle.sv_record.specs.Record.{record_format, HasSpellingBy}
 use Rattle.sv_node.specs.Call.{quiet, kept, StopsStart}
 use Rattle.sv_node.specs.Opened.{GivesStart, restarted}
-use Rattle.sv_node.specs.Records.{Replays}
+use Rattle.sv_node.specs.Records.{Spell, Replays}
 use Rattle.sv_node.specs.Stops.{Restores}
 
-boot_fits : (r : Record) (boot : ℕ) → boot ≤ last_number → HasSpelling r → boot_behind r boot ≤ last_number
+boot_fits : (v : Version) (r : Record) (boot : ℕ) → boot ≤ last_number → HasSpellingBy v r → boot_behind r boot ≤ last_number
 unfolding record_format counting long
-boot_fits (Boot b) boot le has = omega (arith, has.0)
-boot_fits (Commit named born) boot le has = le
-boot_fits (Expired k) boot le has = le
-boot_fits (Sent k e to s) boot le has = le
-boot_fits (Taken k e from s) boot le has = le
-boot_fits (Gone k e) boot le has = le
-boot_fits (State k s) boot le has = le
-boot_fits (Counters b next) boot le has = omega (arith, has.0)
+boot_fits v (Boot b) boot le has = omega (arith, has.0)
+boot_fits v (Commit named born) boot le has = le
+boot_fits v (Expired k) boot le has = le
+boot_fits v (Sent k e to s) boot le has = le
+boot_fits v (Taken k e from s) boot le has = le
+boot_fits v (Gone k e) boot le has = le
+boot_fits v (State k s) boot le has = le
+boot_fits v (Counters b next) boot le has = omega (arith, has.0)
 
-replayed_fits : (d : Durable) (rs : List Record) → d.boot ≤ last_number → AllByRecursion HasSpelling rs → (replayed d rs).boot ≤ last_number
-replayed_fits d [] le have = le
-replayed_fits d (r ∷ rs) le have = replayed_fits (applied r d) rs (boot_fits r d.boot le have.0) have.1
+replayed_fits : (d : Durable) (entries : List (List ℕ)) (rs : List Record) → d.boot ≤ last_number → Spell entries rs → (replayed d rs).boot ≤ last_number
+replayed_fits d [] [] le s = le
+replayed_fits d [] (r ∷ rs) le s = absurd s
+replayed_fits d (p ∷ ps) [] le s = absurd s
+replayed_fits d (p ∷ ps) (r ∷ rs) le s = replayed_fits (applied r d) ps rs (boot_fits s.0.version r d.boot le s.0.has) s.1
 
 replays_fit : (set : Setting) (entries : List (List ℕ)) (d : Durable) → Replays set entries d → d.boot ≤ last_number
-replays_fit set entries d r = subst (λ (e : Durable). e.boot ≤ last_number) r.gives (replayed_fits blank r.records (omega arith) r.spelled.have)
+replays_fit set entries d r = subst (λ (e : Durable). e.boot ≤ last_number) r.gives (replayed_fits blank entries r.records (omega arith) r.spelled)
 
 -- what the images give is one of the two states that a stop in a start leaves
 pub found : (set : Setting) (d : Durable) (a b : List ℕ) → GivesStart set d a b → (e : Durable) × Restores set a b e × StopsStart d (quiet (kept e))

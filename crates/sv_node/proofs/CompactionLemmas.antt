@@ -23,7 +23,7 @@ use Rattle.sv_model.specs.Ranges.{IsRecord, IsState, IsRanged}
 use Rattle.sv_model.specs.Keys.{IsKey}
 use Rattle.sv_model.specs.Replay.{blank, replayed}
 use Rattle.sv_model.proofs.EntryLemmas.{known}
-use Rattle.sv_node.specs.Compaction.{written, spared, len_with, HasNoRoom, RestoresBeside, LeavesSame, CompactionEnds, IsCompaction}
+use Rattle.sv_node.specs.Compaction.{HasTurned, written, spared, len_with, HasNoRoom, RestoresBeside, LeavesSame, CompactionEnds, IsCompaction}
 use Rattle.sv_node.specs.Node.{view_of, setting_of, durable_of, journal_of, IsNode}
 use Rattle.sv_node.specs.Records.{Give, Replays}
 use Rattle.sv_node.specs.Stops.{TellsBoth, Stores, Restores}
@@ -125,18 +125,22 @@ pub by_answer : {T E A1 A2 B1 B2 C : Type 0} (r : Result T E) → OnOk r A1 → 
 by_answer (Ok x) a1 a2 b1 b2 f g = f a1 a2
 by_answer (Err e) a1 a2 b1 b2 f g = g b1 b2
 
+pub ok_both : {T E A B C : Type 0} (r : Result T E) → (A → B → C) → OnOk r A → OnOk r B → OnOk r C
+ok_both (Ok x) f a b = f a b
+ok_both (Err e) f a b = tt
+
 module _ {E D T : Type 0} (meaning : E → EngineMeaning) (heard : E → List (List ℕ)) (failed : D → ℕ) (old new : Node E D)
     (view : view_of meaning heard new ≡ view_of meaning heard old) where
-  pub compaction_ends : (r : Result T JournalFault) → OnOk r (IsTrue (journal_of new).live) → OnOk r ((journal_of new).len ≡ len_with (snapshot_of (durable_of old)))
+  pub compaction_ends : (r : Result T JournalFault) → OnOk r (IsTrue (journal_of new).live) → OnOk r ((journal_of new).len ≡ len_with (snapshot_of (durable_of old))) → OnOk r (HasTurned (journal_of old) (journal_of new))
       → (¬ (IsErrOf r journal.Failed)) → (¬ (IsErrOf r journal.Damaged)) → (IsErrOf r journal.Full → HasNoRoom (journal_of old) (snapshot_of (durable_of old)))
       → (IsErrOf r journal.Device → ((journal_of new).live ≡ false) × HasRisen (failed (journal_of old).other) (failed (journal_of new).other))
       → (IsErr r → ¬ (IsErrOf r journal.Device) → journal_of new ≡ journal_of old) → CompactionEnds meaning heard failed old r new
-  compaction_ends (Ok x) live len no_failed no_damaged full device same = (view, live, len)
-  compaction_ends (Err journal.Failed) live len no_failed no_damaged full device same = absurd (no_failed refl)
-  compaction_ends (Err journal.Damaged) live len no_failed no_damaged full device same = absurd (no_damaged refl)
-  compaction_ends (Err journal.Full) live len no_failed no_damaged full device same = (record { view = view; journal = same refl (λ e. cc) }, full refl)
-  compaction_ends (Err journal.Device) live len no_failed no_damaged full device same = let d = device refl in (view, d.0, d.1)
-  compaction_ends (Err journal.Memory) live len no_failed no_damaged full device same = record { view = view; journal = same refl (λ e. cc) }
+  compaction_ends (Ok x) live len turned no_failed no_damaged full device same = (view, live, len, turned)
+  compaction_ends (Err journal.Failed) live len turned no_failed no_damaged full device same = absurd (no_failed refl)
+  compaction_ends (Err journal.Damaged) live len turned no_failed no_damaged full device same = absurd (no_damaged refl)
+  compaction_ends (Err journal.Full) live len turned no_failed no_damaged full device same = (record { view = view; journal = same refl (λ e. cc) }, full refl)
+  compaction_ends (Err journal.Device) live len turned no_failed no_damaged full device same = let d = device refl in (view, d.0, d.1)
+  compaction_ends (Err journal.Memory) live len turned no_failed no_damaged full device same = record { view = view; journal = same refl (λ e. cc) }
 
 -- what the journal stores behind it
 module _ {D : Type 0} (tells : D → Type 0) (seen : D → List ℕ) (may_leave : D → List ℕ → Type 0) (failed : D → ℕ) (set : Setting) (d : Durable) (records : List Record) (old new : JournalView D) where

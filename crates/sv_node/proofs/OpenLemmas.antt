@@ -15,7 +15,7 @@ use Rattle.sv_model.specs.declared.record.Record.{Record}
 use Rattle.sv_model.specs.NodeState.{Durable, Node as State}
 use Rattle.sv_model.specs.Ranges.{IsRanged}
 use Rattle.sv_model.specs.Replay.{blank, replayed, AllFit}
-use Rattle.sv_record.specs.Record.{record_format, spelling, HasSpelling}
+use Rattle.sv_record.specs.Record.{record_format, IsSpelling}
 use Rattle.sv_record.proofs.KindLaws.{record_lawful}
 use Rattle.sv_record.proofs.WholeLaws.{one_value}
 use Rattle.sv_node.specs.declared.fault.OpenFault.TheVariants.{Damaged, Device, Full}
@@ -70,7 +70,7 @@ pub both_tell : {D : Type 0} (tells : D → Type 0) (on_a : Bool) (current other
 both_tell tells true current other a b = (a, b)
 both_tell tells false current other a b = (b, a)
 
-one : (a b : Record) → HasSpelling a → HasSpelling b → spelling a ≡ spelling b → a ≡ b
+one : (bytes : List ℕ) (a b : Record) → IsSpelling bytes a → IsSpelling bytes b → a ≡ b
 one = one_value record_format record_lawful
 
 pub fits_too : (set : Setting) (entries : List (List ℕ)) (rs : List Record) (d : Durable) → Spell entries rs → Replays set entries d → AllFit set Blank blank rs

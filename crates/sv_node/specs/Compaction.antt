@@ -1,5 +1,5 @@
 -- What a compaction of a node does, and what a stop leaves of the disks: the one state that they gave before.
-use Rattle.std.specs.Prelude.{◌≡◌, ◌⊎◌, ℕ, ◌+◌, ◌-◌, ◌^◌, ◌<◌, List, length, map, cond, false, IsTrue, Result, Ok, Err}
+use Rattle.std.specs.Prelude.{◌≡◌, ◌⊎◌, ℕ, ◌+◌, ◌-◌, ◌^◌, ◌<◌, List, length, map, cond, not, false, IsTrue, Result, Ok, Err}
 use Rattle.std.specs.List.{flat_map}
 use Rattle.sv_core.specs.Snapshot.{snapshot_of}
 use Rattle.sv_journal.specs.Disk.{LeavesOnly, TellsOn, HasRisen}
@@ -41,10 +41,16 @@ len_with records = 17 + length (flat_map entry (map spelling records))
 abbrev pub HasNoRoom : {D : Type 0} → JournalView D → List Record → Type 0
 HasNoRoom journal records = (journal.generation ≡ 2 ^ 64 - 1) ⊎ (FILE_LIMIT < len_with records)
 
+-- the journal has been written once, to the disk that wasn't current, which is current now
+pub record HasTurned {D : Type 0} (old new : JournalView D) : Type 0 where
+  pub generation : new.generation ≡ old.generation + 1
+  pub on_a : new.on_a ≡ not old.on_a
+
 -- what a compaction does, by its answer: it tells nothing, and no call of it answers Damaged
 abbrev pub CompactionEnds : {E D T : Type 0} → (E → EngineMeaning) → (E → List (List ℕ)) → (D → ℕ) → Node E D → Result T JournalFault → Node E D → Type 0
 CompactionEnds meaning heard failed old (Ok _) new =
     (view_of meaning heard new ≡ view_of meaning heard old) × IsTrue (journal_of new).live × ((journal_of new).len ≡ len_with (snapshot_of (durable_of old)))
+    × HasTurned (journal_of old) (journal_of new)
 CompactionEnds meaning heard failed old (Err Failed) new = IsUntouched meaning heard old new × ((journal_of old).live ≡ false)
 CompactionEnds meaning heard failed old (Err Damaged) new = ⊥
 CompactionEnds meaning heard failed old (Err Full) new = IsUntouched meaning heard old new × HasNoRoom (journal_of old) (snapshot_of (durable_of old))

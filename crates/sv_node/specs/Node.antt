@@ -64,9 +64,19 @@ abbrev pub IsTooLong : {D : Type 0} → JournalView D → Option Record → Type
 IsTooLong journal None = ⊥
 IsTooLong journal (Some r) = FILE_LIMIT < max journal.len (journal.end + 6 + length (spelling r))
 
+-- where the entries of a journal end behind a record, if there is one: it is one entry more, and the only one
+abbrev pub end_behind : {D : Type 0} → JournalView D → Option Record → ℕ
+end_behind journal None = journal.end
+end_behind journal (Some r) = journal.end + 5 + length (spelling r)
+
+-- the journal has got this record, if there is one, and nothing else
+pub record HasAdded {D : Type 0} (old new : JournalView D) (entry : Option Record) : Type 0 where
+  pub end : new.end ≡ end_behind old entry
+  pub generation : new.generation ≡ old.generation
+
 -- what a step does, by its answer
 abbrev pub Ends : {E D : Type 0} → (E → EngineMeaning) → (E → List (List ℕ)) → (D → ℕ) → Node E D → Decision → Result (List Output) StepFault → Node E D → Type 0
-Ends meaning heard failed old d (Ok outputs) new = IsStep (view_of meaning heard old) d outputs (view_of meaning heard new) × IsTrue (journal_of new).live
+Ends meaning heard failed old d (Ok outputs) new = IsStep (view_of meaning heard old) d outputs (view_of meaning heard new) × IsTrue (journal_of new).live × HasAdded (journal_of old) (journal_of new) d.entry
 Ends meaning heard failed old d (Err Failed) new = IsUntouched meaning heard old new × ((journal_of old).live ≡ false)
 Ends meaning heard failed old d (Err Full) new = IsUntouched meaning heard old new × IsTooLong (journal_of old) d.entry
 Ends meaning heard failed old d (Err Memory) new = IsUntouched meaning heard old new

@@ -1,18 +1,19 @@
 -- The records that the entries of a journal spell, and what they give.
-use Rattle.std.specs.Prelude.{◌≡◌, ℕ, List, map, Option, IfSome}
-use Rattle.std.specs.List.{AllByRecursion}
+use Rattle.std.specs.Prelude.{◌≡◌, ℕ, List, [], ◌∷◌, Option, IfSome}
 use Rattle.sv_model.specs.declared.node.Setting.{Setting}
 use Rattle.sv_model.specs.declared.node.Stage.{Stage}
 use Rattle.sv_model.specs.declared.node.Stage.TheVariants.{Blank}
 use Rattle.sv_model.specs.declared.record.Record.{Record}
 use Rattle.sv_model.specs.NodeState.{Durable}
 use Rattle.sv_model.specs.Replay.{blank, replayed, Fits, AllFit}
-use Rattle.sv_record.specs.Record.{spelling, HasSpelling}
+use Rattle.sv_record.specs.Record.{IsSpelling}
 
--- the entries spell these records, one each
-pub record Spell (entries : List (List ℕ)) (records : List Record) : Type 0 where
-  pub have : AllByRecursion HasSpelling records
-  pub are : entries ≡ map spelling records
+-- the entries are spellings of these records, one each, by whatever versions
+abbrev pub Spell : List (List ℕ) → List Record → Type 0
+Spell [] [] = Unit {0}
+Spell [] (r ∷ rs) = ⊥
+Spell (p ∷ ps) [] = ⊥
+Spell (p ∷ ps) (r ∷ rs) = IsSpelling p r × Spell ps rs
 
 -- the entries are the records of a node, each of which may stand behind those before it, and this is what they give
 pub record Replays (set : Setting) (entries : List (List ℕ)) (d : Durable) : Type 0 where

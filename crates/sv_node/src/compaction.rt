@@ -1,6 +1,6 @@
 //! Records in the place of those that a journal has.
 
-ghost use Rattle.std.specs.Prelude.{◌≡◌, ◌≤◌, length, IfOk, OnOk, IsErr, IsErrOf, IsTrue, false};
+ghost use Rattle.std.specs.Prelude.{◌≡◌, ◌≤◌, length, map, IfOk, OnOk, IsErr, IsErrOf, IsTrue, false};
 ghost use Rattle.std.specs.List.{All};
 ghost use Rattle.sv_journal.specs.Disk.{LeavesOnly, TellsOn, HasRisen};
 ghost use Rattle.sv_journal.specs.Format.{payloads};
@@ -8,7 +8,8 @@ ghost use Rattle.sv_journal.specs.declared.limits.TheConstants.{PAYLOAD_LIMIT};
 ghost use Rattle.sv_model.specs.declared.node.Setting.{Setting};
 ghost use Rattle.sv_model.specs.NodeState.{Durable};
 ghost use Rattle.sv_model.specs.Ranges.{IsRecord};
-ghost use Rattle.sv_node.specs.Compaction.{written, spared, len_with, HasNoRoom, RestoresBeside};
+ghost use Rattle.sv_record.specs.Record.{spelling};
+ghost use Rattle.sv_node.specs.Compaction.{HasTurned, written, spared, len_with, HasNoRoom, RestoresBeside};
 ghost use Rattle.sv_node.specs.Records.{Spell, Give};
 ghost use Rattle.sv_node.specs.Stops.{Stores};
 
@@ -20,6 +21,7 @@ use sv_record::Record;
 /// The payloads of records, in order.
 fn payloads_of(alloc: Global, records: &[Record]) -> Result<Vec<Vec<u8>>, AllocError>
     requires { All IsRecord records.now }
+    ensures bytes { IfOk result (λ found. payloads found.items ≡ map spelling records.now) }
     ensures spelled { IfOk result (λ found. Spell (payloads found.items) records.now) }
     ensures size { IfOk result (λ found. All (λ payload. length payload.items ≤ PAYLOAD_LIMIT) found.items) }
 {
@@ -48,6 +50,7 @@ pub fn replace<D: Disk>(
     ensures current { OnOk result (TellsOn D.tells journal.old.other journal.new.current) }
     ensures live { OnOk result (IsTrue journal.new.live) }
     ensures len { OnOk result (journal.new.len ≡ len_with records.now) }
+    ensures turned { OnOk result (HasTurned journal.old journal.new) }
     ensures failed { ¬ IsErrOf result JournalFault.Failed }
     ensures full { IsErrOf result JournalFault.Full → HasNoRoom journal.old records.now }
     ensures device { IsErrOf result JournalFault.Device → (journal.new.live ≡ false) × HasRisen (D.failed journal.old.other) (D.failed journal.new.other) }

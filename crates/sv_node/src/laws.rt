@@ -1,19 +1,24 @@
 //! What holds of every call of a node.
 
-ghost use Rattle.std.specs.Prelude.{◌≡◌, ◌≢◌, ℕ, List, Result};
+ghost use Rattle.std.specs.Prelude.{◌≡◌, ◌≢◌, ℕ, true, false, IsTrue, List, Result, Err};
+ghost use Rattle.sv_journal.specs.Journal.{disk_a, disk_b};
 ghost use Rattle.sv_journal.specs.declared.journal_fault.JournalFault.{JournalFault};
 ghost use Rattle.sv_model.specs.declared.input.Input.{Input};
 ghost use Rattle.sv_model.specs.declared.key.Moment.{Moment};
 ghost use Rattle.sv_model.specs.declared.node.Setting.{Setting};
 ghost use Rattle.sv_model.specs.declared.output.Output.{Output};
 ghost use Rattle.sv_model.specs.declared.site.StepFault.{StepFault};
+ghost use Rattle.sv_model.specs.declared.site.StepFault.TheVariants.{Device};
+ghost use Rattle.sv_model.specs.Engine.{EngineMeaning};
 ghost use Rattle.sv_model.specs.NodeState.{Durable, last_number};
-ghost use Rattle.sv_node.specs.Call.{quiet, kept, StopsStart};
+ghost use Rattle.sv_node.specs.Call.{quiet, kept, StopsStart, Open, Step, Refused, Cut};
 ghost use Rattle.sv_node.specs.Calls.{IsStepCall, IsCompactionCall, IsOpenCall};
-ghost use Rattle.sv_node.specs.Compaction.{IsCompaction};
-ghost use Rattle.sv_node.specs.Node.{NodeSteps, IsStarted, durable_of};
+ghost use Rattle.sv_node.specs.Compaction.{IsCompaction, RestoresBeside, written};
+ghost use Rattle.sv_node.specs.Cuts.{GivesCall, GivesCallOn, IsRefusedOpening, LeaveThis};
+ghost use Rattle.sv_node.specs.Node.{NodeSteps, IsStarted, durable_of, engine_of, journal_of, setting_of, state_of};
 ghost use Rattle.sv_node.specs.Opened.{GivesStart, restarted};
-ghost use Rattle.sv_node.specs.Stops.{Restores};
+ghost use Rattle.sv_node.specs.Stops.{Restores, TellsBoth};
+ghost use Rattle.sv_node.specs.declared.fault.OpenFault.{OpenFault};
 ghost use Rattle.sv_node.specs.declared.node.Node.{Node};
 
 use sv_journal::Disk;
@@ -31,4 +36,24 @@ pub fn calls<E: Engine, D: Disk>()
     ensures compacted { (old new : Node E D) (answer : Result (Unit {0}) JournalFault)
         → IsCompaction E.meaning E.heard D.tells D.seen D.may_leave D.moment D.left_since D.failed old answer new
         → IsCompactionCall E.meaning E.heard old answer new }
+{}
+
+/// The calls that a stop has cut, or that were refused with what may have been written: by what the contracts say of the disks,
+/// whatever a stop leaves of these gives a state that such a call leaves where no disk is looked at.
+pub fn cuts<E: Engine, D: Disk>()
+    ensures step { (old new : Node E D) (at : Moment) (input : Input) (answer : Result (List Output) StepFault)
+        → NodeSteps E.meaning E.heard D.tells D.seen D.may_leave D.moment D.left_since D.failed old at input answer new
+        → IsTrue (journal_of old).live → TellsBoth D.tells (journal_of old) → (image : List ℕ) → D.left_since (journal_of new).current (D.moment (journal_of old).current) image
+        → GivesCallOn (E.meaning (engine_of old)) (setting_of old) true (state_of old) (Step at input Cut) image (D.seen (journal_of old).other) }
+    ensures device { (old new : Node E D) (at : Moment) (input : Input)
+        → NodeSteps E.meaning E.heard D.tells D.seen D.may_leave D.moment D.left_since D.failed old at input (Err Device) new
+        → IsTrue (journal_of old).live → TellsBoth D.tells (journal_of old) → (a b : List ℕ) → D.may_leave (disk_a (journal_of new)) a → D.may_leave (disk_b (journal_of new)) b
+        → GivesCall (E.meaning (engine_of old)) (setting_of old) true (state_of old) (Step at input (Refused Device)) a b }
+    ensures compaction { (old new : Node E D) (answer : Result (Unit {0}) JournalFault)
+        → IsCompaction E.meaning E.heard D.tells D.seen D.may_leave D.moment D.left_since D.failed old answer new
+        → IsTrue (journal_of old).live → TellsBoth D.tells (journal_of old) → (image : List ℕ) → D.left_since (written (journal_of old) (journal_of new)) (D.moment (journal_of old).other) image
+        → RestoresBeside (setting_of old) (D.seen (journal_of old).current) (durable_of old) image }
+    ensures opening { (m : EngineMeaning) (fault : OpenFault) (set : Setting) (d : Durable) (a b new_a new_b : D) → LeaveThis D.may_leave set d a b
+        → IsRefusedOpening D.may_leave fault set d a b new_a new_b → (x y : List ℕ) → D.may_leave new_a x → D.may_leave new_b y
+        → GivesCall m set false (kept d) (Open (Refused fault)) x y }
 {}

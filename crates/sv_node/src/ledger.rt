@@ -1,6 +1,6 @@
 //! The records of a node in its journal.
 
-ghost use Rattle.std.specs.Prelude.{◌≡◌, ◌≤◌, ℕ, List, map, length, false, IfOk, IfErr, OnOk, IsErr, IsErrOf, IsTrue, IfSome, Some, option_copied};
+ghost use Rattle.std.specs.Prelude.{◌≡◌, ◌≤◌, ◌++◌, ◌∷◌, [], ℕ, List, map, length, false, IfOk, IfErr, OnOk, IsErr, IsErrOf, IsTrue, IfSome, Some, option_copied};
 ghost use Rattle.std.specs.List.{AllByRecursion};
 ghost use Rattle.sv_journal.specs.Disk.{LeavesOnly, TellsOn, HasRisen, IsQuiet};
 ghost use Rattle.sv_journal.specs.Format.{payloads};
@@ -11,11 +11,11 @@ ghost use Rattle.sv_model.specs.declared.record.Record.{Record};
 ghost use Rattle.sv_model.specs.NodeState.{Durable};
 ghost use Rattle.sv_model.specs.Ranges.{IsRecord};
 ghost use Rattle.sv_model.specs.Replay.{applied, applied_if};
-ghost use Rattle.sv_record.specs.Record.{spelling, HasSpelling};
-ghost use Rattle.sv_node.specs.Node.{IsTooLong};
+ghost use Rattle.sv_record.specs.Record.{spelling, HasSpelling, IsSpelling};
+ghost use Rattle.sv_node.specs.Node.{IsTooLong, HasAdded};
 ghost use Rattle.sv_node.specs.Records.{Spell, CanFollow};
 ghost use Rattle.sv_node.specs.Stops.{Stores, RestoresEither};
-ghost use Rattle.sv_node.specs.declared.fault.OpenFault.TheVariants.{Damaged as OpenDamaged, Device as OpenDevice, Full as OpenFull};
+ghost use Rattle.sv_node.specs.declared.fault.OpenFault.TheVariants.{Damaged as OpenDamaged, Device as OpenDevice, Full as OpenFull, Memory as OpenMemory};
 
 use crate::fault::{OpenFault, open_fault, read_fault};
 use std::alloc::{AllocError, Global};
@@ -44,6 +44,7 @@ fn add<D: Disk>(alloc: Global, journal: &mut Journal<D>, entry: &Record) -> Resu
     ensures tells { TellsOn D.tells journal.old.current journal.new.current }
     ensures other { journal.new.other ≡ journal.old.other }
     ensures on_a { journal.new.on_a ≡ journal.old.on_a }
+    ensures added { OnOk result (HasAdded journal.old journal.new (Some entry.now)) }
     ensures live { OnOk result (IsTrue journal.new.live) }
     ensures failed { IsErrOf result JournalFault.Failed → journal.old.live ≡ false }
     ensures full { IsErrOf result JournalFault.Full → IsTooLong journal.old (Some entry.now) }
@@ -70,6 +71,7 @@ pub fn keep<D: Disk>(
     ensures tells { TellsOn D.tells journal.old.current journal.new.current }
     ensures other { journal.new.other ≡ journal.old.other }
     ensures on_a { journal.new.on_a ≡ journal.old.on_a }
+    ensures added { OnOk result (HasAdded journal.old journal.new (option_copied entry.entry)) }
     ensures live { OnOk result (IsTrue journal.new.live) }
     ensures failed { ¬ IsErrOf result JournalFault.Failed }
     ensures full { IsErrOf result JournalFault.Full → IsTooLong journal.old (option_copied entry.entry) }
@@ -85,15 +87,26 @@ pub fn keep<D: Disk>(
 
 /// The record that a payload is.
 fn record_of(alloc: Global, payload: &[u8]) -> Result<Record, OpenFault>
-    ensures found { IfOk result (λ r. HasSpelling r × (payload.now ≡ spelling r)) }
+    ensures found { IfOk result (λ r. IsSpelling payload.now r) }
     ensures within { IfOk result (λ r. IsRecord r) }
-    ensures bad { IfErr result (λ e. e ≡ OpenDamaged → (r : Record) → HasSpelling r → payload.now ≡ spelling r → ⊥) }
+    ensures bad { IfErr result (λ e. e ≡ OpenDamaged → (r : Record) → IsSpelling payload.now r → ⊥) }
     ensures device { IfErr result (λ e. ¬ (e ≡ OpenDevice)) }
     ensures full { IfErr result (λ e. ¬ (e ≡ OpenFull)) }
 {
     match read_record(alloc, payload) {
         Ok(entry) => Ok(entry),
         Err(fault) => Err(read_fault(fault)),
+    }
+}
+
+/// Adds a record behind the others.
+fn add_record(records: &mut Vec<Record>, entry: Record) -> Result<(), OpenFault>
+    ensures added { OnOk result (records.new.items ≡ records.old.items ++ entry ∷ []) }
+    ensures memory { IfErr result (λ e. e ≡ OpenMemory) }
+{
+    match records.push(entry) {
+        Ok(()) => Ok(()),
+        Err(_) => Err(OpenFault::Memory),
     }
 }
 
@@ -111,9 +124,7 @@ fn records_of(alloc: Global, all: &[Vec<u8>]) -> Result<Vec<Record>, OpenFault>
             Ok(record) => record,
             Err(fault) => return Err(fault),
         };
-        if records.push(record).is_err() {
-            return Err(OpenFault::Memory);
-        }
+        add_record(&mut records, record)?;
     }
     Ok(records)
 }

@@ -11,28 +11,13 @@
 //! A fault prints one line `node: ` and its name on standard error and ends the program with its status.
 #![tactic(auto)]
 
-mod descriptor;
-mod fault;
-mod kinds;
-mod objects;
-mod once;
-mod purpose;
-mod serve;
-#[cfg(test)]
-mod tests;
-mod words;
-
-use descriptor::read_config;
-use fault::Fault;
-use purpose::Running;
-use serve::{serve, start};
 use std::fs::File;
 use std::net::{Net, TcpListener, TcpStream};
 use std::process::ExitCode;
 use std::rt::{Clock, Env, Files};
 use std::{env, io};
 use sv_host::Place;
-use words::{Words, read_words};
+use sv_launch::{Fault, Running, Words, read_config, read_words, serve, start};
 
 /// The words behind the program's name.
 fn words_of<R: Env + AllocGlobal>(rt: &R) -> Result<Vec<String>, Fault> {

@@ -9,7 +9,7 @@ use Rattle.std.proofs.lemmas.Int.{of_z-to_z, to_z-of_z}
 use Rattle.std.proofs.Math.Facts.{sfits_to_z, Fits-of_z}
 use Rattle.sv_model.specs.declared.session.TheConstants.{CONTEXT_LIMIT, ATTRIBUTE_LIMIT}
 use Rattle.sv_record.specs.declared.version.Version.{Version}
-use Rattle.sv_record.specs.declared.version.Version.TheVariants.{One}
+use Rattle.sv_record.specs.declared.version.Version.TheVariants.{One, Two}
 use Rattle.sv_record.specs.Reading.{◌>>=◌, Reading, number_at}
 use Rattle.sv_record.specs.Format.{number, raw, pair, such_that, sized}
 use Rattle.sv_record.specs.Field.{long, counting, node, key, flag, signed}
@@ -71,6 +71,7 @@ context_lawful = byte_that (λ n. nat_lt n CONTEXT_LIMIT)
 
 value_wide : (v : Version) → IsWide (value_width v)
 value_wide One = wide16
+value_wide Two = wide32
 
 pub name_lawful : (v : Version) (before : Before) → Lawful (name v before)
 unfolding name

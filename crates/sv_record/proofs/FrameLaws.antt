@@ -13,8 +13,10 @@ use Rattle.sv_record.specs.declared.frame.TheConstants.{PEER, CONTROL, PAYLOAD_L
 use Rattle.sv_record.specs.Reading.{◌>>=◌, Reading, Gives, number_at, ended}
 use Rattle.sv_record.specs.Format.{nothing, pair}
 use Rattle.sv_record.specs.Field.{long, counting, node, key}
+use Rattle.sv_record.specs.declared.version.Version.{Version}
+use Rattle.sv_record.specs.declared.version.Version.TheVariants.{Two}
 use Rattle.sv_record.specs.Packet as packet
-use Rattle.sv_record.specs.Frame.{envelope, first_of, payload_of, spelling, HasSpelling, command_by_kind, command_at, payload_at, so_many_at, sized_at, taken_at, frame_at, IsFront}
+use Rattle.sv_record.specs.Frame.{envelope, first_of, payload_by, spelling_by, HasSpellingBy, IsSpelling, command_by_kind, command_at, payload_at, so_many_at, sized_at, taken_at, frame_at, IsFront}
 use Rattle.sv_record.proofs.FormatLaws.{AreBytes, AreBytes-take, AreBytes-drop, bind_ok, guard_ok, held_ok, chosen, ok_is, Lawful, number_lawful, nothing_lawful, pair_lawful, wide8, wide32, TakesByKind, kind_takes, no_kind_takes}
 use Rattle.sv_record.proofs.FieldLaws.{node_lawful, key_lawful}
 use Rattle.sv_record.proofs.KindLaws.{packet_lawful}
@@ -57,14 +59,17 @@ command_takes =
     no_kind_takes command_of command_fields IsCommand Foreign)))
 
 -- what was read of a payload behind this first byte
-abbrev IsPayload : ℕ → List ℕ → Frame → Type 0
-IsPayload first payload frame = HasSpelling frame × (first_of frame ≡ first) × (payload ≡ payload_of frame)
+record IsPayload (first : ℕ) (payload : List ℕ) (frame : Frame) : Type 0 where
+  version : Version
+  has : HasSpellingBy version frame
+  known : first_of frame ≡ first
+  is : payload ≡ payload_by version frame
 
 a_command : (payload : List ℕ) (frame : Frame) → IsCommand frame → payload ≡ command_of frame ∷ command_fields frame → IsPayload CONTROL payload frame
 a_command payload (Peer p) is e = absurd is
-a_command payload (Move k to) is e = (is, refl, e)
-a_command payload Tick is e = (is, refl, e)
-a_command payload Halt is e = (is, refl, e)
+a_command payload (Move k to) is e = record { version = Two; has = is; known = refl; is = e }
+a_command payload Tick is e = record { version = Two; has = is; known = refl; is = e }
+a_command payload Halt is e = record { version = Two; has = is; known = refl; is = e }
 
 command_at_takes : (payload : List ℕ) (frame : Frame) → AreBytes payload → command_at payload ≡ Ok frame → IsPayload CONTROL payload frame
 unfolding command_at
@@ -93,7 +98,8 @@ payload_takes first payload frame fits known e =
           let p = bind_ok (packet.packet_of payload) (λ p. Ok (Peer p)) frame peer.1 in
           let t = whole_takes packet.packet_format packet_lawful payload p.0 fits p.1 in
           let is : first ≡ PEER = eqb-true first PEER peer.0 in
-          subst (IsPayload first payload) (ok_is (Peer p.0) frame p.2) (t.0, sym is, t.1)
+          let made : IsPayload first payload (Peer p.0) = record { version = t.version; has = t.has; known = sym is; is = t.is } in
+          subst (IsPayload first payload) (ok_is (Peer p.0) frame p.2) made
       | inr control ↦ elim known [
         | inl is ↦ let both : true ≡ false = subst (λ (n : ℕ). eqb n PEER ≡ false) is control.0 in absurd cc
         | inr is ↦ subst (λ (n : ℕ). IsPayload n payload frame) (sym is) (command_at_takes payload frame fits control.1)
@@ -115,12 +121,12 @@ command_again (Move k to) is =
 command_again Tick is = refl
 command_again Halt is = refl
 
-payload_again : (frame : Frame) → HasSpelling frame → payload_at (first_of frame) (payload_of frame) ≡ Ok frame
+payload_again : (v : Version) (frame : Frame) → HasSpellingBy v frame → payload_at (first_of frame) (payload_by v frame) ≡ Ok frame
 unfolding payload_at
-payload_again (Peer p) fits = ap (λ (r : Result _ RecordFault). r >>= λ p. Ok (Peer p)) (whole_again packet.packet_format packet_lawful p fits)
-payload_again (Move k to) fits = command_again (Move k to) fits
-payload_again Tick fits = command_again Tick fits
-payload_again Halt fits = command_again Halt fits
+payload_again v (Peer p) fits = ap (λ (r : Result _ RecordFault). r >>= λ p. Ok (Peer p)) (whole_again packet.packet_format packet_lawful v p fits)
+payload_again v (Move k to) fits = command_again (Move k to) fits
+payload_again v Tick fits = command_again Tick fits
+payload_again v Halt fits = command_again Halt fits
 
 -- ---- lengths
 
@@ -181,12 +187,12 @@ sized_again payload rest small =
 
 -- ---- frames
 
-pub payload_small : (frame : Frame) → HasSpelling frame → length (payload_of frame) ≤ PAYLOAD_LIMIT
+pub payload_small : (v : Version) (frame : Frame) → HasSpellingBy v frame → length (payload_by v frame) ≤ PAYLOAD_LIMIT
 unfolding key node long counting
-payload_small (Peer p) fits = packet_size p fits
-payload_small (Move k to) fits = omega arith
-payload_small Tick fits = omega arith
-payload_small Halt fits = omega arith
+payload_small v (Peer p) fits = packet_size v p fits
+payload_small v (Move k to) fits = omega arith
+payload_small v Tick fits = omega arith
+payload_small v Halt fits = omega arith
 
 known_by : (a b : Bool) → (a || b) ≡ true → (a ≡ true) ⊎ (b ≡ true)
 known_by true b e = inl refl
@@ -209,10 +215,11 @@ found_is a b e = cc
 
 -- what a frame that was read is
 pub record IsFrameOf (bytes : List ℕ) (found : Frame × ℕ) : Type 0 where
-  pub fits : HasSpelling found.0
+  pub version : Version
+  pub has : HasSpellingBy version found.0
   pub rest : List ℕ
-  pub parts : bytes ≡ spelling found.0 ++ rest
-  pub size : found.1 ≡ length (spelling found.0)
+  pub parts : bytes ≡ spelling_by version found.0 ++ rest
+  pub size : found.1 ≡ length (spelling_by version found.0)
 
 pub frame_takes : (bytes : List ℕ) (found : Frame × ℕ) → AreBytes bytes → frame_at bytes ≡ Ok (Some found) → IsFrameOf bytes found
 unfolding frame_at
@@ -232,35 +239,40 @@ frame_takes (first ∷ bytes) found fits e =
           | inr control ↦ inr (eqb-true first CONTROL control)
         ] in
         let p = payload_takes first payload f.0 t.1 is f.1 in
-        let whole : first ∷ bytes ≡ spelling f.0 ++ t.0.0 =
+        let whole : first ∷ bytes ≡ spelling_by p.version f.0 ++ t.0.0 =
         ap (λ (l : List ℕ). first ∷ l) t.0.1
-        ∙ ap (λ (n : ℕ). n ∷ to_be_bytes w32 (length payload) ++ (payload ++ t.0.0)) (sym p.1)
-        ∙ ap (λ (l : List ℕ). first_of f.0 ∷ to_be_bytes w32 (length l) ++ (l ++ t.0.0)) p.2 in
-        let size : 5 + length payload ≡ length (spelling f.0) = omega (arith, ap (λ (l : List ℕ). length l) p.2) in
-        let made : IsFrameOf (first ∷ bytes) (f.0, 5 + length payload) = record { fits = p.0; rest = t.0.0; parts = whole; size = size } in
+        ∙ ap (λ (n : ℕ). n ∷ to_be_bytes w32 (length payload) ++ (payload ++ t.0.0)) (sym p.known)
+        ∙ ap (λ (l : List ℕ). first_of f.0 ∷ to_be_bytes w32 (length l) ++ (l ++ t.0.0)) p.is in
+        let size : 5 + length payload ≡ length (spelling_by p.version f.0) = omega (arith, ap (λ (l : List ℕ). length l) p.is) in
+        let made : IsFrameOf (first ∷ bytes) (f.0, 5 + length payload) = record { version = p.version; has = p.has; rest = t.0.0; parts = whole; size = size } in
         subst (IsFrameOf (first ∷ bytes)) (found_is (f.0, 5 + length payload) found f.2) made
 
-pub frame_again : (frame : Frame) (rest : List ℕ) → HasSpelling frame → frame_at (spelling frame ++ rest) ≡ Ok (Some (frame, length (spelling frame)))
+pub frame_again : (v : Version) (frame : Frame) (rest : List ℕ) → HasSpellingBy v frame → frame_at (spelling_by v frame ++ rest) ≡ Ok (Some (frame, length (spelling_by v frame)))
 unfolding frame_at
-frame_again frame rest fits =
-    let payload = payload_of frame in
+frame_again v frame rest fits =
+    let payload = payload_by v frame in
     let first = first_of frame in
-    let sized : sized_at (to_be_bytes w32 (length payload) ++ (payload ++ rest)) ≡ Ok (Some payload) = sized_again payload rest (payload_small frame fits) in
+    let sized : sized_at (to_be_bytes w32 (length payload) ++ (payload ++ rest)) ≡ Ok (Some payload) = sized_again payload rest (payload_small v frame fits) in
     let bad : Found = Err Foreign in
-    let size : 5 + length payload ≡ length (spelling frame) = omega arith in
+    let size : 5 + length payload ≡ length (spelling_by v frame) = omega arith in
     ap (λ (b : Bool). cond b (sized_at (to_be_bytes w32 (length payload) ++ (payload ++ rest)) >>= taken_at first) bad) (is_known frame)
     ∙ ap (λ (r : Payload). r >>= taken_at first) sized
-    ∙ ap (λ (r : Result Frame RecordFault). r >>= λ f. found_frame (f, 5 + length payload)) (payload_again frame fits)
+    ∙ ap (λ (r : Result Frame RecordFault). r >>= λ f. found_frame (f, 5 + length payload)) (payload_again v frame fits)
     ∙ ap (λ (n : ℕ). found_frame (frame, n)) size
 
+pub frame_gives : (frame : Frame) (bytes text rest : List ℕ) → IsSpelling text frame → bytes ≡ text ++ rest → frame_at bytes ≡ Ok (Some (frame, length text))
+frame_gives frame bytes text rest spells e =
+    let all : bytes ≡ spelling_by spells.version frame ++ rest = e ∙ ap (λ (l : List ℕ). l ++ rest) spells.is in
+    ap frame_at all ∙ frame_again spells.version frame rest spells.has ∙ ap (λ (l : List ℕ). found_frame (frame, length l)) (sym spells.is)
+
 -- no frame is a proper prefix of another
-pub not_a_prefix : (a b : Frame) (rest : List ℕ) → HasSpelling a → HasSpelling b → spelling a ++ rest ≡ spelling b → (a ≡ b) × (rest ≡ [])
-not_a_prefix a b rest fits_a fits_b e =
-    let same : found_frame (a, length (spelling a)) ≡ found_frame (b, length (spelling b)) =
-    sym (frame_again a rest fits_a) ∙ ap frame_at (e ∙ sym (append-nil (spelling b))) ∙ frame_again b [] fits_b in
-    let is = found_is (a, length (spelling a)) (b, length (spelling b)) same in
-    let size : length (spelling a) ≡ length (spelling b) = ap (λ (x : Frame × ℕ). x.1) is in
-    let sum : length (spelling a) + length rest ≡ length (spelling b) = sym (length-append (spelling a) rest) ∙ ap (λ (l : List ℕ). length l) e in
+pub not_a_prefix : (a b : Frame) (text more rest : List ℕ) → IsSpelling text a → IsSpelling more b → text ++ rest ≡ more → (a ≡ b) × (rest ≡ [])
+not_a_prefix a b text more rest first second e =
+    let same : found_frame (a, length text) ≡ found_frame (b, length more) =
+    sym (frame_gives a more text rest first (sym e)) ∙ frame_gives b more more [] second (sym (append-nil more)) in
+    let is = found_is (a, length text) (b, length more) same in
+    let size : length text ≡ length more = ap (λ (x : Frame × ℕ). x.1) is in
+    let sum : length text + length rest ≡ length more = sym (length-append text rest) ∙ ap (λ (l : List ℕ). length l) e in
     (ap (λ (x : Frame × ℕ). x.0) is, nil_from_length rest (omega arith))
 
 -- ---- too few bytes
@@ -415,14 +427,21 @@ front_is_none (first ∷ bytes) is =
 -- ---- what a function gave
 
 module _ (bytes : List ℕ) where
-  pub frame_found : (result : Found) → AreBytes bytes → Gives (λ x. x) result (frame_at bytes) → IfOk result (λ o. IfSome o (λ x. HasSpelling x.0 × ((rest : List ℕ) × (bytes ≡ spelling x.0 ++ rest))))
+  pub frame_found : (result : Found) → AreBytes bytes → Gives (λ x. x) result (frame_at bytes) → IfOk result (λ o. IfSome o (λ x. IsSpelling (take x.1 bytes) x.0))
   frame_found (Ok None) fits gives = tt
-  frame_found (Ok (Some x)) fits gives = let t = frame_takes bytes x fits gives in (t.fits, (t.rest, t.parts))
+  frame_found (Ok (Some x)) fits gives =
+      let t = frame_takes bytes x fits gives in
+      let text = spelling_by t.version x.0 in
+      let is : take x.1 bytes ≡ text = ap (take x.1) t.parts ∙ take_at text t.rest x.1 (sym t.size) in
+      record { version = t.version; has = t.has; is = is }
   frame_found (Err fault) fits gives = tt
 
-  pub frame_sized : (result : Found) → AreBytes bytes → Gives (λ x. x) result (frame_at bytes) → IfOk result (λ o. IfSome o (λ x. x.1 ≡ length (spelling x.0)))
+  pub frame_sized : (result : Found) → AreBytes bytes → Gives (λ x. x) result (frame_at bytes) → IfOk result (λ o. IfSome o (λ x. x.1 ≤ length bytes))
   frame_sized (Ok None) fits gives = tt
-  frame_sized (Ok (Some x)) fits gives = (frame_takes bytes x fits gives).size
+  frame_sized (Ok (Some x)) fits gives =
+      let t = frame_takes bytes x fits gives in
+      let sum : length bytes ≡ length (spelling_by t.version x.0) + length t.rest = ap (λ (l : List ℕ). length l) t.parts ∙ length-append (spelling_by t.version x.0) t.rest in
+      omega (arith, sum, t.size)
   frame_sized (Err fault) fits gives = tt
 
   pub frame_none : (result : Found) → AreBytes bytes → Gives (λ x. x) result (frame_at bytes) → IfOk result (λ o. IfNone o (IsFront bytes))
@@ -432,5 +451,5 @@ module _ (bytes : List ℕ) where
 
   pub frame_within : (result : Found) → AreBytes bytes → Gives (λ x. x) result (frame_at bytes) → IfOk result (λ o. IfSome o (λ x. IsFrame x.0))
   frame_within (Ok None) fits gives = tt
-  frame_within (Ok (Some x)) fits gives = frame_range x.0 (frame_takes bytes x fits gives).fits
+  frame_within (Ok (Some x)) fits gives = let t = frame_takes bytes x fits gives in frame_range t.version x.0 t.has
   frame_within (Err fault) fits gives = tt

@@ -8,3 +8,4 @@ pub mod Loop
 pub mod Names
 pub mod WrittenLemmas
 pub mod RangeLemmas
+pub mod WithinLemmas

@@ -23,8 +23,8 @@ use Rattle.sv_model.specs.declared.packet.Packet.TheVariants.{Want, Grant, Ack, 
 use Rattle.sv_model.specs.declared.session.TheConstants.{CONTEXT_LIMIT, ATTRIBUTE_LIMIT, NAME_LIMIT, VALUE_LIMIT, SESSION_LIMIT}
 use Rattle.sv_model.proofs.AttributesLemmas.{NamesRise-head, NamesRise-tail, attributes_size-cons, attributes_size-nil}
 use Rattle.sv_record.specs.declared.version.Version.{Version}
-use Rattle.sv_record.specs.declared.version.Version.TheVariants.{One}
-use Rattle.sv_record.specs.Version.{session_limit}
+use Rattle.sv_record.specs.declared.version.Version.TheVariants.{One, Two}
+use Rattle.sv_record.specs.Version.{value_limit, session_limit}
 use Rattle.sv_record.specs.Format.{FitAll}
 use Rattle.sv_record.specs.Session.{Attribute, Before, at_first, behind, is_below, is_name_length, is_value_length, name, value, attribute, attributes, context, session}
 use Rattle.sv_record.specs.declared.frame.Frame.{Frame}
@@ -39,32 +39,32 @@ use Rattle.sv_model.specs.Ranges.{is_absent}
 use Rattle.sv_record.specs.Record.{change, commit, handover, key_state}
 use Rattle.sv_record.specs.Record as spec
 
-name_length : (total n : ℕ) → 0 < n → n ≤ NAME_LIMIT → total + n ≤ SESSION_LIMIT → is_name_length One total n ≡ true
-name_length total n some small within =
+pub name_length : (v : Version) (total n : ℕ) → 0 < n → n ≤ NAME_LIMIT → total + n ≤ session_limit v → is_name_length v total n ≡ true
+name_length v total n some small within =
     let first : nat_lt 0 n ≡ true = grind (arith, nat_tests) in
     let second : nat_le n NAME_LIMIT ≡ true = grind (arith, nat_tests) in
-    let third : nat_le (total + n) SESSION_LIMIT ≡ true = grind (arith, nat_tests) in
-    and_from (nat_lt 0 n && nat_le n NAME_LIMIT) (nat_le (total + n) SESSION_LIMIT) (and_from (nat_lt 0 n) (nat_le n NAME_LIMIT) first second) third
+    let third : nat_le (total + n) (session_limit v) ≡ true = grind (arith, nat_tests) in
+    and_from (nat_lt 0 n && nat_le n NAME_LIMIT) (nat_le (total + n) (session_limit v)) (and_from (nat_lt 0 n) (nat_le n NAME_LIMIT) first second) third
 
-value_length : (total n : ℕ) → n ≤ VALUE_LIMIT → total + n ≤ SESSION_LIMIT → is_value_length One total n ≡ true
-value_length total n small within =
-    let first : nat_le n VALUE_LIMIT ≡ true = grind (arith, nat_tests) in
-    let second : nat_le (total + n) SESSION_LIMIT ≡ true = grind (arith, nat_tests) in
-    and_from (nat_le n VALUE_LIMIT) (nat_le (total + n) SESSION_LIMIT) first second
+pub value_length : (v : Version) (total n : ℕ) → n ≤ value_limit v → total + n ≤ session_limit v → is_value_length v total n ≡ true
+value_length v total n small within =
+    let first : nat_le n (value_limit v) ≡ true = grind (arith, nat_tests) in
+    let second : nat_le (total + n) (session_limit v) ≡ true = grind (arith, nat_tests) in
+    and_from (nat_le n (value_limit v)) (nat_le (total + n) (session_limit v)) first second
 
 -- an attribute that may stand behind others
 attribute_fits : (before : Before) (a : Attribute) → 0 < length a.0 → length a.0 ≤ NAME_LIMIT → length a.1 ≤ VALUE_LIMIT → before.total + (length a.0 + length a.1) ≤ SESSION_LIMIT
-    → is_utf8 a.0 ≡ true → name_cmp before.last a.0 ≡ Less → (attribute One before).Fits a
+    → is_utf8 a.0 ≡ true → name_cmp before.last a.0 ≡ Less → (attribute Two before).Fits a
 unfolding attribute name value
 attribute_fits before a some short small within text above = (
-  ((omega arith, name_length before.total (length a.0) some short (omega arith)), and_from (is_utf8 a.0) (is_below before.last a.0) text (ap is_lt above)),
-  (omega arith, value_length (before.total + length a.0) (length a.1) small (omega arith)),
+  ((omega arith, name_length Two before.total (length a.0) some short (omega arith)), and_from (is_utf8 a.0) (is_below before.last a.0) text (ap is_lt above)),
+  (omega arith, value_length Two (before.total + length a.0) (length a.1) small (omega arith)),
 )
 
 -- attributes whose names rise from a name
 fit_all : (before : Before) (xs : List Attribute) → AllByRecursion (λ a. 0 < length a.0) xs → AllByRecursion (λ a. length a.0 ≤ NAME_LIMIT) xs → AllByRecursion (λ a. length a.1 ≤ VALUE_LIMIT) xs
     → AllByRecursion (λ a. is_utf8 a.0 ≡ true) xs → before.total + attributes_size xs ≤ SESSION_LIMIT → AllByRecursion (λ n. name_cmp before.last n ≡ Less) (names_of xs) → NamesRise xs
-    → FitAll (attribute One) behind before xs
+    → FitAll (attribute Two) behind before xs
 fit_all before [] some short small texts within above rise = tt
 fit_all before (x ∷ xs) some short small texts within above rise =
     let size = attributes_size-cons x xs in (
@@ -79,7 +79,7 @@ empty_below (([], v) ∷ xs) some = absurd (omega (arith, some.0))
 empty_below ((c ∷ cs, v) ∷ xs) some = (refl, empty_below xs some.1)
 
 pub attributes_fit : (xs : List Attribute) → length xs ≤ ATTRIBUTE_LIMIT → All (λ a. 0 < length a.0) xs → All (λ a. length a.0 ≤ NAME_LIMIT) xs → All (λ a. length a.1 ≤ VALUE_LIMIT) xs
-    → attributes_size xs ≤ SESSION_LIMIT → AllByRecursion (λ a. is_utf8 a.0 ≡ true) xs → NamesRise xs → (attributes One).Fits xs
+    → attributes_size xs ≤ SESSION_LIMIT → AllByRecursion (λ a. is_utf8 a.0 ≡ true) xs → NamesRise xs → (attributes Two).Fits xs
 unfolding attributes
 attributes_fit xs few some short small within texts rise =
     let named = recursion_from_All (λ (a : Attribute). 0 < length a.0) xs some in (
@@ -90,52 +90,61 @@ attributes_fit xs few some short small within texts rise =
 
 -- ---- and back: what has a spelling is within the ranges
 
-name_facts : (total n : ℕ) → is_name_length One total n ≡ true → (0 < n) × (n ≤ NAME_LIMIT)
-name_facts total n e =
-    let front = and_parts (nat_lt 0 n && nat_le n NAME_LIMIT) (nat_le (total + n) SESSION_LIMIT) e in
+-- no version allows more than the ranges
+value_limit_least : (v : Version) → value_limit v ≤ VALUE_LIMIT
+value_limit_least One = omega arith
+value_limit_least Two = omega arith
+
+pub session_limit_least : (v : Version) → session_limit v ≤ SESSION_LIMIT
+session_limit_least One = omega arith
+session_limit_least Two = omega arith
+
+pub name_facts : (v : Version) (total n : ℕ) → is_name_length v total n ≡ true → (0 < n) × (n ≤ NAME_LIMIT)
+name_facts v total n e =
+    let front = and_parts (nat_lt 0 n && nat_le n NAME_LIMIT) (nat_le (total + n) (session_limit v)) e in
     let parts = and_parts (nat_lt 0 n) (nat_le n NAME_LIMIT) front.0 in
     let some : nat_lt 0 n ≡ true = parts.0 in
     let small : nat_le n NAME_LIMIT ≡ true = parts.1 in
     (grind (arith, nat_tests), grind (arith, nat_tests))
 
-value_facts : (total n : ℕ) → is_value_length One total n ≡ true → (n ≤ VALUE_LIMIT) × (total + n ≤ SESSION_LIMIT)
-value_facts total n e =
-    let parts = and_parts (nat_le n VALUE_LIMIT) (nat_le (total + n) SESSION_LIMIT) e in
-    let small : nat_le n VALUE_LIMIT ≡ true = parts.0 in
-    let within : nat_le (total + n) SESSION_LIMIT ≡ true = parts.1 in
+value_facts : (v : Version) (total n : ℕ) → is_value_length v total n ≡ true → (n ≤ value_limit v) × (total + n ≤ session_limit v)
+value_facts v total n e =
+    let parts = and_parts (nat_le n (value_limit v)) (nat_le (total + n) (session_limit v)) e in
+    let small : nat_le n (value_limit v) ≡ true = parts.0 in
+    let within : nat_le (total + n) (session_limit v) ≡ true = parts.1 in
     (grind (arith, nat_tests), grind (arith, nat_tests))
 
 -- the limits of one attribute behind others
-record IsLimited (before : Before) (a : Attribute) : Type 0 where
-  some : 0 < length a.0
-  short : length a.0 ≤ NAME_LIMIT
-  small : length a.1 ≤ VALUE_LIMIT
-  within : before.total + length a.0 + length a.1 ≤ SESSION_LIMIT
+pub record IsLimited (v : Version) (before : Before) (a : Attribute) : Type 0 where
+  pub some : 0 < length a.0
+  pub short : length a.0 ≤ NAME_LIMIT
+  pub small : length a.1 ≤ value_limit v
+  pub within : before.total + length a.0 + length a.1 ≤ session_limit v
 
-limited : (before : Before) (a : Attribute) → (attribute One before).Fits a → IsLimited before a
+pub limited : (v : Version) (before : Before) (a : Attribute) → (attribute v before).Fits a → IsLimited v before a
 unfolding attribute name value
-limited before a fits =
-    let n = name_facts before.total (length a.0) fits.0.0.1 in
-    let v = value_facts (before.total + length a.0) (length a.1) fits.1.1 in
-    record { some = n.0; short = n.1; small = v.0; within = v.1 }
+limited v before a fits =
+    let n = name_facts v before.total (length a.0) fits.0.0.1 in
+    let m = value_facts v (before.total + length a.0) (length a.1) fits.1.1 in
+    record { some = n.0; short = n.1; small = m.0; within = m.1 }
 
-each_some : (before : Before) (xs : List Attribute) → FitAll (attribute One) behind before xs → AllByRecursion (λ a. 0 < length a.0) xs
-each_some before [] fits = tt
-each_some before (x ∷ xs) fits = ((limited before x fits.0).some, each_some (behind before x) xs fits.1)
+each_some : (v : Version) (before : Before) (xs : List Attribute) → FitAll (attribute v) behind before xs → AllByRecursion (λ a. 0 < length a.0) xs
+each_some v before [] fits = tt
+each_some v before (x ∷ xs) fits = ((limited v before x fits.0).some, each_some v (behind before x) xs fits.1)
 
-each_short : (before : Before) (xs : List Attribute) → FitAll (attribute One) behind before xs → AllByRecursion (λ a. length a.0 ≤ NAME_LIMIT) xs
-each_short before [] fits = tt
-each_short before (x ∷ xs) fits = ((limited before x fits.0).short, each_short (behind before x) xs fits.1)
+each_short : (v : Version) (before : Before) (xs : List Attribute) → FitAll (attribute v) behind before xs → AllByRecursion (λ a. length a.0 ≤ NAME_LIMIT) xs
+each_short v before [] fits = tt
+each_short v before (x ∷ xs) fits = ((limited v before x fits.0).short, each_short v (behind before x) xs fits.1)
 
-each_small : (before : Before) (xs : List Attribute) → FitAll (attribute One) behind before xs → AllByRecursion (λ a. length a.1 ≤ VALUE_LIMIT) xs
-each_small before [] fits = tt
-each_small before (x ∷ xs) fits = ((limited before x fits.0).small, each_small (behind before x) xs fits.1)
+pub each_small : (v : Version) (before : Before) (xs : List Attribute) → FitAll (attribute v) behind before xs → AllByRecursion (λ a. length a.1 ≤ VALUE_LIMIT) xs
+each_small v before [] fits = tt
+each_small v before (x ∷ xs) fits = (omega (arith, (limited v before x fits.0).small, value_limit_least v), each_small v (behind before x) xs fits.1)
 
-all_within : (before : Before) (xs : List Attribute) → before.total ≤ SESSION_LIMIT → FitAll (attribute One) behind before xs → before.total + attributes_size xs ≤ SESSION_LIMIT
-all_within before [] small fits = omega (arith, attributes_size-nil)
-all_within before (x ∷ xs) small fits =
-    let here = (limited before x fits.0).within in
-    omega (arith, attributes_size-cons x xs, all_within (behind before x) xs here fits.1)
+pub all_within : (v : Version) (before : Before) (xs : List Attribute) → before.total ≤ session_limit v → FitAll (attribute v) behind before xs → before.total + attributes_size xs ≤ session_limit v
+all_within v before [] small fits = omega (arith, attributes_size-nil)
+all_within v before (x ∷ xs) small fits =
+    let here = (limited v before x fits.0).within in
+    omega (arith, attributes_size-cons x xs, all_within v (behind before x) xs here fits.1)
 
 node_range : (n : ℕ) → node.Fits n → IsNode n
 unfolding node
@@ -153,63 +162,64 @@ context_range : (n : ℕ) → context.Fits n → n < CONTEXT_LIMIT
 unfolding context
 context_range n fits = let small : nat_lt n CONTEXT_LIMIT ≡ true = fits.1 in grind (arith, nat_tests)
 
-session_range : (s : Session) → (session One).Fits s → IsWithinLimits s
+session_range : (v : Version) (s : Session) → (session v).Fits s → IsWithinLimits s
 unfolding session attributes
-session_range s fits =
+session_range v s fits =
     let named = fits.1.1.1.1.1.1 in
-    let size = all_within at_first s.attributes (omega arith) named.2 in
+    let size = all_within v at_first s.attributes (omega arith) named.2 in
     record {
       context = context_range s.context fits.1.0;
       count = ltb-false _ _ named.1;
-      named = All-from_recursion (λ (a : Attribute). 0 < length a.0) s.attributes (each_some at_first s.attributes named.2);
-      names = All-from_recursion (λ (a : Attribute). length a.0 ≤ NAME_LIMIT) s.attributes (each_short at_first s.attributes named.2);
-      values = All-from_recursion (λ (a : Attribute). length a.1 ≤ VALUE_LIMIT) s.attributes (each_small at_first s.attributes named.2);
-      size = omega (arith, size);
+      named = All-from_recursion (λ (a : Attribute). 0 < length a.0) s.attributes (each_some v at_first s.attributes named.2);
+      names = All-from_recursion (λ (a : Attribute). length a.0 ≤ NAME_LIMIT) s.attributes (each_short v at_first s.attributes named.2);
+      values = All-from_recursion (λ (a : Attribute). length a.1 ≤ VALUE_LIMIT) s.attributes (each_small v at_first s.attributes named.2);
+      size = omega (arith, size, session_limit_least v);
     }
 
-change_range : (c : Change) → (change One).Fits c → IsChange c
+change_range : (v : Version) (c : Change) → (change v).Fits c → IsChange c
 unfolding change
-change_range Absent fits = tt
-change_range (Alive k s) fits = (key_range k fits.0, session_range s fits.1)
-change_range (Ended k) fits = key_range k fits
+change_range v Absent fits = tt
+change_range v (Alive k s) fits = (key_range k fits.0, session_range v s fits.1)
+change_range v (Ended k) fits = key_range k fits
 
 one_there : (b : Bool) → not b ≡ true → b ≡ false
 one_there true e = absurd cc
 one_there false e = refl
 
-state_range : (s : KeyState) → (key_state One).Fits s → IsState s
+state_range : (v : Version) (s : KeyState) → (key_state v).Fits s → IsState s
 unfolding key_state
-state_range (kept.Active e s) fits = (counting_range e fits.0, session_range s fits.1)
-state_range (kept.Sent e s to) fits = (counting_range e fits.0, session_range s fits.1.1, node_range to fits.1.0)
-state_range (kept.Gone e) fits = counting_range e fits
-state_range (kept.Ended e) fits = counting_range e fits
+state_range v (kept.Active e s) fits = (counting_range e fits.0, session_range v s fits.1)
+state_range v (kept.Sent e s to) fits = (counting_range e fits.0, session_range v s fits.1.1, node_range to fits.1.0)
+state_range v (kept.Gone e) fits = counting_range e fits
+state_range v (kept.Ended e) fits = counting_range e fits
 
-handover_range : (k : Key) (e n : ℕ) (s : Session) → (handover One).Fits (k, (e, (n, s))) → IsHandover k e n s
-handover_range k e n s fits = (key_range k fits.0, counting_range e fits.1.0, node_range n fits.1.1.0, session_range s fits.1.1.1)
+handover_range : (v : Version) (k : Key) (e n : ℕ) (s : Session) → (handover v).Fits (k, (e, (n, s))) → IsHandover k e n s
+handover_range v k e n s fits = (key_range k fits.0, counting_range e fits.1.0, node_range n fits.1.1.0, session_range v s fits.1.1.1)
 
-pub record_range : (r : Record) → spec.HasSpelling r → IsRecord r
+pub record_range : (v : Version) (r : Record) → spec.HasSpellingBy v r → IsRecord r
 unfolding spec.record_format commit
-record_range (rec.Boot b) fits = counting_range b fits
-record_range (rec.Commit named born) fits = (change_range named fits.0.0, change_range born fits.0.1, one_there (is_absent named && is_absent born) fits.1)
-record_range (rec.Expired k) fits = key_range k fits
-record_range (rec.Sent k e to s) fits = handover_range k e to s fits
-record_range (rec.Taken k e from s) fits = handover_range k e from s fits
-record_range (rec.Gone k e) fits = (key_range k fits.0, counting_range e fits.1)
-record_range (rec.State k s) fits = (key_range k fits.0, state_range s fits.1)
-record_range (rec.Counters b next) fits = counting_range next fits.1
+record_range v (rec.Boot b) fits = counting_range b fits
+record_range v (rec.Commit named born) fits = (change_range v named fits.0.0, change_range v born fits.0.1, one_there (is_absent named && is_absent born) fits.1)
+record_range v (rec.Expired k) fits = key_range k fits
+record_range v (rec.Sent k e to s) fits = handover_range v k e to s fits
+record_range v (rec.Taken k e from s) fits = handover_range v k e from s fits
+record_range v (rec.Gone k e) fits = (key_range k fits.0, counting_range e fits.1)
+record_range v (rec.State k s) fits = (key_range k fits.0, state_range v s fits.1)
+record_range v (rec.Counters b next) fits = counting_range next fits.1
 
-pub packet_range : (p : Packet) → packet.HasSpelling p → IsPacket p
+pub packet_range : (v : Version) (p : Packet) → packet.HasSpellingBy v p → IsPacket p
 unfolding packet.packet_format
-packet_range (Want from to k boot want) fits = (node_range from fits.0.0, node_range to fits.0.1, key_range k fits.1.0)
-packet_range (Grant from to k e s) fits = (node_range from fits.0.0, node_range to fits.0.1, key_range k fits.1.0, counting_range e fits.1.1.0, session_range s fits.1.1.1)
-packet_range (Ack from to k e) fits = (node_range from fits.0.0, node_range to fits.0.1, key_range k fits.1.0, counting_range e fits.1.1)
-packet_range (No from to k boot want) fits = (node_range from fits.0.0, node_range to fits.0.1, key_range k fits.1.0)
+packet_range v (Want from to k boot want) fits = (node_range from fits.0.0, node_range to fits.0.1, key_range k fits.1.0)
+packet_range v (Grant from to k e s) fits = (node_range from fits.0.0, node_range to fits.0.1, key_range k fits.1.0, counting_range e fits.1.1.0, session_range v s fits.1.1.1)
+packet_range v (Ack from to k e) fits = (node_range from fits.0.0, node_range to fits.0.1, key_range k fits.1.0, counting_range e fits.1.1)
+packet_range v (No from to k boot want) fits = (node_range from fits.0.0, node_range to fits.0.1, key_range k fits.1.0)
 
-pub frame_range : (f : Frame) → frame.HasSpelling f → IsFrame f
-frame_range (Peer p) fits = packet_range p fits
-frame_range (Move k to) fits = (key_range k fits.0, node_range to fits.1)
-frame_range Tick fits = tt
-frame_range Halt fits = tt
+pub frame_range : (v : Version) (f : Frame) → frame.HasSpellingBy v f → IsFrame f
+frame_range v (Peer p) fits = packet_range v p fits
+frame_range v (Move k to) fits = (key_range k fits.0, node_range to fits.1)
+frame_range v Tick fits = tt
+frame_range v Halt fits = tt
 
 pub session_limit_small : (v : Version) → session_limit v < 2 ^ 32
 session_limit_small One = lit< tt
+session_limit_small Two = lit< tt

@@ -4,7 +4,7 @@ use Rattle.std.proofs.Common.{◌≡◌, ◌≤◌, ℕ, Result, Ok, Err, List, 
 use Rattle.std.proofs.lemmas.List.{take_at, length-append, take-take}
 use Rattle.std.specs.Int.{w16, to_be_bytes}
 use Rattle.std.specs.List.{flat_map}
-use Rattle.sv_record.specs.declared.version.Version.TheVariants.{One}
+use Rattle.sv_record.specs.declared.version.Version.TheVariants.{Two}
 use Rattle.sv_record.specs.Format.{texts}
 use Rattle.sv_model.specs.declared.session.Session.{Session}
 use Rattle.sv_record.specs.Field.{long, signed, flag}
@@ -16,21 +16,21 @@ then_text old mid new a rest first second = second ∙ ap (λ (l : List ℕ). l 
 
 -- an attribute's text, which is the same behind whatever stands before it
 abbrev pub attribute_text : Attribute → List ℕ
-attribute_text a = (attribute One at_first).text a
+attribute_text a = (attribute Two at_first).text a
 
-texts_are : (before : Before) (xs : List Attribute) → texts (attribute One) behind before xs ≡ flat_map attribute_text xs
+texts_are : (before : Before) (xs : List Attribute) → texts (attribute Two) behind before xs ≡ flat_map attribute_text xs
 unfolding attribute name value
 texts_are before [] = refl
 texts_are before (x ∷ xs) = ap (λ (l : List ℕ). attribute_text x ++ l) (texts_are (behind before x) xs)
 
-pub attributes_text : (xs : List Attribute) → (attributes One).text xs ≡ to_be_bytes w16 (length xs) ++ flat_map attribute_text xs
+pub attributes_text : (xs : List Attribute) → (attributes Two).text xs ≡ to_be_bytes w16 (length xs) ++ flat_map attribute_text xs
 unfolding attributes
 attributes_text xs = ap (λ (l : List ℕ). to_be_bytes w16 (length xs) ++ l) (texts_are at_first xs)
 
 -- a session's fields one by one
 pub session_text : (s : Session) (old o1 o2 o3 o4 o5 o6 new : List ℕ)
     → o1 ≡ old ++ s.secret.0 → o2 ≡ o1 ++ context.text s.context → o3 ≡ o2 ++ long.text s.created → o4 ≡ o3 ++ long.text s.last → o5 ≡ o4 ++ signed.text s.interval → o6 ≡ o5 ++ flag.text s.fresh
-    → new ≡ o6 ++ (attributes One).text s.attributes → new ≡ old ++ (session One).text s
+    → new ≡ o6 ++ (attributes Two).text s.attributes → new ≡ old ++ (session Two).text s
 unfolding session
 session_text s old o1 o2 o3 o4 o5 o6 new e1 e2 e3 e4 e5 e6 e7 =
     then_text old o1 new s.secret.0 _ e1 (

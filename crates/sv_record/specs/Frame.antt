@@ -8,6 +8,9 @@ use Rattle.sv_record.specs.declared.fault.RecordFault.TheVariants.{Foreign, BadF
 use Rattle.sv_record.specs.declared.frame.Frame.{Frame}
 use Rattle.sv_record.specs.declared.frame.Frame.TheVariants.{Peer, Move, Tick, Halt}
 use Rattle.sv_record.specs.declared.frame.TheConstants.{PEER, CONTROL, PAYLOAD_LIMIT}
+use Rattle.sv_record.specs.declared.version.Version.{Version}
+use Rattle.sv_record.specs.declared.version.Version.TheVariants.{Two}
+use Rattle.sv_record.specs.Version.{IsSpelled}
 use Rattle.sv_record.specs.Reading.{◌>>=◌, number_at, ended}
 use Rattle.sv_record.specs.Format.{ByKind, nothing, pair, kind_at, no_kind}
 use Rattle.sv_record.specs.Field.{node, key}
@@ -24,23 +27,38 @@ first_of (Move k to) = CONTROL
 first_of Tick = CONTROL
 first_of Halt = CONTROL
 
--- a packet, or the kind of a command and its fields
+-- a packet by a version, or the kind of a command and its fields
+abbrev pub payload_by : Version → Frame → List ℕ
+payload_by v (Peer p) = packet.spelling_by v p
+payload_by v (Move k to) = 1 ∷ (pair key node).text (k, to)
+payload_by v Tick = 2 ∷ []
+payload_by v Halt = 3 ∷ []
+
+-- the bytes of a frame by a version
+abbrev pub spelling_by : Version → Frame → List ℕ
+spelling_by v frame = envelope (first_of frame) (payload_by v frame)
+
+-- the frames that a version spells
+abbrev pub HasSpellingBy : Version → Frame → Type 0
+HasSpellingBy v (Peer p) = packet.HasSpellingBy v p
+HasSpellingBy v (Move k to) = (pair key node).Fits (k, to)
+HasSpellingBy v Tick = Unit {0}
+HasSpellingBy v Halt = Unit {0}
+
+-- bytes are a spelling of a frame
+abbrev pub IsSpelling : List ℕ → Frame → Type 0
+IsSpelling = IsSpelled HasSpellingBy spelling_by
+
+-- a payload and the bytes of a frame as they are written: by version 2
 abbrev pub payload_of : Frame → List ℕ
-payload_of (Peer p) = packet.spelling p
-payload_of (Move k to) = 1 ∷ (pair key node).text (k, to)
-payload_of Tick = 2 ∷ []
-payload_of Halt = 3 ∷ []
+payload_of = payload_by Two
 
--- the bytes of a frame
 abbrev pub spelling : Frame → List ℕ
-spelling frame = envelope (first_of frame) (payload_of frame)
+spelling = spelling_by Two
 
--- the frames that have a spelling
+-- the frames that may be written so
 abbrev pub HasSpelling : Frame → Type 0
-HasSpelling (Peer p) = packet.HasSpelling p
-HasSpelling (Move k to) = (pair key node).Fits (k, to)
-HasSpelling Tick = Unit {0}
-HasSpelling Halt = Unit {0}
+HasSpelling = HasSpellingBy Two
 
 -- a frame that may be written
 abbrev pub IsFrame : Frame → Type 0

@@ -1,6 +1,7 @@
 pub mod Reading
 pub mod Format
 pub mod Version
+pub mod Within
 pub mod Field
 pub mod Session
 pub mod Record

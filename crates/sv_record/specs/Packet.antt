@@ -7,11 +7,11 @@ use Rattle.sv_model.specs.declared.packet.Packet.TheVariants.{Want, Grant, Ack, 
 use Rattle.sv_record.specs.declared.fault.RecordFault.{RecordFault}
 use Rattle.sv_record.specs.declared.fault.RecordFault.TheVariants.{Foreign}
 use Rattle.sv_record.specs.declared.version.Version.{Version}
-use Rattle.sv_record.specs.declared.version.Version.TheVariants.{One}
+use Rattle.sv_record.specs.declared.version.Version.TheVariants.{Two}
 use Rattle.sv_record.specs.Format.{Format, ByKind, pair, kind_at, no_kind, tagged}
 use Rattle.sv_record.specs.Field.{long, counting, node, key}
 use Rattle.sv_record.specs.Session.{session}
-use Rattle.sv_record.specs.Version.{written, whole}
+use Rattle.sv_record.specs.Version.{IsSpelled, spelled, fits, whole}
 
 -- the sender and the addressee
 abbrev pub ends : Format (ℕ × ℕ)
@@ -67,13 +67,25 @@ by_kind v =
 unfoldable pub packet_format : Version → Format Packet
 packet_format v = tagged kind_of (fields v) (FieldsFit v) (by_kind v)
 
--- the bytes of a packet
-abbrev pub spelling : Packet → List ℕ
-spelling = written packet_format
+-- the bytes of a packet by a version
+abbrev pub spelling_by : Version → Packet → List ℕ
+spelling_by = spelled packet_format
 
--- the packets that have a spelling
+-- the packets that a version spells
+abbrev pub HasSpellingBy : Version → Packet → Type 0
+HasSpellingBy = fits packet_format
+
+-- bytes are a spelling of a packet
+abbrev pub IsSpelling : List ℕ → Packet → Type 0
+IsSpelling = IsSpelled HasSpellingBy spelling_by
+
+-- the bytes of a packet as it is written: by version 2
+abbrev pub spelling : Packet → List ℕ
+spelling = spelling_by Two
+
+-- the packets that may be written so
 abbrev pub HasSpelling : Packet → Type 0
-HasSpelling = (packet_format One).Fits
+HasSpelling = HasSpellingBy Two
 
 -- the packet that all of the bytes are, or the first trouble
 abbrev pub packet_of : List ℕ → Result Packet RecordFault

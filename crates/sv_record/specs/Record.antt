@@ -1,5 +1,5 @@
 -- The records of a journal: the version, the kind and the fields.
-use Rattle.std.specs.Prelude.{ℕ, Bool, true, false, not, List, [], Result, ◌&&◌}
+use Rattle.std.specs.Prelude.{ℕ, not, List, [], Result, ◌&&◌}
 use Rattle.sv_model.specs.declared.key.Key.{Key}
 use Rattle.sv_model.specs.declared.session.Session.{Session}
 use Rattle.sv_model.specs.declared.state.KeyState.{KeyState}
@@ -12,11 +12,11 @@ use Rattle.sv_model.specs.Ranges.{is_absent}
 use Rattle.sv_record.specs.declared.fault.RecordFault.{RecordFault}
 use Rattle.sv_record.specs.declared.fault.RecordFault.TheVariants.{Foreign, BadField}
 use Rattle.sv_record.specs.declared.version.Version.{Version}
-use Rattle.sv_record.specs.declared.version.Version.TheVariants.{One}
+use Rattle.sv_record.specs.declared.version.Version.TheVariants.{Two}
 use Rattle.sv_record.specs.Format.{Format, ByKind, nothing, pair, such_that, kind_at, no_kind, tagged}
 use Rattle.sv_record.specs.Field.{long, counting, node, key}
 use Rattle.sv_record.specs.Session.{session}
-use Rattle.sv_record.specs.Version.{written, whole}
+use Rattle.sv_record.specs.Version.{IsSpelled, spelled, fits, whole}
 
 -- what a commit makes of a key: 0 for nothing, 1 and the session, or 2 for its end
 abbrev pub kind_of_change : Change → ℕ
@@ -140,13 +140,25 @@ by_kind v =
 unfoldable pub record_format : Version → Format Record
 record_format v = tagged kind_of (fields v) (FieldsFit v) (by_kind v)
 
--- the bytes of a record
-abbrev pub spelling : Record → List ℕ
-spelling = written record_format
+-- the bytes of a record by a version
+abbrev pub spelling_by : Version → Record → List ℕ
+spelling_by = spelled record_format
 
--- the records that have a spelling
+-- the records that a version spells
+abbrev pub HasSpellingBy : Version → Record → Type 0
+HasSpellingBy = fits record_format
+
+-- bytes are a spelling of a record
+abbrev pub IsSpelling : List ℕ → Record → Type 0
+IsSpelling = IsSpelled HasSpellingBy spelling_by
+
+-- the bytes of a record as it is written: by version 2
+abbrev pub spelling : Record → List ℕ
+spelling = spelling_by Two
+
+-- the records that may be written so
 abbrev pub HasSpelling : Record → Type 0
-HasSpelling = (record_format One).Fits
+HasSpelling = HasSpellingBy Two
 
 -- the record that all of the bytes are, or the first trouble
 abbrev pub record_of : List ℕ → Result Record RecordFault

@@ -1,12 +1,12 @@
 //! One attribute of a session.
 
 ghost use Rattle.std.specs.Prelude.{◌≡◌, ◌<◌, ◌≤◌, ◌+◌, ◌^◌, ◌++◌, true, false, length, take, IfOk, OnOk, OnErr, MatchOption};
-ghost use Rattle.std.specs.Int.{w16, to_be_bytes};
+ghost use Rattle.std.specs.Int.{w16, w32, to_be_bytes};
 ghost use Rattle.std.specs.Str.{is_utf8};
 ghost use Rattle.sv_record.specs.Reading.{Gives};
 ghost use Rattle.sv_record.specs.Session.{name, value, attribute, at_first, is_below};
 ghost use Rattle.sv_record.specs.Version.{session_limit};
-ghost use Rattle.sv_record.specs.declared.version.Version.TheVariants.{One};
+ghost use Rattle.sv_record.specs.declared.version.Version.TheVariants.{Two};
 ghost use Rattle.sv_model.specs.declared.session.TheConstants.{NAME_LIMIT, VALUE_LIMIT};
 
 use crate::fault::RecordFault;
@@ -93,20 +93,30 @@ pub(crate) fn read_attribute<'a>(
 pub(crate) fn write_attribute(name: &str, value: &[u8], out: &mut Vec<u8>) -> Result<(), AllocError>
     requires name { length name.now ≤ NAME_LIMIT }
     requires value { length value.now ≤ VALUE_LIMIT }
-    ensures ok { OnOk result (out.new.items ≡ out.old.items ++ (attribute One at_first).text (name.now, value.now)) }
+    ensures ok { OnOk result (out.new.items ≡ out.old.items ++ (attribute Two at_first).text (name.now, value.now)) }
     ensures err { OnErr result (take (length out.old.items) out.new.items ≡ out.old.items) }
     ensures text { is_utf8 name.now ≡ true }
 {
-    write_sized(name.as_bytes(), out)?;
-    write_sized(value, out)
+    write_name(name.as_bytes(), out)?;
+    write_value(value, out)
 }
 
 /// A length of two bytes, and so many bytes.
-fn write_sized(bytes: &[u8], out: &mut Vec<u8>) -> Result<(), AllocError>
+fn write_name(bytes: &[u8], out: &mut Vec<u8>) -> Result<(), AllocError>
     requires { length bytes.now < 2 ^ 16 }
     ensures ok { OnOk result (out.new.items ≡ out.old.items ++ (to_be_bytes w16 (length bytes.now) ++ bytes.now)) }
     ensures err { OnErr result (take (length out.old.items) out.new.items ≡ out.old.items) }
 {
     out.extend_from_slice(&(bytes.len() as u16).to_be_bytes())?;
+    out.extend_from_slice(bytes)
+}
+
+/// A length of four bytes, and so many bytes.
+fn write_value(bytes: &[u8], out: &mut Vec<u8>) -> Result<(), AllocError>
+    requires { length bytes.now < 2 ^ 32 }
+    ensures ok { OnOk result (out.new.items ≡ out.old.items ++ (to_be_bytes w32 (length bytes.now) ++ bytes.now)) }
+    ensures err { OnErr result (take (length out.old.items) out.new.items ≡ out.old.items) }
+{
+    out.extend_from_slice(&(bytes.len() as u32).to_be_bytes())?;
     out.extend_from_slice(bytes)
 }

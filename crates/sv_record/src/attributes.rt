@@ -8,7 +8,7 @@ ghost use Rattle.sv_model.specs.declared.session.TheConstants.{NAME_LIMIT, VALUE
 ghost use Rattle.sv_record.specs.Reading.{Gives};
 ghost use Rattle.sv_record.specs.Format.{reads};
 ghost use Rattle.sv_record.specs.Session.{attribute, attributes, behind, at_first};
-ghost use Rattle.sv_record.specs.declared.version.Version.TheVariants.{One};
+ghost use Rattle.sv_record.specs.declared.version.Version.TheVariants.{Two};
 
 use crate::attribute::{read_attribute, write_attribute};
 use crate::fault::RecordFault;
@@ -62,7 +62,7 @@ pub(crate) fn write_attributes(all: &Attributes, out: &mut Vec<u8>) -> Result<()
     requires count { length all.now ≤ ATTRIBUTE_LIMIT }
     requires names { All (λ a. length a.0 ≤ NAME_LIMIT) all.now }
     requires values { All (λ a. length a.1 ≤ VALUE_LIMIT) all.now }
-    ensures ok { OnOk result (out.new.items ≡ out.old.items ++ (attributes One).text all.now) }
+    ensures ok { OnOk result (out.new.items ≡ out.old.items ++ (attributes Two).text all.now) }
     ensures err { OnErr result (take (length out.old.items) out.new.items ≡ out.old.items) }
     ensures texts { OnOk result (AllByRecursion (λ a. is_utf8 a.0 ≡ true) all.now) }
     ensures rising { NamesRise all.now }

@@ -5,7 +5,7 @@ ghost use Rattle.sv_model.specs.Ranges.{is_absent, IsChange, IsCommit};
 ghost use Rattle.sv_record.specs.Reading.{Gives};
 ghost use Rattle.sv_record.specs.Record as spec;
 ghost use Rattle.sv_record.specs.Record.{change, commit};
-ghost use Rattle.sv_record.specs.declared.version.Version.TheVariants.{One};
+ghost use Rattle.sv_record.specs.declared.version.Version.TheVariants.{Two};
 
 use crate::fault::RecordFault;
 use crate::key::{read_key, write_key};
@@ -65,9 +65,9 @@ fn is_absent(change: &Change) -> bool
 #[tactic(auto, unfolding(crate::specs::Record::change))]
 pub(crate) fn write_change(made: &Change, out: &mut Vec<u8>) -> Result<(), AllocError>
     requires { IsChange made.now }
-    ensures ok { OnOk result (out.new.items ≡ out.old.items ++ (change One).text made.now) }
+    ensures ok { OnOk result (out.new.items ≡ out.old.items ++ (change Two).text made.now) }
     ensures err { OnErr result (take (length out.old.items) out.new.items ≡ out.old.items) }
-    ensures fits { OnOk result ((change One).Fits made.now) }
+    ensures fits { OnOk result ((change Two).Fits made.now) }
 {
     match made {
         Change::Absent => write_byte(0, out),
@@ -90,8 +90,8 @@ pub(crate) fn write_changes(
     out: &mut Vec<u8>,
 ) -> Result<(), AllocError>
     requires { IsCommit named.now born.now }
-    ensures ok { OnOk result (out.new.items ≡ out.old.items ++ (commit One).text (named.now, born.now)) }
-    ensures fits { OnOk result ((commit One).Fits (named.now, born.now)) }
+    ensures ok { OnOk result (out.new.items ≡ out.old.items ++ (commit Two).text (named.now, born.now)) }
+    ensures fits { OnOk result ((commit Two).Fits (named.now, born.now)) }
     ensures err { OnErr result (take (length out.old.items) out.new.items ≡ out.old.items) }
 {
     write_change(named, out)?;

@@ -4,7 +4,7 @@ ghost use Rattle.std.specs.Prelude.{◌≡◌, ◌≤◌, ◌+◌, ◌++◌, Lis
 ghost use Rattle.std.specs.Int.{w32, to_be_bytes};
 ghost use Rattle.sv_record.specs.Frame.{IsFrame};
 ghost use Rattle.sv_record.specs.Reading.{Gives};
-ghost use Rattle.sv_record.specs.Frame.{HasSpelling, IsFront, command_at, command_by_kind, frame_at, payload_at, payload_of, sized_at, spelling};
+ghost use Rattle.sv_record.specs.Frame.{HasSpelling, IsFront, IsSpelling, command_at, command_by_kind, frame_at, payload_at, payload_of, sized_at, spelling};
 ghost use Rattle.sv_record.specs.Frame as spec;
 ghost use Rattle.sv_record.specs.declared.frame.Frame.{Frame};
 ghost use Rattle.sv_record.specs.declared.fault.RecordFault.TheVariants.{BadField};
@@ -23,7 +23,7 @@ pub const PEER: u8 = 0xe1;
 pub const CONTROL: u8 = 0xe2;
 
 /// The bytes of a frame's payload, at most.
-pub const PAYLOAD_LIMIT: u32 = 65_536;
+pub const PAYLOAD_LIMIT: u32 = 262_144;
 
 /// What travels in one frame.
 #[derive(Drop)]
@@ -45,13 +45,13 @@ pub enum Frame {
 /// payload is judged before its last byte is there. Another first byte is [`RecordFault::Foreign`] and a greater length
 /// [`RecordFault::BadField`], both at once.
 pub fn read_frame(alloc: Global, bytes: &[u8]) -> Result<Option<(Frame, usize)>, RecordFault>
-    // What is read is spelled so.
-    ensures found { IfOk result (λ o. IfSome o (λ x. HasSpelling x.0 × ((rest : List ℕ) × (bytes.now ≡ spelling x.0 ++ rest)))) }
-    ensures size { IfOk result (λ o. IfSome o (λ x. x.1 ≡ length (spelling x.0))) }
+    // The bytes that it takes are a spelling of what is read.
+    ensures found { IfOk result (λ o. IfSome o (λ x. IsSpelling (take x.1 bytes.now) x.0)) }
+    ensures size { IfOk result (λ o. IfSome o (λ x. x.1 ≤ length bytes.now)) }
     // And may be written again.
     ensures within { IfOk result (λ o. IfSome o (λ x. IsFrame x.0)) }
-    // What is spelled so is read, whatever follows, unless memory is refused.
-    ensures only { (f : Frame) (rest : List ℕ) → HasSpelling f → bytes.now ≡ spelling f ++ rest → Gives (λ x. x) result (Ok (Some (f, length (spelling f)))) }
+    // What is spelled in front is read, whatever follows, unless memory is refused.
+    ensures only { (f : Frame) (text rest : List ℕ) → IsSpelling text f → bytes.now ≡ text ++ rest → Gives (λ x. x) result (Ok (Some (f, length text))) }
     // None where bytes are missing, and there alone.
     ensures none { IfOk result (λ o. IfNone o (IsFront bytes.now)) }
     ensures front { IsFront bytes.now → result ≡ Ok None }

@@ -4,7 +4,7 @@ ghost use Rattle.std.specs.Prelude.{◌≡◌, ◌++◌, length, take, OnOk, OnE
 ghost use Rattle.sv_model.specs.Ranges.{IsHandover};
 ghost use Rattle.sv_record.specs.Reading.{Gives};
 ghost use Rattle.sv_record.specs.Record.{handover};
-ghost use Rattle.sv_record.specs.declared.version.Version.TheVariants.{One};
+ghost use Rattle.sv_record.specs.declared.version.Version.TheVariants.{Two};
 
 use crate::fault::RecordFault;
 use crate::key::{read_key, write_key};
@@ -37,8 +37,8 @@ pub(crate) fn write_handover(
     out: &mut Vec<u8>,
 ) -> Result<(), AllocError>
     requires { IsHandover key epoch node session.now }
-    ensures ok { OnOk result (out.new.items ≡ out.old.items ++ (handover One).text (key, (epoch, (node, session.now)))) }
-    ensures fits { OnOk result ((handover One).Fits (key, (epoch, (node, session.now)))) }
+    ensures ok { OnOk result (out.new.items ≡ out.old.items ++ (handover Two).text (key, (epoch, (node, session.now)))) }
+    ensures fits { OnOk result ((handover Two).Fits (key, (epoch, (node, session.now)))) }
     ensures err { OnErr result (take (length out.old.items) out.new.items ≡ out.old.items) }
 {
     write_key(key, out)?;

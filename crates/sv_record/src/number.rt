@@ -1,7 +1,7 @@
 //! Numbers, and runs of bytes. All numbers are big-endian.
 
 ghost use Rattle.std.specs.Prelude.{◌≡◌, ◌++◌, length, take, OnOk, OnErr, IfOk};
-ghost use Rattle.std.specs.Int.{w8, w16, to_be_bytes};
+ghost use Rattle.std.specs.Int.{w8, w16, w32, to_be_bytes};
 ghost use Rattle.sv_record.specs.Reading.{Gives, number_at, bytes_at};
 ghost use Rattle.sv_record.specs.Field.{long, counting, node, flag, signed};
 ghost use Rattle.sv_model.specs.Keys.{IsCounting, IsNode};
@@ -24,6 +24,14 @@ pub(crate) fn read_u16(bytes: &[u8]) -> Result<(u16, &[u8]), RecordFault>
 {
     let (front, rest) = read_bytes(bytes, 2)?;
     Ok((u16::from_be_bytes([front[0], front[1]]), rest))
+}
+
+pub(crate) fn read_u32(bytes: &[u8]) -> Result<(u32, &[u8]), RecordFault>
+    ensures { Gives (λ x. (x.0, x.1.now)) result (number_at w32 bytes.now) }
+{
+    let (front, rest) = read_bytes(bytes, 4)?;
+    let number = u32::from_be_bytes([front[0], front[1], front[2], front[3]]);
+    Ok((number, rest))
 }
 
 #[tactic(auto, unfolding(crate::specs::Field::long))]

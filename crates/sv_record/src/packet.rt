@@ -4,7 +4,7 @@ ghost use Rattle.std.specs.Prelude.{◌≡◌, ◌++◌, length, take, IfOk, OnO
 ghost use Rattle.sv_model.specs.declared.packet.Packet.{Packet};
 ghost use Rattle.sv_model.specs.Ranges.{IsPacket};
 ghost use Rattle.sv_record.specs.Reading.{Gives};
-ghost use Rattle.sv_record.specs.Packet.{HasSpelling, packet_of, spelling};
+ghost use Rattle.sv_record.specs.Packet.{HasSpelling, IsSpelling, packet_of, spelling};
 
 use crate::fault::RecordFault;
 use crate::number::write_byte;
@@ -18,12 +18,12 @@ use sv_model::Packet;
 /// The bytes are judged one by one in their order, and the first trouble decides. Memory is taken in proportion to
 /// them.
 pub fn read_packet(alloc: Global, bytes: &[u8]) -> Result<Packet, RecordFault>
-    // What is read is spelled so.
-    ensures found { IfOk result (λ p. HasSpelling p × (bytes.now ≡ spelling p)) }
+    // The bytes are a spelling of what is read, by the version that the first of them names.
+    ensures found { IfOk result (λ p. IsSpelling bytes.now p) }
     // And may be written again.
     ensures within { IfOk result (λ p. IsPacket p) }
-    // What is spelled so is read, unless memory is refused.
-    ensures only { (p : Packet) → HasSpelling p → bytes.now ≡ spelling p → Gives (λ x. x) result (Ok p) }
+    // What they are a spelling of is read, unless memory is refused.
+    ensures only { (p : Packet) → IsSpelling bytes.now p → Gives (λ x. x) result (Ok p) }
     // A fault is the first trouble.
     ensures exact { Gives (λ p. p) result (packet_of bytes.now) }
 {
@@ -64,6 +64,6 @@ fn write_whole(packet: &Packet, out: &mut Vec<u8>) -> Result<(), AllocError>
     ensures fits { OnOk result (HasSpelling packet.now) }
     ensures err { OnErr result (take (length out.old.items) out.new.items ≡ out.old.items) }
 {
-    write_byte(1, out)?;
+    write_byte(2, out)?;
     write_fields(packet, out)
 }

@@ -6,7 +6,7 @@ ghost use Rattle.sv_model.specs.Keys.{IsKey, IsNode};
 ghost use Rattle.sv_model.specs.Ranges.{IsPacket};
 ghost use Rattle.sv_record.specs.Reading.{Gives};
 ghost use Rattle.sv_record.specs.Packet.{asked, by_kind, ends, errand, packet_format};
-ghost use Rattle.sv_record.specs.declared.version.Version.TheVariants.{One};
+ghost use Rattle.sv_record.specs.declared.version.Version.TheVariants.{One, Two};
 
 use crate::fault::RecordFault;
 use crate::key::{read_key, write_key};
@@ -133,8 +133,8 @@ fn read_asked(bytes: &[u8]) -> Result<((u8, u8, Key, u64, u64), &[u8]), RecordFa
 #[tactic(auto, unfolding(crate::specs::Packet::packet_format))]
 pub(crate) fn write_fields(packet: &Packet, out: &mut Vec<u8>) -> Result<(), AllocError>
     requires { IsPacket packet.now }
-    ensures ok { OnOk result (out.new.items ≡ out.old.items ++ (packet_format One).text packet.now) }
-    ensures fits { OnOk result ((packet_format One).Fits packet.now) }
+    ensures ok { OnOk result (out.new.items ≡ out.old.items ++ (packet_format Two).text packet.now) }
+    ensures fits { OnOk result ((packet_format Two).Fits packet.now) }
     ensures err { OnErr result (take (length out.old.items) out.new.items ≡ out.old.items) }
 {
     match packet {
@@ -178,8 +178,8 @@ fn write_want(
     out: &mut Vec<u8>,
 ) -> Result<(), AllocError>
     requires { IsPacket (Want from to key boot want) }
-    ensures ok { OnOk result (out.new.items ≡ out.old.items ++ (packet_format One).text (Want from to key boot want)) }
-    ensures fits { OnOk result ((packet_format One).Fits (Want from to key boot want)) }
+    ensures ok { OnOk result (out.new.items ≡ out.old.items ++ (packet_format Two).text (Want from to key boot want)) }
+    ensures fits { OnOk result ((packet_format Two).Fits (Want from to key boot want)) }
     ensures err { OnErr result (take (length out.old.items) out.new.items ≡ out.old.items) }
 {
     write_byte(1, out)?;
@@ -197,8 +197,8 @@ fn write_grant(
     out: &mut Vec<u8>,
 ) -> Result<(), AllocError>
     requires { IsPacket (Grant from to key epoch session.now) }
-    ensures ok { OnOk result (out.new.items ≡ out.old.items ++ (packet_format One).text (Grant from to key epoch session.now)) }
-    ensures fits { OnOk result ((packet_format One).Fits (Grant from to key epoch session.now)) }
+    ensures ok { OnOk result (out.new.items ≡ out.old.items ++ (packet_format Two).text (Grant from to key epoch session.now)) }
+    ensures fits { OnOk result ((packet_format Two).Fits (Grant from to key epoch session.now)) }
     ensures err { OnErr result (take (length out.old.items) out.new.items ≡ out.old.items) }
 {
     write_byte(2, out)?;
@@ -211,8 +211,8 @@ fn write_grant(
 #[tactic(auto, unfolding(crate::specs::Packet::packet_format))]
 fn write_ack(from: u8, to: u8, key: Key, epoch: u64, out: &mut Vec<u8>) -> Result<(), AllocError>
     requires { IsPacket (Ack from to key epoch) }
-    ensures ok { OnOk result (out.new.items ≡ out.old.items ++ (packet_format One).text (Ack from to key epoch)) }
-    ensures fits { OnOk result ((packet_format One).Fits (Ack from to key epoch)) }
+    ensures ok { OnOk result (out.new.items ≡ out.old.items ++ (packet_format Two).text (Ack from to key epoch)) }
+    ensures fits { OnOk result ((packet_format Two).Fits (Ack from to key epoch)) }
     ensures err { OnErr result (take (length out.old.items) out.new.items ≡ out.old.items) }
 {
     write_byte(3, out)?;
@@ -231,8 +231,8 @@ fn write_no(
     out: &mut Vec<u8>,
 ) -> Result<(), AllocError>
     requires { IsPacket (No from to key boot want) }
-    ensures ok { OnOk result (out.new.items ≡ out.old.items ++ (packet_format One).text (No from to key boot want)) }
-    ensures fits { OnOk result ((packet_format One).Fits (No from to key boot want)) }
+    ensures ok { OnOk result (out.new.items ≡ out.old.items ++ (packet_format Two).text (No from to key boot want)) }
+    ensures fits { OnOk result ((packet_format Two).Fits (No from to key boot want)) }
     ensures err { OnErr result (take (length out.old.items) out.new.items ≡ out.old.items) }
 {
     write_byte(4, out)?;

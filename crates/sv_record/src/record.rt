@@ -4,7 +4,7 @@ ghost use Rattle.std.specs.Prelude.{◌≡◌, ◌++◌, length, take, IfOk, OnO
 ghost use Rattle.sv_model.specs.declared.record.Record.{Record};
 ghost use Rattle.sv_model.specs.Ranges.{IsRecord};
 ghost use Rattle.sv_record.specs.Reading.{Gives};
-ghost use Rattle.sv_record.specs.Record.{HasSpelling, record_of, spelling};
+ghost use Rattle.sv_record.specs.Record.{HasSpelling, IsSpelling, record_of, spelling};
 
 use crate::fault::RecordFault;
 use crate::number::write_byte;
@@ -14,19 +14,19 @@ use std::alloc::{AllocError, Global};
 use sv_model::Record;
 
 /// The bytes of a record, at most: no more than an entry of a journal holds.
-pub const RECORD_LIMIT: usize = 131_072;
+pub const RECORD_LIMIT: usize = 524_288;
 
 /// Reads a record, which is all of the bytes.
 ///
 /// The bytes are judged one by one in their order, and the first trouble decides. Memory is taken in proportion to
 /// them.
 pub fn read_record(alloc: Global, bytes: &[u8]) -> Result<Record, RecordFault>
-    // What is read is spelled so.
-    ensures found { IfOk result (λ r. HasSpelling r × (bytes.now ≡ spelling r)) }
+    // The bytes are a spelling of what is read, by the version that the first of them names.
+    ensures found { IfOk result (λ r. IsSpelling bytes.now r) }
     // And may be written again.
     ensures within { IfOk result (λ r. IsRecord r) }
-    // What is spelled so is read, unless memory is refused.
-    ensures only { (r : Record) → HasSpelling r → bytes.now ≡ spelling r → Gives (λ x. x) result (Ok r) }
+    // What they are a spelling of is read, unless memory is refused.
+    ensures only { (r : Record) → IsSpelling bytes.now r → Gives (λ x. x) result (Ok r) }
     // A fault is the first trouble.
     ensures exact { Gives (λ r. r) result (record_of bytes.now) }
 {
@@ -68,6 +68,6 @@ fn write_whole(entry: &Record, out: &mut Vec<u8>) -> Result<(), AllocError>
     ensures fits { OnOk result (HasSpelling entry.now) }
     ensures err { OnErr result (take (length out.old.items) out.new.items ≡ out.old.items) }
 {
-    write_byte(1, out)?;
+    write_byte(2, out)?;
     write_fields(entry, out)
 }

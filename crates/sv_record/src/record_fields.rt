@@ -5,7 +5,7 @@ ghost use Rattle.sv_model.specs.declared.record.Record.TheVariants.{Boot, Commit
 ghost use Rattle.sv_model.specs.Ranges.{IsRecord};
 ghost use Rattle.sv_record.specs.Reading.{Gives};
 ghost use Rattle.sv_record.specs.Record.{by_kind, record_format};
-ghost use Rattle.sv_record.specs.declared.version.Version.TheVariants.{One};
+ghost use Rattle.sv_record.specs.declared.version.Version.TheVariants.{One, Two};
 
 use crate::change::{read_changes, write_changes};
 use crate::fault::RecordFault;
@@ -130,8 +130,8 @@ fn read_counters(bytes: &[u8]) -> Result<(Record, &[u8]), RecordFault>
 #[tactic(auto, unfolding(crate::specs::Record::record_format))]
 pub(crate) fn write_fields(entry: &Record, out: &mut Vec<u8>) -> Result<(), AllocError>
     requires { IsRecord entry.now }
-    ensures ok { OnOk result (out.new.items ≡ out.old.items ++ (record_format One).text entry.now) }
-    ensures fits { OnOk result ((record_format One).Fits entry.now) }
+    ensures ok { OnOk result (out.new.items ≡ out.old.items ++ (record_format Two).text entry.now) }
+    ensures fits { OnOk result ((record_format Two).Fits entry.now) }
     ensures err { OnErr result (take (length out.old.items) out.new.items ≡ out.old.items) }
 {
     match entry {
@@ -159,8 +159,8 @@ pub(crate) fn write_fields(entry: &Record, out: &mut Vec<u8>) -> Result<(), Allo
 #[tactic(auto, unfolding(crate::specs::Record::record_format))]
 fn write_boot(boot: u64, out: &mut Vec<u8>) -> Result<(), AllocError>
     requires { IsRecord (Boot boot) }
-    ensures ok { OnOk result (out.new.items ≡ out.old.items ++ (record_format One).text (Boot boot)) }
-    ensures fits { OnOk result ((record_format One).Fits (Boot boot)) }
+    ensures ok { OnOk result (out.new.items ≡ out.old.items ++ (record_format Two).text (Boot boot)) }
+    ensures fits { OnOk result ((record_format Two).Fits (Boot boot)) }
     ensures err { OnErr result (take (length out.old.items) out.new.items ≡ out.old.items) }
 {
     write_byte(1, out)?;
@@ -170,8 +170,8 @@ fn write_boot(boot: u64, out: &mut Vec<u8>) -> Result<(), AllocError>
 #[tactic(auto, unfolding(crate::specs::Record::record_format))]
 fn write_commit(named: &Change, born: &Change, out: &mut Vec<u8>) -> Result<(), AllocError>
     requires { IsRecord (Commit named.now born.now) }
-    ensures ok { OnOk result (out.new.items ≡ out.old.items ++ (record_format One).text (Commit named.now born.now)) }
-    ensures fits { OnOk result ((record_format One).Fits (Commit named.now born.now)) }
+    ensures ok { OnOk result (out.new.items ≡ out.old.items ++ (record_format Two).text (Commit named.now born.now)) }
+    ensures fits { OnOk result ((record_format Two).Fits (Commit named.now born.now)) }
     ensures err { OnErr result (take (length out.old.items) out.new.items ≡ out.old.items) }
 {
     write_byte(2, out)?;
@@ -181,8 +181,8 @@ fn write_commit(named: &Change, born: &Change, out: &mut Vec<u8>) -> Result<(), 
 #[tactic(auto, unfolding(crate::specs::Record::record_format))]
 fn write_expired(key: Key, out: &mut Vec<u8>) -> Result<(), AllocError>
     requires { IsRecord (Expired key) }
-    ensures ok { OnOk result (out.new.items ≡ out.old.items ++ (record_format One).text (Expired key)) }
-    ensures fits { OnOk result ((record_format One).Fits (Expired key)) }
+    ensures ok { OnOk result (out.new.items ≡ out.old.items ++ (record_format Two).text (Expired key)) }
+    ensures fits { OnOk result ((record_format Two).Fits (Expired key)) }
     ensures err { OnErr result (take (length out.old.items) out.new.items ≡ out.old.items) }
 {
     write_byte(3, out)?;
@@ -198,8 +198,8 @@ fn write_sent(
     out: &mut Vec<u8>,
 ) -> Result<(), AllocError>
     requires { IsRecord (Sent key epoch to session.now) }
-    ensures ok { OnOk result (out.new.items ≡ out.old.items ++ (record_format One).text (Sent key epoch to session.now)) }
-    ensures fits { OnOk result ((record_format One).Fits (Sent key epoch to session.now)) }
+    ensures ok { OnOk result (out.new.items ≡ out.old.items ++ (record_format Two).text (Sent key epoch to session.now)) }
+    ensures fits { OnOk result ((record_format Two).Fits (Sent key epoch to session.now)) }
     ensures err { OnErr result (take (length out.old.items) out.new.items ≡ out.old.items) }
 {
     write_byte(4, out)?;
@@ -215,8 +215,8 @@ fn write_taken(
     out: &mut Vec<u8>,
 ) -> Result<(), AllocError>
     requires { IsRecord (Taken key epoch from session.now) }
-    ensures ok { OnOk result (out.new.items ≡ out.old.items ++ (record_format One).text (Taken key epoch from session.now)) }
-    ensures fits { OnOk result ((record_format One).Fits (Taken key epoch from session.now)) }
+    ensures ok { OnOk result (out.new.items ≡ out.old.items ++ (record_format Two).text (Taken key epoch from session.now)) }
+    ensures fits { OnOk result ((record_format Two).Fits (Taken key epoch from session.now)) }
     ensures err { OnErr result (take (length out.old.items) out.new.items ≡ out.old.items) }
 {
     write_byte(5, out)?;
@@ -226,8 +226,8 @@ fn write_taken(
 #[tactic(auto, unfolding(crate::specs::Record::record_format))]
 fn write_gone(key: Key, epoch: u64, out: &mut Vec<u8>) -> Result<(), AllocError>
     requires { IsRecord (Gone key epoch) }
-    ensures ok { OnOk result (out.new.items ≡ out.old.items ++ (record_format One).text (Gone key epoch)) }
-    ensures fits { OnOk result ((record_format One).Fits (Gone key epoch)) }
+    ensures ok { OnOk result (out.new.items ≡ out.old.items ++ (record_format Two).text (Gone key epoch)) }
+    ensures fits { OnOk result ((record_format Two).Fits (Gone key epoch)) }
     ensures err { OnErr result (take (length out.old.items) out.new.items ≡ out.old.items) }
 {
     write_byte(6, out)?;
@@ -238,8 +238,8 @@ fn write_gone(key: Key, epoch: u64, out: &mut Vec<u8>) -> Result<(), AllocError>
 #[tactic(auto, unfolding(crate::specs::Record::record_format))]
 fn write_kept(key: Key, state: &KeyState, out: &mut Vec<u8>) -> Result<(), AllocError>
     requires { IsRecord (State key state.now) }
-    ensures ok { OnOk result (out.new.items ≡ out.old.items ++ (record_format One).text (State key state.now)) }
-    ensures fits { OnOk result ((record_format One).Fits (State key state.now)) }
+    ensures ok { OnOk result (out.new.items ≡ out.old.items ++ (record_format Two).text (State key state.now)) }
+    ensures fits { OnOk result ((record_format Two).Fits (State key state.now)) }
     ensures err { OnErr result (take (length out.old.items) out.new.items ≡ out.old.items) }
 {
     write_byte(7, out)?;
@@ -250,8 +250,8 @@ fn write_kept(key: Key, state: &KeyState, out: &mut Vec<u8>) -> Result<(), Alloc
 #[tactic(auto, unfolding(crate::specs::Record::record_format))]
 fn write_counters(boot: u64, next: u64, out: &mut Vec<u8>) -> Result<(), AllocError>
     requires { IsRecord (Counters boot next) }
-    ensures ok { OnOk result (out.new.items ≡ out.old.items ++ (record_format One).text (Counters boot next)) }
-    ensures fits { OnOk result ((record_format One).Fits (Counters boot next)) }
+    ensures ok { OnOk result (out.new.items ≡ out.old.items ++ (record_format Two).text (Counters boot next)) }
+    ensures fits { OnOk result ((record_format Two).Fits (Counters boot next)) }
     ensures err { OnErr result (take (length out.old.items) out.new.items ≡ out.old.items) }
 {
     write_byte(8, out)?;

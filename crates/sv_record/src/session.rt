@@ -5,7 +5,7 @@ ghost use Rattle.sv_model.specs.Session.{IsWithinLimits};
 ghost use Rattle.sv_model.specs.declared.session.TheConstants.{CONTEXT_LIMIT};
 ghost use Rattle.sv_record.specs.Reading.{Gives, bytes_at};
 ghost use Rattle.sv_record.specs.Session.{context, session};
-ghost use Rattle.sv_record.specs.declared.version.Version.TheVariants.{One};
+ghost use Rattle.sv_record.specs.declared.version.Version.TheVariants.{Two};
 
 use crate::attributes::{read_attributes, write_attributes};
 use crate::fault::RecordFault;
@@ -85,9 +85,9 @@ fn write_secret(secret: &Secret, out: &mut Vec<u8>) -> Result<(), AllocError>
 #[tactic(auto, unfolding(crate::specs::Session::session))]
 pub(crate) fn write_session(held: &Session, out: &mut Vec<u8>) -> Result<(), AllocError>
     requires { IsWithinLimits held.now }
-    ensures ok { OnOk result (out.new.items ≡ out.old.items ++ (session One).text held.now) }
+    ensures ok { OnOk result (out.new.items ≡ out.old.items ++ (session Two).text held.now) }
     ensures err { OnErr result (take (length out.old.items) out.new.items ≡ out.old.items) }
-    ensures fits { OnOk result ((session One).Fits held.now) }
+    ensures fits { OnOk result ((session Two).Fits held.now) }
 {
     write_secret(&held.secret, out)?;
     write_context(held.context, out)?;

@@ -4,7 +4,7 @@ ghost use Rattle.std.specs.Prelude.{◌≡◌, ◌++◌, length, take, OnOk, OnE
 ghost use Rattle.sv_model.specs.Ranges.{IsState};
 ghost use Rattle.sv_record.specs.Reading.{Gives};
 ghost use Rattle.sv_record.specs.Record.{key_state};
-ghost use Rattle.sv_record.specs.declared.version.Version.TheVariants.{One};
+ghost use Rattle.sv_record.specs.declared.version.Version.TheVariants.{Two};
 
 use crate::fault::RecordFault;
 use crate::number::{read_byte, read_counting, read_node, write_byte, write_counting, write_node};
@@ -49,9 +49,9 @@ pub(crate) fn read_state(
 #[tactic(auto, unfolding(crate::specs::Record::key_state))]
 pub(crate) fn write_state(state: &KeyState, out: &mut Vec<u8>) -> Result<(), AllocError>
     requires { IsState state.now }
-    ensures ok { OnOk result (out.new.items ≡ out.old.items ++ (key_state One).text state.now) }
+    ensures ok { OnOk result (out.new.items ≡ out.old.items ++ (key_state Two).text state.now) }
     ensures err { OnErr result (take (length out.old.items) out.new.items ≡ out.old.items) }
-    ensures fits { OnOk result ((key_state One).Fits state.now) }
+    ensures fits { OnOk result ((key_state Two).Fits state.now) }
 {
     match state {
         KeyState::Active { epoch, session } => {

@@ -4,6 +4,7 @@ pub mod HelloLemmas
 pub mod CountLemmas
 pub mod SnoopLemmas
 pub mod LoginLemmas
+pub mod RenewLemmas
 pub mod IncluderLemmas
 pub mod ForwarderLemmas
 pub mod FaultyLemmas

@@ -5,6 +5,7 @@ pub mod Hello
 pub mod Count
 pub mod Snoop
 pub mod Login
+pub mod Renew
 pub mod Includer
 pub mod Forwarder
 pub mod Faulty

@@ -3,7 +3,7 @@ use Rattle.std.specs.Prelude.{◌≡◌, ℕ, List, Option, Some, None, option_m
 use Rattle.sv_session.specs.Calls.{Expected}
 use Rattle.sv_session.specs.Fault.{fault_name as session_fault_name}
 use Rattle.sv_session.specs.declared.fault.SessionFault.{SessionFault}
-use Rattle.sv_session.specs.declared.fault.SessionFault.TheVariants.{NoSession, BadName, ValueTooLong, SessionTooLarge, SecondCreation, Memory as SessionMemory}
+use Rattle.sv_session.specs.declared.fault.SessionFault.TheVariants.{NoSession, BadName, ValueTooLong, SessionTooLarge, SecondCreation, SecretUsed, Memory as SessionMemory}
 use Rattle.sv_servlet.specs.ReplyState.{ReplyState}
 use Rattle.sv_model.specs.Field.{plain_type}
 use Rattle.sv_servlet.specs.Filter.{Verdict, verdict}
@@ -25,6 +25,7 @@ session_label BadName = Some (session_fault_name BadName)
 session_label ValueTooLong = Some (session_fault_name ValueTooLong)
 session_label SessionTooLarge = Some (session_fault_name SessionTooLarge)
 session_label SecondCreation = Some (session_fault_name SecondCreation)
+session_label SecretUsed = Some (session_fault_name SecretUsed)
 session_label SessionMemory = None
 
 -- the name of a fault of the reply; want of memory has none

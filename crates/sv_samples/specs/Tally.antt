@@ -1,7 +1,7 @@
 -- What the listener notes that counts events (Jakarta Servlet 6.0, chapter "Application Lifecycle Events").
 use Rattle.std.specs.Prelude.{ℕ, ◌+◌, ◌-◌, ◌^◌, min, List, slice_index, slice_set}
 use Rattle.sv_model.specs.declared.event.Event.{Event}
-use Rattle.sv_model.specs.declared.event.Event.TheVariants.{ContextUp, ContextDown, RequestIn, RequestOut, Created, Destroyed, Added, Removed, Replaced, Passivate, Activate}
+use Rattle.sv_model.specs.declared.event.Event.TheVariants.{ContextUp, ContextDown, RequestIn, RequestOut, Created, Destroyed, Added, Removed, Replaced, Passivate, Activate, IdChanged}
 use Rattle.sv_model.specs.declared.event.Told.{Told}
 
 -- the place of an event's number among the kinds of events
@@ -17,6 +17,7 @@ place_of (Removed key name old) = 7
 place_of (Replaced key name old) = 8
 place_of (Passivate key) = 9
 place_of (Activate key) = 10
+place_of (IdChanged key old) = 11
 
 -- one more; the greatest number of 64 bits stays
 abbrev pub one_more : ℕ → ℕ

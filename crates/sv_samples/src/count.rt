@@ -3,7 +3,7 @@
 ghost use Rattle.std.specs.Prelude.{◌≡◌, Option, option_and_then, option_copied};
 ghost use Rattle.sv_servlet.specs.Servlet.{lent};
 ghost use Rattle.sv_samples.specs.Numeral.{number_in};
-ghost use Rattle.sv_samples.specs.Count.{count_in, count_of, counted};
+ghost use Rattle.sv_samples.specs.Count.{count_in, count_of, counted, kept};
 ghost use Rattle.sv_samples.specs.Refusal.{Ends};
 ghost use Rattle.sv_servlet.specs.declared.servlet.Phase.TheVariants.{New};
 ghost use Rattle.sv_samples.specs.Count.{count_serves};
@@ -50,6 +50,22 @@ fn count_in(value: Option<&[u8]>) -> u64
     }
 }
 
+/// Keeps the number in the session, and writes it.
+fn keep(
+    alloc: Global,
+    edit: &mut SessionEdit,
+    reply: &mut Reply,
+    number: u64,
+) -> Result<Next, Refusal>
+    ensures { Ends (kept number (lent edit.old reply.old)) (lent edit.new reply.new) result }
+{
+    let mut text = format!(in alloc; "{number}")?;
+    edit.set(COUNT, Some(text.as_bytes()))?;
+    text.push('\n')?;
+    reply.write(text.as_bytes())?;
+    Ok(Next::Done)
+}
+
 /// Counts the request in its session, and writes the number.
 #[tactic(auto, unfolding(crate::specs::Count::count_of))]
 fn count_request(alloc: Global, edit: &mut SessionEdit, reply: &mut Reply) -> Result<Next, Refusal>
@@ -58,11 +74,7 @@ fn count_request(alloc: Global, edit: &mut SessionEdit, reply: &mut Reply) -> Re
     reply.set(plain_type())?;
     edit.create()?;
     let number = count_in(edit.get(COUNT)?).saturating_add(1);
-    let mut text = format!(in alloc; "{number}")?;
-    edit.set(COUNT, Some(text.as_bytes()))?;
-    text.push('\n')?;
-    reply.write(text.as_bytes())?;
-    Ok(Next::Done)
+    keep(alloc, edit, reply, number)
 }
 
 impl Count {

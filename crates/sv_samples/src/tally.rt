@@ -6,7 +6,7 @@ ghost use Rattle.sv_samples.specs.Tally.{place_of, tallied};
 use sv_model::{Event, Told};
 use sv_servlet::Listener;
 
-/// How many kinds of events it tells apart. The last is for one that is yet to come.
+/// How many kinds of events there are.
 const KINDS: usize = 12;
 
 /// Counts the events of its context, each kind by itself.
@@ -33,6 +33,7 @@ fn place_of(event: &Event) -> usize
         Event::Replaced { .. } => 8,
         Event::Passivate(_) => 9,
         Event::Activate(_) => 10,
+        Event::IdChanged { .. } => 11,
     }
 }
 

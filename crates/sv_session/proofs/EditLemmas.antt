@@ -7,7 +7,7 @@ use Rattle.std.proofs.lemmas.Option.{same_Some}
 use Rattle.sv_model.specs.Attributes.{Attribute, attributes_size, value_of, with_attribute, without_attribute}
 use Rattle.sv_model.specs.Session.{IsWithinLimits}
 use Rattle.sv_model.specs.declared.event.Event.{Event}
-use Rattle.sv_model.specs.declared.event.Event.TheVariants.{Created, Destroyed, Removed}
+use Rattle.sv_model.specs.declared.event.Event.TheVariants.{Created, Destroyed, Removed, IdChanged}
 use Rattle.sv_model.specs.declared.event.Told.{Told}
 use Rattle.sv_model.specs.declared.key.Key.{Key}
 use Rattle.sv_model.specs.declared.key.Secret.{Secret}
@@ -18,10 +18,10 @@ use Rattle.sv_model.specs.declared.outcome.Fate.TheVariants.{Untouched, Kept, En
 use Rattle.sv_model.specs.declared.session.Session.{Session}
 use Rattle.sv_model.specs.declared.session.TheConstants.{CONTEXT_LIMIT, ATTRIBUTE_LIMIT, NAME_LIMIT, VALUE_LIMIT, SESSION_LIMIT}
 use Rattle.sv_model.proofs.AttributesLemmas.{All-names-with_attribute, All-values-with_attribute, All-without_attribute, attributes_size-nil, size_removed}
-use Rattle.sv_session.specs.Edit.{Edit, IsWithin, KeepsEdit, begun, held_of, with_held, without_held, has_made, held_by}
-use Rattle.sv_session.specs.Calls.{Expected, Answers, after, done, on_session, is_name, is_too_large, tell, with_attributes, set_event, value_set, removed, made_session, value_result, remove_result, set_result, interval_result, invalidate_result, create_result}
+use Rattle.sv_session.specs.Edit.{Edit, IsWithin, KeepsEdit, begun, held_of, with_held, without_held, has_made, has_used_secret, held_by}
+use Rattle.sv_session.specs.Calls.{Expected, Answers, after, done, on_session, is_name, is_too_large, tell, with_attributes, set_event, value_set, removed, made_session, value_result, remove_result, set_result, interval_result, invalidate_result, create_result, change_id_result, id_changed as changed_id}
 use Rattle.sv_session.specs.declared.fault.SessionFault.{SessionFault}
-use Rattle.sv_session.specs.declared.fault.SessionFault.TheVariants.{BadName, ValueTooLong, SessionTooLarge, SecondCreation}
+use Rattle.sv_session.specs.declared.fault.SessionFault.TheVariants.{BadName, ValueTooLong, SessionTooLarge, SecondCreation, SecretUsed}
 
 -- ---- going on
 
@@ -65,12 +65,26 @@ tell_keeps e event =
       within = λ h. record { context = h.context; fate = h.fate; birth = h.birth };
     }
 
+-- the mark of an id that was changed
+marked_keeps : (e : Edit) → KeepsEdit e (record e { id_changed = true })
+marked_keeps e =
+    record {
+      context = refl;
+      interval = refl;
+      now = refl;
+      fresh = refl;
+      handed = refl;
+      fate = λ h. h;
+      events = ([], sym (append-nil e.events));
+      within = λ h. record { context = h.context; fate = h.fate; birth = h.birth };
+    }
+
 session_is : (held : Key × Session) (key : Key) (old : Session) → Some held ≡ Some (key, old) → old ≡ held.1
 session_is held key old is = sym (ap (λ (h : Key × Session). h.1) (same_Some held (key, old) is))
 
-module _ (context : ℕ) (interval : ℤ) (now : ℕ) (fresh : Key × Secret) (events : List Told) where
+module _ (context : ℕ) (interval : ℤ) (now : ℕ) (fresh : Key × Secret) (id_changed : Bool) (events : List Told) where
   abbrev edit_of : Option Key → Fate → Birth → Edit
-  edit_of handed fate birth = record { context = context; interval = interval; now = now; fresh = fresh; handed = handed; fate = fate; birth = birth; events = events }
+  edit_of handed fate birth = record { context = context; interval = interval; now = now; fresh = fresh; handed = handed; fate = fate; birth = birth; id_changed = id_changed; events = events }
 
   -- another session in the place of the one that is held
   replaced_by : (handed : Option Key) (fate : Fate) (birth : Birth) (held : Key × Session) (s : Session) → Some held ≡ held_of (edit_of handed fate birth)
@@ -161,10 +175,10 @@ module _ (context : ℕ) (interval : ℤ) (now : ℕ) (fresh : Key × Secret) (e
   ended_by handed FateEnded BirthEnded held is = absurd cc
 
 replaced_keeps : (e : Edit) (held : Key × Session) (s : Session) → Some held ≡ held_of e → (IsWithinLimits held.1 → IsWithinLimits s) → KeepsEdit e (with_held e s)
-replaced_keeps e held s is small = replaced_by e.context e.interval e.now e.fresh e.events e.handed e.fate e.birth held s is small
+replaced_keeps e held s is small = replaced_by e.context e.interval e.now e.fresh e.id_changed e.events e.handed e.fate e.birth held s is small
 
 ended_keeps : (e : Edit) (held : Key × Session) → Some held ≡ held_of e → KeepsEdit e (without_held e)
-ended_keeps e held is = ended_by e.context e.interval e.now e.fresh e.events e.handed e.fate e.birth held is
+ended_keeps e held is = ended_by e.context e.interval e.now e.fresh e.id_changed e.events e.handed e.fate e.birth held is
 
 -- ---- limits of sessions
 
@@ -350,3 +364,26 @@ module _ (e : Edit) where
   pub create_keeps : KeepsEdit e (after e (create_result e))
   unfolding create_result
   create_keeps = create_if_none (is_some (held_of e))
+
+  changed_keeps : (held : Key × Session) → Some held ≡ held_of e → KeepsEdit e (changed_id e held)
+  changed_keeps held is =
+      let new : Edit = with_held e (record held.1 { secret = e.fresh.1 }) in
+      let marked : Edit = record new { id_changed = true } in
+      let event : Event = IdChanged held.0 held.1.secret in
+      let small : IsWithinLimits held.1 → IsWithinLimits (record held.1 { secret = e.fresh.1 }) =
+      λ h. record { context = h.context; count = h.count; named = h.named; names = h.names; values = h.values; size = h.size } in
+      KeepsEdit-trans e new (tell marked event) (replaced_keeps e held (record held.1 { secret = e.fresh.1 }) is small)
+      (KeepsEdit-trans new marked (tell marked event) (marked_keeps new) (tell_keeps marked event))
+
+  change_if_unused : (held : Key × Session) (used : Bool) → Some held ≡ held_of e → KeepsEdit e (after e (cond used (Err SecretUsed) (done (changed_id e held))))
+  change_if_unused held true is = KeepsEdit-refl e
+  change_if_unused held false is = changed_keeps held is
+
+  change_if_held : (held : Option (Key × Session)) → held ≡ held_of e
+      → KeepsEdit e (after e (on_session held (λ h. cond (has_used_secret e) (Err SecretUsed) (done (changed_id e h)))))
+  change_if_held None is = KeepsEdit-refl e
+  change_if_held (Some held) is = change_if_unused held (has_used_secret e) is
+
+  pub change_id_keeps : KeepsEdit e (after e (change_id_result e))
+  unfolding change_id_result
+  change_id_keeps = change_if_held (held_of e) refl

@@ -3,14 +3,14 @@ use Rattle.std.specs.Prelude.{◌≡◌, ℕ, ◌+◌, ℤ, ◌&&◌, ◌||◌, 
 use Rattle.std.specs.Borrow.{Bor}
 use Rattle.sv_model.specs.Attributes.{attributes_size, names_of, value_of, with_attribute, without_attribute}
 use Rattle.sv_model.specs.declared.event.Event.{Event}
-use Rattle.sv_model.specs.declared.event.Event.TheVariants.{Created, Destroyed, Added, Removed, Replaced}
+use Rattle.sv_model.specs.declared.event.Event.TheVariants.{Created, Destroyed, Added, Removed, Replaced, IdChanged}
 use Rattle.sv_model.specs.declared.key.Key.{Key}
 use Rattle.sv_model.specs.declared.outcome.Birth.TheVariants.{Alive}
 use Rattle.sv_model.specs.declared.session.Session.{Session}
 use Rattle.sv_model.specs.declared.session.TheConstants.{ATTRIBUTE_LIMIT, NAME_LIMIT, VALUE_LIMIT, SESSION_LIMIT}
-use Rattle.sv_session.specs.Edit.{Edit, held_of, with_held, without_held, has_made}
+use Rattle.sv_session.specs.Edit.{Edit, held_of, with_held, without_held, has_made, has_used_secret}
 use Rattle.sv_session.specs.declared.fault.SessionFault.{SessionFault}
-use Rattle.sv_session.specs.declared.fault.SessionFault.TheVariants.{NoSession, BadName, ValueTooLong, SessionTooLarge, SecondCreation, Memory}
+use Rattle.sv_session.specs.declared.fault.SessionFault.TheVariants.{NoSession, BadName, ValueTooLong, SessionTooLarge, SecondCreation, Memory, SecretUsed}
 
 -- what a call that changes an edit gives, and the edit behind it; or why it is refused
 abbrev pub Expected : Type 0 → Type 0
@@ -24,6 +24,7 @@ IsFaultOf expected memory ValueTooLong = expected ≡ Err ValueTooLong
 IsFaultOf expected memory SessionTooLarge = expected ≡ Err SessionTooLarge
 IsFaultOf expected memory SecondCreation = expected ≡ Err SecondCreation
 IsFaultOf expected memory Memory = memory
+IsFaultOf expected memory SecretUsed = expected ≡ Err SecretUsed
 
 -- what a call that reads an edit answers; Memory stands in place of success
 abbrev pub Gives : {A : Type 0} → Result A SessionFault → Result A SessionFault → Type 0
@@ -70,7 +71,7 @@ tell e event = record e { events = e.events ++ record { context = e.context; eve
 abbrev pub with_attributes : Edit → Session → List (List ℕ × List ℕ) → Edit
 with_attributes e s attributes = with_held e (record s { attributes = attributes })
 
--- more attributes than 64, or more than 32,768 bytes in their names and values
+-- more attributes than 64, or more than 131,072 bytes in their names and values
 abbrev pub is_too_large : List (List ℕ × List ℕ) → Bool
 is_too_large attributes = nat_lt ATTRIBUTE_LIMIT (length attributes) || nat_lt SESSION_LIMIT (attributes_size attributes)
 
@@ -147,3 +148,15 @@ create_result e =
     if is_some (held_of e) then Ok (false, e)
     else if has_made e then Err SecondCreation
     else Ok (true, tell (record e { birth = Alive (made_session e) }) (Created e.fresh.0))
+
+-- the session that is held has the fresh secret in place of its own, under the same key
+abbrev pub id_changed : Edit → Key × Session → Edit
+id_changed e held = tell (record (with_held e (record held.1 { secret = e.fresh.1 })) { id_changed = true }) (IdChanged held.0 held.1.secret)
+
+-- the session that is held gets the fresh secret, once in a request, and not where a session was made with it
+-- (`HttpServletRequest.changeSessionId`)
+unfoldable pub change_id_result : Edit → Expected (Unit {0})
+change_id_result e =
+    on_session (held_of e) (λ held.
+    if has_used_secret e then Err SecretUsed
+    else done (id_changed e held))

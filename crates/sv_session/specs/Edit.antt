@@ -1,5 +1,5 @@
 -- The state of an edit (Jakarta Servlet 6.0, chapter "Sessions").
-use Rattle.std.specs.Prelude.{ℕ, ◌<◌, ℤ, Bool, true, false, Option, Some, None, List, [], ◌++◌, ◌≡◌, ⊤}
+use Rattle.std.specs.Prelude.{ℕ, ◌<◌, ℤ, Bool, true, false, Option, Some, None, List, [], ◌++◌, ◌||◌, ◌≡◌, ⊤}
 use Rattle.sv_model.specs.declared.key.Key.{Key}
 use Rattle.sv_model.specs.declared.key.Secret.{Secret}
 use Rattle.sv_model.specs.declared.session.Session.{Session}
@@ -20,6 +20,8 @@ pub record Edit : Type 0 where
   pub handed : Option Key
   pub fate : Fate
   pub birth : Birth
+  -- whether the session that was handed in has got the fresh secret in place of its own
+  pub id_changed : Bool
   pub events : List Told
 
 -- the key of the session that is handed in
@@ -43,6 +45,7 @@ begun held context interval now fresh =
       handed = key_of held;
       fate = fate_of held;
       birth = Absent;
+      id_changed = false;
       events = [];
     }
 
@@ -94,6 +97,10 @@ has_made e = made e.birth
     made Absent = false
     made (Alive s) = true
     made BirthEnded = true
+
+-- the fresh secret was given to a session in this edit: to one that was made, or to the one that was handed in
+abbrev pub has_used_secret : Edit → Bool
+has_used_secret e = has_made e || e.id_changed
 
 -- a fate that can be that of what was handed in
 abbrev pub IsFateOf : Option Key → Fate → Type 0

@@ -20,19 +20,36 @@ pub struct Edited {
     pub fate: Fate,
     /// What became of a session that was made.
     pub birth: Birth,
+    /// Whether the session that was handed in was given another secret, also where it has ended since.
+    pub id_changed: bool,
     /// The events of the edit, in order.
     pub events: Sequence<Told>,
 }
 
 /// A session while a request is served: the one that was handed in, or one that is made.
-#[derive(Drop)]
 pub struct SessionEdit {
     context: u8,
     interval: i32,
     now: u64,
     holding: Holding,
+    id_changed: bool,
     events: Vec<Told>,
     alloc: Global,
+}
+
+/// By hand, so that the proof of a caller has one step for it and not one for each fate and birth.
+impl Drop for SessionEdit {
+    fn drop(self) {
+        let SessionEdit {
+            context: _,
+            interval: _,
+            now: _,
+            holding: _,
+            id_changed: _,
+            events: _,
+            alloc: _,
+        } = self;
+    }
 }
 
 impl Model for SessionEdit {
@@ -40,7 +57,7 @@ impl Model for SessionEdit {
 
     ghost Value = { Edit };
 
-    ghost view = { λ e. record { context = e.context; interval = e.interval; now = e.now; fresh = e.holding.fresh; handed = e.holding.handed; fate = e.holding.fate; birth = e.holding.birth; events = e.events.items } };
+    ghost view = { λ e. record { context = e.context; interval = e.interval; now = e.now; fresh = e.holding.fresh; handed = e.holding.handed; fate = e.holding.fate; birth = e.holding.birth; id_changed = e.id_changed; events = e.events.items } };
 }
 
 /// The key of the session that is handed in, and its fate as long as nobody ends it.
@@ -58,7 +75,8 @@ impl SessionEdit {
     /// Begins the edit for a request in a context at `now` in whole seconds.
     ///
     /// `held` is the session that the request names, joined to the request, or none. A session that is made
-    /// gets the `fresh` key and secret and the context's `interval` in seconds.
+    /// gets the `fresh` key and secret and the context's `interval` in seconds; one whose id is changed gets the
+    /// fresh secret alone.
     pub fn begin(
         alloc: Global,
         held: Option<(Key, Session)>,
@@ -80,6 +98,7 @@ impl SessionEdit {
                 fate,
                 birth: Birth::Absent,
             },
+            id_changed: false,
             events: Vec::new(alloc),
             alloc,
         }
@@ -89,6 +108,7 @@ impl SessionEdit {
     pub fn finish(self) -> Edited
         ensures fate { result.fate ≡ self.fate }
         ensures birth { result.birth ≡ self.birth }
+        ensures id_changed { result.id_changed ≡ self.id_changed }
         ensures events { result.events ≡ self.events }
     {
         let SessionEdit {
@@ -96,6 +116,7 @@ impl SessionEdit {
             interval: _,
             now: _,
             holding,
+            id_changed,
             events,
             alloc: _,
         } = self;
@@ -108,6 +129,7 @@ impl SessionEdit {
         Edited {
             fate,
             birth,
+            id_changed,
             events: Sequence::from_vec(events),
         }
     }

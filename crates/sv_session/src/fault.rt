@@ -17,10 +17,10 @@ pub enum SessionFault {
     #[error("an attribute's name has 1 to 128 bytes")]
     BadName,
     /// Fault 3.
-    #[error("an attribute's value has at most 4096 bytes")]
+    #[error("an attribute's value has at most 65536 bytes")]
     ValueTooLong,
     /// Fault 4.
-    #[error("a session has at most 64 attributes, of 32768 bytes in all")]
+    #[error("a session has at most 64 attributes, of 131072 bytes in all")]
     SessionTooLarge,
     /// Fault 5.
     #[error("the request has already made a session")]
@@ -28,6 +28,9 @@ pub enum SessionFault {
     /// Fault 6.
     #[error("memory was refused for the session")]
     Memory,
+    /// Fault 7.
+    #[error("the request has already made a session or changed a session's id")]
+    SecretUsed,
 }
 
 impl SessionFault {
@@ -42,6 +45,7 @@ impl SessionFault {
             SessionFault::SessionTooLarge => "SessionTooLarge",
             SessionFault::SecondCreation => "SecondCreation",
             SessionFault::Memory => "Memory",
+            SessionFault::SecretUsed => "SecretUsed",
         }
     }
 }

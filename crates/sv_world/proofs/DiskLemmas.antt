@@ -35,7 +35,7 @@ use Rattle.sv_world.specs.declared.event.WorldEvent.TheVariants.{Ask, Deliver, P
 use Rattle.sv_world.specs.declared.line.Line.{Line}
 use Rattle.sv_world.specs.declared.task.Task.TheVariants as task
 use Rattle.sv_world.specs.Deed.{Done, deed, line_of, heading_by, heading_at, halted, booted, quiet_at, start_by}
-use Rattle.sv_world.specs.Disks.{NodeCall, Seen, WasSent, IsNew, MayCome, IsCall, AreCalls, shown_at, is_own, all_numbers, behind, behind_all, seen_as, shown_by, nothing_called, AreWorld}
+use Rattle.sv_world.specs.Disks.{NodeCall, Seen, WasSent, IsNew, MayCome, IsCall, AreCalls, AreOfInput, AreOfStop, AreOf, AreOfAll, shown_at, is_own, all_numbers, behind, behind_all, seen_as, shown_by, nothing_called, AreWorld}
 use Rattle.sv_world.specs.Faults.{step_fault, start_fault, stop_fault, call_fault, fault_of}
 use Rattle.sv_world.specs.Order.{whole_order, torn_order, order_of}
 use Rattle.sv_world.specs.Sent.{may_come, same_packet}
@@ -120,9 +120,14 @@ module _ (m : EngineMeaning) (c : Cluster) (w : World) (n : ℕ) (call : Call) (
   abbrev made : NodeCall
   made = record { node = n; call = call; after = a }
 
-  -- the world has events that make of it what the call makes
+  -- the events are those of the call
+  abbrev Own : List WorldEvent → Type 0
+  Own events = AreOf (seen_as w) made events
+
+  -- the world's events of the call make of it what the call makes
   pub record Simulated : Type 0 where
     pub events : List WorldEvent
+    pub own : Own events
     pub seen : seen_as (run m c w events) ≡ behind (seen_as w) made
     pub asked : asked_of (items (run m c w events).trace) ≡ asked_of (items w.trace) ++ asked_at c n here.node.durable call
 
@@ -137,9 +142,10 @@ module _ (m : EngineMeaning) (c : Cluster) (w : World) (n : ℕ) (call : Call) (
       (cases_eq x n)
 
   -- nothing happens
-  still : here ≡ left_place → a.outputs ≡ [] → asked_at c n here.node.durable call ≡ [] → shown_at n here.node.durable call a ≡ [] → Simulated
-  still place silent none unseen = record {
+  still : Own [] → here ≡ left_place → a.outputs ≡ [] → asked_at c n here.node.durable call ≡ [] → shown_at n here.node.durable call a ≡ [] → Simulated
+  still own place silent none unseen = record {
     events = [];
+    own = own;
     seen = λ i. record {
       places = λ x. same_place place x i;
       packets = (sym (append-nil w.packets) ∙ ap (λ os. w.packets ++ sends_in os) (sym silent)) i;
@@ -149,10 +155,11 @@ module _ (m : EngineMeaning) (c : Cluster) (w : World) (n : ℕ) (call : Call) (
   }
 
   -- an event happens that does this
-  does : (e : WorldEvent) (d : Done) → happens m c w e ≡ done_by w e n d → d.place ≡ left_place → d.effect.outputs ≡ a.outputs
+  does : (e : WorldEvent) (d : Done) → Own (e ∷ []) → happens m c w e ≡ done_by w e n d → d.place ≡ left_place → d.effect.outputs ≡ a.outputs
       → option_to_list d.effect.heading.asked ≡ asked_at c n here.node.durable call → shown_by (line_of e d.effect) ≡ shown_at n here.node.durable call a → Simulated
-  does e d happened place puts asks shows = record {
+  does e d own happened place puts asks shows = record {
     events = e ∷ [];
+    own = own;
     seen = ap seen_as happened ∙ (λ i. record {
       places = set_place w.places n (place i);
       packets = w.packets ++ sends_in (puts i);
@@ -189,10 +196,10 @@ module _ (m : EngineMeaning) (touches : TouchesOnlyHanded m) (c : Cluster) (w : 
     decision = decided m set at_node.node at i
 
     -- the event that hands the input to its node
-    whole_by : (e : WorldEvent) → call_of w.packets e ≡ Some (step_of at i) → fault_of c w e ≡ call_fault c w (call_of w.packets e) → order_of w.packets e ≡ option_map whole_order (call_of w.packets e)
+    whole_by : (e : WorldEvent) → Own m c w n (Step at i Finished) a (e ∷ []) → call_of w.packets e ≡ Some (step_of at i) → fault_of c w e ≡ call_fault c w (call_of w.packets e) → order_of w.packets e ≡ option_map whole_order (call_of w.packets e)
         → is_own n i ≡ true → a ≡ carried_out decision → Simulated m c w n (Step at i Finished) a
-    whole_by e call fault order own d =
-        does m c w n (Step at i Finished) a e (deed m set at_node (task.Step at i))
+    whole_by e of_call call fault order own d =
+        does m c w n (Step at i Finished) a e (deed m set at_node (task.Step at i)) of_call
         ((goes c w (whole_order (step_of at i)) e (fault ∙ ready at i (call_of w.packets e) call up sent unused) (order ∙ ap (option_map whole_order) call)).happens m)
         (λ j. record { up = sym up j; node = sym (node_in d) j }) (sym (puts_in d)) refl
         ((λ j. record { node = n; boot = at_node.node.durable.boot; outputs = sym (puts_in d) j; told = sym (tells_in d) j } ∷ [])
@@ -202,34 +209,39 @@ module _ (m : EngineMeaning) (touches : TouchesOnlyHanded m) (c : Cluster) (w : 
     torn_by_event : (kept_too : Bool) → happens m c w (Torn n at i kept_too) ≡ done_by w (Torn n at i kept_too) n (deed m set at_node (task.Torn at i kept_too))
     torn_by_event kept_too = (goes c w (torn_order kept_too (step_of at i)) (Torn n at i kept_too) (ready at i (Some (step_of at i)) refl up sent unused) refl).happens m
 
-    torn_before : (call : Call) → runs_behind at_node.up call ≡ false → asked_at c n at_node.node.durable call ≡ option_to_list (asked_with i) → shown_at n at_node.node.durable call a ≡ []
+    torn_before : (call : Call) → Own m c w n call a (Torn n at i false ∷ []) → runs_behind at_node.up call ≡ false → asked_at c n at_node.node.durable call ≡ option_to_list (asked_with i) → shown_at n at_node.node.durable call a ≡ []
         → a ≡ quiet (kept at_node.node.durable) → Simulated m c w n call a
-    torn_before call ends asks shows l =
-        does m c w n call a (Torn n at i false) (deed m set at_node (task.Torn at i false)) (torn_by_event false)
+    torn_before call own ends asks shows l =
+        does m c w n call a (Torn n at i false) (deed m set at_node (task.Torn at i false)) own (torn_by_event false)
         (λ j. record { up = sym ends j; node = sym (node_in l) j }) (sym (puts_in l)) (sym asks) (sym shows)
 
     -- the record that the decision may have, and what is kept behind it
-    torn_behind_by : (call : Call) → runs_behind at_node.up call ≡ false → asked_at c n at_node.node.durable call ≡ option_to_list (asked_with i) → shown_at n at_node.node.durable call a ≡ []
+    torn_behind_by : (call : Call) → ((kept_too : Bool) → Own m c w n call a (Torn n at i kept_too ∷ [])) → runs_behind at_node.up call ≡ false → asked_at c n at_node.node.durable call ≡ option_to_list (asked_with i) → shown_at n at_node.node.durable call a ≡ []
         → (entry : Option Record) → decision.entry ≡ entry → decision.durable ≡ applied_if entry at_node.node.durable → a ≡ quiet (kept decision.durable) → Simulated m c w n call a
-    torn_behind_by call ends asks shows None is gives l = torn_before call ends asks shows (l ∙ ap (λ d. quiet (kept d)) gives)
-    torn_behind_by call ends asks shows (Some r) is gives l =
+    torn_behind_by call own ends asks shows None is gives l = torn_before call (own false) ends asks shows (l ∙ ap (λ d. quiet (kept d)) gives)
+    torn_behind_by call own ends asks shows (Some r) is gives l =
         let h = heading_by set at_node.node.durable i in
         let cut : Done = record { place = stopped decision.durable; effect = quiet_at h decision.entry decision.commit } in
-        does m c w n call a (Torn n at i true) cut
+        does m c w n call a (Torn n at i true) cut (own true)
         (torn_by_event true ∙ ap (done_by w (Torn n at i true) n) (cond-true (is_some decision.entry) cut (halted h at_node.node.durable) (ap is_some is)))
         (λ j. record { up = sym ends j; node = sym (node_in l) j }) (sym (puts_in l)) (sym asks) (sym shows)
 
-    torn_behind : (call : Call) → runs_behind at_node.up call ≡ false → asked_at c n at_node.node.durable call ≡ option_to_list (asked_with i) → shown_at n at_node.node.durable call a ≡ []
+    torn_behind : (call : Call) → ((kept_too : Bool) → Own m c w n call a (Torn n at i kept_too ∷ [])) → runs_behind at_node.up call ≡ false → asked_at c n at_node.node.durable call ≡ option_to_list (asked_with i) → shown_at n at_node.node.durable call a ≡ []
         → a ≡ quiet (kept decision.durable) → Simulated m c w n call a
-    torn_behind call ends asks shows l = torn_behind_by call ends asks shows decision.entry refl (journaled set at_node.node m touches at i).gives l
+    torn_behind call own ends asks shows l = torn_behind_by call own ends asks shows decision.entry refl (journaled set at_node.node m touches at i).gives l
 
-    torn : (call : Call) → runs_behind at_node.up call ≡ false → asked_at c n at_node.node.durable call ≡ option_to_list (asked_with i) → shown_at n at_node.node.durable call a ≡ []
+    torn : (call : Call) → ((kept_too : Bool) → Own m c w n call a (Torn n at i kept_too ∷ [])) → runs_behind at_node.up call ≡ false → asked_at c n at_node.node.durable call ≡ option_to_list (asked_with i) → shown_at n at_node.node.durable call a ≡ []
         → (a ≡ quiet (kept at_node.node.durable)) ⊎ (a ≡ quiet (kept decision.durable)) → Simulated m c w n call a
-    torn call ends asks shows l = ⊎_elim (torn_before call ends asks shows) (torn_behind call ends asks shows) l
+    torn call own ends asks shows l = ⊎_elim (torn_before call (own false) ends asks shows) (torn_behind call own ends asks shows) l
 
   -- a packet for another node
   not_ours : (at : Moment) (p : Packet) → (addressee p == n) ≡ false → decided m set at_node.node at (input.Packet p) ≡ idle at_node.node []
   not_ours at p other = ap (λ b. cond (b && (not (sender p == n) && nat_lt (sender p) c.nodes)) (on_ours m set at_node.node at p) (idle at_node.node [])) other
+
+  -- the events of a packet, as it is for this node or for another
+  of_packet : (at : Moment) (p : Packet) (events : List WorldEvent) (b : Bool) → (addressee p == n) ≡ b
+      → cond b ((place : ℕ) × (slice_get w.packets place ≡ Some p) × (events ≡ Deliver at place ∷ [])) (events ≡ []) → AreOfInput w.packets n at (input.Packet p) events
+  of_packet at p events b is own = subst (λ (own_packet : Bool). cond own_packet ((place : ℕ) × (slice_get w.packets place ≡ Some p) × (events ≡ Deliver at place ∷ [])) (events ≡ [])) (sym is) own
 
   whole_packet : (at : Moment) (p : Packet) (a : After) → at_node.up ≡ true → WasSent w.packets (input.Packet p) → is_unused (asked_of (items w.trace)) (asked_with (input.Packet p)) ≡ true
       → (b : Bool) → (addressee p == n) ≡ b → a ≡ carried_out (decided m set at_node.node at (input.Packet p)) → Simulated m c w n (Step at (input.Packet p) Finished) a
@@ -237,19 +249,19 @@ module _ (m : EngineMeaning) (touches : TouchesOnlyHanded m) (c : Cluster) (w : 
       let k = place_of p w.packets sent in
       let call : call_of w.packets (Deliver at k.0) ≡ Some (step_of at (input.Packet p)) =
       ap (option_map (λ q. record { node = addressee q; moment = at; input = input.Packet q })) k.1 ∙ (λ j. Some (record { node = eqb-true (addressee p) n own j; moment = at; input = input.Packet p })) in
-      whole_by at (input.Packet p) a up sent unused (Deliver at k.0) call refl refl own d
+      whole_by at (input.Packet p) a up sent unused (Deliver at k.0) (of_packet at p (Deliver at k.0 ∷ []) true own (k.0, k.1, refl)) call refl refl own d
   whole_packet at p a up sent unused false other d =
       let e : a ≡ carried_out (idle at_node.node []) = d ∙ ap carried_out (not_ours at p other) in
-      still m c w n (Step at (input.Packet p) Finished) a (λ j. record { up = at_node.up; node = sym (node_in e) j }) (puts_in e) refl
+      still m c w n (Step at (input.Packet p) Finished) a (of_packet at p [] false other refl) (λ j. record { up = at_node.up; node = sym (node_in e) j }) (puts_in e) refl
       (cond-false (is_own n (input.Packet p)) (record { node = n; boot = at_node.node.durable.boot; outputs = a.outputs; told = a.told } ∷ []) [] other)
 
   whole : (at : Moment) (i : Input) (a : After) → at_node.up ≡ true → WasSent w.packets i → is_unused (asked_of (items w.trace)) (asked_with i) ≡ true
       → a ≡ carried_out (decided m set at_node.node at i) → Simulated m c w n (Step at i Finished) a
-  whole at (input.Ask token r) a up sent unused d = whole_by at (input.Ask token r) a up sent unused (Ask n at token r) refl refl refl refl d
+  whole at (input.Ask token r) a up sent unused d = whole_by at (input.Ask token r) a up sent unused (Ask n at token r) refl refl refl refl refl d
   whole at (input.Packet p) a up sent unused d = whole_packet at p a up sent unused (addressee p == n) refl d
-  whole at input.Poke a up sent unused d = whole_by at input.Poke a up sent unused (Poke n at) refl refl refl refl d
-  whole at input.Tick a up sent unused d = whole_by at input.Tick a up sent unused (Tick n at) refl refl refl refl d
-  whole at (input.Move k to) a up sent unused d = whole_by at (input.Move k to) a up sent unused (Move n at k to) refl refl refl refl d
+  whole at input.Poke a up sent unused d = whole_by at input.Poke a up sent unused (Poke n at) refl refl refl refl refl d
+  whole at input.Tick a up sent unused d = whole_by at input.Tick a up sent unused (Tick n at) refl refl refl refl refl d
+  whole at (input.Move k to) a up sent unused d = whole_by at (input.Move k to) a up sent unused (Move n at k to) refl refl refl refl refl d
 
   -- ---- a start
 
@@ -258,24 +270,24 @@ module _ (m : EngineMeaning) (touches : TouchesOnlyHanded m) (c : Cluster) (w : 
 
   -- its record stands, and the node runs or has stopped again
   started_by : (e : WorldEvent) (place : Durable → Place) (call : Call) (a : After) → happens m c w e ≡ done_by w e n (start_by set at_node.node.durable true place)
-      → place (restarted at_node.node.durable) ≡ left_place m c w n call a → at_node.node.durable.boot ≢ last_number → a.outputs ≡ []
+      → Own m c w n call a (e ∷ []) → place (restarted at_node.node.durable) ≡ left_place m c w n call a → at_node.node.durable.boot ≢ last_number → a.outputs ≡ []
       → asked_at c n at_node.node.durable call ≡ [] → shown_at n at_node.node.durable call a ≡ [] → Simulated m c w n call a
-  started_by e place call a happened is some silent asks shows =
+  started_by e place call a happened own is some silent asks shows =
       let d = at_node.node.durable in
       let h = heading_at set d None in
-      does m c w n call a e (booted h d place)
+      does m c w n call a e (booted h d place) own
       (happened ∙ ap (done_by w e n) (ap (λ b. cond (true && not b) (booted h d place) (halted h d)) (ne_eqb d.boot last_number some)))
       is (sym silent) (sym asks) (sym shows)
 
   -- no record of it stands
   halted_by : (e : WorldEvent) (kept_too : Bool) (place : Durable → Place) (call : Call) (a : After) → happens m c w e ≡ done_by w e n (start_by set at_node.node.durable kept_too place)
-      → (kept_too && not (at_node.node.durable.boot == last_number)) ≡ false
+      → Own m c w n call a (e ∷ []) → (kept_too && not (at_node.node.durable.boot == last_number)) ≡ false
       → stopped at_node.node.durable ≡ left_place m c w n call a → a.outputs ≡ []
       → asked_at c n at_node.node.durable call ≡ [] → shown_at n at_node.node.durable call a ≡ [] → Simulated m c w n call a
-  halted_by e kept_too place call a happened unkept is silent asks shows =
+  halted_by e kept_too place call a happened own unkept is silent asks shows =
       let d = at_node.node.durable in
       let h = heading_at set d None in
-      does m c w n call a e (halted h d)
+      does m c w n call a e (halted h d) own
       (happened ∙ ap (done_by w e n) (cond-false (kept_too && not (d.boot == last_number)) (booted h d place) (halted h d) unkept))
       is (sym silent) (sym asks) (sym shows)
 
@@ -288,7 +300,7 @@ module _ (m : EngineMeaning) (touches : TouchesOnlyHanded m) (c : Cluster) (w : 
   module _ (a : After) (down : at_node.up ≡ false) (was : IsDown at_node.up at_node.node) where
     opened : at_node.node.durable.boot ≢ last_number → a ≡ quiet (kept (restarted at_node.node.durable)) → Simulated m c w n (Open Finished) a
     opened some l =
-        started_by (Restart n) started (Open Finished) a (restart_goes down) (λ j. record { up = true; node = sym (node_in l) j }) some (puts_in l) refl refl
+        started_by (Restart n) started (Open Finished) a (restart_goes down) refl (λ j. record { up = true; node = sym (node_in l) j }) some (puts_in l) refl refl
 
     -- nothing is there but what was durable
     same_stopped : a ≡ quiet at_node.node → a.node ≡ kept at_node.node.durable
@@ -296,26 +308,26 @@ module _ (m : EngineMeaning) (touches : TouchesOnlyHanded m) (c : Cluster) (w : 
 
     open_spent : at_node.node.durable.boot ≡ last_number → a ≡ quiet at_node.node → Simulated m c w n (Open (Refused opening.Damaged)) a
     open_spent last l =
-        halted_by (Restart n) true started (Open (Refused opening.Damaged)) a (restart_goes down) (ap not (eq-eqb at_node.node.durable.boot last_number last))
+        halted_by (Restart n) true started (Open (Refused opening.Damaged)) a (restart_goes down) refl (ap not (eq-eqb at_node.node.durable.boot last_number last))
         (λ j. record { up = false; node = sym (same_stopped l) j }) (puts_in l) refl refl
 
     -- a stop before its record
-    open_before : (call : Call) → runs_behind at_node.up call ≡ false → asked_at c n at_node.node.durable call ≡ [] → shown_at n at_node.node.durable call a ≡ []
+    open_before : (call : Call) → Own m c w n call a (TornRestart n false ∷ []) → runs_behind at_node.up call ≡ false → asked_at c n at_node.node.durable call ≡ [] → shown_at n at_node.node.durable call a ≡ []
         → a.node ≡ kept at_node.node.durable → a.outputs ≡ [] → Simulated m c w n call a
-    open_before call ends asks shows is silent =
-        halted_by (TornRestart n false) false stopped call a (torn_restart_goes false down) refl (λ j. record { up = sym ends j; node = sym is j }) silent asks shows
+    open_before call own ends asks shows is silent =
+        halted_by (TornRestart n false) false stopped call a (torn_restart_goes false down) own refl (λ j. record { up = sym ends j; node = sym is j }) silent asks shows
 
     -- a stop behind its record
-    open_behind : (call : Call) → runs_behind at_node.up call ≡ false → asked_at c n at_node.node.durable call ≡ [] → shown_at n at_node.node.durable call a ≡ []
+    open_behind : (call : Call) → Own m c w n call a (TornRestart n true ∷ []) → runs_behind at_node.up call ≡ false → asked_at c n at_node.node.durable call ≡ [] → shown_at n at_node.node.durable call a ≡ []
         → at_node.node.durable.boot ≢ last_number → a ≡ quiet (kept (restarted at_node.node.durable)) → Simulated m c w n call a
-    open_behind call ends asks shows some l =
-        started_by (TornRestart n true) stopped call a (torn_restart_goes true down) (λ j. record { up = sym ends j; node = sym (node_in l) j }) some (puts_in l) asks shows
+    open_behind call own ends asks shows some l =
+        started_by (TornRestart n true) stopped call a (torn_restart_goes true down) own (λ j. record { up = sym ends j; node = sym (node_in l) j }) some (puts_in l) asks shows
 
-    open_stops : (call : Call) → runs_behind at_node.up call ≡ false → asked_at c n at_node.node.durable call ≡ [] → shown_at n at_node.node.durable call a ≡ []
+    open_stops : (call : Call) → ((kept_too : Bool) → Own m c w n call a (TornRestart n kept_too ∷ [])) → runs_behind at_node.up call ≡ false → asked_at c n at_node.node.durable call ≡ [] → shown_at n at_node.node.durable call a ≡ []
         → (a ≡ quiet (kept at_node.node.durable)) ⊎ ((at_node.node.durable.boot ≢ last_number) × (a ≡ quiet (kept (restarted at_node.node.durable)))) → Simulated m c w n call a
-    open_stops call ends asks shows l = ⊎_elim
-        (λ (x : a ≡ quiet (kept at_node.node.durable)). open_before call ends asks shows (node_in x) (puts_in x))
-        (λ (x : (at_node.node.durable.boot ≢ last_number) × (a ≡ quiet (kept (restarted at_node.node.durable)))). open_behind call ends asks shows x.0 x.1)
+    open_stops call own ends asks shows l = ⊎_elim
+        (λ (x : a ≡ quiet (kept at_node.node.durable)). open_before call (own false) ends asks shows (node_in x) (puts_in x))
+        (λ (x : (at_node.node.durable.boot ≢ last_number) × (a ≡ quiet (kept (restarted at_node.node.durable)))). open_behind call (own true) ends asks shows x.0 x.1)
         l
 
   -- ---- a stop between two calls
@@ -323,17 +335,20 @@ module _ (m : EngineMeaning) (touches : TouchesOnlyHanded m) (c : Cluster) (w : 
   crash_goes : at_node.up ≡ true → happens m c w (Crash n) ≡ done_by w (Crash n) n (halted (heading_at set at_node.node.durable None) at_node.node.durable)
   crash_goes up = (goes c w (record { node = n; task = task.Stop }) (Crash n) (no_stop_fault (is_there c n) at_node.up there up) refl).happens m
 
-  stops_by : (call : Call) (a : After) → runs_behind at_node.up call ≡ false → asked_at c n at_node.node.durable call ≡ [] → shown_at n at_node.node.durable call a ≡ []
+  stops_by : (call : Call) (a : After) → ((b : Bool) → at_node.up ≡ b → Own m c w n call a (cond b (Crash n ∷ []) [])) → runs_behind at_node.up call ≡ false → asked_at c n at_node.node.durable call ≡ [] → shown_at n at_node.node.durable call a ≡ []
       → IsDown at_node.up at_node.node → a ≡ quiet (kept at_node.node.durable) → (b : Bool) → at_node.up ≡ b → Simulated m c w n call a
-  stops_by call a ends asks shows was l true up =
-      does m c w n call a (Crash n) (halted (heading_at set at_node.node.durable None) at_node.node.durable) (crash_goes up) (λ j. record { up = sym ends j; node = sym (node_in l) j }) (sym (puts_in l)) (sym asks) (sym shows)
-  stops_by call a ends asks shows was l false down =
-      still m c w n call a (λ j. record { up = (down ∙ sym ends) j; node = (was down ∙ sym (node_in l)) j }) (puts_in l) asks shows
+  stops_by call a own ends asks shows was l true up =
+      does m c w n call a (Crash n) (halted (heading_at set at_node.node.durable None) at_node.node.durable) (own true up) (crash_goes up) (λ j. record { up = sym ends j; node = sym (node_in l) j }) (sym (puts_in l)) (sym asks) (sym shows)
+  stops_by call a own ends asks shows was l false down =
+      still m c w n call a (own false down) (λ j. record { up = (down ∙ sym ends) j; node = (was down ∙ sym (node_in l)) j }) (puts_in l) asks shows
 
   -- a call that does nothing
-  nothing_by : (call : Call) (a : After) → runs_behind at_node.up call ≡ at_node.up → asked_at c n at_node.node.durable call ≡ [] → shown_at n at_node.node.durable call a ≡ []
+  nothing_by : (call : Call) (a : After) → Own m c w n call a [] → runs_behind at_node.up call ≡ at_node.up → asked_at c n at_node.node.durable call ≡ [] → shown_at n at_node.node.durable call a ≡ []
       → a ≡ quiet at_node.node → Simulated m c w n call a
-  nothing_by call a goes_on asks shows l = still m c w n call a (λ j. record { up = sym goes_on j; node = sym (node_in l) j }) (puts_in l) asks shows
+  nothing_by call a own goes_on asks shows l = still m c w n call a own (λ j. record { up = sym goes_on j; node = sym (node_in l) j }) (puts_in l) asks shows
+
+  stop_events : (b : Bool) → at_node.up ≡ b → AreOfStop at_node.up n (cond b (Crash n ∷ []) [])
+  stop_events b is = λ j. cond (sym is j) (Crash n ∷ []) []
 
   -- ---- each call
 
@@ -347,24 +362,24 @@ module _ (m : EngineMeaning) (touches : TouchesOnlyHanded m) (c : Cluster) (w : 
   simulated : (numbers : List ℕ) → IsFresh (asked_of (items w.trace)) n at_node numbers → (call : Call) (a : After) → IsDown at_node.up at_node.node → MayCome w.packets numbers call → Does m set at_node.up at_node.node call a → Simulated m c w n call a
   simulated numbers fresh (Open Finished) a was comes d = opened a d.0 was d.1 d.2
   simulated numbers fresh (Open (Refused opening.Damaged)) a was comes d = open_spent a d.0 was d.1 d.2
-  simulated numbers fresh (Open (Refused opening.Full)) a was comes d = open_before a d.0 was (Open (Refused opening.Full)) refl refl refl (same_stopped a d.0 was d.1) (puts_in d.1)
-  simulated numbers fresh (Open (Refused opening.Memory)) a was comes d = open_before a d.0 was (Open (Refused opening.Memory)) refl refl refl (same_stopped a d.0 was d.1) (puts_in d.1)
-  simulated numbers fresh (Open (Refused opening.Device)) a was comes d = open_stops a d.0 was (Open (Refused opening.Device)) refl refl refl d.1
-  simulated numbers fresh (Open Cut) a was comes d = open_stops a d.0 was (Open Cut) refl refl refl d.1
+  simulated numbers fresh (Open (Refused opening.Full)) a was comes d = open_before a d.0 was (Open (Refused opening.Full)) refl refl refl refl (same_stopped a d.0 was d.1) (puts_in d.1)
+  simulated numbers fresh (Open (Refused opening.Memory)) a was comes d = open_before a d.0 was (Open (Refused opening.Memory)) refl refl refl refl (same_stopped a d.0 was d.1) (puts_in d.1)
+  simulated numbers fresh (Open (Refused opening.Device)) a was comes d = open_stops a d.0 was (Open (Refused opening.Device)) (λ kept_too. (kept_too, refl)) refl refl refl d.1
+  simulated numbers fresh (Open Cut) a was comes d = open_stops a d.0 was (Open Cut) (λ kept_too. (kept_too, refl)) refl refl refl d.1
   simulated numbers fresh (Step at i Finished) a was comes d = whole at i a d.0 comes.0 (unused_at numbers fresh d.0 i comes.1) d.1
-  simulated numbers fresh (Step at i (Refused step.Failed)) a was comes d = nothing_by (Step at i (Refused step.Failed)) a refl refl refl d.1
-  simulated numbers fresh (Step at i (Refused step.Full)) a was comes d = nothing_by (Step at i (Refused step.Full)) a refl refl refl d
-  simulated numbers fresh (Step at i (Refused step.Memory)) a was comes d = nothing_by (Step at i (Refused step.Memory)) a refl refl refl d
-  simulated numbers fresh (Step at i (Refused step.Device)) a was comes d = torn at i a d.0 comes.0 (unused_at numbers fresh d.0 i comes.1) (Step at i (Refused step.Device)) refl refl refl d.1
-  simulated numbers fresh (Step at i Cut) a was comes d = torn at i a d.0 comes.0 (unused_at numbers fresh d.0 i comes.1) (Step at i Cut) refl refl refl d.1
-  simulated numbers fresh (Compact Finished) a was comes d = nothing_by (Compact Finished) a refl refl refl d
+  simulated numbers fresh (Step at i (Refused step.Failed)) a was comes d = nothing_by (Step at i (Refused step.Failed)) a refl refl refl refl d.1
+  simulated numbers fresh (Step at i (Refused step.Full)) a was comes d = nothing_by (Step at i (Refused step.Full)) a refl refl refl refl d
+  simulated numbers fresh (Step at i (Refused step.Memory)) a was comes d = nothing_by (Step at i (Refused step.Memory)) a refl refl refl refl d
+  simulated numbers fresh (Step at i (Refused step.Device)) a was comes d = torn at i a d.0 comes.0 (unused_at numbers fresh d.0 i comes.1) (Step at i (Refused step.Device)) (λ kept_too. (kept_too, refl)) refl refl refl d.1
+  simulated numbers fresh (Step at i Cut) a was comes d = torn at i a d.0 comes.0 (unused_at numbers fresh d.0 i comes.1) (Step at i Cut) (λ kept_too. (kept_too, refl)) refl refl refl d.1
+  simulated numbers fresh (Compact Finished) a was comes d = nothing_by (Compact Finished) a refl refl refl refl d
   simulated numbers fresh (Compact (Refused journal.Damaged)) a was comes d = absurd d
-  simulated numbers fresh (Compact (Refused journal.Failed)) a was comes d = nothing_by (Compact (Refused journal.Failed)) a refl refl refl d
-  simulated numbers fresh (Compact (Refused journal.Full)) a was comes d = nothing_by (Compact (Refused journal.Full)) a refl refl refl d
-  simulated numbers fresh (Compact (Refused journal.Memory)) a was comes d = nothing_by (Compact (Refused journal.Memory)) a refl refl refl d
-  simulated numbers fresh (Compact (Refused journal.Device)) a was comes d = stops_by (Compact (Refused journal.Device)) a refl refl refl was d at_node.up refl
-  simulated numbers fresh (Compact Cut) a was comes d = stops_by (Compact Cut) a refl refl refl was d at_node.up refl
-  simulated numbers fresh Stop a was comes d = stops_by Stop a refl refl refl was d at_node.up refl
+  simulated numbers fresh (Compact (Refused journal.Failed)) a was comes d = nothing_by (Compact (Refused journal.Failed)) a refl refl refl refl d
+  simulated numbers fresh (Compact (Refused journal.Full)) a was comes d = nothing_by (Compact (Refused journal.Full)) a refl refl refl refl d
+  simulated numbers fresh (Compact (Refused journal.Memory)) a was comes d = nothing_by (Compact (Refused journal.Memory)) a refl refl refl refl d
+  simulated numbers fresh (Compact (Refused journal.Device)) a was comes d = stops_by (Compact (Refused journal.Device)) a stop_events refl refl refl was d at_node.up refl
+  simulated numbers fresh (Compact Cut) a was comes d = stops_by (Compact Cut) a stop_events refl refl refl was d at_node.up refl
+  simulated numbers fresh Stop a was comes d = stops_by Stop a stop_events refl refl refl was d at_node.up refl
 
 -- ---- a list of calls
 
@@ -372,10 +387,11 @@ module _ (m : EngineMeaning) (touches : TouchesOnlyHanded m) (c : Cluster) where
   -- a world leads on to what all calls make of it
   pub record Leads (w : World) (calls : List NodeCall) : Type 0 where
     pub events : List WorldEvent
+    pub own : AreOfAll (seen_as w) calls events
     pub seen : seen_as (run m c w events) ≡ behind_all (seen_as w) calls
 
   leads : (w : World) (numbers : ℕ → List ℕ) (calls : List NodeCall) → Orderly w.places (asked_of (items w.trace)) numbers → AreCalls m c (seen_as w) numbers calls → Leads w calls
-  leads w numbers [] o all = record { events = []; seen = refl }
+  leads w numbers [] o all = record { events = []; own = refl; seen = refl }
   leads w numbers (l ∷ ls) o all =
       let is : IsCall m c (seen_as w) numbers l = all.0 in
       let n = l.node in
@@ -388,6 +404,7 @@ module _ (m : EngineMeaning) (touches : TouchesOnlyHanded m) (c : Cluster) where
       let rest = leads v more ls orderly (subst (λ (s : Seen). AreCalls m c s more ls) (sym one.seen) all.1) in
       record {
         events = one.events ++ rest.events;
+        own = (one.events, rest.events, refl, one.own, subst (λ (s : Seen). AreOfAll s ls rest.events) one.seen rest.own);
         seen = ap seen_as (sym (run_more m c w one.events rest.events)) ∙ rest.seen ∙ ap (λ s. behind_all s ls) one.seen;
       }
 
@@ -395,4 +412,4 @@ module _ (m : EngineMeaning) (touches : TouchesOnlyHanded m) (c : Cluster) where
   are_world calls all =
       let first : Orderly nothing_happened.places [] (λ _. []) = record { down = λ n off. refl; fresh = λ n up number new. refl; past = λ n boot number less. refl } in
       let l = leads nothing_happened (λ _. []) calls first all in
-      record { events = l.events; seen = l.seen; headline = headline m touches c l.events }
+      record { events = l.events; own = l.own; seen = l.seen; headline = headline m touches c l.events }

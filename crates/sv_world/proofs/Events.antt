@@ -53,24 +53,24 @@ readies c w call h =
 -- behind an event of this world
 pub record Behind (m : EngineMeaning) (c : Cluster) (w : World) (e : WorldEvent) (P : World → Type 0) : Type 0 where
   pub still : P w
-  pub whole_by : (call : Call) → IsReady c w call → P (whole c w e call (decision m c w call))
-  pub cut_by : (call : Call) → IsReady c w call → P (cut c w e call (decision m c w call))
+  pub whole_by : (call : Call) → call_of w.packets e ≡ Some call → IsReady c w call → P (whole c w e call (decision m c w call))
+  pub cut_by : (call : Call) → call_of w.packets e ≡ Some call → IsReady c w call → P (cut c w e call (decision m c w call))
   pub halt_by : (n : ℕ) (asked : Option Token) → is_unused (asked_of (items w.trace)) asked ≡ true → P (halt w e n asked)
   pub boots_by : (n : ℕ) (p : Place) → p.node.parked ≡ [] → p.node.durable ≡ applied (boot_record w n) (durable_at w n) → P (becomes w e n p (Some (boot_record w n)) None)
 
 module _ (m : EngineMeaning) (c : Cluster) (w : World) (P : World → Type 0) where
-  stepped : (e : WorldEvent) (call : Option Call) → Behind m c w e P → P (steps m c w e call)
-  stepped e None h = h.still
-  stepped e (Some call) h = cond_both (is_ready c w call) (whole c w e call (decision m c w call)) w P (λ t. h.whole_by call (readies c w call t)) (λ _. h.still)
+  stepped : (e : WorldEvent) (call : Option Call) → call_of w.packets e ≡ call → Behind m c w e P → P (steps m c w e call)
+  stepped e None is h = h.still
+  stepped e (Some call) is h = cond_both (is_ready c w call) (whole c w e call (decision m c w call)) w P (λ t. h.whole_by call is (readies c w call t)) (λ _. h.still)
 
-  torn : (e : WorldEvent) (kept : Bool) (call : Option Call) → Behind m c w e P → P (tears m c w e kept call)
-  torn e kept None h = h.still
-  torn e kept (Some call) h =
+  torn : (e : WorldEvent) (kept : Bool) (call : Option Call) → call_of w.packets e ≡ call → Behind m c w e P → P (tears m c w e kept call)
+  torn e kept None is h = h.still
+  torn e kept (Some call) is h =
       let d = decision m c w call in
       let cuts = cut c w e call d in
       let halts = halt w e call.node (token_of_call c w call) in
       cond_both (is_ready c w call) (cond (kept && is_some d.entry) cuts halts) w P
-      (λ t. let r = readies c w call t in cond_both (kept && is_some d.entry) cuts halts P (λ _. h.cut_by call r) (λ _. h.halt_by call.node (token_of_call c w call) r.unused))
+      (λ t. let r = readies c w call t in cond_both (kept && is_some d.entry) cuts halts P (λ _. h.cut_by call is r) (λ _. h.halt_by call.node (token_of_call c w call) r.unused))
       (λ _. h.still)
 
   start : (e : WorldEvent) (n : ℕ) (kept : Bool) (place : Durable → Place) → ((d : Durable) → (place d).node.parked ≡ []) → ((d : Durable) → (place d).node.durable ≡ d) → Behind m c w e P → P (starts c w e n kept place)
@@ -80,12 +80,12 @@ module _ (m : EngineMeaning) (c : Cluster) (w : World) (P : World → Type 0) wh
       (λ _. h.still)
 
   pub behind : (e : WorldEvent) → Behind m c w e P → P (happens m c w e)
-  behind (Ask n moment token r) h = stepped (Ask n moment token r) (call_of w.packets (Ask n moment token r)) h
-  behind (Deliver moment place) h = stepped (Deliver moment place) (call_of w.packets (Deliver moment place)) h
-  behind (Poke n moment) h = stepped (Poke n moment) (call_of w.packets (Poke n moment)) h
-  behind (Tick n moment) h = stepped (Tick n moment) (call_of w.packets (Tick n moment)) h
-  behind (Move n moment k to) h = stepped (Move n moment k to) (call_of w.packets (Move n moment k to)) h
-  behind (Torn n moment given kept) h = torn (Torn n moment given kept) kept (call_of w.packets (Torn n moment given kept)) h
+  behind (Ask n moment token r) h = stepped (Ask n moment token r) (call_of w.packets (Ask n moment token r)) refl h
+  behind (Deliver moment place) h = stepped (Deliver moment place) (call_of w.packets (Deliver moment place)) refl h
+  behind (Poke n moment) h = stepped (Poke n moment) (call_of w.packets (Poke n moment)) refl h
+  behind (Tick n moment) h = stepped (Tick n moment) (call_of w.packets (Tick n moment)) refl h
+  behind (Move n moment k to) h = stepped (Move n moment k to) (call_of w.packets (Move n moment k to)) refl h
+  behind (Torn n moment given kept) h = torn (Torn n moment given kept) kept (call_of w.packets (Torn n moment given kept)) refl h
   behind (Crash n) h = cond_both (is_there c n && (w.places n).up) (halt w (Crash n) n None) w P (λ _. h.halt_by n None refl) (λ _. h.still)
   behind (Restart n) h = start (Restart n) n true started (λ d. refl) (λ d. refl) h
   behind (TornRestart n kept) h = start (TornRestart n kept) n kept stopped (λ d. refl) (λ d. refl) h

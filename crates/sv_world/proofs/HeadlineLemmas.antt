@@ -4,9 +4,9 @@ use Rattle.sv_model.specs.Container.{nothing_stored}
 use Rattle.sv_model.specs.Engine.{EngineMeaning, TouchesOnlyHanded}
 use Rattle.sv_world.specs.declared.event.WorldEvent.{WorldEvent}
 use Rattle.sv_world.specs.Headline.{IsHeadline}
-use Rattle.sv_world.specs.World.{Cluster, run, nothing_happened}
+use Rattle.sv_world.specs.World.{Cluster, run, nothing_happened, commits_in}
 use Rattle.sv_world.proofs.Answered.{are_answers}
-use Rattle.sv_world.proofs.Orders.{run_waits, first_waits}
+use Rattle.sv_world.proofs.Orders.{run_waits, first_waits, all_come}
 use Rattle.sv_world.proofs.Records.{run_kept, first_kept}
 use Rattle.sv_world.proofs.Runs.{run_keeps, at_first, actives, copies, agree, map_has, map_only}
 use Rattle.sv_world.proofs.Tokens.{run_spent, first_spent, served_once}
@@ -28,6 +28,7 @@ headline m touches c es =
       acknowledged = record {
         lines = h.lines;
         answers = are_answers m w h.lines o.waits.excused (λ t. omega (arith, served_once m c w s t));
+        own = all_come w.trace (commits_in w) o.waits.served;
         distinct = s.once;
         answered = λ t. answered m nothing_stored t w.trace h.lines;
         served = λ t. omega (arith, answered m nothing_stored t w.trace h.lines, fewer t w.trace);

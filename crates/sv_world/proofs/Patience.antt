@@ -54,7 +54,7 @@ or_cases : (a b : Bool) → (a || b) ≡ true → (a ≡ true) ⊎ (b ≡ true)
 or_cases true b h = inl refl
 or_cases false b h = inr h
 
-module _ (m : EngineMeaning) (c : Cluster) (places : ℕ → Place) (ps : List Packet) (os : List Opening) (cs : List Commit) (arr : Token → ℕ) (asked : Token → Type 0) (s : Sane m c (disks_of places) ps os cs) (j : Waits m places ps cs arr asked) (n : ℕ) (moment : Moment) where
+module _ (m : EngineMeaning) (c : Cluster) (places : ℕ → Place) (ps : List Packet) (os : List Opening) (cs : List Commit) (arr : Token → ℕ) (asked : Token → Request → Type 0) (s : Sane m c (disks_of places) ps os cs) (j : Waits m places ps cs arr asked) (n : ℕ) (moment : Moment) where
   abbrev node : Node
   node = (places n).node
 
@@ -147,12 +147,12 @@ module _ (m : EngineMeaning) (c : Cluster) (places : ℕ → Place) (ps : List P
   abbrev May : ℕ → Request → Type 0
   May number r = (other : Key × Secret) → is_some (held_in (places n).node.durable.keys (m.names r)) ≡ false → m.names r ≡ Some other → IsExcused m cs (arr (tok n (boot_of (places n)) number)) other.0
 
-  unless_patient : (cause : Option Cause) (number : ℕ) (r : Request) (waiting : List Parked) → ((p : Parked) → In p waiting → In p (places n).node.parked) → arr (tok n (boot_of (places n)) number) ≤ length cs → asked (tok n (boot_of (places n)) number) → May number r
+  unless_patient : (cause : Option Cause) (number : ℕ) (r : Request) (waiting : List Parked) → ((p : Parked) → In p waiting → In p (places n).node.parked) → arr (tok n (boot_of (places n)) number) ≤ length cs → asked (tok n (boot_of (places n)) number) r → May number r
       → Patient m places ps cs arr asked n (answered_unless cause m (setting_of c n) (places n).node moment number r (answer_of m (setting_of c n) (places n).node.durable moment r) waiting)
   unless_patient None number r waiting old le came may = record { parked = λ p i. inl (old p i); next_want = omega arith; boot = refl; sends = tt; commit = (le, may); served = (came, tt) }
   unless_patient (Some cause) number r waiting old le came may = record { parked = λ p i. inl (old p i); next_want = omega arith; boot = refl; sends = tt; commit = tt; served = tt }
 
-  serve_patient : (number : ℕ) (r : Request) (waiting : List Parked) → ((p : Parked) → In p waiting → In p (places n).node.parked) → arr (tok n (boot_of (places n)) number) ≤ length cs → asked (tok n (boot_of (places n)) number) → May number r
+  serve_patient : (number : ℕ) (r : Request) (waiting : List Parked) → ((p : Parked) → In p waiting → In p (places n).node.parked) → arr (tok n (boot_of (places n)) number) ≤ length cs → asked (tok n (boot_of (places n)) number) r → May number r
       → Patient m places ps cs arr asked n (served m (setting_of c n) (places n).node moment number r waiting)
   serve_patient number r waiting old le came may = unless_patient (no_birth (places n).node.durable (answer_of m (setting_of c n) (places n).node.durable moment r).birth) number r waiting old le came may
 
@@ -172,7 +172,7 @@ module _ (m : EngineMeaning) (c : Cluster) (places : ℕ → Place) (ps : List P
   settled_by (Some (Ended e)) number r named is le at t other h is' = lacks r _ named le is (ended_none named.0 e at) other h is'
 
   -- a request comes
-  module _ (number : ℕ) (r : Request) (le : arr (tok n (boot_of (places n)) number) ≤ length cs) (came : asked (tok n (boot_of (places n)) number)) where
+  module _ (number : ℕ) (r : Request) (le : arr (tok n (boot_of (places n)) number) ≤ length cs) (came : asked (tok n (boot_of (places n)) number) r) where
     parks_patient : (named : Key × Secret) → m.names r ≡ Some named → Patient m places ps cs arr asked n (parks (setting_of c n) (places n).node moment number r named.0)
     parks_patient named is = record {
       parked = λ p i. ⊎_elim (λ (o : In p (places n).node.parked). inl o)
@@ -283,7 +283,7 @@ module _ (m : EngineMeaning) (c : Cluster) (places : ℕ → Place) (ps : List P
 
   -- the request of an input came by now, under a token that is known
   abbrev pub HasCome : Input → Type 0
-  HasCome (Ask number r) = (arr (tok n (boot_of (places n)) number) ≤ length cs) × asked (tok n (boot_of (places n)) number)
+  HasCome (Ask number r) = (arr (tok n (boot_of (places n)) number) ≤ length cs) × asked (tok n (boot_of (places n)) number) r
   HasCome (Incoming p) = In p ps
   HasCome Poke = Unit {0}
   HasCome Tick = Unit {0}

@@ -113,8 +113,8 @@ module _ (m : EngineMeaning) (touches : TouchesOnlyHanded m) (c : Cluster) where
   pub happens_keeps : (w : World) (e : WorldEvent) → Inv m c w → Inv m c (happens m c w e)
   happens_keeps w e j = behind m c w (Inv m c) e (record {
     still = j;
-    whole_by = λ call r. whole_keeps m c w e call (decision m c w call) (sound_at w call j r);
-    cut_by = λ call r. cut_keeps m c w e call (decision m c w call) (sound_at w call j r);
+    whole_by = λ call is r. whole_keeps m c w e call (decision m c w call) (sound_at w call j r);
+    cut_by = λ call is r. cut_keeps m c w e call (decision m c w call) (sound_at w call j r);
     halt_by = λ n asked _. alike_keeps m c w e n (stopped (durable_at w n)) None asked refl refl refl j;
     boots_by = λ n p none same. alike_keeps m c w e n p (Some (boot_record w n)) None refl (ap (λ (d : Durable). d.keys) same) (ap (λ (d : Durable). d.next) same) j;
   })

@@ -106,8 +106,8 @@ module _ (m : EngineMeaning) (c : Cluster) where
   happens_spent : (w : World) (e : WorldEvent) → Spent w → Spent (happens m c w e)
   happens_spent w e j = behind m c w Spent e (record {
     still = j;
-    whole_by = λ call r. whole_spent w e call r.unused j;
-    cut_by = λ call r. cut_spent w e call r.unused j;
+    whole_by = λ call is r. whole_spent w e call r.unused j;
+    cut_by = λ call is r. cut_spent w e call r.unused j;
     halt_by = λ n asked unused. becomes_spent w e n (stopped (durable_at w n)) None asked refl unused j;
     boots_by = λ n p none same. becomes_spent w e n p (Some (boot_record w n)) None none refl j;
   })

@@ -72,8 +72,8 @@ module _ (m : EngineMeaning) (touches : TouchesOnlyHanded m) (c : Cluster) where
   happens_answers : (w : World) (e : WorldEvent) → Inv m c w → Answering m w → Answering m (happens m c w e)
   happens_answers w e inv h = behind m c w (Answering m) e (record {
     still = h;
-    whole_by = λ call r. whole_answers w e call (sound_at m touches c w call inv r) h;
-    cut_by = λ call r. record { lines = more (IsAnswered m) m w _ h.lines (record { replies = refl; refused = refl }) };
+    whole_by = λ call is r. whole_answers w e call (sound_at m touches c w call inv r) h;
+    cut_by = λ call is r. record { lines = more (IsAnswered m) m w _ h.lines (record { replies = refl; refused = refl }) };
     halt_by = λ n asked _. quiet_answers m w e n _ _ _ _ h;
     boots_by = λ n p none same. quiet_answers m w e n _ _ _ _ h;
   })
@@ -81,8 +81,8 @@ module _ (m : EngineMeaning) (touches : TouchesOnlyHanded m) (c : Cluster) where
   happens_tells : (w : World) (e : WorldEvent) → Inv m c w → Telling m w → Telling m (happens m c w e)
   happens_tells w e inv h = behind m c w (Telling m) e (record {
     still = h;
-    whole_by = λ call r. whole_tells w e call (sound_at m touches c w call inv r) h;
-    cut_by = λ call r. record { lines = more (IsToldLine m) m w _ h.lines (record { events = refl; mark = refl }) };
+    whole_by = λ call is r. whole_tells w e call (sound_at m touches c w call inv r) h;
+    cut_by = λ call is r. record { lines = more (IsToldLine m) m w _ h.lines (record { events = refl; mark = refl }) };
     halt_by = λ n asked _. quiet_tells m w e n _ _ _ _ h;
     boots_by = λ n p none same. quiet_tells m w e n _ _ _ _ h;
   })

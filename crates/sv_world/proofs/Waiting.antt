@@ -6,6 +6,7 @@ use Rattle.std.proofs.Math.Seq.{take-length}
 use Rattle.std.proofs.lemmas.Bool.{cases_eq, ne_eqb, cond-true, cond-false, cond_both, true≢false}
 use Rattle.sv_model.specs.declared.key.Key.{Key}
 use Rattle.sv_model.specs.declared.key.Token.{Token}
+use Rattle.sv_model.specs.declared.request.Request.{Request}
 use Rattle.sv_model.specs.declared.session.Session.{Session}
 use Rattle.sv_model.specs.declared.node.Parked.{Parked}
 use Rattle.sv_model.specs.declared.state.KeyState.{KeyState}
@@ -24,8 +25,9 @@ use Rattle.sv_model.specs.Membership.{In, with_last}
 use Rattle.sv_model.specs.Outputs.{sends_in}
 use Rattle.sv_world.specs.Life.{Phase, Unborn, Here, Away, Over, Stands, IsBelow, IsBehind, session_of}
 use Rattle.sv_world.specs.World.{Place, set_place, stopped}
+use Rattle.sv_world.specs.Headline.{AllServed}
 use Rattle.sv_world.specs.Sane.{store_of}
-use Rattle.sv_world.specs.Waits.{tok, boot_of, IsPast, AllServed, IsParked, Waits}
+use Rattle.sv_world.specs.Waits.{tok, boot_of, IsPast, IsParked, Waits}
 use Rattle.sv_world.proofs.Keys.{in_cases}
 
 -- an ended key lives nowhere
@@ -66,25 +68,25 @@ stand_with : (m : EngineMeaning) (arr : Token → ℕ) (cs : List Commit) (c : O
 stand_with m arr cs None h s = h
 stand_with m arr cs (Some c) h s = stand_snoc m arr [] cs c h s
 
-abbrev pub AreServed : (Token → Type 0) → Option Commit → Type 0
+abbrev pub AreServed : (Token → Request → Type 0) → Option Commit → Type 0
 AreServed asked None = Unit {0}
 AreServed asked (Some c) = AllServed asked (c ∷ [])
 
-served_snoc : (asked : Token → Type 0) (cs : List Commit) (c : Commit) → AllServed asked cs → AllServed asked (c ∷ []) → AllServed asked (cs ++ c ∷ [])
+served_snoc : (asked : Token → Request → Type 0) (cs : List Commit) (c : Commit) → AllServed asked cs → AllServed asked (c ∷ []) → AllServed asked (cs ++ c ∷ [])
 served_snoc asked [] c h s = s
 served_snoc asked (Served token r now handed fresh ∷ cs) c h s = (h.0, served_snoc asked cs c h.1 s)
 served_snoc asked (Expired k now ∷ cs) c h s = served_snoc asked cs c h s
 
-served_with : (asked : Token → Type 0) (cs : List Commit) (c : Option Commit) → AllServed asked cs → AreServed asked c → AllServed asked (with_last cs c)
+served_with : (asked : Token → Request → Type 0) (cs : List Commit) (c : Option Commit) → AllServed asked cs → AreServed asked c → AllServed asked (with_last cs c)
 served_with asked cs None h s = h
 served_with asked cs (Some c) h s = served_snoc asked cs c h s
 
 -- ---- the arrivals that are known stay
 
-module _ (m : EngineMeaning) (arr brr : Token → ℕ) (asked basked : Token → Type 0) (still : (t : Token) → asked t → brr t ≡ arr t) (more : (t : Token) → asked t → basked t) where
+module _ (m : EngineMeaning) (arr brr : Token → ℕ) (asked basked : Token → Request → Type 0) (still : (t : Token) (r : Request) → asked t r → brr t ≡ arr t) (more : (t : Token) (r : Request) → asked t r → basked t r) where
   may_still : (before : List Commit) (c : Commit) → AllServed asked (c ∷ []) → MayStand m arr before c → MayStand m brr before c
   may_still before (Served token r now handed fresh) a h =
-      let e = sym (still token a.0) in
+      let e = sym (still token r a.0) in
       (subst (λ x. x ≤ length before) e h.0, λ named f is. subst (λ x. IsExcused m before x named.0) e (h.1 named f is))
   may_still before (Expired k now) a h = h
 
@@ -95,17 +97,17 @@ module _ (m : EngineMeaning) (arr brr : Token → ℕ) (asked basked : Token →
 
   served_more : (cs : List Commit) → AllServed asked cs → AllServed basked cs
   served_more [] a = tt
-  served_more (Served token r now handed fresh ∷ cs) a = (more token a.0, served_more cs a.1)
+  served_more (Served token r now handed fresh ∷ cs) a = (more token r a.0, served_more cs a.1)
   served_more (Expired k now ∷ cs) a = served_more cs a
 
   parked_still : (size : ℕ) (t : Token) (want : ℕ) (p : Parked) → IsParked m size arr asked t want p → IsParked m size brr basked t want p
-  parked_still size t want p h = record { arrived = subst (λ x. x ≤ size) (sym (still t h.came)) h.arrived; came = more t h.came; named = h.named; names = h.names; key = h.key; below = h.below }
+  parked_still size t want p h = record { arrived = subst (λ x. x ≤ size) (sym (still t p.request h.came)) h.arrived; came = more t p.request h.came; named = h.named; names = h.names; key = h.key; below = h.below }
 
   pub waits_still : (places : ℕ → Place) (packets : List Packet) (cs : List Commit) → Waits m places packets cs arr asked → Waits m places packets cs brr basked
   waits_still places packets cs j = record {
     want_past = j.want_past;
     no_past = j.no_past;
-    no_excuse = λ from to k b x p i at boot want key. subst (λ a. IsExcused m cs a k) (sym (still _ (j.parked to p at).came)) (j.no_excuse from to k b x p i at boot want key);
+    no_excuse = λ from to k b x p i at boot want key. subst (λ a. IsExcused m cs a k) (sym (still _ _ (j.parked to p at).came)) (j.no_excuse from to k b x p i at boot want key);
     parked = λ n p i. parked_still (length cs) _ _ p (j.parked n p i);
     excused = all_still [] cs j.served j.excused;
     served = served_more cs j.served;
@@ -128,7 +130,7 @@ fit_in map ps n boot want x [] h i = absurd i
 fit_in map ps n boot want x (y ∷ xs) h i = ⊎_elim (λ (e : y ≡ x). subst (FitsPacket map ps n boot want) e h.0) (λ (t : In x xs). fit_in map ps n boot want x xs h.1 t) i
 
 -- the volatile part of a decision
-pub record Patient (m : EngineMeaning) (places : ℕ → Place) (ps : List Packet) (cs : List Commit) (arr : Token → ℕ) (asked : Token → Type 0) (n : ℕ) (d : Decision) : Type 0 where
+pub record Patient (m : EngineMeaning) (places : ℕ → Place) (ps : List Packet) (cs : List Commit) (arr : Token → ℕ) (asked : Token → Request → Type 0) (n : ℕ) (d : Decision) : Type 0 where
   pub parked : (p : Parked) → In p d.parked → In p (places n).node.parked ⊎ ((p.want ≡ (places n).node.next_want) × IsParked m (length cs) arr asked (tok n (boot_of (places n)) p.token) d.next_want p)
   pub next_want : (places n).node.next_want ≤ d.next_want
   pub boot : d.durable.boot ≡ (places n).node.durable.boot
@@ -167,10 +169,10 @@ not_new p b v up h same new = ⊎_elim
     (λ (o : (b ≡ p.node.durable.boot) × ((v < p.node.next_want) ⊎ (p.up ≡ false))). ⊎_elim (λ (c : v < p.node.next_want). absurd (omega arith)) (λ (c : p.up ≡ false). absurd (true≢false (sym up ∙ c))) o.1)
     h
 
-parked_longer : (m : EngineMeaning) (size more : ℕ) (arr : Token → ℕ) (asked : Token → Type 0) (t : Token) (want want' : ℕ) (p : Parked) → size ≤ more → want ≤ want' → IsParked m size arr asked t want p → IsParked m more arr asked t want' p
+parked_longer : (m : EngineMeaning) (size more : ℕ) (arr : Token → ℕ) (asked : Token → Request → Type 0) (t : Token) (want want' : ℕ) (p : Parked) → size ≤ more → want ≤ want' → IsParked m size arr asked t want p → IsParked m more arr asked t want' p
 parked_longer m size more arr asked t want want' p l k h = record { arrived = omega (arith, h.arrived); came = h.came; named = h.named; names = h.names; key = h.key; below = omega (arith, h.below) }
 
-module _ (m : EngineMeaning) (places : ℕ → Place) (ps : List Packet) (cs : List Commit) (arr : Token → ℕ) (asked : Token → Type 0) (j : Waits m places ps cs arr asked) (n : ℕ) where
+module _ (m : EngineMeaning) (places : ℕ → Place) (ps : List Packet) (cs : List Commit) (arr : Token → ℕ) (asked : Token → Request → Type 0) (j : Waits m places ps cs arr asked) (n : ℕ) where
   pub whole_waits : (d : Decision) → (places n).up ≡ true → Patient m places ps cs arr asked n d → Waits m (set_place places n (record { up = true; node = left d })) (ps ++ sends_in d.outputs) (with_last cs d.commit) arr asked
   whole_waits d up s =
       let x : Place = record { up = true; node = left d } in

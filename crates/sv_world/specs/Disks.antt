@@ -3,13 +3,16 @@
 -- A call is what sv_node's `Call.antt` says of it, and no disk stands here: what a stop leaves of one is the state before a
 -- call or the state behind it. So this file says of a whole cluster what can be said of it from outside: which calls came
 -- at which node, what was kept behind each, what was put out, and what listeners were told.
-use Rattle.std.specs.Prelude.{◌≡◌, ◌<◌, ◌==◌, ℕ, Bool, true, cond, List, [], ◌∷◌, ◌++◌, ⊤}
+use Rattle.std.specs.Prelude.{◌≡◌, ◌<◌, ◌==◌, ℕ, Bool, true, false, cond, Some, List, [], ◌∷◌, ◌++◌, slice_get, ⊤}
 use Rattle.std.specs.List.{flat_map}
+use Rattle.sv_journal.specs.declared.journal_fault.JournalFault.TheVariants as journal
 use Rattle.sv_model.specs.declared.event.Told.{Told}
 use Rattle.sv_model.specs.declared.input.Input.{Input}
 use Rattle.sv_model.specs.declared.input.Input.TheVariants as input
+use Rattle.sv_model.specs.declared.key.Moment.{Moment}
 use Rattle.sv_model.specs.declared.output.Output.{Output}
 use Rattle.sv_model.specs.declared.packet.Packet.{Packet}
+use Rattle.sv_model.specs.declared.site.StepFault.TheVariants as step
 use Rattle.sv_model.specs.Engine.{EngineMeaning}
 use Rattle.sv_model.specs.Membership.{In}
 use Rattle.sv_model.specs.Migration.{addressee}
@@ -17,8 +20,10 @@ use Rattle.sv_model.specs.NodeState.{Durable}
 use Rattle.sv_model.specs.Outputs.{sends_in}
 use Rattle.sv_model.specs.Replay.{blank}
 use Rattle.sv_model.specs.Step.{with_mark}
+use Rattle.sv_node.specs.declared.fault.OpenFault.TheVariants as opening
 use Rattle.sv_node.specs.Call.{Call, Open, Step, Compact, Stop, Done, Refused, Cut, After, Does, runs_behind}
 use Rattle.sv_world.specs.declared.event.WorldEvent.{WorldEvent}
+use Rattle.sv_world.specs.declared.event.WorldEvent.TheVariants.{Ask, Deliver, Poke, Tick, Move, Crash, Torn, Restart, TornRestart}
 use Rattle.sv_world.specs.declared.line.Line.{Line}
 use Rattle.sv_world.specs.World.{Cluster, Place, World, setting_of, set_place, stopped, nothing_happened, run}
 use Rattle.sv_world.specs.Headline.{IsHeadline}
@@ -136,6 +141,62 @@ abbrev pub AreCalls : EngineMeaning → Cluster → Seen → (ℕ → List ℕ) 
 AreCalls m c s numbers [] = ⊤
 AreCalls m c s numbers (l ∷ ls) = IsCall m c s numbers l × AreCalls m c (behind s l) (all_numbers numbers l) ls
 
+-- ---- the events of calls
+
+-- the event of a whole step: that of its own request and number, or of one of the packets that were sent; none for a packet
+-- for another node
+abbrev pub AreOfInput : List Packet → ℕ → Moment → Input → List WorldEvent → Type 0
+AreOfInput packets n at (input.Ask number r) events = events ≡ Ask n at number r ∷ []
+AreOfInput packets n at (input.Packet p) events =
+    cond (addressee p == n) ((place : ℕ) × (slice_get packets place ≡ Some p) × (events ≡ Deliver at place ∷ [])) (events ≡ [])
+AreOfInput packets n at input.Poke events = events ≡ Poke n at ∷ []
+AreOfInput packets n at input.Tick events = events ≡ Tick n at ∷ []
+AreOfInput packets n at (input.Move k to) events = events ≡ Move n at k to ∷ []
+
+-- a start that a stop has cut, its record kept or not
+abbrev pub AreOfCutStart : ℕ → List WorldEvent → Type 0
+AreOfCutStart n events = (kept : Bool) × (events ≡ TornRestart n kept ∷ [])
+
+-- a step that a stop has cut, its record kept or not
+abbrev pub AreOfCutStep : ℕ → Moment → Input → List WorldEvent → Type 0
+AreOfCutStep n at input events = (kept : Bool) × (events ≡ Torn n at input kept ∷ [])
+
+-- the node stops, if it runs
+abbrev pub AreOfStop : (up : Bool) → ℕ → List WorldEvent → Type 0
+AreOfStop up n events = events ≡ cond up (Crash n ∷ []) []
+
+-- the events of a call at a node that runs (`up`), or doesn't: one, or none where nothing has changed
+abbrev pub AreOfCall : List Packet → (up : Bool) → ℕ → Call → List WorldEvent → Type 0
+AreOfCall packets up n (Open Done) events = events ≡ Restart n ∷ []
+AreOfCall packets up n (Open (Refused opening.Damaged)) events = events ≡ Restart n ∷ []
+AreOfCall packets up n (Open (Refused opening.Full)) events = events ≡ TornRestart n false ∷ []
+AreOfCall packets up n (Open (Refused opening.Memory)) events = events ≡ TornRestart n false ∷ []
+AreOfCall packets up n (Open (Refused opening.Device)) events = AreOfCutStart n events
+AreOfCall packets up n (Open Cut) events = AreOfCutStart n events
+AreOfCall packets up n (Step at input Done) events = AreOfInput packets n at input events
+AreOfCall packets up n (Step at input (Refused step.Failed)) events = events ≡ []
+AreOfCall packets up n (Step at input (Refused step.Full)) events = events ≡ []
+AreOfCall packets up n (Step at input (Refused step.Memory)) events = events ≡ []
+AreOfCall packets up n (Step at input (Refused step.Device)) events = AreOfCutStep n at input events
+AreOfCall packets up n (Step at input Cut) events = AreOfCutStep n at input events
+AreOfCall packets up n (Compact Done) events = events ≡ []
+AreOfCall packets up n (Compact (Refused journal.Damaged)) events = ⊥
+AreOfCall packets up n (Compact (Refused journal.Failed)) events = events ≡ []
+AreOfCall packets up n (Compact (Refused journal.Full)) events = events ≡ []
+AreOfCall packets up n (Compact (Refused journal.Memory)) events = events ≡ []
+AreOfCall packets up n (Compact (Refused journal.Device)) events = AreOfStop up n events
+AreOfCall packets up n (Compact Cut) events = AreOfStop up n events
+AreOfCall packets up n Stop events = AreOfStop up n events
+
+abbrev pub AreOf : Seen → NodeCall → List WorldEvent → Type 0
+AreOf s l events = AreOfCall s.packets (s.places l.node).up l.node l.call events
+
+-- the events of the calls, one call behind the other
+abbrev pub AreOfAll : Seen → List NodeCall → List WorldEvent → Type 0
+AreOfAll s [] events = events ≡ []
+AreOfAll s (l ∷ ls) events =
+    (own : List WorldEvent) × (rest : List WorldEvent) × (events ≡ own ++ rest) × AreOf s l own × AreOfAll (behind s l) ls rest
+
 -- ---- a world, seen so
 
 abbrev pub shown_by : Line → List Shown
@@ -144,9 +205,10 @@ shown_by l = cond l.whole (record { node = l.node; boot = l.boot; outputs = l.ou
 abbrev pub seen_as : World → Seen
 seen_as w = record { places = w.places; packets = w.packets; shown = flat_map shown_by w.trace }
 
--- The calls are a world: some list of its events leads to just what has come of them. So the theorem holds of what the nodes
--- keep, of what was put out and of what was told.
+-- The calls are a world: the list of their events leads to just what has come of them. So the theorem holds of the requests
+-- that came, of what the nodes keep, of what was put out and of what was told.
 pub record AreWorld (m : EngineMeaning) (c : Cluster) (calls : List NodeCall) : Type 0 where
   pub events : List WorldEvent
+  pub own : AreOfAll nothing_called calls events
   pub seen : seen_as (run m c nothing_happened events) ≡ behind_all nothing_called calls
   pub headline : IsHeadline m c (run m c nothing_happened events)

@@ -32,7 +32,11 @@ use Rattle.sv_model.specs.declared.event.Told.{Told}
 use Rattle.sv_model.specs.declared.packet.Packet.{Packet}
 use Rattle.sv_model.specs.declared.packet.Packet.TheVariants.{Grant}
 use Rattle.sv_model.specs.declared.response.Response.{Response}
+use Rattle.sv_model.specs.declared.request.Request.{Request}
+use Rattle.sv_model.specs.declared.input.Input.{Input}
+use Rattle.sv_model.specs.declared.input.Input.TheVariants as input
 use Rattle.sv_model.specs.declared.commit.Commit.{Commit}
+use Rattle.sv_model.specs.declared.commit.Commit.TheVariants.{Served, Expired}
 use Rattle.sv_model.specs.Trace.{Item, commits_of, asked_of, told_of, replies_of, refused_of, served_of, times, arrival_behind}
 use Rattle.sv_model.specs.OneContainer.{store_with, events_with, replies_with, AreDistinct, tokens_in}
 use Rattle.sv_model.specs.Replay.{blank, replayed, AllFit}
@@ -40,6 +44,8 @@ use Rattle.sv_model.specs.declared.node.Stage.TheVariants.{Blank}
 use Rattle.sv_model.specs.NodeState.{epoch_in}
 use Rattle.sv_model.specs.Membership.{In}
 use Rattle.sv_model.specs.Opening.{Opening, mark_of}
+use Rattle.sv_world.specs.declared.event.WorldEvent.{WorldEvent}
+use Rattle.sv_world.specs.declared.event.WorldEvent.TheVariants.{Ask, Deliver, Poke, Tick, Move, Crash, Torn, Restart, TornRestart}
 use Rattle.sv_world.specs.declared.line.Line.{Line}
 use Rattle.sv_world.specs.World.{Cluster, setting_of, World, durable_at, items, item_at, commits_in, records_at, openings_of}
 
@@ -95,6 +101,36 @@ pub record IsOneContainer (m : EngineMeaning) (w : World) : Type 0 where
 
 -- ---- 4. answers
 
+-- the request that came with an input
+abbrev pub request_in : Input → Option Request
+request_in (input.Ask number r) = Some r
+request_in (input.Packet p) = None
+request_in input.Poke = None
+request_in input.Tick = None
+request_in (input.Move k to) = None
+
+-- the request that came with an event: with a step, whole or cut
+abbrev pub request_of : WorldEvent → Option Request
+request_of (Ask n moment number r) = Some r
+request_of (Deliver moment place) = None
+request_of (Poke n moment) = None
+request_of (Tick n moment) = None
+request_of (Move n moment k to) = None
+request_of (Crash n) = None
+request_of (Torn n moment given kept) = request_in given
+request_of (Restart n) = None
+request_of (TornRestart n kept) = None
+
+-- the request came under the token
+abbrev pub WasAsked : List Line → Token → Request → Type 0
+WasAsked trace t r = (l : Line) × In l trace × (l.asked ≡ Some t) × (request_of l.event ≡ Some r)
+
+-- each request that was served is one of these, under its token
+abbrev pub AllServed : (Token → Request → Type 0) → List Commit → Type 0
+AllServed came [] = ⊤
+AllServed came (Served token r now handed fresh ∷ cs) = came token r × AllServed came cs
+AllServed came (Expired k now ∷ cs) = AllServed came cs
+
 -- each line, with the container as it was before its commit
 abbrev pub AreLines : (Store → Line → Type 0) → EngineMeaning → Store → List Line → Type 0
 AreLines P m store [] = ⊤
@@ -127,11 +163,12 @@ AreAnswers m w =
     (before : List Line) (l : Line) (behind : List Line) (t : Token) (response : Response)
     → w.trace ≡ before ++ l ∷ behind → In (t, response) (item_at l).replies → IsAnswer m w before l t response
 
--- a request comes under a token of its own; one that is answered is served, and one that was served in a whole step is
+-- what is served is a request that came, under its own token; a request comes under a token of its own; one that is answered is served, and one that was served in a whole step is
 -- answered; no token is served twice or refused twice, and one that is refused is not served
 pub record IsAcknowledged (m : EngineMeaning) (w : World) : Type 0 where
   pub lines : AreLines (IsAnswered m) m nothing_stored w.trace
   pub answers : AreAnswers m w
+  pub own : AllServed (WasAsked w.trace) (commits_in w)
   pub distinct : AreDistinct (asked_of (items w.trace))
   pub answered : (t : Token) → times t (tokens_in (replies_of (items w.trace))) ≡ times t (served_of (commits_of (wholes w.trace)))
   pub served : (t : Token) → times t (tokens_in (replies_of (items w.trace))) ≤ times t (served_of (commits_in w))

@@ -13,7 +13,7 @@ ghost use Rattle.sv_world.specs.Deed.{whole_by};
 use crate::call::Call;
 use crate::line::{Effect, Heading};
 use crate::outputs::sends_in;
-use crate::plan::{Plan, decide, keep};
+use crate::plan::{Plan, decide, keep, let_go_plan};
 use std::alloc::{AllocError, Global};
 use sv_core::{Core, Decision, Memory};
 use sv_model::{Engine, Packet, Record};
@@ -112,10 +112,17 @@ fn carry_out<E: Engine>(
     ensures unkept { OnErr result (journal.new.items ≡ journal.old.items) }
     ensures unsent { OnErr result (packets.new.items ≡ packets.old.items) }
 {
-    let sends = prepare(alloc, journal, packets, &plan.decision)?;
-    let effect = follow(core, journal, plan, heading);
-    send(packets, sends);
-    Ok(effect)
+    match prepare(alloc, journal, packets, &plan.decision) {
+        Ok(sends) => {
+            let effect = follow(core, journal, plan, heading);
+            send(packets, sends);
+            Ok(effect)
+        }
+        Err(error) => {
+            let_go_plan(plan);
+            Err(error.into())
+        }
+    }
 }
 
 /// A whole step of a core over its records. After want of memory nothing was done.

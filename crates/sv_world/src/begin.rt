@@ -7,7 +7,7 @@ ghost use Rattle.sv_core.specs.Decision.{entry_in};
 ghost use Rattle.sv_model.specs.Engine.{heard_all};
 ghost use Rattle.sv_world.specs.Acting.{IsOver, boot_record, begun, boot_plan_of};
 
-use crate::plan::keep;
+use crate::plan::{keep, let_go};
 use crate::traced::copied_record;
 use std::alloc::{AllocError, Global};
 use sv_core::{Core, Decision, Memory};
@@ -21,17 +21,34 @@ pub struct BootPlan {
     pub entry: Option<Record>,
 }
 
+/// The record of a decision twice.
+fn entries_of(
+    alloc: Global,
+    decision: &Decision,
+) -> Result<(Option<Record>, Option<Record>), AllocError>
+    ensures kept { IfOk result (λ p. p.0 ≡ entry_in decision.now) }
+    ensures entry { IfOk result (λ p. p.1 ≡ entry_in decision.now) }
+{
+    let kept = copied_record(alloc, decision.entry())?;
+    let entry = copied_record(alloc, decision.entry())?;
+    Ok((kept, entry))
+}
+
 /// The plan of a start's decision.
 fn boot_plan_of(alloc: Global, decision: Decision) -> Result<BootPlan, AllocError>
     ensures { IfOk result (λ p. p ≡ boot_plan_of decision) }
 {
-    let kept = copied_record(alloc, decision.entry())?;
-    let entry = copied_record(alloc, decision.entry())?;
-    Ok(BootPlan {
-        decision,
-        kept,
-        entry,
-    })
+    match entries_of(alloc, &decision) {
+        Ok((kept, entry)) => Ok(BootPlan {
+            decision,
+            kept,
+            entry,
+        }),
+        Err(error) => {
+            let_go(decision);
+            Err(error)
+        }
+    }
 }
 
 /// Does what was planned of a start, and gives its record.

@@ -1,12 +1,12 @@
 //! A step of a core that a stop cuts.
 
-ghost use Rattle.std.specs.Prelude.{◌≡◌, ◌<◌, IfOk, OnOk, vec_len, vec_capacity};
+ghost use Rattle.std.specs.Prelude.{◌≡◌, ◌<◌, IfOk, None, OnOk, vec_len, vec_capacity};
 ghost use Rattle.sv_core.specs.Core.{view_of, node_at, setting_of, engine_of};
 ghost use Rattle.sv_model.specs.Journaled.{IsJournaled};
 ghost use Rattle.sv_world.specs.Acting.{row_at, rest_in, rest_of};
 
 use crate::call::Call;
-use crate::plan::{Plan, decide};
+use crate::plan::{Plan, decide, let_go, let_go_record, let_go_traced};
 use crate::traced::Traced;
 use std::alloc::Global;
 use sv_core::{Core, Memory};
@@ -27,23 +27,40 @@ fn rest_of(plan: Plan, kept: bool) -> Rest
     ensures { result ≡ rest_in kept plan }
 {
     let Plan {
-        decision: _,
+        decision,
         entry,
         traced,
     } = plan;
+    let_go(decision);
     if kept && entry.is_some() {
-        let Traced {
-            entry: copy,
-            commit,
-            events: _,
-            mark: _,
-        } = traced;
-        return Rest {
-            kept: entry,
-            entry: copy,
-            commit,
-        };
+        left_of(entry, traced)
+    } else {
+        let_go_record(entry);
+        let_go_traced(traced);
+        nothing_left()
     }
+}
+
+/// What a step leaves that came as far as its record.
+fn left_of(kept: Option<Record>, traced: Traced) -> Rest
+    ensures { result ≡ record { kept = kept; entry = traced.entry; commit = traced.commit } }
+{
+    let Traced {
+        entry,
+        commit,
+        events: _,
+        mark: _,
+    } = traced;
+    Rest {
+        kept,
+        entry,
+        commit,
+    }
+}
+
+fn nothing_left() -> Rest
+    ensures { result ≡ record { kept = None; entry = None; commit = None } }
+{
     Rest {
         kept: None,
         entry: None,

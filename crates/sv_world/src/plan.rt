@@ -19,17 +19,50 @@ pub struct Plan {
     pub traced: Traced,
 }
 
+/// Lets a decision go. A caller that drops it by itself is proved far more slowly.
+pub fn let_go(_decision: Decision) {}
+
+pub fn let_go_record(_record: Option<Record>) {}
+
+pub fn let_go_traced(_traced: Traced) {}
+
+/// Lets a plan go.
+pub fn let_go_plan(plan: Plan) {
+    let Plan {
+        decision,
+        entry,
+        traced,
+    } = plan;
+    let_go(decision);
+    let_go_record(entry);
+    let_go_traced(traced);
+}
+
+/// What the journal and the trace are to keep of a decision.
+fn kept_of(alloc: Global, decision: &Decision) -> Result<(Option<Record>, Traced), AllocError>
+    ensures entry { IfOk result (λ p. p.0 ≡ (plan_of decision.now).entry) }
+    ensures traced { IfOk result (λ p. p.1 ≡ (plan_of decision.now).traced) }
+{
+    let entry = copied_record(alloc, decision.entry())?;
+    let traced = trace_of(alloc, decision)?;
+    Ok((entry, traced))
+}
+
 /// The plan of a decision.
 fn plan_of(alloc: Global, decision: Decision) -> Result<Plan, AllocError>
     ensures { IfOk result (λ p. p ≡ plan_of decision) }
 {
-    let traced = trace_of(alloc, &decision)?;
-    let entry = copied_record(alloc, decision.entry())?;
-    Ok(Plan {
-        decision,
-        entry,
-        traced,
-    })
+    match kept_of(alloc, &decision) {
+        Ok((entry, traced)) => Ok(Plan {
+            decision,
+            entry,
+            traced,
+        }),
+        Err(error) => {
+            let_go(decision);
+            Err(error)
+        }
+    }
 }
 
 /// Decides a step. The core is as it was.

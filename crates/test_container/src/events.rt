@@ -5,7 +5,7 @@ use crate::lives::started;
 use std::alloc::{AllocError, Global};
 use std::process::Abort;
 use std::test::Fail;
-use sv_model::{Engine, Event, Key, Sequence, Text, Told};
+use sv_model::{Engine, Event, Key, Secret, Sequence, Text, Told};
 
 const KEY: Key = Key { home: 0, serial: 1 };
 
@@ -13,7 +13,7 @@ const KEY: Key = Key { home: 0, serial: 1 };
 type Row = (u8, u8, &'static str);
 
 // What ends something is heard by the last declared first, all else by the first declared first; in its context alone.
-const ROWS: [Row; 13] = [
+const ROWS: [Row; 14] = [
     (0, 1, "l1.up l2.up "),
     (0, 2, "l2.down l1.down "),
     (0, 3, "l1.in l2.in "),
@@ -25,6 +25,7 @@ const ROWS: [Row; 13] = [
     (0, 9, "l1.replaced l2.replaced "),
     (0, 10, "l1.passivate l2.passivate "),
     (0, 11, "l1.activate l2.activate "),
+    (0, 12, "l1.changed l2.changed "),
     (1, 6, "l4.destroyed l3.destroyed "),
     (2, 3, ""),
 ];
@@ -56,7 +57,11 @@ fn event_of(alloc: Global, number: u8) -> Result<Event, AllocError> {
             old,
         },
         10 => Event::Passivate(KEY),
-        _ => Event::Activate(KEY),
+        11 => Event::Activate(KEY),
+        _ => Event::IdChanged {
+            key: KEY,
+            old: Secret([7; 16]),
+        },
     })
 }
 

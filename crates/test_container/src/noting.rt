@@ -144,6 +144,7 @@ fn word_of(event: &Event) -> &'static str {
         Event::Replaced { .. } => "replaced",
         Event::Passivate(_) => "passivate",
         Event::Activate(_) => "activate",
+        Event::IdChanged { .. } => "changed",
     }
 }
 

@@ -7,22 +7,22 @@ use std::process::Abort;
 use std::test::Fail;
 use sv_journal::{Journal, JournalFault, MemoryDisk};
 
-// The worked example: what a node writes at its first start and behind its first answer, 10 and 63 bytes.
-const BOOT: &[u8] = b"\x01\x01\0\0\0\0\0\0\0\x01";
+// The worked example: what a node writes at its first start and behind its first answer, 10 and 65 bytes.
+const BOOT: &[u8] = b"\x02\x01\0\0\0\0\0\0\0\x01";
 
 const COMMIT: &[u8] =
-    b"\x01\x02\0\x01\0\0\0\0\0\0\0\0\x01\0\0\0\0\0\0\0\0\0\0\0\0\0\0\0\x01\0\0\0\0\0\0\0\x03\xE8\0\0\0\0\0\0\x03\xE8\0\0\x07\x08\x01\0\x01\0\x05count\0\x011";
+    b"\x02\x02\0\x01\0\0\0\0\0\0\0\0\x01\0\0\0\0\0\0\0\0\0\0\0\0\0\0\0\x01\0\0\0\0\0\0\0\x03\xE8\0\0\0\0\0\0\x03\xE8\0\0\x07\x08\x01\0\x01\0\x05count\0\0\0\x011";
 
-// And what a compaction keeps of it: the node's counters, and one session, 18 and 70 bytes.
-const COUNTERS: &[u8] = b"\x01\x08\0\0\0\0\0\0\0\x01\0\0\0\0\0\0\0\x02";
+// And what a compaction keeps of it: the node's counters, and one session, 18 and 72 bytes.
+const COUNTERS: &[u8] = b"\x02\x08\0\0\0\0\0\0\0\x01\0\0\0\0\0\0\0\x02";
 
 const STATE: &[u8] =
-    b"\x01\x07\0\0\0\0\0\0\0\0\x01\x01\0\0\0\0\0\0\0\x01\0\0\0\0\0\0\0\0\0\0\0\0\0\0\0\x01\0\0\0\0\0\0\0\x03\xE8\0\0\0\0\0\0\x03\xE8\0\0\x07\x08\x01\0\x01\0\x05count\0\x011";
+    b"\x02\x07\0\0\0\0\0\0\0\0\x01\x01\0\0\0\0\0\0\0\x01\0\0\0\0\0\0\0\0\0\0\0\0\0\0\0\x01\0\0\0\0\0\0\0\x03\xE8\0\0\0\0\0\0\x03\xE8\0\0\x07\x08\x01\0\x01\0\x05count\0\0\0\x011";
 
 // Disk B then: a gate, the letters, the format's number and generation 2; two entries; a closed gate.
 const COMPACTED: &[u8] = b"\xA5SVJRNL\x01\0\0\0\0\0\0\0\x02\
-\xA5\0\0\0\x12\x01\x08\0\0\0\0\0\0\0\x01\0\0\0\0\0\0\0\x02\
-\xA5\0\0\0\x46\x01\x07\0\0\0\0\0\0\0\0\x01\x01\0\0\0\0\0\0\0\x01\0\0\0\0\0\0\0\0\0\0\0\0\0\0\0\x01\0\0\0\0\0\0\0\x03\xE8\0\0\0\0\0\0\x03\xE8\0\0\x07\x08\x01\0\x01\0\x05count\0\x011\0";
+\xA5\0\0\0\x12\x02\x08\0\0\0\0\0\0\0\x01\0\0\0\0\0\0\0\x02\
+\xA5\0\0\0\x48\x02\x07\0\0\0\0\0\0\0\0\x01\x01\0\0\0\0\0\0\0\x01\0\0\0\0\0\0\0\0\0\0\0\0\0\0\0\x01\0\0\0\0\0\0\0\x03\xE8\0\0\0\0\0\0\x03\xE8\0\0\x07\x08\x01\0\x01\0\x05count\0\0\0\x011\0";
 
 // The journal on disk A is compacted to disk B.
 fn compacted_journal(alloc: Global) -> Result<Journal<MemoryDisk>, Fail> {
@@ -36,8 +36,8 @@ fn compacted_journal(alloc: Global) -> Result<Journal<MemoryDisk>, Fail> {
 #[test]
 fn a_compaction_writes_the_other_disk(rt: HostRuntime) -> Result<(), Fail> {
     let (a, b) = compacted_journal(rt.alloc())?.into_disks();
-    assert_eq!(rt; a.bytes().len(), 100);
-    assert_eq!(rt; b.bytes().len(), 115);
+    assert_eq!(rt; a.bytes().len(), 102);
+    assert_eq!(rt; b.bytes().len(), 117);
     assert_eq!(rt; b.bytes(), COMPACTED);
     Ok(())
 }
@@ -66,16 +66,16 @@ fn the_greater_generation_is_read(rt: HostRuntime) -> Result<(), Fail> {
     let alloc = rt.alloc();
     let (a, b) = compacted_journal(alloc)?.into_disks();
     let mut journal = opened(alloc, a, b)?;
-    is_read(&rt, alloc, &mut journal, 115, &[COUNTERS, STATE])?;
+    is_read(&rt, alloc, &mut journal, 117, &[COUNTERS, STATE])?;
     added(&mut journal, BOOT)?;
-    is_read(&rt, alloc, &mut journal, 130, &[COUNTERS, STATE, BOOT])?;
+    is_read(&rt, alloc, &mut journal, 132, &[COUNTERS, STATE, BOOT])?;
     compacted(&mut journal, &listed(alloc, &[STATE])?)?;
     let (a, b) = journal.into_disks();
     assert_eq!(rt; a.bytes().get(15), Some(&3));
     assert_eq!(rt; b.bytes().get(15), Some(&2));
-    assert_eq!(rt; b.bytes().len(), 130);
-    // 16 + 75 + 1
-    is_read(&rt, alloc, &mut opened(alloc, a, b)?, 92, &[STATE])
+    assert_eq!(rt; b.bytes().len(), 132);
+    // 16 + 77 + 1
+    is_read(&rt, alloc, &mut opened(alloc, a, b)?, 94, &[STATE])
 }
 
 #[test]
@@ -83,7 +83,7 @@ fn a_closed_disk_is_not_read(rt: HostRuntime) -> Result<(), Fail> {
     let alloc = rt.alloc();
     let (a, b) = compacted_journal(alloc)?.into_disks();
     let b = MemoryDisk::with(alloc, &with_gate(alloc, b.bytes(), 0)?)?;
-    is_read(&rt, alloc, &mut opened(alloc, a, b)?, 100, &[BOOT, COMMIT])
+    is_read(&rt, alloc, &mut opened(alloc, a, b)?, 102, &[BOOT, COMMIT])
 }
 
 // Each byte in the place of either gate: what is read is the journal of the disk that is open, or of the newer one.

@@ -4,7 +4,7 @@ use std::test::Fail;
 use sv_journal::{JournalFault, MemoryDisk};
 
 // The worked example: an empty journal, and one with the first record that a node writes.
-const FIRST_RECORD: [u8; 10] = [1, 1, 0, 0, 0, 0, 0, 0, 0, 1];
+const FIRST_RECORD: [u8; 10] = [2, 1, 0, 0, 0, 0, 0, 0, 0, 1];
 
 #[test]
 fn a_new_journal_is_the_header_and_a_closed_gate(rt: HostRuntime) -> Result<(), Fail> {
@@ -24,10 +24,10 @@ fn an_entry_is_a_gate_a_length_and_the_payload(rt: HostRuntime) -> Result<(), Fa
     let mut journal = new_journal(alloc)?;
     added(&mut journal, &FIRST_RECORD)?;
     let found = shown_of(alloc, &mut journal)?;
-    assert_eq!(rt; found.as_slice(), b"\x01\x01\0\0\0\0\0\0\0\x01|".as_slice());
+    assert_eq!(rt; found.as_slice(), b"\x02\x01\0\0\0\0\0\0\0\x01|".as_slice());
     assert_eq!(rt; journal.len(), 32);
     let (a, _) = journal.into_disks();
-    let entry = image(alloc, b"\xA5\0\0\0\x0A\x01\x01\0\0\0\0\0\0\0\x01\0")?;
+    let entry = image(alloc, b"\xA5\0\0\0\x0A\x02\x01\0\0\0\0\0\0\0\x01\0")?;
     assert_eq!(rt; a.bytes(), entry.as_slice());
     Ok(())
 }
@@ -37,17 +37,17 @@ fn an_entry_is_a_gate_a_length_and_the_payload(rt: HostRuntime) -> Result<(), Fa
 const REST: [(&str, &[u8], Option<&[u8]>); 9] = [
     (
         "whole",
-        b"\xA5\0\0\0\x0A\x01\x01\0\0\0\0\0\0\0\x01\0",
-        Some(b"\x01\x01\0\0\0\0\0\0\0\x01|"),
+        b"\xA5\0\0\0\x0A\x02\x01\0\0\0\0\0\0\0\x01\0",
+        Some(b"\x02\x01\0\0\0\0\0\0\0\x01|"),
     ),
     (
         "another gate",
-        b"\x37\0\0\0\x0A\x01\x01\0\0\0\0\0\0\0\x01\0",
+        b"\x37\0\0\0\x0A\x02\x01\0\0\0\0\0\0\0\x01\0",
         Some(b""),
     ),
     (
         "another gate, cut off",
-        b"\x37\0\0\0\x0A\x01\x01\0",
+        b"\x37\0\0\0\x0A\x02\x01\0",
         Some(b""),
     ),
     (
@@ -55,11 +55,11 @@ const REST: [(&str, &[u8], Option<&[u8]>); 9] = [
         b"\xA5\0\0\0\0\xA5\0\0\0\x01x\0junk",
         Some(b"|x|"),
     ),
-    ("cut off", b"\xA5\0\0\0\x0A\x01\x01\0", None),
+    ("cut off", b"\xA5\0\0\0\x0A\x02\x01\0", None),
     ("ends at a gate", b"\xA5\0\0\0\x01x", None),
     ("a length cut off", b"\xA5\0\0\0", None),
     ("a payload cut off", b"\xA5\0\0\0\x02x", None),
-    ("a length past the limit", b"\xA5\0\x02\0\x01x\0", None),
+    ("a length past the limit", b"\xA5\0\x08\0\x01x\0", None),
 ];
 
 #[test]
@@ -75,16 +75,16 @@ fn entries_end_at_a_gate_that_is_not_open(rt: HostRuntime) -> Result<(), Fail> {
     Ok(())
 }
 
-// A length of 131,072 is the longest; 131,073 is damage, whatever stands behind it.
+// A length of 524,288 is the longest; 524,289 is damage, whatever stands behind it.
 #[test]
-fn the_longest_payload_has_131072_bytes(rt: HostRuntime) -> Result<(), Fail> {
+fn the_longest_payload_has_524288_bytes(rt: HostRuntime) -> Result<(), Fail> {
     let alloc = rt.alloc();
-    let most = Vec::from_elem(alloc, 7u8, 131_072)?;
-    let mut longest = joined(alloc, b"\xA5\0\x02\0\0", &most)?;
+    let most = Vec::from_elem(alloc, 7u8, 524_288)?;
+    let mut longest = joined(alloc, b"\xA5\0\x08\0\0", &most)?;
     longest.push(0)?;
     let found = records_of(alloc, &image(alloc, &longest)?, b"")?;
-    assert_eq!(rt; found.len(), 131_073);
-    let mut too_long = joined(alloc, b"\xA5\0\x02\0\x01", &most)?;
+    assert_eq!(rt; found.len(), 524_289);
+    let mut too_long = joined(alloc, b"\xA5\0\x08\0\x01", &most)?;
     too_long.extend_from_slice(b"\x07\0")?;
     let found = records_of(alloc, &image(alloc, &too_long)?, b"");
     assert_eq!(rt; found.err(), Some(JournalFault::Damaged));

@@ -23,11 +23,11 @@ fn clients_are_answered(rt: HostRuntime) -> Result<(), Fail> {
 }
 
 /// What node 0 sends for a client that names the first session of node 1: its first want since its first start.
-const WANT: &[u8] = b"\xE1\0\0\0\x1D\x01\x01\0\x01\x01\0\0\0\0\0\0\0\x01\
+const WANT: &[u8] = b"\xE1\0\0\0\x1D\x02\x01\0\x01\x01\0\0\0\0\0\0\0\x01\
     \0\0\0\0\0\0\0\x01\0\0\0\0\0\0\0\x01";
 
 /// What node 1 answers: it has no such session.
-const NO: &[u8] = b"\xE1\0\0\0\x1D\x01\x04\x01\0\x01\0\0\0\0\0\0\0\x01\
+const NO: &[u8] = b"\xE1\0\0\0\x1D\x02\x04\x01\0\x01\0\0\0\0\0\0\0\x01\
     \0\0\0\0\0\0\0\x01\0\0\0\0\0\0\0\x01";
 
 /// The other node is asked for the session, and the client waits until it has answered.
@@ -69,8 +69,8 @@ const SAID: [(&[u8], &[u8]); 6] = [
     (b"\xE2\0\0\0\x01\x09", b""),
     (b"\xE2\0\0\0\x0B\x01", b""),
     // A packet of no kind, and one that is cut off.
-    (b"\xE1\0\0\0\x02\x01\x09", b""),
-    (b"\xE1\0\0\0\x1D\x01", b""),
+    (b"\xE1\0\0\0\x02\x02\x09", b""),
+    (b"\xE1\0\0\0\x1D\x02", b""),
 ];
 
 /// Whatever a caller says, those behind it are served.
@@ -94,7 +94,7 @@ fn commands_are_answered_by_a_byte(rt: HostRuntime) -> Result<(), Fail> {
     Ok(())
 }
 
-/// A caller that says nothing, and doesn't go away, holds up those behind it for a while, and not for ever.
+/// A caller that says nothing, and doesn't go away, holds up nobody.
 #[test]
 fn those_behind_a_silent_caller_are_served(rt: HostRuntime) -> Result<(), Fail> {
     let town = Town::new(&rt)?;

@@ -14,7 +14,8 @@ fn own_path(rt: &HostRuntime, name: &str) -> Result<String, Fail> {
     Ok(format!(in rt.alloc(); "{}/sv_host-{id}-{name}", folder.to_string_lossy())?)
 }
 
-/// A file of 16 bytes has one secret: the node serves one request, and ends where it needs another.
+/// A file of 16 bytes has one secret: the node serves one request, and ends where it needs another, be it for the second
+/// request or for the tick where a second has passed. Then the connection of the second may be reset, unread.
 #[test]
 fn secrets_come_to_an_end(rt: HostRuntime) -> Result<(), Fail> {
     let town = Town::new(&rt)?;
@@ -28,7 +29,7 @@ fn secrets_come_to_an_end(rt: HostRuntime) -> Result<(), Fail> {
     let ended = live(&rt, host, a, b)?;
     assert_eq!(rt; ended.fault, Some(HostFault::Secrets));
     assert_eq!(rt; answer(rt.alloc(), &client)?, Some('1'));
-    assert_eq!(rt; answer(rt.alloc(), &late)?, None);
+    assert!(rt; !matches!(answer(rt.alloc(), &late), Ok(Some(_))));
     fs::remove_file(&rt, &secrets)?;
     Ok(())
 }

@@ -1,6 +1,6 @@
 //! Tests of the plain data of a node and of its formats, as their users call them.
 //!
-//! The top of the node's floor: it stands on `sv_model` and `sv_record` and proves nothing of its own. Spellings are written
+//! It stands on `sv_model`, `sv_record` and `sv_script`, and proves nothing of its own. Spellings are written
 //! out by hand beside what they say.
 #![tactic(auto)]
 
@@ -8,3 +8,5 @@
 mod model;
 #[cfg(test)]
 mod record;
+#[cfg(test)]
+mod scripts;

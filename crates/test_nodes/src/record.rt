@@ -22,6 +22,11 @@ const KEY: &str = "00 0000000000000001";
 /// Secret 1, context 0, created and last 1000, interval 1800, fresh, and `count` with the value `1`.
 const SESSION: &str =
     "00000000000000000000000000000001 00 00000000000003e8 00000000000003e8 00000708 01 \
+    0001 0005 636f756e74 00000001 31";
+
+/// The same session by version 1.
+const OLD_SESSION: &str =
+    "00000000000000000000000000000001 00 00000000000003e8 00000000000003e8 00000708 01 \
     0001 0005 636f756e74 0001 31";
 
 /// A hexadecimal digit's number.

@@ -131,8 +131,8 @@ impl SessionEdit {
     /// removes the attribute.
     ///
     /// A value is refused as the first of these: NoSession; BadName where the name is not of 1 to 128 bytes;
-    /// ValueTooLong past 4,096 bytes; SessionTooLarge where the session would have more than 64 attributes, or names
-    /// and values of more than 32,768 bytes in all; Memory. A removal is refused as that of `remove` is.
+    /// ValueTooLong past 65,536 bytes; SessionTooLarge where the session would have more than 64 attributes, or names
+    /// and values of more than 131,072 bytes in all; Memory. A removal is refused as that of `remove` is.
     pub fn set(&mut self, name: &str, value: Option<&[u8]>) -> Result<(), SessionFault>
         ensures { Answers self.old (set_result self.old name.now (option_copied value.entry)) result self.new }
     {
@@ -152,8 +152,8 @@ impl SessionEdit {
         if session.attributes.get(name).is_none() {
             return Ok(());
         }
-        let told = Text::from_str(self.alloc, name)?;
         self.events.reserve(1)?;
+        let told = Text::from_str(self.alloc, name)?;
         let session = self.holding.held_mut().ok_or(SessionFault::NoSession)?;
         if let Some(old) = session.attributes.remove(name) {
             let context = self.context;

@@ -10,7 +10,7 @@ use sv_model::{Birth, Fate, Key, Secret, Session};
 /// The session that was handed in, and the one that is made in its place.
 #[derive(Drop)]
 pub struct Holding {
-    /// The key and the secret of a session that is made.
+    /// The key and the secret of a session that is made; one whose id is changed takes the secret alone.
     pub fresh: (Key, Secret),
     /// The key of the session that was handed in.
     pub handed: Option<Key>,

@@ -1,8 +1,8 @@
 //! The life of the session that is held.
 
 ghost use Rattle.std.specs.Prelude.{◌≡◌, ◌≢◌, Err};
-ghost use Rattle.sv_session.specs.Edit.{has_made};
-ghost use Rattle.sv_session.specs.Calls.{Answers, create_result, key_result, interval_result, invalidate_result, new_result};
+ghost use Rattle.sv_session.specs.Edit.{has_made, has_used_secret};
+ghost use Rattle.sv_session.specs.Calls.{Answers, change_id_result, create_result, key_result, interval_result, invalidate_result, new_result};
 ghost use Rattle.sv_session.specs.declared.fault.SessionFault.TheVariants.{Memory};
 
 use super::SessionEdit;
@@ -93,5 +93,34 @@ impl SessionEdit {
             attributes: Attributes::new(self.alloc),
         });
         Ok(true)
+    }
+
+    /// The fresh secret was given to a session in this edit.
+    fn has_used_secret(&self) -> bool
+        ensures { result ≡ has_used_secret self.entry.now }
+    {
+        self.has_made() || self.id_changed
+    }
+
+    /// Gives the session that is held the fresh secret, which is told as IdChanged with the old one. Its key stays
+    /// (Jakarta Servlet 6.0, `HttpServletRequest.changeSessionId`).
+    ///
+    /// Refused as the first of these: NoSession; SecretUsed where the request has made a session or changed an id
+    /// before; Memory.
+    #[tactic(auto, unfolding(crate::specs::Calls::change_id_result, crate::specs::Edit::held_by))]
+    pub fn change_id(&mut self) -> Result<(), SessionFault>
+        ensures { Answers self.old (change_id_result self.old) result self.new }
+    {
+        let (key, session) = self.holding.held().ok_or(SessionFault::NoSession)?;
+        let old = session.secret;
+        if self.has_used_secret() {
+            return Err(SessionFault::SecretUsed);
+        }
+        self.tell(Event::IdChanged { key, old })?;
+        let (_, secret) = self.holding.fresh;
+        let session = self.holding.held_mut().ok_or(SessionFault::NoSession)?;
+        session.secret = secret;
+        self.id_changed = true;
+        Ok(())
     }
 }

@@ -96,6 +96,7 @@ fn kind_of(event: &Event) -> u8 {
         Event::Replaced { .. } => 9,
         Event::Passivate(_) => 10,
         Event::Activate(_) => 11,
+        Event::IdChanged { .. } => 12,
     }
 }
 
@@ -117,6 +118,13 @@ fn events_are_copied(rt: HostRuntime) -> Result<(), Fail> {
         (Event::Destroyed(KEY), 6),
         (Event::Passivate(KEY), 10),
         (Event::Activate(KEY), 11),
+        (
+            Event::IdChanged {
+                key: KEY,
+                old: Secret([7; 16]),
+            },
+            12,
+        ),
     ];
     for (event, kind) in rows {
         assert_eq!(rt; copied_kind(alloc, event)?, kind);

@@ -6,7 +6,10 @@ use std::test::Fail;
 use sv_record::RecordFault;
 
 /// A record up to its session.
-const TAKEN: &str = "01 05 00 0000000000000001 0000000000000002 03";
+const TAKEN: &str = "02 05 00 0000000000000001 0000000000000002 03";
+
+/// The same by version 1.
+const OLD_TAKEN: &str = "01 05 00 0000000000000001 0000000000000002 03";
 
 /// A session up to the count of its attributes.
 const FIELDS: &str =
@@ -19,31 +22,31 @@ fn first_trouble_of_a_record(rt: HostRuntime) -> Result<(), Fail> {
     let rows: [(&[&str], RecordFault); 20] = [
         (&[""], RecordFault::Truncated),
         (&["00"], RecordFault::BadVersion),
-        (&["02 01"], RecordFault::BadVersion),
-        (&["01 00"], RecordFault::Foreign),
-        (&["01 09 00"], RecordFault::Foreign),
-        (&["01 01 0000000000000000"], RecordFault::BadField),
-        (&["01 01 00000000000000"], RecordFault::Truncated),
-        (&["01 01 0000000000000005 00"], RecordFault::BadField),
-        (&["01 02 03"], RecordFault::BadField),
-        (&["01 02 00 03"], RecordFault::BadField),
-        (&["01 02 00 00"], RecordFault::BadField),
-        (&["01 02 00"], RecordFault::Truncated),
-        (&["01 03 08"], RecordFault::BadField),
-        (&["01 03 00 0000000000000000"], RecordFault::BadField),
-        (&["01 06", KEY, "0000000000000000"], RecordFault::BadField),
+        (&["03 01"], RecordFault::BadVersion),
+        (&["02 00"], RecordFault::Foreign),
+        (&["02 09 00"], RecordFault::Foreign),
+        (&["02 01 0000000000000000"], RecordFault::BadField),
+        (&["02 01 00000000000000"], RecordFault::Truncated),
+        (&["02 01 0000000000000005 00"], RecordFault::BadField),
+        (&["02 02 03"], RecordFault::BadField),
+        (&["02 02 00 03"], RecordFault::BadField),
+        (&["02 02 00 00"], RecordFault::BadField),
+        (&["02 02 00"], RecordFault::Truncated),
+        (&["02 03 08"], RecordFault::BadField),
+        (&["02 03 00 0000000000000000"], RecordFault::BadField),
+        (&["02 06", KEY, "0000000000000000"], RecordFault::BadField),
         (
-            &["01 04", KEY, "0000000000000002 08"],
+            &["02 04", KEY, "0000000000000002 08"],
             RecordFault::BadField,
         ),
-        (&["01 07", KEY, "00"], RecordFault::BadField),
-        (&["01 07", KEY, "05"], RecordFault::BadField),
+        (&["02 07", KEY, "00"], RecordFault::BadField),
+        (&["02 07", KEY, "05"], RecordFault::BadField),
         (
-            &["01 07", KEY, "03 0000000000000000"],
+            &["02 07", KEY, "03 0000000000000000"],
             RecordFault::BadField,
         ),
         (
-            &["01 08 0000000000000000 0000000000000000"],
+            &["02 08 0000000000000000 0000000000000000"],
             RecordFault::BadField,
         ),
     ];
@@ -75,22 +78,22 @@ fn first_trouble_of_a_session(rt: HostRuntime) -> Result<(), Fail> {
         (&[FIELDS, "0001 0001 ff"], RecordFault::BadField),
         (&[FIELDS, "0001 0002 c3"], RecordFault::Truncated),
         (&[FIELDS, "0001 0002 c3 28"], RecordFault::BadField),
-        (&[FIELDS, "0001 0001 61 1001"], RecordFault::BadField),
-        (&[FIELDS, "0001 0001 61 1000"], RecordFault::Truncated),
+        (&[FIELDS, "0001 0001 61 00010001"], RecordFault::BadField),
+        (&[FIELDS, "0001 0001 61 00010000"], RecordFault::Truncated),
         (
-            &[FIELDS, "0002 0001 62 0000 0001 61"],
+            &[FIELDS, "0002 0001 62 00000000 0001 61"],
             RecordFault::BadField,
         ),
         (
-            &[FIELDS, "0002 0001 61 0000 0001 61"],
+            &[FIELDS, "0002 0001 61 00000000 0001 61"],
             RecordFault::BadField,
         ),
         (
-            &[FIELDS, "0002 0002 6162 0000 0001 61"],
+            &[FIELDS, "0002 0002 6162 00000000 0001 61"],
             RecordFault::BadField,
         ),
         (
-            &[FIELDS, "0002 0001 61 0000 0001 62"],
+            &[FIELDS, "0002 0001 61 00000000 0001 62"],
             RecordFault::Truncated,
         ),
         (&[FIELDS, "0000 00"], RecordFault::BadField),
@@ -98,6 +101,25 @@ fn first_trouble_of_a_session(rt: HostRuntime) -> Result<(), Fail> {
     for (texts, want) in rows {
         let mut bytes = bytes_of(alloc, &[TAKEN])?;
         bytes.extend_from_slice(&bytes_of(alloc, texts)?)?;
+        assert_eq!(rt; record_fault(alloc, &bytes), Some(want), "of {bytes:?}");
+    }
+    Ok(())
+}
+
+/// By version 1 a value's length takes two bytes, and its limit is the old one.
+#[test]
+fn first_trouble_of_a_session_by_version_1(rt: HostRuntime) -> Result<(), Fail> {
+    let alloc = rt.alloc();
+    let rows: [(&str, RecordFault); 6] = [
+        ("0001 0001 61 1001", RecordFault::BadField),
+        ("0001 0001 61 1000", RecordFault::Truncated),
+        ("0001 0001 61 00", RecordFault::Truncated),
+        ("0001 0001 61 0000 00", RecordFault::BadField),
+        ("0002 0001 62 0000 0001 61", RecordFault::BadField),
+        ("0002 0001 61 0000 0001 62", RecordFault::Truncated),
+    ];
+    for (text, want) in rows {
+        let bytes = bytes_of(alloc, &[OLD_TAKEN, FIELDS, text])?;
         assert_eq!(rt; record_fault(alloc, &bytes), Some(want), "of {bytes:?}");
     }
     Ok(())

@@ -1,7 +1,7 @@
 //! Frames, whole, cut and wrong.
 
 use crate::record::shown::packet_text;
-use crate::record::{KEY, SESSION, bytes_of, frame_again, frame_fault};
+use crate::record::{KEY, OLD_SESSION, SESSION, bytes_of, frame_again, frame_fault};
 use std::alloc::Global;
 use std::test::Fail;
 use sv_record::{Frame, RecordFault};
@@ -40,11 +40,11 @@ fn each_frame(rt: HostRuntime) -> Result<(), Fail> {
     let alloc = rt.alloc();
     let rows: [(&[&str], &str); 5] = [
         (
-            &["e1 00000015 01 03 01 00", KEY, "0000000000000002"],
+            &["e1 00000015 02 03 01 00", KEY, "0000000000000002"],
             "ack 1 to 0 0.1 2",
         ),
         (
-            &["e1 00000047 01 02 07 00", KEY, "0000000000000002", SESSION],
+            &["e1 00000049 02 02 07 00", KEY, "0000000000000002", SESSION],
             "grant 7 to 0 0.1 2 0-1/0/1000/1000/1800/true count=1",
         ),
         (&["e2 0000000b 01", KEY, "07"], "move 0.1 to 7"),
@@ -66,24 +66,46 @@ fn each_frame(rt: HostRuntime) -> Result<(), Fail> {
     Ok(())
 }
 
+/// A frame with a packet by version 1 takes its own bytes, and is written by version 2.
+#[test]
+fn a_frame_by_version_1(rt: HostRuntime) -> Result<(), Fail> {
+    let alloc = rt.alloc();
+    let old = [
+        "e1 00000047 01 02 07 00",
+        KEY,
+        "0000000000000002",
+        OLD_SESSION,
+    ];
+    let now = ["e1 00000049 02 02 07 00", KEY, "0000000000000002", SESSION];
+    let bytes = bytes_of(alloc, &old)?;
+    let (text, taken, again) = frame_shown(alloc, &bytes)?;
+    assert_eq!(rt;
+        text.as_str(),
+        "grant 7 to 0 0.1 2 0-1/0/1000/1000/1800/true count=1"
+    );
+    assert_eq!(rt; taken, bytes.len());
+    assert_eq!(rt; again.as_slice(), bytes_of(alloc, &now)?.as_slice());
+    Ok(())
+}
+
 #[test]
 fn wrong_frames(rt: HostRuntime) -> Result<(), Fail> {
     let alloc = rt.alloc();
     let rows: [(&[&str], RecordFault); 14] = [
         // An acknowledgement less a byte, and with a byte more.
         (
-            &["e1 00000014 01 03 01 00", KEY, "00000000000000"],
+            &["e1 00000014 02 03 01 00", KEY, "00000000000000"],
             RecordFault::Truncated,
         ),
         (
-            &["e1 00000016 01 03 01 00", KEY, "0000000000000002 00"],
+            &["e1 00000016 02 03 01 00", KEY, "0000000000000002 00"],
             RecordFault::BadField,
         ),
         (&["e1 00000000"], RecordFault::Truncated),
-        (&["e1 00000001 02"], RecordFault::BadVersion),
-        (&["e1 00000002 01 05"], RecordFault::Foreign),
-        (&["e1 00010001"], RecordFault::BadField),
-        (&["e2 00010001"], RecordFault::BadField),
+        (&["e1 00000001 03"], RecordFault::BadVersion),
+        (&["e1 00000002 02 05"], RecordFault::Foreign),
+        (&["e1 00040001"], RecordFault::BadField),
+        (&["e2 00040001"], RecordFault::BadField),
         (&["e2 ffffffff"], RecordFault::BadField),
         (&["e2 00000000"], RecordFault::Truncated),
         (&["e2 00000001 00"], RecordFault::Foreign),
@@ -99,13 +121,13 @@ fn wrong_frames(rt: HostRuntime) -> Result<(), Fail> {
     Ok(())
 }
 
-/// A payload has up to 65,536 bytes: of one there are none yet, and one of zeros has no version.
+/// A payload has up to 262,144 bytes: of one there are none yet, and one of zeros has no version.
 #[test]
 fn the_longest_payload(rt: HostRuntime) -> Result<(), Fail> {
     let alloc = rt.alloc();
-    let mut bytes = bytes_of(alloc, &["e1 00010000"])?;
+    let mut bytes = bytes_of(alloc, &["e1 00040000"])?;
     assert!(rt; frame_again(alloc, &bytes)?.is_none());
-    bytes.extend_from_slice(&vec![in alloc; 0u8; 65_535]?)?;
+    bytes.extend_from_slice(&vec![in alloc; 0u8; 262_143]?)?;
     assert!(rt; frame_again(alloc, &bytes)?.is_none());
     bytes.push(0)?;
     assert_eq!(rt; frame_fault(alloc, &bytes), Some(RecordFault::BadVersion));

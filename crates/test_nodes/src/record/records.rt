@@ -1,7 +1,9 @@
 //! Records of each kind, and the commit of a first count byte by byte.
 
 use crate::record::shown::record_text;
-use crate::record::{KEY, SESSION, bytes_of, is_spelled_again, longer, record_again, record_fault};
+use crate::record::{
+    KEY, OLD_SESSION, SESSION, bytes_of, is_spelled_again, longer, record_again, record_fault,
+};
 use std::alloc::Global;
 use std::test::Fail;
 use sv_record::RecordFault;
@@ -41,46 +43,46 @@ fn with_byte(alloc: Global, bytes: &[u8], at: usize, value: u8) -> Result<Vec<u8
 fn each_kind(rt: HostRuntime) -> Result<(), Fail> {
     let alloc = rt.alloc();
     let rows: [(&[&str], &str); 15] = [
-        (&["01 01 0000000000000005"], "boot 5"),
+        (&["02 01 0000000000000005"], "boot 5"),
         (
-            &["01 02 00 01", KEY, SESSION],
+            &["02 02 00 01", KEY, SESSION],
             "commit none, 0.1 0-1/0/1000/1000/1800/true count=1",
         ),
         (
-            &["01 02 01", KEY, BARE, "00"],
+            &["02 02 01", KEY, BARE, "00"],
             "commit 0.1 255-254/15/1000/18446744073709551615/-1/false, none",
         ),
         (
-            &["01 02 02", KEY, "02 07 0000000000000100"],
+            &["02 02 02", KEY, "02 07 0000000000000100"],
             "commit 0.1 ended, 7.256 ended",
         ),
-        (&["01 02 00 02", KEY], "commit none, 0.1 ended"),
+        (&["02 02 00 02", KEY], "commit none, 0.1 ended"),
         (
-            &["01 03 07 ffffffffffffffff"],
+            &["02 03 07 ffffffffffffffff"],
             "expired 7.18446744073709551615",
         ),
         (
-            &["01 04", KEY, "0000000000000002 03", SESSION],
+            &["02 04", KEY, "0000000000000002 03", SESSION],
             "sent 0.1 2 to 3 0-1/0/1000/1000/1800/true count=1",
         ),
         (
-            &["01 05", KEY, "0000000000000102 04", BARE],
+            &["02 05", KEY, "0000000000000102 04", BARE],
             "taken 0.1 258 from 4 255-254/15/1000/18446744073709551615/-1/false",
         ),
-        (&["01 06", KEY, "0000000000000003"], "gone 0.1 3"),
+        (&["02 06", KEY, "0000000000000003"], "gone 0.1 3"),
         (
-            &["01 07", KEY, "01 0000000000000001", SESSION],
+            &["02 07", KEY, "01 0000000000000001", SESSION],
             "state 0.1 active 1 0-1/0/1000/1000/1800/true count=1",
         ),
         (
-            &["01 07", KEY, "02 0000000000000002 05", BARE],
+            &["02 07", KEY, "02 0000000000000002 05", BARE],
             "state 0.1 sent 2 to 5 255-254/15/1000/18446744073709551615/-1/false",
         ),
-        (&["01 07", KEY, "03 0000000000000004"], "state 0.1 gone 4"),
-        (&["01 07", KEY, "04 0000000000000005"], "state 0.1 ended 5"),
-        (&["01 08 0000000000000000 0000000000000001"], "counters 0 1"),
+        (&["02 07", KEY, "03 0000000000000004"], "state 0.1 gone 4"),
+        (&["02 07", KEY, "04 0000000000000005"], "state 0.1 ended 5"),
+        (&["02 08 0000000000000000 0000000000000001"], "counters 0 1"),
         (
-            &["01 08 0000000000000009 0000000000000a00"],
+            &["02 08 0000000000000009 0000000000000a00"],
             "counters 9 2560",
         ),
     ];
@@ -98,11 +100,59 @@ fn each_kind(rt: HostRuntime) -> Result<(), Fail> {
     Ok(())
 }
 
-/// 4 bytes, a key of 9 and a session of 50.
+/// What version 1 wrote is read as before, and written by version 2.
 #[test]
-fn a_first_count_has_63_bytes(rt: HostRuntime) -> Result<(), Fail> {
-    let bytes = bytes_of(rt.alloc(), &["01 02 00 01", KEY, SESSION])?;
-    assert_eq!(rt; bytes.len(), 63);
+fn records_by_version_1(rt: HostRuntime) -> Result<(), Fail> {
+    let alloc = rt.alloc();
+    let rows: [(&[&str], &[&str], &str); 5] = [
+        (
+            &["01 01 0000000000000001"],
+            &["02 01 0000000000000001"],
+            "boot 1",
+        ),
+        (
+            &["01 02 00 01", KEY, OLD_SESSION],
+            &["02 02 00 01", KEY, SESSION],
+            "commit none, 0.1 0-1/0/1000/1000/1800/true count=1",
+        ),
+        (
+            &["01 04", KEY, "0000000000000002 03", OLD_SESSION],
+            &["02 04", KEY, "0000000000000002 03", SESSION],
+            "sent 0.1 2 to 3 0-1/0/1000/1000/1800/true count=1",
+        ),
+        (
+            &["01 05", KEY, "0000000000000102 04", BARE],
+            &["02 05", KEY, "0000000000000102 04", BARE],
+            "taken 0.1 258 from 4 255-254/15/1000/18446744073709551615/-1/false",
+        ),
+        (
+            &["01 07", KEY, "01 0000000000000001", OLD_SESSION],
+            &["02 07", KEY, "01 0000000000000001", SESSION],
+            "state 0.1 active 1 0-1/0/1000/1000/1800/true count=1",
+        ),
+    ];
+    for (texts, now, want) in rows {
+        let bytes = bytes_of(alloc, texts)?;
+        assert!(rt; says(alloc, &bytes, want)?, "{want}");
+        let (_, again) = record_again(alloc, &bytes)?;
+        assert_eq!(rt;
+            again.as_slice(),
+            bytes_of(alloc, now)?.as_slice(),
+            "{want} again"
+        );
+        assert_eq!(rt; another_answer(alloc, &bytes), None, "{want} cut");
+    }
+    Ok(())
+}
+
+/// 4 bytes, a key of 9 and a session of 52; by version 1 the session has 50.
+#[test]
+fn a_first_count_has_65_bytes(rt: HostRuntime) -> Result<(), Fail> {
+    let alloc = rt.alloc();
+    let bytes = bytes_of(alloc, &["02 02 00 01", KEY, SESSION])?;
+    assert_eq!(rt; bytes.len(), 65);
+    let old = bytes_of(alloc, &["01 02 00 01", KEY, OLD_SESSION])?;
+    assert_eq!(rt; old.len(), 63);
     Ok(())
 }
 
@@ -120,13 +170,13 @@ fn values_read(alloc: Global, bytes: &[u8], at: usize) -> Result<u64, Fail> {
     Ok(read)
 }
 
-/// Whatever one byte becomes, the bytes are a fault or the spelling of what is read. Another version is none; another
-/// kind or length leaves bytes behind, wants more or is out of its range; and a byte of 128 and more is no text between
+/// Whatever one byte becomes, the bytes are a fault or a spelling of what is read. By version 1 the length of the value
+/// is 0, and bytes are left behind; another kind or length leaves bytes behind, wants more or is out of its range; and a byte of 128 and more is no text between
 /// smaller ones (RFC 3629, section 3).
 #[test]
 fn each_byte_of_a_first_count_changed(rt: HostRuntime) -> Result<(), Fail> {
     let alloc = rt.alloc();
-    let bytes = bytes_of(alloc, &["01 02 00 01", KEY, SESSION])?;
+    let bytes = bytes_of(alloc, &["02 02 00 01", KEY, SESSION])?;
     let rows: [(u64, u64, &str); 12] = [
         (4, 1, "the version and the kinds"),
         (1, 8, "the home"),
@@ -138,7 +188,7 @@ fn each_byte_of_a_first_count_changed(rt: HostRuntime) -> Result<(), Fail> {
         (1, 2, "whether the session is fresh"),
         (4, 1, "the count and the length of the name"),
         (5, 128, "the name"),
-        (2, 1, "the length of the value"),
+        (4, 1, "the length of the value"),
         (1, 256, "the value"),
     ];
     let mut at = 0usize;

@@ -30,7 +30,7 @@ fn the_commit_of_a_first_count(rt: HostRuntime) -> Result<(), Fail> {
     };
     let mut out = bytes_of(alloc, &["ff"])?;
     write_record(&record, &mut out)?;
-    let want = bytes_of(alloc, &["ff 01 02 00 01", KEY, SESSION])?;
+    let want = bytes_of(alloc, &["ff 02 02 00 01", KEY, SESSION])?;
     assert_eq!(rt; out.as_slice(), want.as_slice());
     Ok(())
 }
@@ -48,7 +48,7 @@ fn the_frame_of_an_acknowledgement(rt: HostRuntime) -> Result<(), Fail> {
     write_frame(&frame, &mut out)?;
     let want = bytes_of(
         alloc,
-        &["ff e1 00000015 01 03 01 00", KEY, "0000000000000002"],
+        &["ff e1 00000015 02 03 01 00", KEY, "0000000000000002"],
     )?;
     assert_eq!(rt; out.as_slice(), want.as_slice());
     Ok(())
@@ -68,7 +68,7 @@ fn a_want(rt: HostRuntime) -> Result<(), Fail> {
     write_packet(&packet, &mut out)?;
     let want = bytes_of(
         alloc,
-        &["ff 01 01 07 02", KEY, "0000000000000003 0000000000000004"],
+        &["ff 02 01 07 02", KEY, "0000000000000003 0000000000000004"],
     )?;
     assert_eq!(rt; out.as_slice(), want.as_slice());
     Ok(())

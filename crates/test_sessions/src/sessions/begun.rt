@@ -11,6 +11,7 @@ fn a_session_is_kept(rt: HostRuntime) -> Result<(), Fail> {
     let Edited {
         fate,
         birth,
+        id_changed: _,
         events,
     } = of_a_session(rt.alloc()).finish();
     let Fate::Kept(kept) = fate else {

@@ -1,12 +1,12 @@
 //! The names and texts of faults, and want of memory.
 
-use super::of_a_session;
+use super::{FRESH, of_a_session};
 use std::alloc::AllocError;
 use std::test::Fail;
 use sv_model::{Birth, Fate};
 use sv_session::{Edited, SessionEdit, SessionFault};
 
-const FAULTS: [(SessionFault, &str, &str); 6] = [
+const FAULTS: [(SessionFault, &str, &str); 7] = [
     (
         SessionFault::NoSession,
         "NoSession",
@@ -20,12 +20,12 @@ const FAULTS: [(SessionFault, &str, &str); 6] = [
     (
         SessionFault::ValueTooLong,
         "ValueTooLong",
-        "an attribute's value has at most 4096 bytes",
+        "an attribute's value has at most 65536 bytes",
     ),
     (
         SessionFault::SessionTooLarge,
         "SessionTooLarge",
-        "a session has at most 64 attributes, of 32768 bytes in all",
+        "a session has at most 64 attributes, of 131072 bytes in all",
     ),
     (
         SessionFault::SecondCreation,
@@ -36,6 +36,11 @@ const FAULTS: [(SessionFault, &str, &str); 6] = [
         SessionFault::Memory,
         "Memory",
         "memory was refused for the session",
+    ),
+    (
+        SessionFault::SecretUsed,
+        "SecretUsed",
+        "the request has already made a session or changed a session's id",
     ),
 ];
 
@@ -116,10 +121,30 @@ fn memory_refused_for_a_life(rt: HostRuntime) -> Result<(), Fail> {
     let Edited {
         fate,
         birth,
+        id_changed: _,
         events,
     } = edit.finish();
     assert_eq!(rt; matches!(&fate, Fate::Ended), ended);
     assert_eq!(rt; matches!(&birth, Birth::Alive(_)), made);
     assert_eq!(rt; events.len(), usize::from(ended) + usize::from(made));
+    Ok(())
+}
+
+#[test]
+fn memory_refused_for_a_change(rt: HostRuntime) -> Result<(), Fail> {
+    let mut edit = of_a_session(rt.alloc());
+    let changed = did(edit.change_id())?;
+    let Edited {
+        fate,
+        birth: _,
+        id_changed,
+        events,
+    } = edit.finish();
+    let Fate::Kept(kept) = fate else {
+        return Err("the session was not kept".into());
+    };
+    assert_eq!(rt; kept.secret == FRESH.1, changed);
+    assert_eq!(rt; id_changed, changed);
+    assert_eq!(rt; events.len(), usize::from(changed));
     Ok(())
 }

@@ -16,6 +16,7 @@ fn a_session_is_made(rt: HostRuntime) -> Result<(), Fail> {
     let Edited {
         fate,
         birth,
+        id_changed: _,
         events,
     } = edit.finish();
     assert!(rt; matches!(&fate, Fate::Untouched));
@@ -58,6 +59,7 @@ fn a_session_is_made_behind_one_that_ended(rt: HostRuntime) -> Result<(), Fail> 
     let Edited {
         fate,
         birth,
+        id_changed: _,
         events,
     } = edit.finish();
     assert!(rt; matches!(&fate, Fate::Ended));
@@ -82,6 +84,7 @@ fn no_second_session_is_made(rt: HostRuntime) -> Result<(), Fail> {
     let Edited {
         fate,
         birth,
+        id_changed: _,
         events,
     } = edit.finish();
     assert!(rt; matches!(&fate, Fate::Untouched));
@@ -91,11 +94,73 @@ fn no_second_session_is_made(rt: HostRuntime) -> Result<(), Fail> {
     Ok(())
 }
 
+/// A session whose id is changed has the fresh secret under its own key, once in a request, and all else as it was.
+#[test]
+fn an_id_is_changed(rt: HostRuntime) -> Result<(), Fail> {
+    let mut edit = of_a_session(rt.alloc());
+    edit.change_id()?;
+    assert_eq!(rt; edit.key(), Ok(KEY));
+    assert_eq!(rt; edit.change_id(), Err(SessionFault::SecretUsed));
+    let Edited {
+        fate,
+        birth,
+        id_changed,
+        events,
+    } = edit.finish();
+    let Fate::Kept(kept) = fate else {
+        return Err("the session was not kept".into());
+    };
+    assert_eq!(rt; kept.secret, FRESH.1);
+    assert_eq!(rt; (kept.created, kept.last), (1_000, 1_060));
+    assert!(rt; matches!(&birth, Birth::Absent));
+    assert!(rt; id_changed);
+    let told: [Line; 1] = [("changed", KEY, "", SECRET.0.as_slice())];
+    assert!(rt; tells(events.as_slice(), &told));
+    Ok(())
+}
+
+/// No id is changed without a session, or where one was made.
+#[test]
+fn no_id_is_changed(rt: HostRuntime) -> Result<(), Fail> {
+    let mut edit = of_none(rt.alloc());
+    assert_eq!(rt; edit.change_id(), Err(SessionFault::NoSession));
+    assert!(rt; edit.create()?);
+    assert_eq!(rt; edit.change_id(), Err(SessionFault::SecretUsed));
+    edit.invalidate()?;
+    assert_eq!(rt; edit.change_id(), Err(SessionFault::NoSession));
+    assert!(rt; !edit.finish().id_changed);
+    Ok(())
+}
+
+/// A session is made behind one that has ended with another id, with the same fresh secret.
+#[test]
+fn a_session_is_made_behind_a_change(rt: HostRuntime) -> Result<(), Fail> {
+    let mut edit = of_a_session(rt.alloc());
+    edit.change_id()?;
+    edit.invalidate()?;
+    assert!(rt; edit.create()?);
+    let Edited {
+        fate,
+        birth,
+        id_changed,
+        events,
+    } = edit.finish();
+    let Birth::Alive(made) = birth else {
+        return Err("no session was made".into());
+    };
+    assert_eq!(rt; made.secret, FRESH.1);
+    assert!(rt; matches!(&fate, Fate::Ended));
+    assert!(rt; id_changed);
+    assert_eq!(rt; events.len(), 3);
+    Ok(())
+}
+
 /// The interval of the session that is held, after it was set.
 fn interval_of(edit: SessionEdit) -> Option<i32> {
     let Edited {
         fate,
         birth,
+        id_changed: _,
         events: _,
     } = edit.finish();
     match (&fate, &birth) {
@@ -129,6 +194,7 @@ fn an_interval_is_not_told(rt: HostRuntime) -> Result<(), Fail> {
     let Edited {
         fate,
         birth: _,
+        id_changed: _,
         events,
     } = edit.finish();
     let Fate::Kept(kept) = fate else {

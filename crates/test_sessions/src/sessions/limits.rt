@@ -1,5 +1,5 @@
-//! The limits of attributes: names of 1 to 128 bytes, values of up to 4,096, and a session of 64 attributes and
-//! 32,768 bytes in all.
+//! The limits of attributes: names of 1 to 128 bytes, values of up to 65,536, and a session of 64 attributes
+//! and 131,072 bytes in all.
 
 use super::of_a_session;
 use std::test::Fail;
@@ -11,14 +11,14 @@ const NAME_128: &str =
 const NAME_129: &str =
     "nnnnnnnnnnnnnnnnnnnnnnnnnnnnnnnnnnnnnnnnnnnnnnnnnnnnnnnnnnnnnnnnnnnnnnnnnnnnnnnnnnnnnnnnnnnnnnnnnnnnnnnnnnnnnnnnnnnnnnnnnnnnnnnnn";
 
-const BYTES: [u8; 4_097] = [b'v'; 4_097];
+static BYTES: [u8; 65_537] = [b'v'; 65_537];
 
 /// A name, and how many bytes are set there, or none; what comes of it.
 type Step = (&'static str, Option<usize>, Result<(), SessionFault>);
 
 fn value(length: Option<usize>) -> Option<&'static [u8]> {
     match length {
-        Some(length) => Some(&BYTES[..length.min(4_097)]),
+        Some(length) => Some(&BYTES[..length.min(65_537)]),
         None => None,
     }
 }
@@ -34,26 +34,17 @@ fn first_wrong(edit: &mut SessionEdit, steps: &[Step]) -> Option<usize> {
     None
 }
 
-/// Eight names of a byte and eight values of 4,095 bytes are 32,768 bytes.
-const FULL: [Step; 8] = [
-    ("a", Some(4_095), Ok(())),
-    ("b", Some(4_095), Ok(())),
-    ("c", Some(4_095), Ok(())),
-    ("d", Some(4_095), Ok(())),
-    ("e", Some(4_095), Ok(())),
-    ("f", Some(4_095), Ok(())),
-    ("g", Some(4_095), Ok(())),
-    ("h", Some(4_095), Ok(())),
-];
+/// Two names of a byte and two values of 65,535 bytes are 131,072 bytes.
+const FULL: [Step; 2] = [("a", Some(65_535), Ok(())), ("b", Some(65_535), Ok(()))];
 
 /// Of several faults the first is told: the name's, the value's, the session's.
 const REFUSED: [Step; 6] = [
     ("i", Some(0), Err(SessionFault::SessionTooLarge)),
-    ("a", Some(4_096), Err(SessionFault::SessionTooLarge)),
-    ("i", Some(4_097), Err(SessionFault::ValueTooLong)),
-    (NAME_129, Some(4_097), Err(SessionFault::BadName)),
+    ("a", Some(65_536), Err(SessionFault::SessionTooLarge)),
+    ("i", Some(65_537), Err(SessionFault::ValueTooLong)),
+    (NAME_129, Some(65_537), Err(SessionFault::BadName)),
     ("", Some(0), Err(SessionFault::BadName)),
-    ("a", Some(4_095), Ok(())),
+    ("a", Some(65_535), Ok(())),
 ];
 
 #[test]
@@ -61,25 +52,19 @@ fn a_full_session(rt: HostRuntime) {
     let mut edit = of_a_session(rt.alloc());
     assert!(rt; first_wrong(&mut edit, &FULL).is_none());
     assert!(rt; first_wrong(&mut edit, &REFUSED).is_none());
-    assert_eq!(rt; edit.finish().events.len(), 9);
+    assert_eq!(rt; edit.finish().events.len(), 3);
 }
 
-/// 128 + 4,096 and seven times 1 + 4,000 are 32,231, so 537 bytes are left, one of them for a name; what a change sets
-/// free can be used again.
-const LAST: [Step; 14] = [
-    (NAME_128, Some(4_096), Ok(())),
-    ("a", Some(4_000), Ok(())),
-    ("b", Some(4_000), Ok(())),
-    ("c", Some(4_000), Ok(())),
-    ("d", Some(4_000), Ok(())),
-    ("e", Some(4_000), Ok(())),
-    ("f", Some(4_000), Ok(())),
-    ("g", Some(4_000), Ok(())),
-    ("h", Some(537), Err(SessionFault::SessionTooLarge)),
-    ("h", Some(536), Ok(())),
-    ("g", Some(4_001), Err(SessionFault::SessionTooLarge)),
-    ("h", Some(535), Ok(())),
-    ("g", Some(4_001), Ok(())),
+/// 128 + 65,536 and 1 + 60,000 are 125,665, so 5,407 bytes are left, one of them for a name; what a change sets free can
+/// be used again.
+const LAST: [Step; 8] = [
+    (NAME_128, Some(65_536), Ok(())),
+    ("g", Some(60_000), Ok(())),
+    ("h", Some(5_407), Err(SessionFault::SessionTooLarge)),
+    ("h", Some(5_406), Ok(())),
+    ("g", Some(60_001), Err(SessionFault::SessionTooLarge)),
+    ("h", Some(5_405), Ok(())),
+    ("g", Some(60_001), Ok(())),
     ("h", None, Ok(())),
 ];
 
@@ -87,7 +72,7 @@ const LAST: [Step; 14] = [
 fn the_last_bytes_are_let_through(rt: HostRuntime) {
     let mut edit = of_a_session(rt.alloc());
     assert!(rt; first_wrong(&mut edit, &LAST).is_none());
-    assert!(rt; edit.set("i", value(Some(535))).is_ok());
+    assert!(rt; edit.set("i", value(Some(5_405))).is_ok());
 }
 
 /// No attribute has a name of no bytes or of 129: there is none to be read or removed, and nothing is told.

@@ -25,6 +25,9 @@ fn is_line(event: &Event, line: Line) -> bool {
             name: named,
             old,
         } => what == "replaced" && *its == key && named.as_str() == name && old.as_slice() == value,
+        Event::IdChanged { key: its, old } => {
+            what == "changed" && *its == key && old.0.as_slice() == value
+        }
         _ => false,
     }
 }

@@ -19,7 +19,7 @@ loop-at-preserved g c =
           (identities_left g.F.Filter.filtering g.F.Filter.filter_phase frame.filters (into_iter_items c.loop-at.filters) (into_iter_items c.assemble.new.filters) c.assemble.ensures.filters);
       servlets = new_dropped g.S.Servlet.serves g.S.Servlet.servlet_phase frame.servlets (into_iter_items c.loop-at.servlets) (into_iter_items c.assemble.new.servlets) c.assemble.ensures.servlets c.loop-at.invariant.servlets;
       filters = new_dropped g.F.Filter.filtering g.F.Filter.filter_phase frame.filters (into_iter_items c.loop-at.filters) (into_iter_items c.assemble.new.filters) c.assemble.ensures.filters c.loop-at.invariant.filters;
-      ears = c.tell.ensures.same ∙ c.loop-at.invariant.ears;
+      ears = c.announce.ensures.same ∙ c.loop-at.invariant.ears;
     }
 
 pub returns-clause-sound : goal.returns-clause-sound

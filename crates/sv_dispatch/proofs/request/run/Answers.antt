@@ -1,18 +1,7 @@
-use Rattle.std.proofs.Common.{◌∙◌, ap}
-use Rattle.sv_dispatch.proofs.PageLemmas.{run_paged}
-use Rattle.sv_dispatch.specs.Pages.{paged, page_of_error, page_of_fault}
-use Rattle.sv_dispatch.specs.Stages.{table_of, lent_of}
-use Rattle.sv_dispatch.specs.declared.mode.Ending.TheVariants.{Failed, Faulted}
+use Rattle.sv_dispatch.proofs.PageLemmas.{run_settled}
+use Rattle.sv_dispatch.specs.Stages.{lent_of}
 use Rattle.sv_dispatch.proofs.request.run.Goals as goal
 
-pub returns-in_ok-page-in-Failed-clause-ran : goal.returns-in_ok-page-in-Failed-clause-ran
-returns-in_ok-page-in-Failed-clause-ran g c =
-    let t = table_of g.S.Servlet.serves g.S.Servlet.servlet_phase g.F.Filter.filtering g.F.Filter.filter_phase c.args.stage.now in
-    run_paged c.show_page.result t _ c.args.call c.of.result _ _ (lent_of c.args.stage.now) (lent_of c.dispatch.new.stage) (lent_of c.show_page.new.stage) _ (Failed c.in-Failed.code c.in-Failed.text) _ _ _ c.show_page.ensures.ran c.dispatch.ensures.same c.of.ensures c.in_ok-path_of.ensures c.in_ok-ended.ensures.outcome c.in-Failed.is
-    (λ i. paged t c.args.call (c.status_of-status.ensures.status i) (c.as_str.ensures i) c.dispatch.new.left (lent_of c.dispatch.new.stage) ((c.in_ok-page-in-Failed.ensures ∙ (λ j. page_of_error ((c.as_slice.ensures.value ∙ ap (λ x. x.pages) c.dispatch.ensures.same) j) (c.status_of-status.ensures.status j))) i))
-
-pub returns-in_ok-page-in-Faulted-clause-ran : goal.returns-in_ok-page-in-Faulted-clause-ran
-returns-in_ok-page-in-Faulted-clause-ran g c =
-    let t = table_of g.S.Servlet.serves g.S.Servlet.servlet_phase g.F.Filter.filtering g.F.Filter.filter_phase c.args.stage.now in
-    run_paged c.show_page-in-Faulted.result t _ c.args.call c.of.result _ _ (lent_of c.args.stage.now) (lent_of c.dispatch.new.stage) (lent_of c.show_page-in-Faulted.new.stage) _ (Faulted c.in-Faulted.name) _ _ _ c.show_page-in-Faulted.ensures.ran c.dispatch.ensures.same c.of.ensures c.in_ok-path_of.ensures c.in_ok-ended.ensures.outcome c.in-Faulted.is
-    (λ i. paged t c.args.call 500 (c.as_str-in-Faulted-2.ensures i) c.dispatch.new.left (lent_of c.dispatch.new.stage) ((c.in_ok-page-in-Faulted.ensures ∙ (λ j. page_of_fault ((c.as_slice-in-Faulted.ensures.value ∙ ap (λ x. x.pages) c.dispatch.ensures.same) j) (c.as_str-in-Faulted.ensures j))) i))
+pub returns-clause-ran : goal.returns-clause-ran
+returns-clause-ran g c =
+    run_settled c.settle.result _ _ c.args.call c.of.result _ _ (lent_of c.args.stage.now) (lent_of c.dispatch.new.stage) (lent_of c.settle.new.stage) _ c.settle.ensures.ran c.dispatch.ensures.same c.of.ensures c.in_ok-path_of.ensures c.in_ok-ended.ensures.outcome

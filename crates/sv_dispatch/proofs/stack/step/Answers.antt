@@ -2,7 +2,7 @@ use Rattle.std.proofs.Common.{ap, arith, ◌≤◌, ◌<◌, length}
 use Rattle.std.proofs.lemmas.Result.{IfOk-weaker}
 use Rattle.sv_dispatch.specs.Stack.{need}
 use Rattle.sv_dispatch.specs.declared.mode.Mode.TheVariants.{Enter, Begin, Serve}
-use Rattle.sv_dispatch.proofs.StepLemmas.{keeps, too_deep, pushes, pushes_running, pops, pops_running}
+use Rattle.sv_dispatch.proofs.StepLemmas.{keeps, too_deep, pushes_less, pushes_over, pushes_running_over, pops, pops_running}
 use Rattle.sv_dispatch.proofs.stack.step.Goals as goal
 
 pub returns-then-len-ge-DEPTH-clause-whole : goal.returns-then-len-ge-DEPTH-clause-whole
@@ -26,7 +26,7 @@ returns-in-Serve-clause-whole g c =
 pub returns-in-Nest-clause-whole : goal.returns-in-Nest-clause-whole
 returns-in-Nest-clause-whole g c =
     let h : length c.args.frames.now.items < 16 = omega (arith, ap need c.in-Nest.is, c.requires.running.room) in
-    pushes _ _ _ _ _ _ _ _ c.in-Nest.is c.in_ok-push-in-Nest.ensures.items h
+    pushes_over c.nest.result _ _ _ _ _ _ _ _ c.in-Nest.is c.nest.ensures.frames c.nest.ensures.mode h
 
 pub returns-clause-whole : goal.returns-clause-whole
 returns-clause-whole g c =
@@ -34,7 +34,10 @@ returns-clause-whole g c =
     IfOk-weaker c.leave.result _ _ (λ mode k. pops _ _ _ _ _ mode _ _ _ _ c.in-Leave.is c.in-Some.ensures.items h k) c.leave.ensures.current
 
 pub returns-in-Nest-clause-running : goal.returns-in-Nest-clause-running
-returns-in-Nest-clause-running g c = pushes_running _ _ _ _ _ _ c.in-Nest.is c.in_ok-push-in-Nest.ensures.items c.requires.running
+returns-in-Nest-clause-running g c = pushes_running_over c.nest.result _ _ _ _ _ _ c.in-Nest.is c.nest.ensures.frames c.nest.ensures.mode c.requires.running
+
+pub returns-in-Nest-clause-less : goal.returns-in-Nest-clause-less
+returns-in-Nest-clause-less g c = pushes_less c.nest.result _ _ _ _ _ _ c.in-Nest.is c.nest.ensures.frames c.nest.ensures.mode
 
 pub returns-clause-running : goal.returns-clause-running
 returns-clause-running g c = pops_running c.leave.result _ _ _ _ _ c.in-Some.ensures.items c.requires.running c.leave.ensures.held c.leave.ensures.need

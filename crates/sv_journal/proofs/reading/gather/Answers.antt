@@ -32,7 +32,7 @@ loop-rest-preserved c =
     let r = c.loop-rest.rest.now in
     let n = c.in-Some.count in
     let sofar = payloads c.loop-rest.entries.items in
-    let found : IsHead r n × (n ≤ 131072) × (5 + n ≤ c.loop-rest.remaining) = rw c.in-Some.is at c.in_ok-count.ensures.entry in
+    let found : IsHead r n × (n ≤ 524288) × (5 + n ≤ c.loop-rest.remaining) = rw c.in-Some.is at c.in_ok-count.ensures.entry in
     let room : 5 + n ≤ length r = omega arith in
     let p = c.split_at.result.0.now in
     let next = c.split_at.result.1.now in
@@ -56,7 +56,7 @@ returns-clause-gathers c =
     elim c.if-rest-head.branch [
       | else-rest-head+else-rest-remaining w ↦ omega (arith, i.same, i.within, c.requires.enough)
       | in_ok-count+in-Some+then-size-rest w ↦
-          let found : IsHead c.loop-rest.rest.now w.in-Some.count × (w.in-Some.count ≤ 131072) × (5 + w.in-Some.count ≤ c.loop-rest.remaining) = rw w.in-Some.is at w.in_ok-count.ensures.entry in
+          let found : IsHead c.loop-rest.rest.now w.in-Some.count × (w.in-Some.count ≤ 524288) × (5 + w.in-Some.count ≤ c.loop-rest.remaining) = rw w.in-Some.is at w.in_ok-count.ensures.entry in
           omega (arith, i.same, i.within, c.requires.enough, found.1, found.2)
     ] in (
       taken,

@@ -1,9 +1,10 @@
 use Rattle.std.proofs.Common.{refl, sym, subst}
+use Rattle.std.proofs.lemmas.Result.{on_ok_weaker}
 use Rattle.sv_journal.specs.Disk.{LeavesOnly}
 use Rattle.sv_journal.specs.Format.{payloads}
 use Rattle.sv_node.specs.Compaction.{RestoresBeside}
 use Rattle.sv_node.specs.Records.{Spell, Replays}
-use Rattle.sv_node.proofs.CompactionLemmas.{written_turned, written_stayed, replacing, unmoved, by_answer}
+use Rattle.sv_node.proofs.CompactionLemmas.{written_turned, written_stayed, replacing, unmoved, by_answer, ok_both}
 use Rattle.sv_node.proofs.compaction.replace.Goals as goal
 
 pub returns-in_err-found-clause-any_moment : goal.returns-in_err-found-clause-any_moment
@@ -27,3 +28,16 @@ returns-clause-any_moment g c = λ set d told is s.
     (replacing k.tells k.seen k.may_leave k.moment k.left_since j last.current set s.entries after d s.replays replays (left s.entries told s.holds)))
     (λ left on_a. subst (λ z. LeavesOnly k.moment k.left_since j.other z (RestoresBeside set (k.seen j.current) d)) (sym (written_stayed j last on_a))
     (replacing k.tells k.seen k.may_leave k.moment k.left_since j last.other set s.entries after d s.replays replays (left s.entries told s.holds)))
+
+pub returns-clause-stored : goal.returns-clause-stored
+returns-clause-stored g c =
+    let after = payloads c.deref.result.now in
+    let spelled = subst (λ vs. Spell (payloads vs) c.args.records.now) (sym c.deref.ensures.value) c.in_ok-found.ensures.spelled in
+    on_ok_weaker c.compact.result (λ replaced set d told is s. record {
+      entries = after;
+      holds = replaced s.entries told s.holds;
+      replays = record { records = c.args.records.now; spelled = spelled; fit = is.fit; gives = is.gives };
+    }) c.compact.ensures.replaced
+
+pub returns-clause-turned : goal.returns-clause-turned
+returns-clause-turned g c = ok_both c.compact.result (λ generation on_a. record { generation = generation; on_a = on_a }) c.compact.ensures.generation c.compact.ensures.on_a

@@ -1,4 +1,4 @@
-use Rattle.std.proofs.Common.{ℕ, List, [], ◌∷◌, ◌++◌, ◌∙◌, subst}
+use Rattle.std.proofs.Common.{ℕ, List, [], ◌∷◌, ◌++◌, ◌+◌, ◌∙◌, length, ap, subst}
 use Rattle.std.proofs.lemmas.Result.{on_ok_weaker}
 use Rattle.sv_journal.specs.Disk.{LeavesOnly}
 use Rattle.sv_journal.specs.Format.{OpensEither}
@@ -20,3 +20,8 @@ returns-clause-any_moment g c = λ set e told follows s.
     let is = c.deref.ensures.value ∙ c.in_ok-bytes.ensures.bytes in
     adding d.tells d.seen d.may_leave d.moment d.left_since c.args.journal.now set e c.args.entry.now c.append.new.self.current s c.in_ok-bytes.ensures.fits follows
     (subst (λ (p : List ℕ). LeavesOnly d.moment d.left_since c.args.journal.now.current c.append.new.self.current (OpensEither (d.seen c.args.journal.now.other) s.entries (s.entries ++ p ∷ []))) is (c.append.ensures.any_moment s.entries told s.holds))
+
+pub returns-clause-added : goal.returns-clause-added
+returns-clause-added g c =
+    let is = c.deref.ensures.value ∙ c.in_ok-bytes.ensures.bytes in
+    on_ok_weaker c.append.result (λ end. record { end = end ∙ ap (λ (p : List ℕ). c.args.journal.now.end + 5 + length p) is; generation = c.append.ensures.generation }) c.append.ensures.end

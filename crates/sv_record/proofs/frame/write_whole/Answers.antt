@@ -1,4 +1,5 @@
 use Rattle.std.proofs.Common.{◌≡◌, ◌+◌, List, ℕ, length, ap, ◌∙◌, arith, rules, length-append}
+use Rattle.sv_record.specs.declared.version.Version.TheVariants.{Two}
 use Rattle.sv_record.specs.Frame.{payload_of}
 use Rattle.sv_record.proofs.FrameLaws.{payload_small}
 use Rattle.sv_record.proofs.WrittenLemmas.{front_kept, on_err}
@@ -18,5 +19,5 @@ overflow_cast-count c =
     let end : c.len.result ≡ length c.write_payload.new.out.items = search rules in
     let sum : length c.write_payload.new.out.items ≡ length c.extend_from_slice.new.self.items + length (payload_of c.args.frame.now) =
     ap (λ (l : List ℕ). length l) c.in_ok-write_payload.ensures.ok ∙ length-append c.extend_from_slice.new.self.items (payload_of c.args.frame.now) in
-    let small = payload_small c.args.frame.now c.in_ok-write_payload.ensures.fits in
+    let small = payload_small Two c.args.frame.now c.in_ok-write_payload.ensures.fits in
     record { fits = omega (arith, start, end, sum, small) }

@@ -1,19 +1,19 @@
-use Rattle.std.proofs.Common.{ap, subst, ◌∙◌, arith}
+use Rattle.std.proofs.Common.{subst, arith}
 use Rattle.std.proofs.lemmas.Result.{IfOk-weaker}
 use Rattle.sv_record.specs.Reading.{Gives}
-use Rattle.sv_record.specs.Packet.{packet_format, packet_of}
+use Rattle.sv_record.specs.Packet.{packet_format}
 use Rattle.sv_record.proofs.KindLaws.{packet_lawful}
 use Rattle.sv_record.proofs.RangeLemmas.{packet_range}
-use Rattle.sv_record.proofs.WholeLaws.{whole_again, whole_found}
+use Rattle.sv_record.proofs.WholeLaws.{whole_gives, whole_found}
 use Rattle.sv_record.proofs.packet.read_packet.Goals as goal
 
 pub returns-clause-found : goal.returns-clause-found
 returns-clause-found c = whole_found packet_format packet_lawful c.args.bytes.now c.read_whole.result (λ i. omega (arith, c.type_inv.bytes i)) c.read_whole.ensures
 
 pub returns-clause-only : goal.returns-clause-only
-returns-clause-only c = λ r fits e. subst (λ f. Gives (λ x. x) c.read_whole.result f) (ap packet_of e ∙ whole_again packet_format packet_lawful r fits) c.read_whole.ensures
+returns-clause-only c = λ p spells. subst (λ f. Gives (λ x. x) c.read_whole.result f) (whole_gives packet_format packet_lawful c.args.bytes.now p spells) c.read_whole.ensures
 
 pub returns-clause-within : goal.returns-clause-within
 returns-clause-within c =
-    IfOk-weaker c.read_whole.result _ _ (λ p is. packet_range p is.0)
+    IfOk-weaker c.read_whole.result _ _ (λ p is. packet_range is.version p is.has)
     (whole_found packet_format packet_lawful c.args.bytes.now c.read_whole.result (λ i. omega (arith, c.type_inv.bytes i)) c.read_whole.ensures)

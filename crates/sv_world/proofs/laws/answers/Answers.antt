@@ -1,8 +1,8 @@
 use Rattle.std.proofs.Common.{arith}
 use Rattle.sv_model.specs.Container.{nothing_stored}
-use Rattle.sv_world.specs.World.{run, nothing_happened}
+use Rattle.sv_world.specs.World.{run, nothing_happened, commits_in}
 use Rattle.sv_world.proofs.Runs.{at_first}
-use Rattle.sv_world.proofs.Orders.{run_waits, first_waits}
+use Rattle.sv_world.proofs.Orders.{run_waits, first_waits, all_come}
 use Rattle.sv_world.proofs.Tokens.{run_spent, first_spent, served_once}
 use Rattle.sv_world.proofs.Told.{run_answers, first_answers, answered, fewer}
 use Rattle.sv_world.proofs.Answered.{are_answers}
@@ -17,6 +17,7 @@ returns k m touches c es =
     record {
       lines = h.lines;
       answers = are_answers m w h.lines o.waits.excused (λ t. omega (arith, served_once m c w s t));
+      own = all_come w.trace (commits_in w) o.waits.served;
       distinct = s.once;
       answered = λ t. answered m nothing_stored t w.trace h.lines;
       served = λ t. omega (arith, answered m nothing_stored t w.trace h.lines, fewer t w.trace);

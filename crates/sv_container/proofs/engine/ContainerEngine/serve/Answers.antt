@@ -4,16 +4,13 @@ use Rattle.sv_container.proofs.EngineLemmas.{app_within, below_there, context_th
 use Rattle.sv_container.proofs.engine.ContainerEngine.serve.Goals as goal
 
 pub index-requires : goal.index-requires
-index-requires g c = rw c.args.self.now.applications.ok.0 (app_within g.S.Servlet.serves g.S.Servlet.servlet_phase g.F.Filter.filtering g.F.Filter.filter_phase g.L.Listener.hears c.args.self.now _ _ c.in-Some.ensures)
-
-pub index-requires-2 : goal.index-requires-2
-index-requires-2 g c = rw c.args.self.now.paths.ok.0 (path_within g.S.Servlet.serves g.S.Servlet.servlet_phase g.F.Filter.filtering g.F.Filter.filter_phase g.L.Listener.hears c.args.self.now _ _ c.in-Some.ensures)
+index-requires g c = rw c.args.self.now.paths.ok.0 (path_within g.S.Servlet.serves g.S.Servlet.servlet_phase g.F.Filter.filtering g.F.Filter.filter_phase g.L.Listener.hears c.args.self.now _ _ c.in-Some.ensures)
 
 pub path_in_context-path-requires : goal.path_in_context-path-requires
 path_in_context-path-requires g c =
     let within = path_within g.S.Servlet.serves g.S.Servlet.servlet_phase g.F.Filter.filtering g.F.Filter.filter_phase g.L.Listener.hears c.args.self.now _ _ c.in-Some.ensures in
     below_there _ _ _ _ _ c.in-Some.ensures (c.as_str-3.ensures ∙ sym c.as_str.ensures)
-    (c.as_str-2.ensures.value ∙ context_there string_bytes c.args.self.now.paths.items _ _ within c.index-2.ensures)
+    (c.as_str-2.ensures.value ∙ context_there string_bytes c.args.self.now.paths.items _ _ within c.index.ensures)
 
 pub index_mut-requires : goal.index_mut-requires
 index_mut-requires g c = rw c.args.self.now.applications.ok.0 (app_within g.S.Servlet.serves g.S.Servlet.servlet_phase g.F.Filter.filtering g.F.Filter.filter_phase g.L.Listener.hears c.args.self.now _ _ c.in-Some.ensures)
@@ -36,10 +33,9 @@ returns-clause-valid g c = sound_kept g.S.Servlet.serves g.S.Servlet.servlet_pha
 pub returns-clause-outcome : goal.returns-clause-outcome
 returns-clause-outcome g c =
     let within = path_within g.S.Servlet.serves g.S.Servlet.servlet_phase g.F.Filter.filtering g.F.Filter.filter_phase g.L.Listener.hears c.args.self.now _ _ c.in-Some.ensures in
-    let context = c.as_str-2.ensures.value ∙ context_there string_bytes c.args.self.now.paths.items _ _ within c.index-2.ensures in
-    served_one g.S.Servlet.serves g.S.Servlet.servlet_phase g.F.Filter.filtering g.F.Filter.filter_phase g.L.Listener.hears c.args.self.now _ _ _ _ _ _ _ _ _ _ _ _ _ _ _
-    c.in-Some.ensures c.as_str.ensures c.index_mut.ensures.value c.index.ensures context c.as_str-3.ensures c.path_in_context-path.ensures
-    c.as_slice.ensures c.session_cookie-named.ensures c.in_ok-admission.ensures c.in_ok-serve.ensures.outcome
+    let context = c.as_str-2.ensures.value ∙ context_there string_bytes c.args.self.now.paths.items _ _ within c.index.ensures in
+    served_one g.S.Servlet.serves g.S.Servlet.servlet_phase g.F.Filter.filtering g.F.Filter.filter_phase g.L.Listener.hears c.args.self.now _ _ _ _ _ _ _ _ _ _ _
+    c.in-Some.ensures c.as_str.ensures c.index_mut.ensures.value context c.as_str-3.ensures c.path_in_context-path.ensures c.in_ok-serve.ensures.outcome
 
 pub returns-clause-meaning : goal.returns-clause-meaning
 returns-clause-meaning g c = meaning_kept g.S.Servlet.serves g.S.Servlet.servlet_phase g.F.Filter.filtering g.F.Filter.filter_phase g.L.Listener.hears c.args.self.now _ _ _ c.serve.ensures.same c.index_mut.ensures.value

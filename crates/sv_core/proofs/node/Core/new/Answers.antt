@@ -8,5 +8,5 @@ returns g c =
       over = refl;
       setting = refl;
       stage = refl;
-      node = λ i. record { durable = record { keys = knows_nothing c.new.result.states.entries c.new.ensures i; boot = 0; next = 1 }; parked = c.new-2.ensures.items i; next_want = 1 };
+      node = λ i. record { durable = record { keys = knows_nothing c.new.result.states.items c.new.result.places.items c.new.ensures.places i; boot = 0; next = 1 }; parked = c.new-2.ensures.items i; next_want = 1 };
     }

@@ -3,4 +3,4 @@ use Rattle.sv_core.proofs.TableLemmas.{len_is}
 use Rattle.sv_core.proofs.table.Table.len.Goals as goal
 
 pub returns : goal.returns
-returns c = c.len.ensures.len ∙ len_is c.args.self.now.states.entries c.len.ensures.unique
+returns c = let t = c.args.self.now in c.len.ensures ∙ t.places.ok.0 ∙ len_is t.states.items t.places.items t.rises

@@ -53,7 +53,7 @@ returns-clause-compaction g c =
     let before = durable_of old in
     let records_are : c.deref.result.now ≡ snapshot_of before = c.deref.ensures.value ∙ c.in-Ok.ensures in
     compacting e.valid e.meaning e.heard d.tells d.seen d.may_leave d.moment d.left_since d.failed g.met.D.Disk.counts_now g.met.D.Disk.only_now old new c.replace.result c.requires.valid
-    (compaction_ends e.meaning e.heard d.failed old new refl c.replace.result r.live (subst (λ (rs : List Record). OnOk c.replace.result (last.len ≡ len_with rs)) records_are r.len) r.failed r.damaged
+    (compaction_ends e.meaning e.heard d.failed old new refl c.replace.result r.live (subst (λ (rs : List Record). OnOk c.replace.result (last.len ≡ len_with rs)) records_are r.len) r.turned r.failed r.damaged
     (λ is. subst (λ (rs : List Record). HasNoRoom old.journal rs) records_are (r.full is)) r.device r.unchanged)
     (λ dead. absurd cc) refl r.tells r.kept
     (λ told s. r.any_moment set before told (subst (λ (rs : List Record). Give set rs before) (sym records_are) (snapshot_is set s.entries before s.replays)) s)

@@ -11,7 +11,7 @@ use Rattle.sv_model.specs.declared.record.Record.{Record}
 use Rattle.sv_model.specs.declared.site.StepFault.{StepFault}
 use Rattle.sv_model.specs.declared.site.StepFault.TheVariants.{Memory}
 use Rattle.sv_node.specs.Fault.{step_fault}
-use Rattle.sv_node.specs.Node.{decided_at, setting_of, durable_of, IsTooLong}
+use Rattle.sv_node.specs.Node.{decided_at, setting_of, durable_of, IsTooLong, HasAdded}
 use Rattle.sv_node.specs.Records.{CanFollow}
 use Rattle.sv_node.specs.Stops.{Stores}
 use Rattle.sv_node.specs.declared.node.Node.{Node}
@@ -95,6 +95,7 @@ returns-clause-step g c =
       whole e.valid e.meaning e.heard d.tells d.seen d.may_leave d.moment d.left_since d.failed g.met.D.Disk.counts_now g.met.D.Disk.only_now (core.view_of e.meaning e.heard old.core) (core.view_of e.meaning e.heard mid) (core.view_of e.meaning e.heard c.accept.new.self) decision (core.decision_at mid c.in-Ok.decision) (vec_items c.accept.result) c.decide.ensures.view c.in-Ok.ensures.decision
           (record { meaning = c.accept.ensures.meaning; node = c.accept.ensures.node; heard = c.accept.ensures.heard; outputs_are = c.accept.ensures.outputs }),
       c.in_default-keep.ensures.live,
+      subst (HasAdded old.journal c.keep.new.journal) (c.entry.ensures ∙ ap (λ (x : Decision). x.entry) c.in-Ok.ensures.decision) c.in_default-keep.ensures.added,
     )
     (λ dead. absurd cc) (c.accept.ensures.setting ∙ c.decide.ensures.setting) c.keep.ensures.tells c.keep.ensures.other c.keep.ensures.on_a
     (λ told s. subst (λ (x : Durable). Moments e.valid e.meaning e.heard d.tells d.seen d.may_leave d.moment d.left_since d.failed g.met.D.Disk.counts_now g.met.D.Disk.only_now old.journal c.keep.new.journal set before x) after_is (c.keep.ensures.any_moment set before told follows s))

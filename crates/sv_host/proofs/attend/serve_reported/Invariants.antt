@@ -1,0 +1,10 @@
+use Rattle.sv_node.specs.History.{GoesOn}
+use Rattle.sv_node.specs.Node.{IsNode}
+use Rattle.sv_host.proofs.attend.serve_reported.Given as goal
+
+-- requests have come under numbers up to the last one
+abbrev pub invariant-loop-place : goal.invariant-loop-place
+invariant-loop-place g l = record {
+  valid : IsNode g.E.Engine.valid g.D.Disk.tells g.D.Disk.seen g.D.Disk.may_leave l.node;
+  goes : GoesOn g.E.Engine.meaning g.E.Engine.heard g.D.Disk.tells l.initial.numbers l.numbers l.initial.node l.node;
+}

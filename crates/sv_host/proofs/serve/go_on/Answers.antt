@@ -1,0 +1,18 @@
+use Rattle.std.proofs.Common.{arith}
+use Rattle.sv_node.proofs.HistoryLemmas.{goes_nowhere}
+use Rattle.sv_host.proofs.serve.go_on.Goals as goal
+
+pub returns-in_default-clause-gone : goal.returns-in_default-clause-gone
+returns-in_default-clause-gone g c = λ low below.
+    let e = g.E.Engine in
+    let d = g.D.Disk in
+    goes_nowhere e.meaning e.heard d.tells d.may_leave d.moment d.left_since low c.args.token c.args.node.now (omega (arith, below)) c.requires.live
+
+pub returns-in_default-stage : goal.returns-in_default-stage
+returns-in_default-stage g c =
+    let e = g.E.Engine in
+    let d = g.D.Disk in
+    record {
+      valid = c.requires.valid;
+      gone = λ low below. goes_nowhere e.meaning e.heard d.tells d.may_leave d.moment d.left_since low c.args.token c.args.node.now (omega (arith, below)) c.requires.live;
+    }

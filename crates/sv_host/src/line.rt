@@ -1,0 +1,92 @@
+//! A connection's socket, which never waits.
+
+ghost use Rattle.std.specs.Io.{ReadsAtMost};
+
+use mio::net::TcpStream;
+use mio::{Interest, Registry, Token};
+use std::io;
+use std::io::{ErrorKind, Read, Write};
+use std::net::Shutdown;
+
+/// Writes of one text in turn, at most, before it counts as one that isn't taken.
+const WRITES: u32 = 64;
+
+/// A connection's socket.
+#[derive(Drop)]
+pub struct Line {
+    stream: TcpStream,
+    /// What the poll reports of it, once it was registered.
+    watched: Option<Interest>,
+}
+
+/// How much of a text was written.
+#[derive(Clone, Copy, Debug, PartialEq, Eq)]
+pub enum Written {
+    All,
+    /// The rest is still there, and waits until the other end takes more.
+    Part,
+    /// The connection has broken.
+    Broken,
+}
+
+impl Line {
+    /// A socket that doesn't block.
+    pub fn new(stream: TcpStream) -> Line {
+        Line {
+            stream,
+            watched: None,
+        }
+    }
+
+    /// Reads what is there; `WouldBlock` where nothing is.
+    pub fn read(&mut self, piece: &mut [u8]) -> io::Result<usize>
+        ensures { ReadsAtMost result piece.new }
+    {
+        self.stream.read(piece)
+    }
+
+    /// Writes what the other end takes now, and cuts it off.
+    pub fn write(&mut self, text: &mut Vec<u8>) -> Written {
+        for _ in 0..WRITES {
+            if text.is_empty() {
+                return Written::All;
+            }
+            match self.stream.write(text.as_slice()) {
+                Ok(0) => return Written::Broken,
+                Ok(count) => {
+                    text.drain(..count);
+                }
+                Err(fault) if fault.kind() == ErrorKind::WouldBlock => return Written::Part,
+                Err(_) => return Written::Broken,
+            }
+        }
+        Written::Broken
+    }
+
+    /// Says that nothing more is written.
+    pub fn end_writing(&self) -> io::Result<()> {
+        self.stream.shutdown(Shutdown::Write)
+    }
+
+    /// Has the poll report under a place when the socket becomes ready. False where it can't.
+    pub fn watch(&mut self, registry: &Registry, place: usize, interest: Interest) -> bool {
+        if self.watched == Some(interest) {
+            return true;
+        }
+        if self.watched.is_some() {
+            return self.watch_anew(registry, place, interest);
+        }
+        self.watched = Some(interest);
+        registry
+            .register(&mut self.stream, Token(place), interest)
+            .is_ok()
+    }
+
+    /// Has the poll report the socket again, also where it has been ready for long.
+    pub fn watch_anew(&mut self, registry: &Registry, place: usize, interest: Interest) -> bool {
+        self.watched = Some(interest);
+        registry
+            .reregister(&mut self.stream, Token(place), interest)
+            .is_ok()
+    }
+}

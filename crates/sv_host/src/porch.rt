@@ -1,0 +1,157 @@
+//! Where those stand who connect, and where a node waits.
+
+use crate::deadline::TURN;
+use crate::fault::HostFault;
+use crate::machine::Machine;
+use mio::unix::SourceFd;
+use mio::{Events, Interest, Poll, Registry, Token, net as quick};
+use std::alloc::{AllocFailed, Global};
+use std::io::ErrorKind;
+use std::net::{OpenListener, OpenStream, TcpListener};
+use std::os::fd::AsRawFd;
+use std::time::Duration;
+
+/// So many connections in turn can't be accepted before the node gives up its socket.
+const TRIES: u32 = 1_000;
+
+/// So many events are told in one turn.
+const EVENTS: usize = 256;
+
+/// What the poll calls the listener.
+const DOOR: usize = usize::MAX;
+
+/// Where a node waits.
+#[derive(Drop)]
+pub struct Porch {
+    listener: TcpListener,
+    poll: Poll,
+    events: Events,
+    /// The places that have been reported in this turn.
+    reported: Vec<usize>,
+    /// `accept` waits.
+    waits: bool,
+    /// Somebody may stand at the door.
+    door: bool,
+    /// So many in turn couldn't be accepted.
+    failed: u32,
+}
+
+impl Porch {
+    /// Has a poll report who comes to a listener, and all who are registered with it.
+    pub fn new(
+        machine: &impl Machine,
+        listener: TcpListener,
+    ) -> Result<(Porch, Registry), HostFault> {
+        let alloc: Global = machine.alloc();
+        let Ok(poll) = Poll::new(machine) else {
+            return Err(HostFault::Socket);
+        };
+        let Ok(registry) = poll.registry().try_clone() else {
+            return Err(HostFault::Socket);
+        };
+        let number = listener.as_raw_fd();
+        if registry
+            .register(&mut SourceFd(&number), Token(DOOR), Interest::READABLE)
+            .is_err()
+        {
+            return Err(HostFault::Socket);
+        }
+        let Ok(events) = Events::with_capacity(alloc, EVENTS) else {
+            return Err(HostFault::Socket);
+        };
+        Ok((
+            Porch {
+                listener,
+                poll,
+                events,
+                reported: Vec::new(alloc),
+                waits: true,
+                door: true,
+                failed: 0,
+            },
+            registry,
+        ))
+    }
+
+    /// Waits until somebody is to be looked after, a turn at most. While nobody is in the hall it doesn't wait here, but at the
+    /// door: that needs no call of the poll.
+    pub fn wait(&mut self, waits: bool) {
+        if waits != self.waits && self.listener.set_nonblocking(!waits).is_ok() {
+            self.waits = waits;
+            self.watch_door();
+        }
+        self.reported.clear();
+        if self.waits {
+            self.door = true;
+            return;
+        }
+        let timeout = if self.door {
+            Duration::ZERO
+        } else {
+            Duration::from_secs(TURN)
+        };
+        let _ = self.poll.poll(&mut self.events, Some(timeout));
+        for event in &self.events {
+            let Token(place) = event.token();
+            if place == DOOR {
+                self.door = true;
+            } else {
+                let _: Result<(), AllocFailed<usize>> = self.reported.push(place);
+            }
+        }
+        if self.failed > 0 {
+            self.door = true;
+        }
+    }
+
+    /// Has the poll report the door again where somebody stands there. It costs a tenth of an `accept` that finds nobody.
+    fn watch_door(&mut self) {
+        let number = self.listener.as_raw_fd();
+        let again = self
+            .poll
+            .registry()
+            .reregister(&mut SourceFd(&number), Token(DOOR), Interest::READABLE);
+        if again.is_err() {
+            self.door = true;
+        }
+    }
+
+    /// The places that have been reported in this turn.
+    pub fn reported(&self) -> &[usize] {
+        self.reported.as_slice()
+    }
+
+    /// Somebody may stand at the door.
+    pub fn may_accept(&self) -> bool {
+        self.door
+    }
+
+    /// Accepts a connection; none where nobody stands there, or one couldn't be accepted.
+    pub fn accept(&mut self) -> Result<Option<quick::TcpStream>, HostFault> {
+        match self.listener.accept() {
+            Ok((stream, _)) => {
+                self.failed = 0;
+                self.door = false;
+                if !self.waits {
+                    self.watch_door();
+                }
+                match stream.set_nonblocking(true) {
+                    Ok(()) => Ok(Some(quick::TcpStream::from_std(stream))),
+                    Err(_) => Ok(None),
+                }
+            }
+            Err(fault) => {
+                self.door = false;
+                if fault.kind() == ErrorKind::WouldBlock {
+                    return Ok(None);
+                }
+                self.failed = self.failed.saturating_add(1);
+                if self.failed == TRIES {
+                    Err(HostFault::Socket)
+                } else {
+                    Ok(None)
+                }
+            }
+        }
+    }
+}

@@ -1,0 +1,137 @@
+//! How far a connection has come.
+
+use crate::line::Line;
+use mio::Interest;
+use std::alloc::Global;
+use std::time::Duration;
+use sv_connection::Connection;
+use sv_record::{CONTROL, PEER};
+
+/// What is done with a connection once a text is written.
+#[derive(Drop)]
+pub enum Next {
+    Close,
+    /// It is closed once the client has sent what it is still sending.
+    Part,
+    /// Its next request is read.
+    Listen(Connection),
+}
+
+/// How far a connection has come.
+#[derive(Drop)]
+pub enum Stage {
+    /// Nothing has come yet.
+    New,
+    /// A client whose request isn't whole yet.
+    Asking(Connection),
+    /// A client whose request was answered, and which may have sent the next one along.
+    Asked(Connection),
+    /// A frame that isn't whole yet.
+    Framing(Vec<u8>),
+    /// A client whose request waits at the node.
+    Waiting {
+        connection: Connection,
+        head_only: bool,
+    },
+    /// A command that is answered by this byte once its packet is sent or lost.
+    Holding(u8),
+    /// The rest of a text.
+    Saying {
+        text: Vec<u8>,
+        next: Next,
+    },
+    /// What a client still sends is read and forgotten, up to so many pieces.
+    Parting {
+        pieces: u32,
+    },
+    /// The rest of a packet to a peer, and the place of the command that waits until it is sent or lost.
+    Calling {
+        frame: Vec<u8>,
+        holder: Option<usize>,
+    },
+}
+
+/// An open connection.
+#[derive(Drop)]
+pub struct Open {
+    pub line: Line,
+    pub stage: Stage,
+    /// When the stage began, and when something was last read, by the clock that never goes back.
+    pub begun: Duration,
+    pub heard: Duration,
+}
+
+/// In seconds: so long a client or a peer may say nothing while it is to say something.
+const SILENCE: u64 = 2;
+
+/// In seconds: so long may a request or a frame take to be whole.
+const ASKING: u64 = 10;
+
+/// In seconds: so long may a client take to read its answer.
+const SAYING: u64 = 30;
+
+/// In seconds: so long is read what a client goes on sending whose request was refused.
+const PARTING: u64 = 1;
+
+/// In seconds. A peer is on the same machine: it answers at once, or is not there.
+const CALLING: u64 = 1;
+
+/// For ever, as far as a node goes.
+const UNBOUNDED: u64 = u64::MAX;
+
+impl Stage {
+    /// Who sends this byte first is a peer or gives a command, or is a client.
+    pub fn begin(alloc: Global, single: bool, first: u8) -> Stage {
+        match first {
+            PEER | CONTROL => Stage::Framing(Vec::new(alloc)),
+            _ => Stage::Asking(Connection::new(alloc, single)),
+        }
+    }
+
+    /// The other end is to say something.
+    pub fn listens(&self) -> bool {
+        match self {
+            Stage::New | Stage::Asking(_) | Stage::Asked(_) | Stage::Framing(_) => true,
+            Stage::Waiting { .. }
+            | Stage::Holding(_)
+            | Stage::Saying { .. }
+            | Stage::Parting { .. }
+            | Stage::Calling { .. } => false,
+        }
+    }
+
+    /// What the poll is to report, if anything.
+    pub fn interest(&self) -> Option<Interest> {
+        match self {
+            Stage::New
+            | Stage::Asking(_)
+            | Stage::Asked(_)
+            | Stage::Framing(_)
+            | Stage::Parting { .. } => Some(Interest::READABLE),
+            Stage::Saying { .. } | Stage::Calling { .. } => Some(Interest::WRITABLE),
+            Stage::Waiting { .. } | Stage::Holding(_) => None,
+        }
+    }
+
+    /// How many seconds it may take, and how many of them in silence.
+    fn patience(&self) -> (u64, u64) {
+        match self {
+            Stage::New | Stage::Asking(_) | Stage::Asked(_) | Stage::Framing(_) => {
+                (ASKING, SILENCE)
+            }
+            Stage::Waiting { .. } | Stage::Holding(_) => (UNBOUNDED, UNBOUNDED),
+            Stage::Saying { .. } => (SAYING, SAYING),
+            Stage::Parting { .. } => (PARTING, PARTING),
+            Stage::Calling { .. } => (CALLING, CALLING),
+        }
+    }
+}
+
+impl Open {
+    /// It has taken longer than it may.
+    pub fn is_late(&self, clock: Duration) -> bool {
+        let (whole, silence) = self.stage.patience();
+        clock >= self.begun.saturating_add(Duration::from_secs(whole))
+            || clock >= self.heard.saturating_add(Duration::from_secs(silence))
+    }
+}

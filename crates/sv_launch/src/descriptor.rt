@@ -1,0 +1,83 @@
+//! The descriptor that the program serves by.
+
+ghost use Rattle.std.specs.Prelude.{◌≡◌, ◌≢◌, IfErr, IfOk, Some, None};
+ghost use Rattle.toml.specs.Parse.{parse_document};
+ghost use Rattle.toml.specs.Data.{Members};
+ghost use Rattle.sv_config.specs.Fault.{IsFaultOf};
+ghost use Rattle.sv_config.specs.Fault as config;
+ghost use Rattle.sv_config.specs.Values.{deployment_data, deployment_of};
+ghost use Rattle.sv_config.specs.declared.fault.ConfigFault.{ConfigFault as FaultOfConfig};
+ghost use Rattle.sv_launch.specs.Fault.{fault_in};
+ghost use Rattle.sv_launch.specs.declared.fault.Fault.TheVariants.{Memory};
+
+use crate::fault::Fault;
+use std::alloc::Global;
+use std::fs;
+use std::io::ErrorKind;
+use std::rt::Files;
+use sv_config::Deployment;
+
+/// The word for the built-in descriptor.
+const BUILT_IN_WORD: &str = "-";
+
+/// The built-in descriptor: the context `/shop` with each sample servlet, and a listener.
+pub const BUILT_IN: &str = r#"[[context]]
+path = "/shop"
+
+[[context.servlet]]
+name = "hello"
+patterns = ["/hello"]
+
+[[context.servlet]]
+name = "count"
+patterns = ["/count"]
+
+[[context.servlet]]
+name = "snoop"
+patterns = ["/snoop", ""]
+
+[[context.servlet]]
+name = "login"
+patterns = ["/login"]
+
+[[context.servlet]]
+name = "includer"
+patterns = ["/inc"]
+
+[[context.servlet]]
+name = "forwarder"
+patterns = ["/fwd"]
+
+[[context.servlet]]
+name = "faulty"
+patterns = ["/faulty", "/oops"]
+
+[[context.listener]]
+name = "tally"
+"#;
+
+/// The deployment that a descriptor says, or the descriptor's least fault.
+pub fn deployment_in(alloc: Global, text: &str) -> Result<Deployment, Fault>
+    ensures deployment { IfOk result (λ deployment. (t : Members) × (parse_document text.now ≡ Some t) × (config.fault_of t ≡ None) × (deployment_data deployment ≡ deployment_of t)) }
+    ensures fault { IfErr result (λ fault. fault ≢ Memory → (c : FaultOfConfig) × IsFaultOf text.now c × (fault ≡ fault_in c)) }
+{
+    Ok(Deployment::from_toml(alloc, text)?)
+}
+
+/// The text of a file.
+fn read_file<R: Files + AllocGlobal>(rt: &R, path: &str) -> Result<String, Fault> {
+    match fs::read_to_string(rt, path) {
+        Ok(text) => Ok(text),
+        Err(refused) if refused.kind() == ErrorKind::OutOfMemory => Err(Fault::Memory),
+        Err(_) => Err(Fault::Unreadable),
+    }
+}
+
+/// The deployment that a CONFIG says: the built-in one where it is `-`, or else that of the file at this path.
+pub fn read_config<R: Files + AllocGlobal>(rt: &R, config: &str) -> Result<Deployment, Fault> {
+    if config == BUILT_IN_WORD {
+        return deployment_in(rt.alloc(), BUILT_IN);
+    }
+    let text = read_file(rt, config)?;
+    deployment_in(rt.alloc(), text.as_str())
+}

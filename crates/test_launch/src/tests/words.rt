@@ -1,0 +1,58 @@
+//! The words of the command line.
+
+use super::NOW;
+use std::alloc::Global;
+use std::test::Fail;
+use sv_launch::{Arguments, Words, read_words};
+
+/// Three words, and what they ask for.
+struct Line([&'static str; 3], Result<Words<'static>, Arguments>);
+
+const LINES: [Line; 8] = [
+    Line(
+        ["--once", "-", "784111777"],
+        Ok(Words::Once {
+            config: "-",
+            now: NOW,
+        }),
+    ),
+    Line(
+        ["--once", "a.toml", "18446744073709551615"],
+        Ok(Words::Once {
+            config: "a.toml",
+            now: u64::MAX,
+        }),
+    ),
+    Line(["--once", "-", "18446744073709551616"], Err(Arguments)),
+    Line(["--once", "-", "+1"], Err(Arguments)),
+    Line(["--once", "-", ""], Err(Arguments)),
+    Line(["--once", "-", "1 "], Err(Arguments)),
+    Line(
+        ["c", "j", "7"],
+        Ok(Words::Node {
+            config: "c",
+            journal: "j",
+            number: 7,
+        }),
+    ),
+    Line(["c", "j", "256"], Err(Arguments)),
+];
+
+fn owned(alloc: Global, words: [&str; 3]) -> Result<Vec<String>, Fail> {
+    let mut list = Vec::new(alloc);
+    for word in words {
+        list.push(String::from_str(alloc, word)?)?;
+    }
+    Ok(list)
+}
+
+#[test]
+fn words(rt: HostRuntime) -> Result<(), Fail> {
+    for Line(words, meant) in &LINES {
+        let mut list = owned(rt.alloc(), *words)?;
+        assert!(rt; read_words(list.as_slice()) == *meant, "{words:?}");
+        list.truncate(2);
+        assert!(rt; read_words(list.as_slice()) == Err(Arguments));
+    }
+    Ok(())
+}
