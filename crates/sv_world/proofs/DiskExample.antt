@@ -5,25 +5,44 @@ use Rattle.std.specs.Prelude.{zero, suc}
 use Rattle.sv_model.specs.declared.input.Input.{Input}
 use Rattle.sv_model.specs.declared.input.Input.TheVariants as input
 use Rattle.sv_model.specs.declared.key.Moment.{Moment}
+use Rattle.sv_model.specs.declared.outcome.Birth.TheVariants.{Alive}
+use Rattle.sv_model.specs.declared.outcome.Fate.TheVariants.{Untouched}
+use Rattle.sv_model.specs.declared.output.Output.TheVariants.{Answer}
 use Rattle.sv_model.specs.declared.request.Request.{Request}
 use Rattle.sv_model.specs.declared.response.Response.{Response}
 use Rattle.sv_model.specs.declared.session.Session.{Session}
+use Rattle.sv_model.specs.declared.state.KeyState.{KeyState}
 use Rattle.sv_model.specs.declared.site.StepFault.TheVariants.{Device}
 use Rattle.sv_model.specs.Engine.{EngineMeaning}
+use Rattle.sv_model.specs.Keys.{key_cmp}
 use Rattle.sv_model.specs.Node.{decided}
 use Rattle.sv_model.specs.NodeState.{Node, last_number}
 use Rattle.sv_model.specs.Replay.{blank}
 use Rattle.sv_node.specs.Call.{Open, Step, Done, Refused, After, quiet, kept, carried_out}
 use Rattle.sv_node.specs.Opened.{restarted}
 use Rattle.sv_node.specs.History.{AreTurns, Rise, halted}
-use Rattle.sv_world.specs.Disks.{NodeCall, AreCalls, nothing_called}
+use Rattle.sv_world.specs.declared.event.WorldEvent.{WorldEvent}
+use Rattle.sv_world.specs.declared.event.WorldEvent.TheVariants.{Ask, Restart, Torn}
+use Rattle.sv_world.specs.Disks.{NodeCall, Shown, AreCalls, AreOfAll, behind_all, nothing_called}
 use Rattle.sv_world.specs.Processes.{turns_at, AreOfProcesses}
 use Rattle.sv_world.specs.World.{setting_of}
-use Rattle.sv_world.proofs.Example.{makes, two}
+use Rattle.sv_world.proofs.Example.{two}
 
-module _ (response : Response) (s : Session) (r : Request) (moment : Moment) where
+-- the answer to a request has its body
+abbrev echo : Request → Response
+echo r = record { status = 200; fields = []; body = r.body; head_only = false; close = false }
+
+-- it makes a session for each request, and answers with the echo
+abbrev echoes : Session → EngineMeaning
+echoes s = record {
+  names = λ r. None;
+  serve = λ r held now fresh. record { response = echo r; fate = Untouched; birth = Alive s; events = [] };
+  hear = λ heard t. heard;
+}
+
+module _ (s : Session) (r : Request) (moment : Moment) where
   abbrev m : EngineMeaning
-  m = makes response s
+  m = echoes s
 
   -- what the node keeps behind each call
   abbrev opened : Node
@@ -70,3 +89,17 @@ module _ (response : Response) (s : Session) (r : Request) (moment : Moment) whe
 
   of_processes : AreOfProcesses m two list
   of_processes = record { inside = (omega arith, (omega arith, (omega arith, tt))); turns = own; rise = numbers; sent = (tt, (tt, (tt, tt))) }
+
+  -- the only whole step has put out the answer to that request, and nothing else
+  shown : (behind_all nothing_called list).shown ≡ record { node = 0; boot = 1; outputs = Answer 7 (echo r) ∷ []; told = answered.told } ∷ []
+  shown = rw (len-empty key_cmp KeyState) refl
+
+  -- whatever list of events is these calls' own asks for that request, under that number
+  own_events : (events : List WorldEvent) → AreOfAll nothing_called list events
+      → (kept : Bool) × (events ≡ Restart 0 ∷ Ask 0 moment 7 r ∷ Torn 0 moment moves kept ∷ [])
+  own_events events (_, _, refl, refl, (_, _, refl, refl, (_, _, refl, (kept, refl), refl))) = (kept, refl)
+
+  -- so no list that asks for another request is
+  not_of_another : (other : Request) → other ≢ r → (kept : Bool)
+      → ¬ AreOfAll nothing_called list (Restart 0 ∷ Ask 0 moment 7 other ∷ Torn 0 moment moves kept ∷ [])
+  not_of_another other differs kept are = let own = own_events _ are in differs (let same = own.1 in cc)
