@@ -28,7 +28,7 @@ use Rattle.sv_connection.specs.Solo.{IsNew, IsHistory, solo_steps, view_of, view
 use Rattle.sv_connection.specs.Request.{request_of}
 use Rattle.sv_connection.specs.Serve.{How, Sight, IsDirected, IsServed}
 use Rattle.sv_connection.proofs.TraceLemmas.{times-append, all_runs, one_container, acknowledged, served_once}
-use Rattle.sv_launch.specs.declared.once.OnceFault.{OnceFault}
+use Rattle.sv_launch.specs.declared.stream.OnceFault.{OnceFault}
 use Rattle.sv_launch.specs.Once.{turn_of, Reaches, AtStart, Behind, EndsWith, IsSpent, IsStream, directed_call, call_in, calls_to, call_at_end, calls_of, IsOneHistory}
 
 -- ---- numbers that rise

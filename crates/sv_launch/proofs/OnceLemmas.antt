@@ -11,7 +11,7 @@ use Rattle.sv_connection.specs.declared.solo.Solo.{Solo}
 use Rattle.sv_connection.specs.Connection.{IsFresh, sight_of}
 use Rattle.sv_connection.specs.Serve.{how, is_parked, Sight, sight, IsServed}
 use Rattle.sv_connection.specs.Solo.{IsNew, solo_steps}
-use Rattle.sv_launch.specs.declared.once.OnceFault.{OnceFault}
+use Rattle.sv_launch.specs.declared.stream.OnceFault.{OnceFault}
 use Rattle.sv_host.specs.Secrets.{secret_of}
 use Rattle.sv_launch.specs.Once.{turn_of, ending, Reaches, AtStart, Behind, IsUnderway, HasServed}
 

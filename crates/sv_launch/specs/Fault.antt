@@ -10,8 +10,8 @@ use Rattle.sv_host.specs.declared.fault.HostFault.{HostFault}
 use Rattle.sv_host.specs.declared.fault.HostFault.TheVariants as host
 use Rattle.sv_host.specs.declared.place.PlaceFault.{PlaceFault}
 use Rattle.sv_host.specs.declared.place.PlaceFault.TheVariants as place
-use Rattle.sv_launch.specs.declared.once.OnceFault.{OnceFault}
-use Rattle.sv_launch.specs.declared.once.OnceFault.TheVariants.{Input as InputFault, Output as OutputFault}
+use Rattle.sv_launch.specs.declared.stream.OnceFault.{OnceFault}
+use Rattle.sv_launch.specs.declared.stream.OnceFault.TheVariants.{Input as InputFault, Output as OutputFault}
 
 -- a fault of a stream ends the program
 abbrev pub fault_of : OnceFault → Fault

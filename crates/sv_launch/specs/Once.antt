@@ -19,9 +19,9 @@ use Rattle.sv_connection.specs.Table.{alone, node_of}
 use Rattle.sv_connection.specs.Solo.{IsNew, IsHistory, solo_steps, view_of}
 use Rattle.sv_connection.specs.Request.{request_of}
 use Rattle.sv_connection.specs.Serve.{How, how, Sight, sight, IsDirected, IsServed}
-use Rattle.sv_launch.specs.declared.once.OnceFault.{OnceFault}
+use Rattle.sv_launch.specs.declared.stream.OnceFault.{OnceFault}
 use Rattle.sv_host.specs.Secrets.{secret_of}
-use Rattle.sv_launch.specs.declared.once.OnceFault.TheVariants.{Input as InputFault, Output as OutputFault}
+use Rattle.sv_launch.specs.declared.stream.OnceFault.TheVariants.{Input as InputFault, Output as OutputFault}
 
 -- how the n-th request of a stream is served: under the number n, with the secret n
 abbrev pub turn_of : ℕ → ℕ → How

@@ -4,7 +4,7 @@ ghost use Rattle.std.specs.Prelude.{◌≡◌};
 ghost use Rattle.sv_launch.specs.Fault.{fault_at, fault_in, fault_of, host_fault, place_fault, status_of};
 ghost use Rattle.sv_launch.specs.declared.fault.Fault.TheVariants.{Memory};
 
-use crate::once::OnceFault;
+use crate::stream::OnceFault;
 use std::alloc::{AllocError, AllocFailed};
 use sv_config::ConfigFault;
 use sv_container::StartFault;

@@ -9,17 +9,17 @@
 mod descriptor;
 mod fault;
 mod kinds;
+mod launch;
 mod objects;
-mod once;
 mod purpose;
-mod serve;
+mod stream;
 mod words;
 
 pub use descriptor::{BUILT_IN, deployment_in, read_config};
 pub use fault::Fault;
 pub use kinds::{FilterKind, Kind, ListenerKind, ServletKind};
+pub use launch::{serve, start};
 pub use objects::{Entry, entries_of};
-pub use once::{OnceFault, once};
 pub use purpose::{Purpose, Running, Stream};
-pub use serve::{serve, start};
+pub use stream::{OnceFault, once};
 pub use words::{Arguments, Words, read_words};

@@ -1,7 +1,7 @@
 //! What the applications of a deployment are started for: to serve one stream, or as a node of a cluster.
 
 use crate::fault::Fault;
-use crate::once::once;
+use crate::stream::once;
 use std::alloc::Global;
 use std::io::{Read, Write};
 use sv_host::{Machine, Place, run_node};

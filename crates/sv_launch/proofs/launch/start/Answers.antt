@@ -3,9 +3,9 @@ use Rattle.std.proofs.lemmas.List.Elements.{All-push}
 use denote.Param.Object.{Made, read_made}
 use Rattle.sv_servlet.specs.declared.servlet.Phase.{Phase}
 use Rattle.sv_servlet.specs.declared.servlet.Phase.TheVariants.{New}
-use Rattle.sv_launch.proofs.serve.start.OwnLists.{own-1}
-use Rattle.sv_launch.proofs.serve.start.Goals as goal
-use Rattle.sv_launch.proofs.serve.start.Goals.{in-Hello+in_ok-new-in-Hello, in-Count+in_ok-new-in-Count, in-Snoop+in_ok-new-in-Snoop, in-Login+in_ok-new-in-Login, in-Renew+in_ok-new-in-Renew, in-Includer+in_ok-new-in-Includer, in-Forwarder+in_ok-new-in-Forwarder, in-Faulty+in_ok-new-in-Faulty}
+use Rattle.sv_launch.proofs.launch.start.OwnLists.{own-1}
+use Rattle.sv_launch.proofs.launch.start.Goals as goal
+use Rattle.sv_launch.proofs.launch.start.Goals.{in-Hello+in_ok-new-in-Hello, in-Count+in_ok-new-in-Count, in-Snoop+in_ok-new-in-Snoop, in-Login+in_ok-new-in-Login, in-Renew+in_ok-new-in-Renew, in-Includer+in_ok-new-in-Includer, in-Forwarder+in_ok-new-in-Forwarder, in-Faulty+in_ok-new-in-Faulty}
 
 -- a box of an object has the object's phase
 boxed : (at i : own-1.I) (y : (own-1.entry i).0.Denot) (x : (own-1.entry at).0.Denot) → Made (λ j. (own-1.entry j).0.coded.code) (own-1.entry at).0.coded.code at i y x

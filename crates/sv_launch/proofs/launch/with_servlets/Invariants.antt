@@ -1,7 +1,7 @@
 use Rattle.std.proofs.Common.{◌≡◌, All}
 use Rattle.sv_servlet.specs.declared.servlet.Phase.TheVariants.{New}
-use Rattle.sv_launch.proofs.serve.with_servlets.OwnLists.{own-1}
-use Rattle.sv_launch.proofs.serve.with_servlets.Given as goal
+use Rattle.sv_launch.proofs.launch.with_servlets.OwnLists.{own-1}
+use Rattle.sv_launch.proofs.launch.with_servlets.Given as goal
 
 -- all filters are as they were made
 abbrev pub invariant-loop-entry : goal.invariant-loop-entry

@@ -3,9 +3,9 @@ use Rattle.std.proofs.lemmas.List.Elements.{All-push}
 use denote.Param.Object.{Made, read_made}
 use Rattle.sv_servlet.specs.declared.servlet.Phase.{Phase}
 use Rattle.sv_servlet.specs.declared.servlet.Phase.TheVariants.{New}
-use Rattle.sv_launch.proofs.serve.with_servlets.OwnLists.{own-1}
-use Rattle.sv_launch.proofs.serve.with_servlets.Goals as goal
-use Rattle.sv_launch.proofs.serve.with_servlets.Goals.{in-Stamp+in_ok-new-in-Stamp+in_ok-new-in-Stamp-2, in-Gate+in_ok-new-in-Gate}
+use Rattle.sv_launch.proofs.launch.with_servlets.OwnLists.{own-1}
+use Rattle.sv_launch.proofs.launch.with_servlets.Goals as goal
+use Rattle.sv_launch.proofs.launch.with_servlets.Goals.{in-Stamp+in_ok-new-in-Stamp+in_ok-new-in-Stamp-2, in-Gate+in_ok-new-in-Gate}
 
 -- a box of an object has the object's phase
 boxed : (at i : own-1.I) (y : (own-1.entry i).0.Denot) (x : (own-1.entry at).0.Denot) → Made (λ j. (own-1.entry j).0.coded.code) (own-1.entry at).0.coded.code at i y x

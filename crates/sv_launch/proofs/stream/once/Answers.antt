@@ -2,7 +2,7 @@ use Rattle.std.proofs.Common.{◌+◌, sym, subst, ◌∙◌, arith}
 use Rattle.sv_connection.specs.Connection.{is_single}
 use Rattle.sv_launch.proofs.OnceLemmas.{begins, as_turn, goes_on, goes_on_unparked, stops, runs_out}
 use Rattle.sv_launch.proofs.HistoryLemmas.{one_history}
-use Rattle.sv_launch.proofs.once.once.Goals as goal
+use Rattle.sv_launch.proofs.stream.once.Goals as goal
 
 pub loop-count-init : goal.loop-count-init
 loop-count-init g c = record {

@@ -2,7 +2,7 @@ use Rattle.std.proofs.Common.{◌≡◌}
 use Rattle.std.specs.Prelude.{false}
 use Rattle.sv_connection.specs.Connection.{is_single, is_waiting, sight_of}
 use Rattle.sv_launch.specs.Once.{IsUnderway}
-use Rattle.sv_launch.proofs.once.once.Given as goal
+use Rattle.sv_launch.proofs.stream.once.Given as goal
 
 -- the engine may be called, and so many requests have been served in turn
 abbrev pub invariant-loop-count : goal.invariant-loop-count
