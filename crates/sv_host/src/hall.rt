@@ -78,13 +78,21 @@ impl Hall {
     /// Puts a connection to its place.
     pub fn put(&mut self, place: usize, line: Line, stage: Stage, begun: Duration) {
         let heard = self.clock;
-        if let Some(slot) = self.places.get_mut(place) {
-            *slot = Some(Open {
+        self.seat(
+            place,
+            Open {
                 line,
                 stage,
                 begun,
                 heard,
-            });
+            },
+        );
+    }
+
+    /// Sets a connection at its place.
+    fn seat(&mut self, place: usize, open: Open) {
+        if let Some(slot) = self.places.get_mut(place) {
+            *slot = Some(open);
         }
     }
 
@@ -97,16 +105,18 @@ impl Hall {
     /// Puts a connection back as it was, and has the poll report it. Where that can't be, it is closed.
     pub fn keep(&mut self, place: usize, open: Open) {
         let mut open = open;
-        let watched = match open.stage.interest() {
+        if self.watch(place, &mut open) {
+            self.seat(place, open);
+        } else {
+            self.leave(place);
+        }
+    }
+
+    /// Has the poll report what the stage of a connection waits for. False where it can't.
+    fn watch(&self, place: usize, open: &mut Open) -> bool {
+        match open.stage.interest() {
             Some(interest) => open.line.watch(&self.registry, place, interest),
             None => true,
-        };
-        if !watched {
-            self.leave(place);
-            return;
-        }
-        if let Some(slot) = self.places.get_mut(place) {
-            *slot = Some(open);
         }
     }
 
@@ -196,12 +206,7 @@ impl Hall {
         let Some(open) = self.take(place) else {
             return;
         };
-        let Open {
-            line,
-            stage,
-            begun,
-            heard,
-        } = open;
+        let (line, stage, begun, heard) = open.into_parts();
         match stage {
             Stage::Holding(byte) => self.tell(place, line, byte),
             other => self.keep(
@@ -290,12 +295,7 @@ impl Hall {
         let Some(open) = self.take(place) else {
             return;
         };
-        let Open {
-            line,
-            stage,
-            begun,
-            heard,
-        } = open;
+        let (line, stage, begun, heard) = open.into_parts();
         match stage {
             Stage::Waiting {
                 connection,
@@ -399,12 +399,7 @@ impl Hall {
         let Some(open) = self.take(place) else {
             return;
         };
-        let Open {
-            line,
-            stage,
-            begun,
-            heard,
-        } = open;
+        let (line, stage, begun, heard) = open.into_parts();
         match stage {
             Stage::Saying { text, next } => {
                 let mut text = text;

@@ -12,11 +12,20 @@ use std::net::Shutdown;
 const WRITES: u32 = 64;
 
 /// A connection's socket.
-#[derive(Drop)]
 pub struct Line {
     stream: TcpStream,
     /// What the poll reports of it, once it was registered.
     watched: Option<Interest>,
+}
+
+/// By hand, so that the proof of a caller has one step for it.
+impl Drop for Line {
+    fn drop(self) {
+        let Line {
+            stream: _,
+            watched: _,
+        } = self;
+    }
 }
 
 /// How much of a text was written.

@@ -275,6 +275,25 @@ fn see_off(desk: &mut Desk, place: usize, line: Line, heard: Heard, begun: Durat
     }
 }
 
+/// Why nothing was read of a connection.
+#[derive(Drop)]
+enum Missing {
+    /// Nothing has come yet.
+    Yet,
+    /// Nothing more will come.
+    ForEver,
+}
+
+/// Reads once what has come on a connection.
+fn look<'a>(line: &mut Line, piece: &'a mut [u8; PIECE]) -> Result<&'a [u8], Missing> {
+    match line.read(piece) {
+        Ok(0) => Err(Missing::ForEver),
+        Ok(count) => Ok(&piece[..count]),
+        Err(fault) if fault.kind() == ErrorKind::WouldBlock => Err(Missing::Yet),
+        Err(_) => Err(Missing::ForEver),
+    }
+}
+
 /// Reads once what has come on a connection, and does what it leads to; whether more is to be read.
 fn listen_once<M: Machine, E: Engine, D: Disk>(
     machine: &M,
@@ -291,22 +310,17 @@ fn listen_once<M: Machine, E: Engine, D: Disk>(
     ensures gone { (low : ℕ) → low < token → HasGone E.meaning E.heard D.tells D.may_leave low token node.old node.new result }
 {
     let mut open = open;
-    let count = match open.line.read(piece) {
-        Ok(0) => {
+    match look(&mut open.line, piece) {
+        Ok(come) => take(machine, desk, node, place, open, come, token),
+        Err(Missing::Yet) => {
+            desk.hall.keep(place, open);
+            Ok(false)
+        }
+        Err(Missing::ForEver) => {
             desk.hall.leave(place);
-            return Ok(false);
+            Ok(false)
         }
-        Ok(count) => count,
-        Err(fault) => {
-            if fault.kind() == ErrorKind::WouldBlock {
-                desk.hall.keep(place, open);
-            } else {
-                desk.hall.leave(place);
-            }
-            return Ok(false);
-        }
-    };
-    take(machine, desk, node, place, open, &piece[..count], token)
+    }
 }
 
 /// Takes what has come on a connection, and does what it leads to; whether more is to be read.
@@ -324,12 +338,7 @@ fn take<M: Machine, E: Engine, D: Disk>(
     ensures valid { IsNode E.valid D.tells D.seen D.may_leave node.new }
     ensures gone { (low : ℕ) → low < token → HasGone E.meaning E.heard D.tells D.may_leave low token node.old node.new result }
 {
-    let Open {
-        line,
-        stage,
-        begun: since,
-        heard: _,
-    } = open;
+    let (line, stage, since, _) = open.into_parts();
     let mut line = line;
     let stage = begun(desk, stage, piece);
     let heard = serve_stage(machine, desk, node, &mut line, stage, piece, token)?;

@@ -24,7 +24,7 @@ first_within now fresh = record {
   count = omega arith;
   named = All-nil (λ (a : Attribute). 0 < length a.0);
   names = All-nil (λ (a : Attribute). length a.0 ≤ 128);
-  values = All-nil (λ (a : Attribute). length a.1 ≤ 4_096);
+  values = All-nil (λ (a : Attribute). length a.1 ≤ 65_536);
   size = omega (arith, attributes_size-nil);
 }
 
