@@ -17,13 +17,14 @@ class Request:
 
 
 class History:
-    """The requests of one session. Each that is answered is given a number: the count of the session behind it."""
+    """The requests of one session. Each that is answered is given a number: the count of the session behind it. The session may
+    have begun with a login, which gives no number; then it keeps the name of its user too."""
 
-    def __init__(self, cookie):
-        self.cookie = cookie
+    def __init__(self, cookie, user=None):
+        self.cookie, self.user = cookie, user
         self.key = int(cookie[2:4], 16), int(cookie[4:20], 16)
         self.lock = threading.Lock()
-        self.requests = [Request(time.monotonic(), time.monotonic(), 1)]
+        self.requests = [] if user else [Request(time.monotonic(), time.monotonic(), 1)]
         self.at = 0
 
     def begin(self):
@@ -55,11 +56,15 @@ class History:
         if request.number > begun:
             raise Breach(f"session {self.cookie}: the number {request.number} for {begun} requests")
 
-    def look_at_the_end(self, count):
+    def look_at_the_end(self, attributes):
         """The session that is kept counts each answered request, and at most those besides whose answers were cut off."""
+        if self.user and attributes.get("user") != self.user.encode():
+            raise Breach(f"session {self.cookie} has lost its user")
+        count = int(attributes.get("count", 0))
         answered = [request.number for request in self.requests if request.number]
         unknown = sum(not request.number and not request.refused for request in self.requests)
-        if count < max(answered):
-            raise Breach(f"session {self.cookie}: {max(answered)} was answered and {count} is kept")
+        greatest = max(answered, default=0)
+        if count < greatest:
+            raise Breach(f"session {self.cookie}: {greatest} was answered and {count} is kept")
         if count - len(answered) > unknown:
             raise Breach(f"session {self.cookie}: {count} is kept of {len(answered)} answers and {unknown} without one")
