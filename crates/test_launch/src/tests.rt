@@ -6,9 +6,11 @@
 mod descriptors;
 mod dispatch;
 mod expiry;
+mod journals;
 mod mapping;
 mod messages;
 mod nesting;
+mod overheard;
 mod renewing;
 mod sessions;
 mod streams;

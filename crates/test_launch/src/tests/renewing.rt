@@ -2,8 +2,12 @@
 //!
 //! The last 32 digits of a cookie are the secret, which is the number of the request that gave it to the session.
 
-use super::{Row, expect_rows};
+use super::overheard::Overheard;
+use super::{NOW, Row, expect_rows};
+use std::alloc::Global;
 use std::test::Fail;
+use sv_launch::{Fault, Purpose, deployment_in, once, start};
+use sv_model::Engine;
 
 const RENEWING: &str = r#"
 [[context]]
@@ -30,4 +34,53 @@ const ROWS: [Row; 2] = [
 #[test]
 fn ids_change(rt: HostRuntime) -> Result<(), Fail> {
     expect_rows(&rt, RENEWING, &ROWS)
+}
+
+/// A stream of requests, whose events are noted.
+#[derive(Drop)]
+struct Overhearing<'a> {
+    input: &'a str,
+    noted: &'a mut String,
+}
+
+impl Purpose for Overhearing<'_> {
+    fn serve<E: Engine + Drop>(self, alloc: Global, engine: E) -> Result<(), Fault> {
+        let Overhearing { input, noted } = self;
+        let mut reader = input.as_bytes();
+        let mut writer = Vec::new(alloc);
+        let overheard = Overheard {
+            alloc,
+            engine,
+            noted,
+        };
+        once(alloc, overheard, NOW, &mut reader, &mut writer)?;
+        Ok(())
+    }
+}
+
+/// What is noted of the events of a stream.
+fn overheard(alloc: Global, input: &str) -> Result<String, Fault> {
+    let mut noted = String::new(alloc);
+    let deployment = deployment_in(alloc, RENEWING)?;
+    start(
+        alloc,
+        deployment,
+        Overhearing {
+            input,
+            noted: &mut noted,
+        },
+    )?;
+    Ok(noted)
+}
+
+/// The events of the second row, request by request: the id of the session 1 is changed from the secret 1, then from the secret 2;
+/// one that is refused, and a second change, tell nothing.
+const EVENTS: &str =
+    "in created:1 added:count out ;in changed:1/1 out ;in created:2 added:count out ;in replaced:count out ;in changed:1/2 out ;in out ;in created:3 out ;";
+
+#[test]
+fn a_change_is_told_once(rt: HostRuntime) -> Result<(), Fail> {
+    let Row(_, input, _) = &ROWS[1];
+    assert_eq!(rt; overheard(rt.alloc(), input)?.as_str(), EVENTS);
+    Ok(())
 }
