@@ -7,6 +7,8 @@
 #[cfg(test)]
 mod failing;
 #[cfg(test)]
+mod large;
+#[cfg(test)]
 mod running;
 #[cfg(test)]
 mod waiting;

@@ -2,7 +2,7 @@
 //! the node goes on from whatever stands there.
 //!
 //! A journal is 16 bytes, then for each entry a gate, four bytes of length and a record, then a closed gate. The record of a
-//! start has 10 bytes, that of a count of one digit 65, and a snapshot of one such session is two records of 19 and 71: so 32 bytes
+//! start has 10 bytes, that of a count of one digit 65, and a snapshot of one such session is two records of 18 and 72: so 32 bytes
 //! behind the first start, 102 behind the first count, 117 as a snapshot, and 15 more behind each start that follows.
 
 ghost use Rattle.std.specs.Prelude.{IfOk};
