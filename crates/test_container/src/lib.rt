@@ -16,4 +16,8 @@ mod faults;
 mod lives;
 mod noting;
 #[cfg(test)]
+mod sample;
+#[cfg(test)]
 mod served;
+#[cfg(test)]
+mod worlds;
