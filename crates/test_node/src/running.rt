@@ -6,7 +6,7 @@ use std::alloc::{AllocError, Global};
 use std::test::Fail;
 use sv_journal::MemoryDisk;
 use sv_model::{Input, Moment, Output, Secret, Setting, Site, StepFault};
-use sv_node::{Node, NotOpened};
+use sv_node::{Node, NotOpened, OpenFault};
 use test_engine::{Counter, request};
 
 /// The moment of each call.
@@ -157,5 +157,32 @@ fn a_count_goes_on_behind_a_stop(rt: HostRuntime) -> Result<(), Fail> {
     for (acts, told) in &rows {
         assert_eq!(rt; played(rt.alloc(), acts)?.as_str(), *told);
     }
+    Ok(())
+}
+
+/// A journal's header, and the head of a snapshot, with seven bytes of the number of its starts.
+const SNAPSHOT: &[u8] =
+    b"\xA5SVJRNL\x01\0\0\0\0\0\0\0\x01\xA5\0\0\0\x12\x02\x08\xFF\xFF\xFF\xFF\xFF\xFF\xFF";
+
+/// A disk of a node whose number of starts ends in this byte, and whose next session has the serial 1.
+fn started_often(alloc: Global, last: u8) -> Result<MemoryDisk, AllocError> {
+    let mut image = Vec::new(alloc);
+    image.extend_from_slice(SNAPSHOT)?;
+    image.extend_from_slice(&[last, 0, 0, 0, 0, 0, 0, 0, 1, 0])?;
+    MemoryDisk::with(alloc, image.as_slice())
+}
+
+/// A node that has been started 2^64 - 2 times may be started once more, and then never again.
+#[test]
+fn a_journal_whose_starts_are_spent_is_damaged(rt: HostRuntime) -> Result<(), Fail> {
+    let alloc = rt.alloc();
+    let blank = MemoryDisk::new(alloc);
+    assert!(rt; open(alloc, started_often(alloc, 0xFE)?, blank).is_ok());
+    let blank = MemoryDisk::new(alloc);
+    let fault = match open(alloc, started_often(alloc, 0xFF)?, blank) {
+        Ok(_) => None,
+        Err(refused) => Some(refused.fault),
+    };
+    assert_eq!(rt; fault, Some(OpenFault::Damaged));
     Ok(())
 }
