@@ -12,6 +12,7 @@
 #![tactic(auto)]
 
 use std::fs::File;
+use std::io::ErrorKind;
 use std::net::{Net, TcpListener, TcpStream};
 use std::process::ExitCode;
 use std::rt::{Clock, Env, Files};
@@ -22,8 +23,11 @@ use sv_launch::{Fault, Running, Words, read_config, read_words, serve, start};
 /// The words behind the program's name.
 fn words_of<R: Env + AllocGlobal>(rt: &R) -> Result<Vec<String>, Fault> {
     let mut words = Vec::new(rt.alloc());
-    let Ok(args) = env::args(rt) else {
-        return Err(Fault::Memory);
+    let args = match env::args(rt) {
+        Ok(args) => args,
+        Err(fault) if fault.kind() == ErrorKind::OutOfMemory => return Err(Fault::Memory),
+        // A word is no UTF-8 text.
+        Err(_) => return Err(Fault::Arguments),
     };
     for word in args.skip(1) {
         words.push(word)?;
