@@ -109,7 +109,7 @@ const HEADS: [Row; 22] = [
     ),
 ];
 
-const HOSTS: [Row; 10] = [
+const HOSTS: [Row; 15] = [
     ("no Host", "GET / HTTP/1.1\r\nA: b\r\n\r\n", "BadHost"),
     (
         "two Hosts",
@@ -124,6 +124,32 @@ const HOSTS: [Row; 10] = [
     (
         "a Host in brackets",
         "GET / HTTP/1.1\r\nHost: [::1]:8080\r\n\r\n",
+        "GET / stays <> none",
+    ),
+    // A Host is looked at byte by byte, so that some are taken which no URI could have.
+    (
+        "a port that is no number",
+        "GET / HTTP/1.1\r\nHost: h:abc\r\n\r\n",
+        "GET / stays <> none",
+    ),
+    (
+        "two ports",
+        "GET / HTTP/1.1\r\nHost: a:1:2\r\n\r\n",
+        "GET / stays <> none",
+    ),
+    (
+        "a bracket that closes nothing",
+        "GET / HTTP/1.1\r\nHost: a]b\r\n\r\n",
+        "GET / stays <> none",
+    ),
+    (
+        "a bracket that is never closed",
+        "GET / HTTP/1.1\r\nHost: [::1\r\n\r\n",
+        "GET / stays <> none",
+    ),
+    (
+        "an escape without digits",
+        "GET / HTTP/1.1\r\nHost: a%zz\r\n\r\n",
         "GET / stays <> none",
     ),
     (
