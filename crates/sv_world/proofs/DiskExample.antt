@@ -1,7 +1,11 @@
--- A list of calls that does something: a node is opened, answers a request, meets a failed disk when it is to hand the session
--- over, and is opened again; the record of that stands.
-use Rattle.std.proofs.Common.{◌≢◌, ◌<◌, ℕ, List, [], ◌∷◌, inr, arith, refl}
+-- A list of calls that does something: a node is opened, answers a request, and meets a failed disk when it is to hand the
+-- session over, whose record stands.
+--
+-- Its engine answers with the request's own body, so what was put out tells which request it was: the calls can be met, what
+-- they show is that request's answer, and a list of events that asks for another request isn't theirs.
+use Rattle.std.proofs.Common.{◌≡◌, ◌≢◌, ◌<◌, ℕ, Bool, false, None, List, [], ◌∷◌, inr, arith, refl}
 use Rattle.std.specs.Prelude.{zero, suc}
+use Rattle.std.specs.FinMap.{len-empty}
 use Rattle.sv_model.specs.declared.input.Input.{Input}
 use Rattle.sv_model.specs.declared.input.Input.TheVariants as input
 use Rattle.sv_model.specs.declared.key.Moment.{Moment}
