@@ -27,7 +27,7 @@ use Rattle.sv_node.specs.Opened.{restarted}
 use Rattle.sv_node.specs.History.{AreTurns, Rise, halted}
 use Rattle.sv_world.specs.declared.event.WorldEvent.{WorldEvent}
 use Rattle.sv_world.specs.declared.event.WorldEvent.TheVariants.{Ask, Restart, Torn}
-use Rattle.sv_world.specs.Disks.{NodeCall, Shown, AreCalls, AreOfAll, behind_all, nothing_called}
+use Rattle.sv_world.specs.Disks.{NodeCall, AreCalls, AreOfAll, behind_all, nothing_called}
 use Rattle.sv_world.specs.Processes.{turns_at, AreOfProcesses}
 use Rattle.sv_world.specs.World.{setting_of}
 use Rattle.sv_world.proofs.Example.{two}
@@ -100,10 +100,11 @@ module _ (s : Session) (r : Request) (moment : Moment) where
 
   -- whatever list of events is these calls' own asks for that request, under that number
   own_events : (events : List WorldEvent) → AreOfAll nothing_called list events
-      → (kept : Bool) × (events ≡ Restart 0 ∷ Ask 0 moment 7 r ∷ Torn 0 moment moves kept ∷ [])
-  own_events events (_, _, refl, refl, (_, _, refl, refl, (_, _, refl, (kept, refl), refl))) = (kept, refl)
+      → (stands : Bool) × (events ≡ Restart 0 ∷ Ask 0 moment 7 r ∷ Torn 0 moment moves stands ∷ [])
+  own_events events (first, rest, e, is_first, (second, rest_2, e_2, is_second, (third, rest_3, e_3, (stands, is_third), e_4))) =
+      (stands, rw (e, is_first, e_2, is_second, e_3, is_third, e_4) refl)
 
   -- so no list that asks for another request is
-  not_of_another : (other : Request) → other ≢ r → (kept : Bool)
-      → ¬ AreOfAll nothing_called list (Restart 0 ∷ Ask 0 moment 7 other ∷ Torn 0 moment moves kept ∷ [])
-  not_of_another other differs kept are = let own = own_events _ are in differs (let same = own.1 in cc)
+  not_of_another : (other : Request) → other ≢ r → (stands : Bool)
+      → ¬ AreOfAll nothing_called list (Restart 0 ∷ Ask 0 moment 7 other ∷ Torn 0 moment moves stands ∷ [])
+  not_of_another other differs stands are = differs (let same = (own_events _ are).1 in cc)
