@@ -2,11 +2,15 @@
 
 use super::{FRESH, of_a_session};
 use std::alloc::AllocError;
+use std::process::Abort;
 use std::test::Fail;
 use sv_model::{Birth, Fate};
 use sv_session::{Edited, SessionEdit, SessionFault};
 
-const FAULTS: [(SessionFault, &str, &str); 7] = [
+/// A fault, its name and its text.
+type Row = (SessionFault, &'static str, &'static str);
+
+const FAULTS: [Row; 7] = [
     (
         SessionFault::NoSession,
         "NoSession",
@@ -44,13 +48,18 @@ const FAULTS: [(SessionFault, &str, &str); 7] = [
     ),
 ];
 
+fn expect_texts(rt: &(impl Abort + AllocGlobal), row: &Row) -> Result<(), Fail> {
+    let (fault, name, text) = *row;
+    let told = format!(in rt.alloc(); "{fault}")?;
+    assert_eq!(rt; fault.name(), name);
+    assert_eq!(rt; told.as_str(), text);
+    Ok(())
+}
+
 #[test]
 fn faults_have_names_and_texts(rt: HostRuntime) -> Result<(), Fail> {
-    let alloc = rt.alloc();
-    for (fault, name, text) in FAULTS {
-        assert_eq!(rt; fault.name(), name);
-        let told = format!(in alloc; "{fault}")?;
-        assert_eq!(rt; told.as_str(), text, "the text of {name}");
+    for row in &FAULTS {
+        expect_texts(&rt, row)?;
     }
     assert_eq!(rt; SessionFault::from(AllocError), SessionFault::Memory);
     Ok(())
