@@ -1,21 +1,8 @@
 //! Many requests in one stream: the same ones come, however it is cut.
 
-use crate::told::{Row, expect_cuts, expect_pieces};
 use std::alloc::{AllocError, Global};
 use std::test::Fail;
 use sv_message::RequestReader;
-
-const TWO_REQUESTS: [Row; 1] = [(
-    "two requests",
-    "GET /a HTTP/1.1\r\nHost: h\r\n\r\nHEAD /b HTTP/1.0\r\n\r\n",
-    "GET /a stays <> HEAD /b closes <> none",
-)];
-
-#[test]
-fn two_requests_cut_at_each_byte(rt: HostRuntime) -> Result<(), Fail> {
-    expect_cuts(&rt, "", &TWO_REQUESTS)?;
-    expect_pieces(&rt, "", &TWO_REQUESTS, &[1, 2, 3, 5, 7])
-}
 
 /// 200 requests with chunked bodies of 1,000 bytes, whose first bytes are the request's number.
 fn pipeline(alloc: Global) -> Result<Vec<u8>, AllocError> {

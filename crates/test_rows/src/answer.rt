@@ -1,0 +1,39 @@
+//! What is printed of a line.
+
+use crate::fault::RowFault;
+use crate::row::named;
+use crate::web;
+use std::alloc::{AllocError, Global};
+
+/// What came of a row's parts, by its kind.
+fn tried(alloc: Global, kind: &str, parts: &str) -> Result<String, RowFault> {
+    match kind {
+        "stream" | "body" | "long" | "length" | "fields" | "response" => {
+            web::of_message(alloc, kind, parts)
+        }
+        "path" | "target" | "method" | "raw-path" | "params" | "both" | "form" => {
+            web::of_target(alloc, kind, parts)
+        }
+        "cookies" | "session" | "asked" | "session-text" => web::of_cookie(alloc, kind, parts),
+        _ => Err(RowFault::Kind),
+    }
+}
+
+/// A row's name, and behind a colon what came of it.
+fn of_row(alloc: Global, kind: &str, row: &str) -> Result<String, AllocError> {
+    let (name, parts) = named(row);
+    match tried(alloc, kind, parts) {
+        Ok(text) if text.is_empty() => format!(in alloc; "{name}:"),
+        Ok(text) => format!(in alloc; "{name}: {text}"),
+        Err(fault) => format!(in alloc; "{name}: {fault}"),
+    }
+}
+
+/// What is printed of a line: of a heading the line itself.
+pub fn answer(alloc: Global, line: &str) -> Result<String, AllocError> {
+    match line.split_once(' ') {
+        Some(("#", _)) => String::from_str(alloc, line),
+        Some((kind, row)) => of_row(alloc, kind, row),
+        None => String::from_str(alloc, line),
+    }
+}

@@ -1,0 +1,30 @@
+//! Rows of tests: reads a table from standard input, a row a line, and prints of each row its name and what came of it.
+//!
+//! A line is a kind, a blank, the row's name and its parts, with a bar `|` before each part; a row without a bar is the one
+//! part that it is named for. A line that begins with `#` is a heading, and printed as it stands. In a part, `\r`, `\n`,
+//! `\t`, `\0`, `\\` and `\x` with two hexadecimal digits stand for a byte, and so they do in what is printed. What the file
+//! `stdout` expects is taken from the standards, and never from the program.
+//!
+//! Each module says what the parts of its kinds are:
+//!
+//! - `web`, messages: `stream`, `body`, `long`, `length`, `fields` and `response`;
+//! - `web`, targets: `path`, `target`, `method`, `raw-path`, `params`, `both` and `form`;
+//! - `web`, cookies: `cookies`, `session`, `asked` and `session-text`.
+#![tactic(auto)]
+
+mod answer;
+mod digits;
+mod escape;
+mod fault;
+mod row;
+mod web;
+
+use std::io;
+
+fn main(rt: HostRuntime) -> io::Result<()> {
+    for line in rt.lines(rt.alloc()) {
+        let text = answer::answer(rt.alloc(), line?.as_str())?;
+        println!(rt; "{text}")?;
+    }
+    Ok(())
+}
