@@ -1,6 +1,4 @@
-//! Mapping, by the examples and rules of Jakarta Servlet 6.0. The tables say where each case comes from.
+//! Mapping at its limits and where memory is refused, and what is said of a fault.
 
-mod contexts;
-mod filters;
 mod patterns;
 mod servlets;

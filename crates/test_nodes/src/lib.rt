@@ -1,7 +1,7 @@
 //! Tests of the plain data of a node and of its formats, as their users call them.
 //!
-//! It stands on `sv_model`, `sv_record` and `sv_script`, and proves nothing of its own. Spellings are written
-//! out by hand beside what they say.
+//! It stands on `sv_model`, `sv_record` and `sv_script`, and proves nothing of its own. What bytes say are rows of
+//! `test_rows`.
 #![tactic(auto)]
 
 #[cfg(test)]

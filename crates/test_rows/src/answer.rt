@@ -1,23 +1,8 @@
 //! What is printed of a line.
 
-use crate::fault::RowFault;
+use crate::kinds::tried;
 use crate::row::named;
-use crate::web;
 use std::alloc::{AllocError, Global};
-
-/// What came of a row's parts, by its kind.
-fn tried(alloc: Global, kind: &str, parts: &str) -> Result<String, RowFault> {
-    match kind {
-        "stream" | "body" | "long" | "length" | "fields" | "response" => {
-            web::of_message(alloc, kind, parts)
-        }
-        "path" | "target" | "method" | "raw-path" | "params" | "both" | "form" => {
-            web::of_target(alloc, kind, parts)
-        }
-        "cookies" | "session" | "asked" | "session-text" => web::of_cookie(alloc, kind, parts),
-        _ => Err(RowFault::Kind),
-    }
-}
 
 /// A row's name, and behind a colon what came of it.
 fn of_row(alloc: Global, kind: &str, row: &str) -> Result<String, AllocError> {

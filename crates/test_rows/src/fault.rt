@@ -10,6 +10,8 @@ pub enum RowFault {
     Kind,
     #[error("a part isn't what this kind of row has")]
     Part,
+    #[error("what is read has another spelling")]
+    Spelling,
     #[error("memory was refused")]
     Memory,
 }

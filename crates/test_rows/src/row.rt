@@ -33,3 +33,11 @@ pub fn small(part: &str) -> Result<u8, RowFault> {
         Err(_) => Err(RowFault::Part),
     }
 }
+
+/// The place in a list that a part is.
+pub fn place(part: &str) -> Result<usize, RowFault> {
+    match part.parse::<usize>() {
+        Ok(place) => Ok(place),
+        Err(_) => Err(RowFault::Part),
+    }
+}

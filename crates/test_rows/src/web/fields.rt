@@ -26,14 +26,18 @@ fn fields_text(alloc: Global, fields: &[Field]) -> Result<String, AllocError> {
     Ok(text)
 }
 
+fn told(alloc: Global, stream: &[u8]) -> Result<String, AllocError> {
+    match first_request(alloc, stream) {
+        Ok(Some(raw)) => fields_text(alloc, raw.fields.as_slice()),
+        Ok(None) => String::from_str(alloc, "none"),
+        Err(fault) => format!(in alloc; "{fault:?}"),
+    }
+}
+
 /// The fields of a stream's first request, in order.
 pub fn fields(alloc: Global, parts: &str) -> Result<String, RowFault> {
     let stream = bytes_of(alloc, parts)?;
-    match first_request(alloc, &stream) {
-        Ok(Some(raw)) => Ok(fields_text(alloc, raw.fields.as_slice())?),
-        Ok(None) => Ok(String::from_str(alloc, "none")?),
-        Err(fault) => Ok(format!(in alloc; "{fault:?}")?),
-    }
+    Ok(told(alloc, &stream)?)
 }
 
 fn field_of(alloc: Global, name: &str, value: &str) -> Result<Field, RowFault> {

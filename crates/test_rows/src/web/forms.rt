@@ -28,15 +28,19 @@ fn told(alloc: Global, query: &[u8], form: &[u8]) -> Result<String, AllocError> 
     params_text(alloc, found.as_slice())
 }
 
-/// The parameters of a text: as a query and as a form they have to be the same.
-pub fn parameters(alloc: Global, parts: &str) -> Result<String, RowFault> {
-    let bytes = bytes_of(alloc, parts)?;
-    let query = told(alloc, &bytes, b"")?;
-    let form = told(alloc, b"", &bytes)?;
+fn told_twice(alloc: Global, text: &[u8]) -> Result<String, AllocError> {
+    let query = told(alloc, text, b"")?;
+    let form = told(alloc, b"", text)?;
     if form.as_str() == query.as_str() {
         return Ok(query);
     }
-    Ok(format!(in alloc; "{query}, but as a form {form}")?)
+    format!(in alloc; "{query}, but as a form {form}")
+}
+
+/// The parameters of a text: as a query and as a form they have to be the same.
+pub fn parameters(alloc: Global, parts: &str) -> Result<String, RowFault> {
+    let bytes = bytes_of(alloc, parts)?;
+    Ok(told_twice(alloc, &bytes)?)
 }
 
 /// The parameters of a query and of the form behind it.

@@ -2,7 +2,7 @@
 
 use crate::escape::{bytes_of, push_bytes};
 use crate::fault::RowFault;
-use crate::row::{first, number};
+use crate::repeat::repeated;
 use crate::web::told::{told, told_in_two};
 use std::alloc::{AllocError, Global};
 use sv_message::ReadFault;
@@ -81,24 +81,15 @@ pub fn body(alloc: Global, parts: &str) -> Result<String, RowFault> {
     Ok(told_each_way(alloc, &stream)?)
 }
 
-/// The bytes of a front, of a part as often as the number behind it says, and of a back.
-pub fn repeated(alloc: Global, parts: &str) -> Result<Vec<u8>, RowFault> {
-    let (front, rest) = first(parts);
-    let (part, rest) = first(rest);
-    let (count, back) = first(rest);
-    let mut bytes = bytes_of(alloc, front)?;
-    for _ in 0..number(count)? {
-        push_bytes(&mut bytes, part)?;
+fn told_by_seven(alloc: Global, stream: &[u8]) -> Result<String, AllocError> {
+    match told(alloc, stream, 7) {
+        Ok(text) => Ok(text),
+        Err(fault) => format!(in alloc; "fed, it is {fault:?}"),
     }
-    push_bytes(&mut bytes, back)?;
-    Ok(bytes)
 }
 
 /// A stream that is too long to be written out, in pieces of 7 bytes.
 pub fn long(alloc: Global, parts: &str) -> Result<String, RowFault> {
     let stream = repeated(alloc, parts)?;
-    match told(alloc, &stream, 7) {
-        Ok(text) => Ok(text),
-        Err(fault) => Ok(format!(in alloc; "fed, it is {fault:?}")?),
-    }
+    Ok(told_by_seven(alloc, &stream)?)
 }

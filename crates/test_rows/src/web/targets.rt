@@ -41,26 +41,39 @@ fn as_path(alloc: Global, bytes: &[u8]) -> Result<String, RowFault> {
     }
 }
 
+/// A text, with what comes of the bytes within a context where that isn't right.
+fn judged(alloc: Global, text: &str, within: &str, is_right: bool) -> Result<String, AllocError> {
+    if is_right {
+        String::from_str(alloc, text)
+    } else {
+        format!(in alloc; "{text}, but within a context {within}")
+    }
+}
+
+fn same_within(alloc: Global, raw: &[u8]) -> Result<String, RowFault> {
+    let text = as_target(alloc, &Method::GET, raw)?;
+    let within = as_path(alloc, raw)?;
+    let is_right = within.as_str() == text.as_str();
+    Ok(judged(alloc, &text, &within, is_right)?)
+}
+
+fn bad_within(alloc: Global, raw: &[u8]) -> Result<String, RowFault> {
+    let text = as_target(alloc, &Method::GET, raw)?;
+    let within = as_path(alloc, raw)?;
+    let is_right = within.as_str() == "BadTarget";
+    Ok(judged(alloc, &text, &within, is_right)?)
+}
+
 /// The target of a GET, which has to be the same as a path within a context.
 pub fn path(alloc: Global, parts: &str) -> Result<String, RowFault> {
     let raw = bytes_of(alloc, parts)?;
-    let text = as_target(alloc, &Method::GET, &raw)?;
-    let within = as_path(alloc, &raw)?;
-    if within.as_str() == text.as_str() {
-        return Ok(text);
-    }
-    Ok(format!(in alloc; "{text}, but within a context {within}")?)
+    same_within(alloc, &raw)
 }
 
 /// The target of a GET, of a form that no path within a context has.
 pub fn target(alloc: Global, parts: &str) -> Result<String, RowFault> {
     let raw = bytes_of(alloc, parts)?;
-    let text = as_target(alloc, &Method::GET, &raw)?;
-    let within = as_path(alloc, &raw)?;
-    if within.as_str() == "BadTarget" {
-        return Ok(text);
-    }
-    Ok(format!(in alloc; "{text}, but within a context {within}")?)
+    bad_within(alloc, &raw)
 }
 
 /// The target of a request of a method.

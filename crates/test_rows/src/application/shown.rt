@@ -1,0 +1,81 @@
+//! Deployments as texts, so that a row can say all of them.
+
+use std::alloc::{AllocError, Global};
+use sv_config::{Cluster, Context, ErrorPage, PageFor};
+
+fn ports_text(alloc: Global, ports: &[u16]) -> Result<String, AllocError> {
+    let mut text = String::from_str(alloc, "ports")?;
+    for port in ports {
+        text.push_str(&format!(in alloc; " {port}")?)?;
+    }
+    Ok(text)
+}
+
+/// The ports, the deadline, and where the secrets come from.
+pub fn cluster_text(alloc: Global, cluster: &Cluster) -> Result<String, AllocError> {
+    let ports = ports_text(alloc, &cluster.ports)?;
+    match &cluster.secrets {
+        Some(secrets) => {
+            format!(in alloc; "{ports}, deadline {}, secrets {secrets}", cluster.deadline)
+        }
+        None => format!(in alloc; "{ports}, deadline {}, no secrets", cluster.deadline),
+    }
+}
+
+/// Adds a word, and each name behind a blank.
+fn push_names(text: &mut String, word: &str, names: &[String]) -> Result<(), AllocError> {
+    text.push_str(word)?;
+    for name in names {
+        text.push_str(" ")?;
+        text.push_str(name)?;
+    }
+    Ok(())
+}
+
+/// A page as what it is for, a colon and its path.
+fn page_text(alloc: Global, page: &ErrorPage) -> Result<String, AllocError> {
+    match &page.choice {
+        PageFor::Status(status) => format!(in alloc; " {status}:{}", page.path),
+        PageFor::Fault(fault) => format!(in alloc; " fault {fault}:{}", page.path),
+        PageFor::Default => format!(in alloc; " default:{}", page.path),
+    }
+}
+
+fn push_pages(alloc: Global, text: &mut String, pages: &[ErrorPage]) -> Result<(), AllocError> {
+    text.push_str(", pages")?;
+    for page in pages {
+        text.push_str(&page_text(alloc, page)?)?;
+    }
+    Ok(())
+}
+
+/// The path between angle brackets, the interval, and how many patterns and filter mappings there are.
+fn front_text(alloc: Global, context: &Context) -> Result<String, AllocError> {
+    format!(in alloc;
+        "<{}> interval {}, patterns {}, filter mappings {}",
+        context.path,
+        context.interval,
+        context.mappings.len(),
+        context.filter_mappings.len()
+    )
+}
+
+fn push_context(alloc: Global, text: &mut String, context: &Context) -> Result<(), AllocError> {
+    text.push_str(&front_text(alloc, context)?)?;
+    push_names(text, ", servlets", &context.servlets)?;
+    push_names(text, ", filters", &context.filters)?;
+    push_names(text, ", listeners", &context.listeners)?;
+    push_pages(alloc, text, &context.error_pages)
+}
+
+/// Each context, behind a semicolon from the second one on.
+pub fn contexts_text(alloc: Global, contexts: &[Context]) -> Result<String, AllocError> {
+    let mut text = String::new(alloc);
+    for context in contexts {
+        if !text.is_empty() {
+            text.push_str("; ")?;
+        }
+        push_context(alloc, &mut text, context)?;
+    }
+    Ok(text)
+}

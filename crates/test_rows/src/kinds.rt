@@ -1,0 +1,84 @@
+//! What came of a row, by its kind: where none of a function's kinds is meant, the next one is asked.
+
+use crate::application::{contexts, deployed, descriptors, filters, patterns, servlets};
+use crate::fault::RowFault;
+use crate::record::{self, attributes, changed, frames, packets, records};
+use crate::web::{cookies, fields, forms, lengths, responses, streams, targets};
+use std::alloc::Global;
+
+fn of_record(alloc: Global, kind: &str, parts: &str) -> Result<String, RowFault> {
+    match kind {
+        "record" => records::record(alloc, parts),
+        "old-record" => records::old(alloc, parts),
+        "packet" => packets::packet(alloc, parts),
+        "old-packet" => packets::old(alloc, parts),
+        "frame" => frames::frame(alloc, parts),
+        "old-frame" => frames::old(alloc, parts),
+        "attributes" => attributes::attributes(alloc, parts),
+        "changed" => changed::changed(alloc, parts),
+        "count" => record::count(alloc, parts),
+        _ => Err(RowFault::Kind),
+    }
+}
+
+fn of_path(alloc: Global, kind: &str, parts: &str) -> Result<String, RowFault> {
+    match kind {
+        "context" => contexts::context(alloc, parts),
+        "below" => contexts::below(alloc, parts),
+        "servlet" => servlets::servlet(alloc, parts),
+        "pattern" => patterns::pattern(alloc, parts),
+        "long-pattern" => patterns::long(alloc, parts),
+        "filters" => filters::filters(alloc, parts),
+        "dispatcher" => filters::dispatcher(alloc, parts),
+        _ => of_record(alloc, kind, parts),
+    }
+}
+
+fn of_descriptor(alloc: Global, kind: &str, parts: &str) -> Result<String, RowFault> {
+    match kind {
+        "config" => descriptors::config(alloc, parts),
+        "counted" => descriptors::counted(alloc, parts),
+        "cluster" => descriptors::cluster(alloc, parts),
+        "contexts" => descriptors::contexts(alloc, parts),
+        "deployed-context" => deployed::context(alloc, parts),
+        "deployed-servlet" => deployed::servlet(alloc, parts),
+        "deployed-filters" => deployed::filters(alloc, parts),
+        _ => of_path(alloc, kind, parts),
+    }
+}
+
+fn of_cookie(alloc: Global, kind: &str, parts: &str) -> Result<String, RowFault> {
+    match kind {
+        "cookies" => cookies::pairs(alloc, parts),
+        "session" => cookies::session(alloc, parts),
+        "asked" => cookies::asked(alloc, parts),
+        "session-text" => cookies::text(alloc, parts),
+        _ => of_descriptor(alloc, kind, parts),
+    }
+}
+
+fn of_target(alloc: Global, kind: &str, parts: &str) -> Result<String, RowFault> {
+    match kind {
+        "path" => targets::path(alloc, parts),
+        "target" => targets::target(alloc, parts),
+        "method" => targets::method(alloc, parts),
+        "raw-path" => targets::raw_path(alloc, parts),
+        "params" => forms::parameters(alloc, parts),
+        "both" => forms::both(alloc, parts),
+        "form" => forms::body(alloc, parts),
+        _ => of_cookie(alloc, kind, parts),
+    }
+}
+
+/// What came of the parts of a row of this kind.
+pub fn tried(alloc: Global, kind: &str, parts: &str) -> Result<String, RowFault> {
+    match kind {
+        "stream" => streams::stream(alloc, parts),
+        "body" => streams::body(alloc, parts),
+        "long" => streams::long(alloc, parts),
+        "length" => lengths::length(alloc, parts),
+        "fields" => fields::fields(alloc, parts),
+        "response" => responses::response(alloc, parts),
+        _ => of_target(alloc, kind, parts),
+    }
+}
