@@ -15,7 +15,6 @@ mod faults;
 #[cfg(test)]
 mod lives;
 mod noting;
-#[cfg(test)]
 mod sample;
 #[cfg(test)]
 mod served;
