@@ -40,13 +40,15 @@ enum Act {
     Reopen,
     /// The same, with the first byte of the disk B closed between.
     CloseB,
+    /// Nothing is done, and nothing noted.
+    Rest,
 }
 
 /// A node lives on a disk A that holds something, and a blank disk B; what comes of each act is noted, and at the end what stands
 /// on the disks.
 #[derive(Drop)]
 struct Life<'a> {
-    acts: &'a [Act],
+    acts: [Act; 5],
     a: &'a [u8],
     noted: &'a mut String,
 }
@@ -194,17 +196,47 @@ fn done<E: Engine + Drop>(
         Act::Count => counted(alloc, node, noted),
         Act::Compact => compacted(alloc, node, noted),
         Act::Reopen | Act::CloseB => reopened(alloc, node, act, noted),
+        Act::Rest => Ok(node),
     }
+}
+
+/// Two acts, one behind the other.
+fn both<E: Engine + Drop>(
+    alloc: Global,
+    node: Node<E, MemoryDisk>,
+    first: Act,
+    second: Act,
+    noted: &mut String,
+) -> Result<Node<E, MemoryDisk>, Fault>
+    requires { ⟦<Node<E, MemoryDisk> as Site>⟧.site_valid node }
+    ensures { IfOk result (λ n. ⟦<Node<E, MemoryDisk> as Site>⟧.site_valid n) }
+{
+    let node = done(alloc, node, first, noted)?;
+    done(alloc, node, second, noted)
+}
+
+/// All acts of a life.
+fn played<E: Engine + Drop>(
+    alloc: Global,
+    node: Node<E, MemoryDisk>,
+    acts: [Act; 5],
+    noted: &mut String,
+) -> Result<Node<E, MemoryDisk>, Fault>
+    requires { ⟦<Node<E, MemoryDisk> as Site>⟧.site_valid node }
+    ensures { IfOk result (λ n. ⟦<Node<E, MemoryDisk> as Site>⟧.site_valid n) }
+{
+    let [first, second, third, fourth, fifth] = acts;
+    let node = both(alloc, node, first, second, noted)?;
+    let node = both(alloc, node, third, fourth, noted)?;
+    done(alloc, node, fifth, noted)
 }
 
 impl Purpose for Life<'_> {
     fn serve<E: Engine + Drop>(self, alloc: Global, engine: E) -> Result<(), Fault> {
         let Life { acts, a, noted } = self;
         let a = MemoryDisk::with(alloc, a)?;
-        let mut node = open(alloc, engine, a, MemoryDisk::new(alloc))?;
-        for act in acts {
-            node = done(alloc, node, *act, noted)?;
-        }
+        let node = open(alloc, engine, a, MemoryDisk::new(alloc))?;
+        let node = played(alloc, node, acts, noted)?;
         let (_, a, b) = node.stop();
         show(alloc, noted, 'A', a.bytes())?;
         show(alloc, noted, 'B', b.bytes())
@@ -212,7 +244,7 @@ impl Purpose for Life<'_> {
 }
 
 /// What is noted of a life over a disk A.
-fn lived(alloc: Global, a: &[u8], acts: &[Act]) -> Result<String, Fault> {
+fn lived(alloc: Global, a: &[u8], acts: [Act; 5]) -> Result<String, Fault> {
     let mut noted = String::new(alloc);
     let deployment = deployment_in(alloc, BUILT_IN)?;
     start(
@@ -229,21 +261,27 @@ fn lived(alloc: Global, a: &[u8], acts: &[Act]) -> Result<String, Fault> {
 
 /// The lengths are added up above. A compaction takes the other disk, with a generation that is one higher. Where B doesn't count as
 /// open, what A held before the compaction is read.
-const LIVES: [(&[Act], &str); 4] = [
+const LIVES: [([Act; 5], &str); 4] = [
     (
-        &[Act::Count, Act::Compact],
+        [Act::Count, Act::Compact, Act::Rest, Act::Rest, Act::Rest],
         "1:102 k:117 A:102/1/22 B:117/2/22 ",
     ),
     (
-        &[Act::Count, Act::Compact, Act::Reopen, Act::Compact],
+        [
+            Act::Count,
+            Act::Compact,
+            Act::Reopen,
+            Act::Compact,
+            Act::Rest,
+        ],
         "1:102 k:117 o:132 k:117 A:117/3/22 B:132/2/222 ",
     ),
     (
-        &[Act::Count, Act::Compact, Act::CloseB, Act::Count],
+        [Act::Count, Act::Compact, Act::CloseB, Act::Count, Act::Rest],
         "1:102 k:117 o:117 2:187 A:187/1/2222 B:117/2/22 ",
     ),
     (
-        &[
+        [
             Act::Count,
             Act::Reopen,
             Act::Count,
@@ -257,7 +295,7 @@ const LIVES: [(&[Act], &str); 4] = [
 #[test]
 fn journals_have_their_lengths(rt: HostRuntime) -> Result<(), Fail> {
     for (acts, noted) in &LIVES {
-        assert_eq!(rt; lived(rt.alloc(), &[], acts)?.as_str(), *noted);
+        assert_eq!(rt; lived(rt.alloc(), &[], *acts)?.as_str(), *noted);
     }
     Ok(())
 }
@@ -268,11 +306,17 @@ const OLD: &[u8] =
     b"\xA5SVJRNL\x01\0\0\0\0\0\0\0\x01\xA5\0\0\0\x0A\x01\x01\0\0\0\0\0\0\0\x01\xA5\0\0\0\x3F\x01\x02\0\x01\0\0\0\0\0\0\0\0\x01\0\0\0\0\0\0\0\0\0\0\0\0\0\0\0\x01\0\0\0\0\0\0\0\x03\xE8\0\0\0\0\0\0\x03\xE8\0\0\x07\x08\x01\0\x01\0\x05count\0\x011\0";
 
 /// The start of the new program adds 15 bytes, and the next count one of version 2. A compaction leaves no other.
-const OLD_LIVES: [(&[Act], &str); 3] = [
-    (&[], "A:115/1/112 B:0/0/ "),
-    (&[Act::Count], "2:185 A:185/1/1122 B:0/0/ "),
+const OLD_LIVES: [([Act; 5], &str); 3] = [
     (
-        &[Act::Compact, Act::Count],
+        [Act::Rest, Act::Rest, Act::Rest, Act::Rest, Act::Rest],
+        "A:115/1/112 B:0/0/ ",
+    ),
+    (
+        [Act::Count, Act::Rest, Act::Rest, Act::Rest, Act::Rest],
+        "2:185 A:185/1/1122 B:0/0/ ",
+    ),
+    (
+        [Act::Compact, Act::Count, Act::Rest, Act::Rest, Act::Rest],
         "k:117 2:187 A:115/1/112 B:187/2/222 ",
     ),
 ];
@@ -281,7 +325,7 @@ const OLD_LIVES: [(&[Act], &str); 3] = [
 fn a_journal_of_version_1_goes_on(rt: HostRuntime) -> Result<(), Fail> {
     assert_eq!(rt; OLD.len(), 100);
     for (acts, noted) in &OLD_LIVES {
-        assert_eq!(rt; lived(rt.alloc(), OLD, acts)?.as_str(), *noted);
+        assert_eq!(rt; lived(rt.alloc(), OLD, *acts)?.as_str(), *noted);
     }
     Ok(())
 }

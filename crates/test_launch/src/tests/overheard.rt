@@ -37,6 +37,14 @@ fn note(alloc: Global, noted: &mut String, event: &Event) {
     }
 }
 
+/// Notes the events of one step.
+fn note_all(alloc: Global, noted: &mut String, told: &[Told]) {
+    for one in told {
+        note(alloc, noted, &one.event);
+    }
+    let _ = noted.push(';');
+}
+
 impl<E: Engine + Drop> Engine for Overheard<'_, E> {
     ghost meaning = { λ o. E.meaning o.engine };
 
@@ -59,10 +67,7 @@ impl<E: Engine + Drop> Engine for Overheard<'_, E> {
     }
 
     fn tell(&mut self, told: &[Told]) {
-        for one in told {
-            note(self.alloc, self.noted, &one.event);
-        }
-        let _ = self.noted.push(';');
+        note_all(self.alloc, self.noted, told);
         self.engine.tell(told);
     }
 
