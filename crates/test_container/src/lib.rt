@@ -15,8 +15,5 @@ mod faults;
 #[cfg(test)]
 mod lives;
 mod noting;
-mod sample;
 #[cfg(test)]
 mod served;
-#[cfg(test)]
-mod worlds;
