@@ -2,11 +2,12 @@ pub mod OrderLemmas
 pub mod PlaceLemmas
 pub mod SentLemmas
 pub mod TableLemmas
+pub mod WantLemmas
+pub mod SettledLemmas
 pub mod WaitingLemmas
 pub mod TimeLemmas
 pub mod ServingLemmas
 pub mod CoreLemmas
-pub mod CalmLemmas
 pub mod EffectLemmas
 pub mod ReplayLemmas
 pub mod WithinLemmas

@@ -103,7 +103,7 @@ put_same k at ps rises is =
     (λ q. find-put key_cmp keys_total q k at ps ∙ by_key q k at ps (same_key q k) refl is)
 
 -- where there is room nothing is refused
-pub not_refused : {R E : Type 0} (r : Result R E) (xs old ys : List Place) → ys ≡ cond (is_ok r) xs old → IsOk r → ys ≡ xs
+pub not_refused : {X R E : Type 0} (r : Result R E) (xs old ys : List X) → ys ≡ cond (is_ok r) xs old → IsOk r → ys ≡ xs
 not_refused (Ok x) xs old ys is ok = is
 not_refused (Err e) xs old ys is ok = absurd (let no : false ≡ true = ok in cc)
 

@@ -40,9 +40,9 @@ entry_applies (Some named) k FateEnded Absent d = refl
 entry_applies (Some named) k FateEnded (Alive s) d = refl
 entry_applies (Some named) k FateEnded BirthEnded d = refl
 
-parks : (set : Setting) (leaving : Option ℕ) (parked : List Parked) → parked_by set (waiting_without leaving) parked ≡ parked_without leaving parked
-parks set None parked = refl
-parks set (Some place) parked = refl
+parks : (set : Setting) (want : ℕ) (leaving : Option ℕ) (parked : List Parked) → parked_by set want (waiting_without leaving) parked ≡ parked_without leaving parked
+parks set want None parked = refl
+parks set want (Some place) parked = refl
 
 wants : (leaving : Option ℕ) (want : ℕ) → want_by (waiting_without leaving) want ≡ want
 wants None want = refl
@@ -62,7 +62,7 @@ module _ (m : EngineMeaning) (set : Setting) (n : Node) (moment : Moment) (token
   made_answers : decision_of set n (made (m.names r) (is_some (held_in n.durable.keys (m.names r)))) ≡ answered m set n moment token r out (parked_without leaving n.parked)
   made_answers = λ i. record (answered m set n moment token r out (parked_without leaving n.parked)) {
     durable = entry_applies (m.names r) (fresh_of set n.durable moment).0 out.fate out.birth n.durable i;
-    parked = parks set leaving n.parked i;
+    parked = parks set n.next_want leaving n.parked i;
     next_want = wants leaving n.next_want i;
   }
 

@@ -12,6 +12,7 @@ use Rattle.sv_model.specs.Decision as model
 use Rattle.sv_model.specs.Replay.{applied_if}
 use Rattle.sv_model.specs.Time.{is_late}
 use Rattle.sv_core.specs.declared.decision.Decision.{Decision}
+use Rattle.sv_core.specs.declared.decision.Arrival.{Arrival}
 use Rattle.sv_core.specs.declared.decision.Waiting.{Waiting}
 use Rattle.sv_core.specs.declared.decision.Waiting.TheVariants.{Stays, Joins, Leaves, Late}
 
@@ -35,16 +36,20 @@ mark_in (Some c) told = None
 mark_in None [] = None
 mark_in None (t ∷ ts) = Some (last_of t ts)
 
--- the requests that wait behind it
-abbrev pub parked_by : Setting → Waiting → List Parked → List Parked
-parked_by set Stays parked = parked
-parked_by set (Joins p) parked = parked ++ p ∷ []
-parked_by set (Leaves place) parked = remove parked place
-parked_by set (Late now) parked = filter (λ p. not (is_late set now p)) parked
+-- a request that waits for a want
+abbrev pub with_want : ℕ → Arrival → Parked
+with_want want a = record { token = a.token; request = a.request; key = a.key; since = a.since; want = want }
+
+-- the requests that wait behind it; one that joins them has the next want
+abbrev pub parked_by : Setting → ℕ → Waiting → List Parked → List Parked
+parked_by set next_want Stays parked = parked
+parked_by set next_want (Joins a) parked = parked ++ with_want next_want a ∷ []
+parked_by set next_want (Leaves place) parked = remove parked place
+parked_by set next_want (Late now) parked = filter (λ p. not (is_late set now p)) parked
 
 abbrev pub want_by : Waiting → ℕ → ℕ
 want_by Stays want = want
-want_by (Joins p) want = want + 1
+want_by (Joins a) want = want + 1
 want_by (Leaves place) want = want
 want_by (Late now) want = want
 
@@ -57,13 +62,17 @@ decision_of set n d =
       mark = mark_in d.commit d.told;
       outputs = d.outputs;
       durable = applied_if d.entry n.durable;
-      parked = parked_by set d.waiting n.parked;
+      parked = parked_by set n.next_want d.waiting n.parked;
       next_want = want_by d.waiting n.next_want;
     }
 
+-- the node behind what becomes of the requests that wait
+abbrev pub rearranged : Setting → Waiting → Node → Node
+rearranged set waiting n = record { durable = n.durable; parked = parked_by set n.next_want waiting n.parked; next_want = want_by waiting n.next_want }
+
 -- the node behind a record and what becomes of the requests that wait
 abbrev pub behind : Setting → Option Record → Waiting → Node → Node
-behind set entry waiting n = record { durable = applied_if entry n.durable; parked = parked_by set waiting n.parked; next_want = want_by waiting n.next_want }
+behind set entry waiting n = rearranged set waiting (record n { durable = applied_if entry n.durable })
 
 -- what others may read of it
 abbrev pub entry_in : Decision → Option Record

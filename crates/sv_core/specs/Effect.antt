@@ -1,5 +1,5 @@
--- What has to be left for a record to be taken, and what one may bring.
-use Rattle.std.specs.Prelude.{◌≢◌, ℕ, ⊤, Bool, true, false}
+-- What has to be left for a record to be taken.
+use Rattle.std.specs.Prelude.{◌≢◌, ℕ, ⊤}
 use Rattle.sv_model.specs.declared.record.Change.{Change}
 use Rattle.sv_model.specs.declared.record.Change.TheVariants.{Absent as Unchanged, Alive as ChangeAlive, Ended as ChangeEnded}
 use Rattle.sv_model.specs.declared.record.Record.{Record}
@@ -21,19 +21,3 @@ HasSerial (Taken k e from s) next = ⊤
 HasSerial (Gone k e) next = ⊤
 HasSerial (State k st) next = ⊤
 HasSerial (Counters boot n) next = ⊤
-
-abbrev pub is_made : Change → Bool
-is_made Unchanged = false
-is_made (ChangeAlive k s) = true
-is_made (ChangeEnded k) = true
-
--- behind it a session may be here that was not here before
-abbrev pub may_bring : Record → Bool
-may_bring (Boot boot) = false
-may_bring (Commit named born) = is_made born
-may_bring (Expired k) = false
-may_bring (Sent k e to s) = false
-may_bring (Taken k e from s) = true
-may_bring (Gone k e) = false
-may_bring (State k st) = true
-may_bring (Counters boot n) = false

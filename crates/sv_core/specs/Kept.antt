@@ -1,5 +1,5 @@
 -- What a core keeps, seen as a node.
-use Rattle.std.specs.Prelude.{◌<◌, vec_len, vec_capacity}
+use Rattle.std.specs.Prelude.{◌+◌, ◌<◌, ◌≤◌, length, vec_len, vec_capacity}
 use Rattle.sv_model.specs.NodeState.{Node}
 use Rattle.sv_core.specs.Table.{keys_of, HasRoom}
 use Rattle.sv_core.specs.declared.kept.Kept.{Kept}
@@ -7,7 +7,13 @@ use Rattle.sv_core.specs.declared.kept.Kept.{Kept}
 abbrev pub node_of : Kept → Node
 node_of k = record { durable = record { keys = keys_of k.keys; boot = k.boot; next = k.next }; parked = k.parked.items; next_want = k.next_want }
 
+-- a record can be taken without taking memory: the requests for a key that it settles may be all that wait
+pub record TakesRecord (k : Kept) : Type 0 where
+  pub keys : HasRoom k.keys
+  pub settled : vec_len k.settled + length k.parked.items ≤ vec_capacity k.settled
+
 -- a decision can be accepted without taking memory
 pub record IsReady (k : Kept) : Type 0 where
-  pub keys : HasRoom k.keys
+  pub taking : TakesRecord k
   pub parked : vec_len k.parked < vec_capacity k.parked
+  pub settled : length k.parked.items < vec_capacity k.settled

@@ -6,15 +6,26 @@ ghost use Rattle.sv_model.specs.NodeState.{Node};
 ghost use Rattle.sv_model.specs.Step.{told};
 
 use std::alloc::{AllocError, Global};
-use sv_model::{Commit, Output, Parked, Record, Sequence, Told};
+use sv_model::{Commit, Key, Output, Record, Request, Sequence, Told};
+
+/// A request that is to wait, before it is given its want.
+#[derive(Drop)]
+pub struct Arrival {
+    pub token: u64,
+    pub request: Request,
+    /// The key of the session that it waits for.
+    pub key: Key,
+    /// When it came, in whole seconds.
+    pub since: u64,
+}
 
 /// What becomes of the requests that wait.
 #[derive(Drop)]
 pub enum Waiting {
     /// They go on waiting.
     Stays,
-    /// One joins them.
-    Joins(Parked),
+    /// One joins them, with the next want.
+    Joins(Arrival),
     /// The one at this place leaves.
     Leaves(usize),
     /// Those leave that have waited long enough at this time, in whole seconds.

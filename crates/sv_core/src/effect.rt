@@ -1,17 +1,17 @@
 //! What a decision does to what is kept.
 
-ghost use Rattle.std.specs.Prelude.{◌≡◌, ◌<◌, ◌≤◌, vec_len, vec_capacity};
+ghost use Rattle.std.specs.Prelude.{◌≡◌, ◌≤◌, vec_capacity};
 ghost use Rattle.sv_model.specs.NodeState.{last_number};
 ghost use Rattle.sv_model.specs.Replay.{with_named, with_born, keys_behind, applied, applied_if, stage_behind, stage_behind_if};
-ghost use Rattle.sv_core.specs.Decision.{parked_by, want_by, behind};
+ghost use Rattle.sv_core.specs.Decision.{want_by, behind};
 ghost use Rattle.sv_core.specs.Table.{keys_of, HasRoom, HasPlace};
-ghost use Rattle.sv_core.specs.Effect.{HasSerial, may_bring};
+ghost use Rattle.sv_core.specs.Effect.{HasSerial};
 
 use crate::decision::Waiting;
 use crate::kept::Kept;
 use crate::table::Table;
-use crate::time::is_late;
-use sv_model::{Change, KeyState, Parked, Record, Setting, Stage};
+use crate::wants::settle_behind;
+use sv_model::{Change, KeyState, Record, Stage};
 
 impl Table {
     /// What became of the session that a request names.
@@ -87,51 +87,19 @@ fn stage_behind(entry: &Record, stage: Stage) -> Stage
     }
 }
 
-/// Behind the record a session may be here that was not here before.
-fn may_bring(entry: &Record) -> bool
-    ensures { result ≡ may_bring entry.now }
-{
-    match entry {
-        Record::Taken { .. } | Record::State { .. } => true,
-        Record::Commit { born, .. } => !matches!(born, Change::Absent),
-        Record::Boot(_)
-        | Record::Expired(_)
-        | Record::Sent { .. }
-        | Record::Gone { .. }
-        | Record::Counters { .. } => false,
-    }
-}
-
-/// The requests that wait, behind what becomes of them.
-fn rearrange(all: &mut Vec<Parked>, setting: Setting, waiting: Waiting)
-    requires { vec_len all.old < vec_capacity all.old }
-    ensures { all.new.items ≡ parked_by setting waiting all.old.items }
-{
-    match waiting {
-        Waiting::Stays => {}
-        Waiting::Joins(parked) => all.push_reserved(parked),
-        Waiting::Leaves(place) => {
-            if place < all.len() {
-                all.remove(place);
-            }
-        }
-        Waiting::Late(now) => all.retain(|parked| !is_late(setting, parked, now)),
-    }
-}
-
 impl Kept {
-    ghost use Rattle.sv_core.specs.Kept.{node_of, IsReady};
+    ghost use Rattle.sv_core.specs.Kept.{node_of, TakesRecord, IsReady};
 
     /// What the records give, behind one more.
-    #[tactic(auto, using(crate::proofs::CalmLemmas::calm_behind))]
     pub fn take(&mut self, entry: Record)
-        requires room { HasRoom self.old.keys }
+        requires room { TakesRecord self.old }
         requires serial { HasSerial entry self.old.next }
         ensures durable { (node_of self.new).durable ≡ applied entry (node_of self.old).durable }
         ensures stage { self.new.stage ≡ stage_behind entry self.old.stage }
         ensures setting { self.new.setting ≡ self.old.setting }
         ensures parked { self.new.parked ≡ self.old.parked }
         ensures want { self.new.next_want ≡ self.old.next_want }
+        ensures capacity { vec_capacity self.old.settled ≤ vec_capacity self.new.settled }
     {
         match &entry {
             Record::Boot(boot) => self.boot = *boot,
@@ -145,13 +113,29 @@ impl Kept {
             } => self.next += 1,
             _ => {}
         }
-        self.is_calm = self.is_calm && !may_bring(&entry);
         self.stage = stage_behind(&entry, self.stage);
+        settle_behind(&mut self.settled, &self.parked, &entry);
         self.keys.take_record(entry);
     }
 
+    /// What the records give, behind the one of a decision, where it has one.
+    #[tactic(auto, using(crate::proofs::EffectLemmas::within_left))]
+    fn take_if(&mut self, entry: Option<Record>)
+        requires room { TakesRecord self.old }
+        requires next { (applied_if entry (node_of self.old).durable).next ≤ last_number }
+        ensures durable { (node_of self.new).durable ≡ applied_if entry (node_of self.old).durable }
+        ensures stage { self.new.stage ≡ stage_behind_if entry self.old.stage }
+        ensures setting { self.new.setting ≡ self.old.setting }
+        ensures parked { self.new.parked ≡ self.old.parked }
+        ensures want { self.new.next_want ≡ self.old.next_want }
+        ensures capacity { vec_capacity self.old.settled ≤ vec_capacity self.new.settled }
+    {
+        if let Some(entry) = entry {
+            self.take(entry);
+        }
+    }
+
     /// What is kept behind a decision.
-    #[tactic(auto, using(crate::proofs::EffectLemmas::within_left, crate::proofs::CalmLemmas::calm_by))]
     pub fn follow(&mut self, entry: Option<Record>, waiting: Waiting)
         requires ready { IsReady self.old }
         requires next { (applied_if entry (node_of self.old).durable).next ≤ last_number }
@@ -160,13 +144,7 @@ impl Kept {
         ensures stage { self.new.stage ≡ stage_behind_if entry self.old.stage }
         ensures setting { self.new.setting ≡ self.old.setting }
     {
-        if let Waiting::Joins(parked) = &waiting {
-            self.next_want += 1;
-            self.is_calm = self.is_calm && !self.is_settled(parked.key);
-        }
-        rearrange(&mut self.parked, self.setting, waiting);
-        if let Some(entry) = entry {
-            self.take(entry);
-        }
+        self.take_if(entry);
+        self.rearrange(waiting);
     }
 }

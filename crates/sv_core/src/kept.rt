@@ -1,8 +1,8 @@
 //! What a core keeps beside its engine.
 
-ghost use Rattle.std.specs.Prelude.{◌≡◌, ◌==◌, ◌+◌, ◌≤◌, [], None, is_none, IfSome, IsTrue, OnOk, IfOk};
+ghost use Rattle.std.specs.Prelude.{◌≡◌, ◌==◌, ◌+◌, ◌<◌, ◌≤◌, [], None, is_none, IfSome, OnOk, IfOk, length, vec_capacity};
 ghost use Rattle.sv_model.specs.declared.record.Record.TheVariants.{Boot};
-ghost use Rattle.sv_core.specs.Calm.{IsCalm};
+ghost use Rattle.sv_core.specs.Wants.{IsLine, wants_here};
 ghost use Rattle.sv_core.specs.Plain.{recorded};
 ghost use Rattle.sv_core.specs.Table.{keys_of};
 ghost use Rattle.sv_model.specs.NodeState.{is_unmade, is_dead, last_number};
@@ -10,7 +10,7 @@ ghost use Rattle.sv_model.specs.NodeState.{is_unmade, is_dead, last_number};
 use crate::decision::Decision;
 use crate::table::Table;
 use std::alloc::{AllocError, Global};
-use sv_model::{Input, Key, Parked, Record, Setting, Stage};
+use sv_model::{Key, Parked, Record, Setting, Stage};
 
 /// What a node keeps: what its records give, and what it forgets when it stops.
 #[derive(Drop)]
@@ -23,14 +23,15 @@ pub struct Kept {
     pub next: u64,
     /// How far its records have come.
     pub stage: Stage,
-    /// The requests that wait, in order of arrival.
+    /// The requests that wait, in order of arrival. So their wants rise.
     pub parked: Vec<Parked>,
     /// The number of the next want.
     pub next_want: u64,
-    /// No request waits whose session is here. Where this is false, nobody has looked since one may have come.
-    pub is_calm: bool,
+    /// The wants of those whose session is active or has ended here, in order.
+    pub settled: Vec<u64>,
     pub alloc: Global,
-    ghost calm: { IsTrue is_calm → IsCalm (keys_of keys) parked.items },
+    ghost line: { IsLine next_want parked.items },
+    ghost walked: { settled.items ≡ wants_here (keys_of keys) parked.items },
 }
 
 /// A number is at most the last one.
@@ -42,7 +43,7 @@ fn number(value: u64) -> u64
 }
 
 impl Kept {
-    ghost use Rattle.sv_core.specs.Kept.{node_of, IsReady};
+    ghost use Rattle.sv_core.specs.Kept.{node_of, TakesRecord, IsReady};
 
     /// The key is of this node, and the node has not yet handed it out.
     pub fn is_unmade(&self, key: Key) -> bool
@@ -76,6 +77,19 @@ impl Kept {
         Some(Decision::noted(self.alloc, Record::Boot(boot)))
     }
 
+    /// Makes room for what a record says.
+    pub fn reserve_record(&mut self) -> Result<(), AllocError>
+        ensures node { node_of self.new ≡ node_of self.old }
+        ensures setting { self.new.setting ≡ self.old.setting }
+        ensures stage { self.new.stage ≡ self.old.stage }
+        ensures parked { self.new.parked ≡ self.old.parked }
+        ensures room { OnOk result (TakesRecord self.new) }
+        ensures settled { OnOk result (length self.new.parked.items < vec_capacity self.new.settled) }
+    {
+        self.keys.reserve()?;
+        self.settled.try_reserve(self.parked.len() + 1)
+    }
+
     /// Makes room for what a decision adds.
     pub fn reserve(&mut self) -> Result<(), AllocError>
         ensures node { node_of self.new ≡ node_of self.old }
@@ -83,20 +97,7 @@ impl Kept {
         ensures stage { self.new.stage ≡ self.old.stage }
         ensures room { OnOk result (IsReady self.new) }
     {
-        self.keys.reserve()?;
+        self.reserve_record()?;
         self.parked.try_reserve(1)
-    }
-
-    /// Makes room for what a decision adds. A Poke also looks whether a request can be served.
-    pub fn prepare(&mut self, input: &Input) -> Result<(), AllocError>
-        ensures node { node_of self.new ≡ node_of self.old }
-        ensures setting { self.new.setting ≡ self.old.setting }
-        ensures stage { self.new.stage ≡ self.old.stage }
-        ensures room { OnOk result (IsReady self.new) }
-    {
-        if let Input::Poke = input {
-            self.look();
-        }
-        self.reserve()
     }
 }

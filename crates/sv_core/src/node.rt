@@ -52,7 +52,7 @@ impl<E> Core<E> {
             stage: Stage::Blank,
             parked: Vec::new(alloc),
             next_want: 1,
-            is_calm: true,
+            settled: Vec::new(alloc),
             alloc,
         };
         Core { engine, kept }
@@ -156,7 +156,7 @@ impl<E: Engine> Core<E> {
         ensures journaled { IfOk result (λ d. IsJournaled (setting_of self.old) (node_at self.old) (decision_at self.new d)) }
         ensures ranged { IsSetting (setting_of self.old) → IsRanged (node_at self.old) → IsInput input → IfOk result (λ d. IsRangedStep (decision_at self.new d)) }
     {
-        self.kept.prepare(&input)?;
+        self.kept.reserve()?;
         // the numbers behind the decision are numbers, since those before it are
         let _numbers = self.kept.numbers();
         row::decide(&mut self.engine, &self.kept, moment, input)

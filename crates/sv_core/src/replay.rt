@@ -133,7 +133,7 @@ impl Kept {
         if !self.fits(&entry) {
             return Err(ApplyFault::BadRecord);
         }
-        self.keys.reserve()?;
+        self.reserve_record()?;
         self.take(entry);
         Ok(())
     }

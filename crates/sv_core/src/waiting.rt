@@ -8,29 +8,21 @@ ghost use Rattle.sv_model.specs.Migration.{is_wanted};
 ghost use Rattle.sv_model.specs.declared.output.Output.TheVariants.{Send};
 ghost use Rattle.sv_model.specs.declared.packet.Packet.TheVariants.{Want};
 
-use crate::decision::{Decision, Waiting};
+use crate::decision::{Arrival, Decision, Waiting};
 use crate::kept::Kept;
 use crate::table::is_same;
+use crate::wants::search;
 use std::alloc::AllocError;
-use sv_model::{
-    Cause, Key, KeyState, Moment, Output, PARK_LIMIT, Packet, Parked, Request, Sequence,
-};
+use sv_model::{Cause, Key, KeyState, Moment, Output, PARK_LIMIT, Packet, Request, Sequence};
 
 /// A request for such a key can be served here at once.
-fn is_settled(state: Option<&KeyState>) -> bool
+pub fn is_settled(state: Option<&KeyState>) -> bool
     ensures { result ≡ is_settled (option_copied state.entry) }
 {
     match state {
         Some(KeyState::Active { .. } | KeyState::Ended { .. }) => true,
         None | Some(KeyState::Sent { .. } | KeyState::Gone { .. }) => false,
     }
-}
-
-/// The request waits for the want.
-fn is_wanted(parked: &Parked, key: Key, want: u64) -> bool
-    ensures { result ≡ is_wanted key want parked.now }
-{
-    parked.want == want && is_same(parked.key, key)
 }
 
 impl Kept {
@@ -86,19 +78,18 @@ impl Kept {
     {
         let mut outputs = Vec::new(self.alloc);
         self.add_wants(&mut outputs, key, self.next_want)?;
-        let parked = Parked {
+        let arrival = Arrival {
             token,
             request,
             key,
             since: moment.now,
-            want: self.next_want,
         };
         Ok(Decision {
             entry: None,
             commit: None,
             told: Sequence::new(self.alloc),
             outputs: Sequence::from_vec(outputs),
-            waiting: Waiting::Joins(parked),
+            waiting: Waiting::Joins(arrival),
         })
     }
 
@@ -125,31 +116,19 @@ impl Kept {
     pub fn settled_place(&self) -> Option<usize>
         ensures { result ≡ position (λ p. is_settled (get (keys_of self.now.keys) p.key)) self.now.parked.items }
     {
-        if self.is_calm {
-            return None;
-        }
-        self.parked
-            .iter()
-            .position(|parked| self.is_settled(parked.key))
-    }
-
-    /// Looks for a request that waits and whose session is here, unless it is known that there is none.
-    #[tactic(auto, using(crate::proofs::CalmLemmas::none_calm))]
-    pub fn look(&mut self)
-        ensures node { node_of self.new ≡ node_of self.old }
-        ensures setting { self.new.setting ≡ self.old.setting }
-        ensures stage { self.new.stage ≡ self.old.stage }
-    {
-        let place = self.settled_place();
-        self.is_calm = place.is_none();
+        let want = *self.settled.first()?;
+        search(&self.parked, want).ok()
     }
 
     /// The first request that waits for the want.
     pub fn wanted_place(&self, key: Key, want: u64) -> Option<usize>
         ensures { result ≡ position (is_wanted key want) self.now.parked.items }
     {
-        self.parked
-            .iter()
-            .position(|parked| is_wanted(parked, key, want))
+        let at = search(&self.parked, want).ok()?;
+        if is_same(self.parked[at].key, key) {
+            Some(at)
+        } else {
+            None
+        }
     }
 }

@@ -1,0 +1,75 @@
+-- The requests that can be served, behind a record.
+use Rattle.std.proofs.Common.{◌≡◌, ◌≢◌, Bool, true, false, cond, Option, Some, None, List, refl, sym, ap, ◌∙◌, ⊎_elim}
+use Rattle.std.specs.FinMap.{get, insert, get-insert}
+use Rattle.sv_model.specs.declared.key.Key.{Key}
+use Rattle.sv_model.specs.declared.session.Session.{Session}
+use Rattle.sv_model.specs.declared.state.KeyState.{KeyState}
+use Rattle.sv_model.specs.declared.state.KeyState.TheVariants.{Active, Sent, Gone, Ended}
+use Rattle.sv_model.specs.declared.node.Parked.{Parked}
+use Rattle.sv_model.specs.declared.record.Change.{Change}
+use Rattle.sv_model.specs.declared.record.Change.TheVariants.{Absent as Unchanged, Alive as ChangeAlive, Ended as ChangeEnded}
+use Rattle.sv_model.specs.declared.record.Record.{Record}
+use Rattle.sv_model.specs.declared.record.Record.TheVariants.{Boot, Commit, Expired, Sent as SentRecord, Taken, Gone as GoneRecord, State, Counters}
+use Rattle.sv_model.specs.Keys.{same_key}
+use Rattle.sv_model.specs.NodeState.{Keys, is_settled}
+use Rattle.sv_model.specs.Replay.{with_named, with_born, keys_behind}
+use Rattle.sv_model.specs.Serving.{kept_at, ended_at}
+use Rattle.sv_model.proofs.KeyLemmas.{keys_total, keys_tell}
+use Rattle.sv_core.specs.Wants.{is_here, wants_where, wants_here, settles_born, settles, settled_by}
+use Rattle.sv_core.proofs.WantLemmas.{same_where}
+
+settled_if : (b : Bool) (st : KeyState) (o : Option KeyState) → is_settled (cond b (Some st) o) ≡ cond b (is_settled (Some st)) (is_settled o)
+settled_if true st o = refl
+settled_if false st o = refl
+
+put : (keys : Keys) (k : Key) (st : KeyState) (q : Key) → is_settled (get (insert keys k st) q) ≡ cond (same_key q k) (is_settled (Some st)) (is_settled (get keys q))
+put keys k st q = ap is_settled (get-insert keys_total keys k st q) ∙ settled_if (same_key q k) st (get keys q)
+
+-- one that was settled is settled again
+again : (keys : Keys) (k : Key) (st : KeyState) (q : Key) → is_settled (get keys k) ≡ true → is_settled (Some st) ≡ true → is_settled (get (insert keys k st) q) ≡ is_settled (get keys q)
+again keys k st q was is = put keys k st q ∙ ⊎_elim
+    (λ (t : (q ≡ k) × (same_key q k ≡ true)). ap (λ b. cond b (is_settled (Some st)) (is_settled (get keys q))) t.1 ∙ is ∙ sym was ∙ ap (λ (p : Key). is_settled (get keys p)) (sym t.0))
+    (λ (t : (q ≢ k) × (same_key q k ≡ false)). ap (λ b. cond b (is_settled (Some st)) (is_settled (get keys q))) t.1)
+    (keys_tell q k)
+
+kept : (keys : Keys) (k : Key) (s : Session) (st : Option KeyState) (q : Key) → get keys k ≡ st → is_settled (get (kept_at k s st keys) q) ≡ is_settled (get keys q)
+kept keys k s None q there = refl
+kept keys k s (Some (Active e old)) q there = again keys k (Active e s) q (ap is_settled there) refl
+kept keys k s (Some (Sent e old to)) q there = refl
+kept keys k s (Some (Gone e)) q there = refl
+kept keys k s (Some (Ended e)) q there = refl
+
+ended : (keys : Keys) (k : Key) (st : Option KeyState) (q : Key) → get keys k ≡ st → is_settled (get (ended_at k st keys) q) ≡ is_settled (get keys q)
+ended keys k None q there = refl
+ended keys k (Some (Active e old)) q there = again keys k (Ended e) q (ap is_settled there) refl
+ended keys k (Some (Sent e old to)) q there = refl
+ended keys k (Some (Gone e)) q there = refl
+ended keys k (Some (Ended e)) q there = refl
+
+named : (keys : Keys) (c : Change) (q : Key) → is_settled (get (with_named c keys) q) ≡ is_settled (get keys q)
+named keys Unchanged q = refl
+named keys (ChangeAlive k s) q = kept keys k s (get keys k) q refl
+named keys (ChangeEnded k) q = ended keys k (get keys k) q refl
+
+born : (keys : Keys) (c : Change) (p : Parked) → is_here (with_born c keys) p ≡ settled_by (settles_born c) (is_here keys) p
+born keys Unchanged p = refl
+born keys (ChangeAlive k s) p = put keys k _ p.key
+born keys (ChangeEnded k) p = put keys k _ p.key
+
+by_named : (o : Option (Key × Bool)) (one other : Parked → Bool) (p : Parked) → one p ≡ other p → settled_by o one p ≡ settled_by o other p
+by_named None one other p same = same
+by_named (Some change) one other p same = ap (λ b. cond (same_key p.key change.0) change.1 b) same
+
+-- those that can be served behind a record
+here_behind : (keys : Keys) (r : Record) (p : Parked) → is_here (keys_behind r keys) p ≡ settled_by (settles r) (is_here keys) p
+here_behind keys (Boot boot) p = refl
+here_behind keys (Commit c d) p = born (with_named c keys) d p ∙ by_named (settles_born d) (is_here (with_named c keys)) (is_here keys) p (named keys c p.key)
+here_behind keys (Expired k) p = ended keys k (get keys k) p.key refl
+here_behind keys (SentRecord k e to s) p = put keys k (Sent e s to) p.key
+here_behind keys (Taken k e from s) p = put keys k (Active e s) p.key
+here_behind keys (GoneRecord k e) p = put keys k (Gone e) p.key
+here_behind keys (State k st) p = put keys k st p.key
+here_behind keys (Counters boot next) p = refl
+
+pub settled_behind : (keys : Keys) (r : Record) (ps : List Parked) → wants_where (settled_by (settles r) (is_here keys)) ps ≡ wants_here (keys_behind r keys) ps
+settled_behind keys r ps = same_where (settled_by (settles r) (is_here keys)) (is_here (keys_behind r keys)) ps (λ p. sym (here_behind keys r p))

@@ -1,0 +1,23 @@
+use Rattle.std.proofs.Common.{◌+◌, [], ◌++◌, cond, ◌∷◌, arith, sym, ap, subst, ◌∙◌}
+use Rattle.sv_model.specs.NodeState.{is_settled}
+use Rattle.sv_core.specs.Table.{keys_of}
+use Rattle.sv_core.specs.Decision.{with_want}
+use Rattle.sv_core.specs.Wants.{is_here, IsLine, wants_here}
+use Rattle.sv_core.proofs.WantLemmas.{line_joined, where_push, where_fits}
+use Rattle.sv_core.proofs.kept.Kept.join.Goals as goal
+
+pub push_if-requires : goal.push_if-requires
+push_if-requires c =
+    let k = c.args.self.now in
+    let fits = where_fits (is_here (keys_of k.keys)) k.parked.items k.settled.items k.walked in
+    omega (arith, k.settled.ok.0, fits, c.requires.settled)
+
+pub invariant_of-self : goal.invariant_of-self
+invariant_of-self c =
+    let k = c.args.self.now in
+    let p = with_want k.next_want c.args.arrival in
+    record {
+      line = subst (IsLine (k.next_want + 1)) (sym c.push_reserved.ensures.items) (line_joined k.parked.items p k.line);
+      walked = c.push_if.ensures ∙ ap (λ b. k.settled.items ++ cond b (k.next_want ∷ []) []) (c.is_settled.ensures ∙ ap is_settled c.get.ensures)
+          ∙ where_push (is_here (keys_of k.keys)) k.parked.items p k.settled.items k.walked ∙ ap (wants_here (keys_of k.keys)) (sym c.push_reserved.ensures.items);
+    }

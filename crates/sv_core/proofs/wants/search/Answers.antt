@@ -1,0 +1,14 @@
+use Rattle.std.proofs.Common.{rules}
+use Rattle.std.proofs.lemmas.List.Sorted.{answers_always}
+use Rattle.sv_core.proofs.WantLemmas.{answered}
+use Rattle.sv_core.proofs.wants.search.Goals as goal
+
+pub returns-clause-found : goal.returns-clause-found
+returns-clause-found c =
+    let facts = c.binary_search_by_key.ensures in
+    (answered c.args.want c.args.parked.now c.requires c.binary_search_by_key.result facts.bound (facts.position (λ p. p.want) (answers_always _ _ _ (λ f a r g called. search rules)))).found
+
+pub returns-clause-absent : goal.returns-clause-absent
+returns-clause-absent c =
+    let facts = c.binary_search_by_key.ensures in
+    (answered c.args.want c.args.parked.now c.requires c.binary_search_by_key.result facts.bound (facts.position (λ p. p.want) (answers_always _ _ _ (λ f a r g called. search rules)))).absent
