@@ -1,5 +1,6 @@
 pub mod OrderLemmas
 pub mod PlaceLemmas
+pub mod DirectoryLemmas
 pub mod SentLemmas
 pub mod TableLemmas
 pub mod WantLemmas

@@ -24,6 +24,7 @@ use Rattle.sv_core.proofs.SoundLemmas.{IsSound}
 use Rattle.sv_core.specs.Places.{Place, Rises, state_at, seen}
 use Rattle.sv_model.specs.declared.record.Record.{Record}
 use Rattle.sv_core.proofs.PlaceLemmas.{seen_more}
+use Rattle.sv_core.proofs.DirectoryLemmas.{seen_append}
 use Rattle.sv_core.proofs.OrderLemmas.{first, second, less, reversed}
 use Rattle.sv_core.proofs.KeptLemmas.{lower_is}
 
@@ -110,3 +111,10 @@ pub recorded_more : (states : List KeyState) (ps qs : List Place) (i : ℕ) (d :
 recorded_more states ps qs i d st before outs new same is there so more =
     more ∙ ap (λ l. l ++ state_record ((get_or qs i d).0, st) ∷ []) so ∙ append_assoc before (map state_record (seen states (take i ps))) (state_record ((get_or qs i d).0, st) ∷ [])
     ∙ ap (λ l. before ++ l) (sym (ap (map state_record) (seen_more states ps qs i d st same is there) ∙ map-append state_record (seen states (take i ps)) (((get_or qs i d).0, st) ∷ [])))
+
+-- the head, and the states of both parts
+pub states_joined : (states : List KeyState) (low high : List Place) (head : Record) (begun one two : List Record) → begun ≡ head ∷ [] → one ≡ begun ++ map state_record (seen states low) → two ≡ one ++ map state_record (seen states high)
+    → two ≡ head ∷ map state_record (seen states (low ++ high))
+states_joined states low high head begun one two is low_is high_is =
+    high_is ∙ ap (λ l. l ++ map state_record (seen states high)) (low_is ∙ ap (λ l. l ++ map state_record (seen states low)) is)
+    ∙ ap (λ l. head ∷ l) (sym (ap (map state_record) (seen_append states low high) ∙ map-append state_record (seen states low) (seen states high)))

@@ -1,5 +1,5 @@
 -- Keys in their order, each with the place of what is known of it.
-use Rattle.std.specs.Prelude.{◌≡◌, ℕ, ◌<◌, ◌≤◌, ◌==◌, ◌&&◌, Bool, true, false, not, nat_lt, cond, T, Some, None, List, [], ◌∷◌, length, slice_index_or, slice_set, remove}
+use Rattle.std.specs.Prelude.{◌≡◌, ℕ, ◌<◌, ◌≤◌, ◌==◌, ◌&&◌, Bool, true, false, not, nat_lt, nat_le, cond, T, Some, None, List, [], ◌∷◌, length, slice_index_or, slice_set, remove}
 use Rattle.std.specs.List as list
 use Rattle.std.specs.FinMap.{find, put, is_sorted}
 use Rattle.sv_model.specs.declared.key.Key.{Key}
@@ -35,6 +35,22 @@ are_apart (p ∷ ps) = is_free p.1 ps && are_apart ps
 
 abbrev pub AreApart : List Place → Type 0
 AreApart ps = T (are_apart ps)
+
+-- each key is of a home up to this one
+abbrev pub are_low : ℕ → List Place → Bool
+are_low home [] = true
+are_low home (p ∷ ps) = nat_le p.0.home home && are_low home ps
+
+abbrev pub AreLow : ℕ → List Place → Type 0
+AreLow home ps = T (are_low home ps)
+
+-- each key is of a home above this one
+abbrev pub are_high : ℕ → List Place → Bool
+are_high home [] = true
+are_high home (p ∷ ps) = nat_lt home p.0.home && are_high home ps
+
+abbrev pub AreHigh : ℕ → List Place → Type 0
+AreHigh home ps = T (are_high home ps)
 
 -- the state at a place
 abbrev pub state_at : List KeyState → ℕ → KeyState

@@ -46,7 +46,7 @@ impl<E> Core<E> {
     {
         let kept = Kept {
             setting,
-            keys: Table::new(alloc),
+            keys: Table::new(alloc, setting.node),
             boot: 0,
             next: 1,
             stage: Stage::Blank,

@@ -1,10 +1,10 @@
 //! What a node knows of its keys, in order of the keys.
 
-ghost use Rattle.std.specs.Prelude.{◌≡◌, ◌<◌, length};
+ghost use Rattle.std.specs.Prelude.{◌≡◌, length};
 ghost use Rattle.std.specs.Option.{option_map};
 ghost use Rattle.std.specs.FinMap.{entries};
 ghost use Rattle.sv_model.specs.Time.{is_over, first_over};
-ghost use Rattle.sv_core.specs.Places.{state_at};
+ghost use Rattle.sv_core.specs.Places.{AreWithin, seen};
 ghost use Rattle.sv_core.specs.Table.{keys_of};
 
 use crate::table::Table;
@@ -21,16 +21,27 @@ fn is_over(state: &KeyState, now: u64) -> bool
 }
 
 impl Table {
-    /// The least key whose session has expired.
-    pub fn first_over(&self, now: u64) -> Option<(Key, &KeyState)>
-        ensures { option_map (λ e. (e.0, e.1.now)) result ≡ first_over now (entries (keys_of self.now)) }
+    /// The first of these keys whose session has expired.
+    fn first_among(&self, places: &[(Key, usize)], now: u64) -> Option<(Key, &KeyState)>
+        requires { AreWithin (length self.now.states.items) places.now }
+        ensures { option_map (λ e. (e.0, e.1.now)) result ≡ first_over now (seen self.now.states.items places.now) }
     {
-        for &(key, place) in self.in_order() {
+        for &(key, place) in places {
             let state = self.state(place);
             if is_over(state, now) {
                 return Some((key, state));
             }
         }
         None
+    }
+
+    /// The least key whose session has expired.
+    pub fn first_over(&self, now: u64) -> Option<(Key, &KeyState)>
+        ensures { option_map (λ e. (e.0, e.1.now)) result ≡ first_over now (entries (keys_of self.now)) }
+    {
+        match self.first_among(self.places().low(), now) {
+            Some(found) => Some(found),
+            None => self.first_among(self.places().high(), now),
+        }
     }
 }

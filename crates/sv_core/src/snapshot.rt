@@ -1,8 +1,8 @@
 //! All that a node keeps durably, as records that give it again.
 
-ghost use Rattle.std.specs.Prelude.{◌≡◌, ◌++◌, ◌∷◌, [], IfOk, OnOk, map};
-ghost use Rattle.std.specs.FinMap.{entries};
+ghost use Rattle.std.specs.Prelude.{◌≡◌, ◌++◌, ◌∷◌, [], IfOk, OnOk, length, map};
 ghost use Rattle.sv_core.specs.Kept.{node_of};
+ghost use Rattle.sv_core.specs.Places.{AreWithin, seen};
 ghost use Rattle.sv_core.specs.Snapshot.{state_record, snapshot_of};
 
 use crate::kept::Kept;
@@ -24,11 +24,16 @@ impl Kept {
         Ok(())
     }
 
-    /// A record of what is known of each key, in order of the keys.
-    fn add_states(&self, records: &mut Vec<Record>) -> Result<(), AllocError>
-        ensures { OnOk result (records.new.items ≡ records.old.items ++ map state_record (entries (node_of self.now).durable.keys)) }
+    /// A record of what is known of each of these keys.
+    fn add_states(
+        &self,
+        records: &mut Vec<Record>,
+        places: &[(Key, usize)],
+    ) -> Result<(), AllocError>
+        requires { AreWithin (length self.now.keys.states.items) places.now }
+        ensures { OnOk result (records.new.items ≡ records.old.items ++ map state_record (seen self.now.keys.states.items places.now)) }
     {
-        for &(key, place) in self.keys.in_order() {
+        for &(key, place) in places {
             self.add_state(records, key, self.keys.state(place))?;
         }
         Ok(())
@@ -43,7 +48,8 @@ impl Kept {
             boot: self.boot,
             next: self.next,
         })?;
-        self.add_states(&mut records)?;
+        self.add_states(&mut records, self.keys.places().low())?;
+        self.add_states(&mut records, self.keys.places().high())?;
         Ok(records)
     }
 }

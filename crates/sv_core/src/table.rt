@@ -2,11 +2,13 @@
 
 ghost use Rattle.std.specs.Prelude.{◌≡◌, ◌<◌, OnOk, [], length, option_copied};
 ghost use Rattle.std.specs.FinMap.{get, insert, len};
-ghost use Rattle.sv_core.specs.Places.{Rises, AreWithin, AreApart, state_at, sent_among, is_handed_over};
+ghost use Rattle.sv_core.specs.Places.{AreWithin, AreApart, state_at, sent_among, is_handed_over};
+ghost use Rattle.sv_core.specs.Directory.{places_in};
 ghost use Rattle.sv_model.specs.Serving.{kept_at, ended_at};
 ghost use Rattle.sv_model.specs.Keys.{same_key};
 
-use crate::places::{add, mark, place_of};
+use crate::directory::Directory;
+use crate::places::mark;
 use std::alloc::{AllocError, Global};
 use sv_model::{Key, KeyState, Session};
 
@@ -14,15 +16,14 @@ use sv_model::{Key, KeyState, Session};
 #[derive(Drop)]
 pub struct Table {
     /// The keys in their order, each with the place of its state.
-    places: Vec<(Key, usize)>,
+    places: Directory,
     /// What is known of the keys, in the order in which they came. Since no key is forgotten, each keeps its place.
     states: Vec<KeyState>,
     /// Of the places those whose session was handed over, and not yet acknowledged.
     sent: Vec<(Key, usize)>,
-    ghost rises: { Rises places.items },
-    ghost within: { AreWithin (length states.items) places.items },
-    ghost apart: { AreApart places.items },
-    ghost walked: { sent.items ≡ sent_among states.items places.items },
+    ghost within: { AreWithin (length states.items) (places_in places) },
+    ghost apart: { AreApart (places_in places) },
+    ghost walked: { sent.items ≡ sent_among states.items (places_in places) },
 }
 
 /// The two are one key.
@@ -42,13 +43,12 @@ fn is_handed_over(state: &KeyState) -> bool
 impl Table {
     ghost use Rattle.sv_core.specs.Table.{keys_of, HasRoom, HasPlace};
 
-    /// No keys.
-    pub fn new(alloc: Global) -> Self
-        ensures places { result.places.items ≡ [] }
-        ensures states { result.states.items ≡ [] }
+    /// No keys, for a node of this number.
+    pub fn new(alloc: Global, node: u8) -> Self
+        ensures { places_in result.places ≡ [] }
     {
         Table {
-            places: Vec::new(alloc),
+            places: Directory::new(alloc, node),
             states: Vec::new(alloc),
             sent: Vec::new(alloc),
         }
@@ -65,15 +65,15 @@ impl Table {
     pub fn get(&self, key: Key) -> Option<&KeyState>
         ensures { option_copied result ≡ get (keys_of self.now) key }
     {
-        let place = place_of(&self.places, key)?;
+        let place = self.places.place_of(key)?;
         Some(&self.states[place])
     }
 
     /// The keys in their order, each with the place of its state.
-    pub fn in_order(&self) -> &[(Key, usize)]
-        ensures { result.now ≡ self.now.places.items }
+    pub fn places(&self) -> &Directory
+        ensures { result.now ≡ self.now.places }
     {
-        self.places.as_slice()
+        &self.places
     }
 
     /// The keys whose session was handed over, and not yet acknowledged, in their order.
@@ -97,7 +97,7 @@ impl Table {
         ensures room { OnOk result (HasRoom self.new) }
     {
         // a record names two keys at most: the one of a request, and the one of a session that was made
-        self.places.try_reserve(2)?;
+        self.places.reserve()?;
         self.sent.try_reserve(2)?;
         self.states.try_reserve(2)
     }
@@ -109,14 +109,14 @@ impl Table {
         ensures room { HasRoom self.old → HasPlace self.new }
     {
         let is_sent = is_handed_over(&state);
-        match place_of(&self.places, key) {
+        match self.places.place_of(key) {
             Some(place) => {
                 mark(&mut self.sent, key, place, is_sent);
                 self.states[place] = state;
             }
             None => {
                 let place = self.states.len();
-                add(&mut self.places, key, place);
+                self.places.add(key, place);
                 mark(&mut self.sent, key, place, is_sent);
                 self.states.push_reserved(state);
             }

@@ -4,4 +4,4 @@ use Rattle.sv_core.specs.Places.{seen}
 use Rattle.sv_core.proofs.kept.Kept.add_states.Given as goal
 
 abbrev pub invariant-loop-key : goal.invariant-loop-key
-invariant-loop-key l = l.records.items ≡ l.initial.records.items ++ map state_record (seen l.self.keys.states.items (take l.key-index l.self.keys.places.items))
+invariant-loop-key l = l.records.items ≡ l.initial.records.items ++ map state_record (seen l.self.keys.states.items (take l.key-index l.places))

@@ -1,25 +1,31 @@
-use Rattle.std.proofs.Common.{◌≤◌, length, sym, ap, subst, ◌∙◌}
+use Rattle.std.proofs.Common.{◌≡◌, length, sym, ap, subst, ◌∙◌}
 use Rattle.sv_model.specs.Time.{first_over}
-use Rattle.sv_core.proofs.PlaceLemmas.{place_within, none_is, over_is, over_next}
+use Rattle.sv_core.specs.declared.directory.Directory.{Directory}
+use Rattle.sv_core.specs.Places.{AreWithin}
+use Rattle.sv_core.specs.Directory.{places_in}
+use Rattle.sv_core.proofs.DirectoryLemmas.{front_within, back_within, over_low, over_high}
 use Rattle.sv_core.proofs.TableLemmas.{entries_are}
 use Rattle.sv_core.proofs.table.Table.first_over.Goals as goal
 
-pub state-state-requires : goal.state-state-requires
-state-state-requires c = let t = c.args.self.now in place_within (length t.states.items) t.places.items _ c.loop-key.key-index _ c.in_order-key-items.ensures t.within c.loop-key-test.true
-
-pub returns-then-is_over : goal.returns-then-is_over
-returns-then-is_over c =
+pub first_among-requires : goal.first_among-requires
+first_among-requires c =
     let t = c.args.self.now in
-    over_is c.args.now t.states.items t.places.items _ c.loop-key.key-index _ c.state-state.result.now c.in_order-key-items.ensures c.loop-key-test.true c.state-state.ensures (sym c.is_over.ensures ∙ c.if-is_over.true) c.loop-key.invariant
-    ∙ sym (ap (first_over c.args.now) (entries_are t.states.items t.places.items t.rises))
+    subst (AreWithin (length t.states.items)) (sym (c.low.ensures ∙ ap (λ (d : Directory). d.low.items) c.places.ensures)) (front_within (length t.states.items) t.places.low.items t.places.high.items t.within)
 
-pub loop-key-preserved : goal.loop-key-preserved
-loop-key-preserved c =
+pub first_among-requires-in-None : goal.first_among-requires-in-None
+first_among-requires-in-None c =
     let t = c.args.self.now in
-    over_next c.args.now t.states.items t.places.items _ c.loop-key.key-index _ c.state-state.result.now c.in_order-key-items.ensures c.loop-key-test.true c.state-state.ensures (sym c.is_over.ensures ∙ c.if-is_over.false) c.loop-key.invariant
+    subst (AreWithin (length t.states.items)) (sym (c.high.ensures ∙ ap (λ (d : Directory). d.high.items) c.places-in-None.ensures)) (back_within (length t.states.items) t.places.low.items t.places.high.items t.within)
 
-pub returns : goal.returns
-returns c =
+pub returns-in-Some : goal.returns-in-Some
+returns-in-Some c =
     let t = c.args.self.now in
-    none_is c.args.now t.states.items t.places.items c.loop-key.key-index (subst (λ l. length l ≤ c.loop-key.key-index) c.in_order-key-items.ensures c.loop-key-test.false) c.loop-key.invariant
-    ∙ sym (ap (first_over c.args.now) (entries_are t.states.items t.places.items t.rises))
+    over_low c.args.now t.states.items t.places.low.items t.places.high.items c.low.result.now (c.low.ensures ∙ ap (λ (d : Directory). d.low.items) c.places.ensures) _ c.in-Some.ensures
+    ∙ sym (ap (first_over c.args.now) (entries_are t.states.items (places_in t.places) t.places.rises))
+
+pub returns-in-None : goal.returns-in-None
+returns-in-None c =
+    let t = c.args.self.now in
+    over_high c.args.now t.states.items t.places.low.items t.places.high.items c.low.result.now (c.low.ensures ∙ ap (λ (d : Directory). d.low.items) c.places.ensures)
+    c.high.result.now _ c.in-None.ensures (c.high.ensures ∙ ap (λ (d : Directory). d.high.items) c.places-in-None.ensures) c.first_among-in-None.ensures
+    ∙ sym (ap (first_over c.args.now) (entries_are t.states.items (places_in t.places) t.places.rises))
