@@ -151,6 +151,42 @@ const OLD_NO: [Row; 5] = [
     (Step::Deliver(2), ""),
 ];
 
+/// Of three that wait the second is served when its session has come, and then of the others the one that came first, though
+/// its session has come last.
+const IN_LINE: [Row; 18] = [
+    (Step::First(0), "answer 1"),
+    (Step::First(0), "answer 1"),
+    (Step::First(0), "answer 1"),
+    (Step::Again(0, K1), "answer 2"),
+    (Step::Again(1, K1), "p0 Want 1 to 0, p1 Want 1 to 2"),
+    (Step::Again(1, (0, 2)), "p2 Want 1 to 0, p3 Want 1 to 2"),
+    (Step::Again(1, (0, 3)), "p4 Want 1 to 0, p5 Want 1 to 2"),
+    (Step::Deliver(2), "p6 Grant 0 to 1 epoch 2"),
+    (Step::Deliver(6), "p7 Ack 1 to 0 epoch 2"),
+    (Step::Poke(1), "answer 2"),
+    (Step::Poke(1), ""),
+    (Step::Deliver(4), "p8 Grant 0 to 1 epoch 2"),
+    (Step::Deliver(0), "p9 Grant 0 to 1 epoch 2"),
+    (Step::Deliver(8), "p10 Ack 1 to 0 epoch 2"),
+    (Step::Deliver(9), "p11 Ack 1 to 0 epoch 2"),
+    (Step::Poke(1), "answer 3"),
+    (Step::Poke(1), "answer 2"),
+    (Step::Poke(1), ""),
+];
+
+/// A No to the second of three that wait lets it leave, and no other: the third is asked for again.
+const NO_IN_THE_MIDDLE: [Row; 9] = [
+    (Step::Again(1, K1), "p0 Want 1 to 0, p1 Want 1 to 2"),
+    (Step::Again(1, (0, 2)), "p2 Want 1 to 0, p3 Want 1 to 2"),
+    (Step::Again(1, (0, 3)), "p4 Want 1 to 0, p5 Want 1 to 2"),
+    (Step::Deliver(2), "p6 No 0 to 1"),
+    (Step::Deliver(6), "answer 1"),
+    (Step::Deliver(6), ""),
+    (Step::Deliver(0), "p7 No 0 to 1"),
+    (Step::Deliver(7), "answer 1"),
+    (Step::Tick(1, NOW), "p8 Want 1 to 0, p9 Want 1 to 2"),
+];
+
 /// A session ends at the second in which it has gone 60 without a request, and the next request makes another.
 const EXPIRED: [Row; 6] = [
     (Step::First(0), "answer 1"),
@@ -194,7 +230,14 @@ fn wait_in_full(rt: &impl Abort, cluster: &mut Cluster) -> Result<(), Fail> {
 
 #[test]
 fn requests_wait_and_sessions_end(rt: HostRuntime) -> Result<(), Fail> {
-    for rows in [&NEVER_MADE[..], &OLD_NO[..], &EXPIRED[..], &WAITED[..]] {
+    for rows in [
+        &NEVER_MADE[..],
+        &OLD_NO[..],
+        &IN_LINE[..],
+        &NO_IN_THE_MIDDLE[..],
+        &EXPIRED[..],
+        &WAITED[..],
+    ] {
         let mut cluster = Cluster::new(rt.alloc())?;
         expect_rows(&rt, &mut cluster, rows)?;
     }
