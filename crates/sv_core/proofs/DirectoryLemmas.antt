@@ -1,14 +1,17 @@
 -- Keys in their order in two parts.
-use Rattle.std.proofs.Common.{◌≡◌, ℕ, ◌<◌, ◌≤◌, Bool, true, false, cond, Option, Some, None, List, [], ◌∷◌, ◌++◌, arith, refl, sym, ap, ◌∙◌, subst}
+use Rattle.std.proofs.Common.{◌≡◌, ℕ, ◌<◌, ◌≤◌, Bool, true, false, cond, Option, Some, None, List, [], ◌∷◌, ◌++◌, length, arith, refl, sym, ap, ◌∙◌, subst}
 use Rattle.std.specs.Prelude.{T, ◌&&◌, nat_lt, nat_le}
+use Rattle.std.specs.List.{list_any}
 use Rattle.std.specs.FinMap.{find, put, is_sorted}
 use Rattle.std.specs.FinMap.Entries.{below_all, by_order}
 use Rattle.std.specs.Ordering.{is_lt, is_eq, nat_cmp, ordering_then}
 use Rattle.std.specs.declared.cmp.Ordering.{Ordering}
 use Rattle.std.specs.declared.cmp.Ordering.TheVariants.{Less, Equal, Greater}
 use Rattle.std.proofs.lemmas.Bool.Decides.{nat_tests}
+use Rattle.std.proofs.lemmas.List.Folds.{list_any_at}
 use Rattle.sv_model.specs.declared.key.Key.{Key}
 use Rattle.sv_model.specs.declared.state.KeyState.{KeyState}
+use Rattle.sv_model.specs.declared.state.KeyState.TheVariants.{Gone}
 use Rattle.sv_model.specs.Keys.{key_cmp}
 use Rattle.sv_model.specs.Time.{is_over, first_over}
 use Rattle.sv_core.specs.Order.{Entry}
@@ -180,3 +183,20 @@ module _ (now : ℕ) (states : List KeyState) (low high read : List Place) (same
   over_high others o none alike is =
       is ∙ ap (λ l. first_over now (seen states l)) alike
       ∙ sym (ap (first_over now) (seen_append states low high) ∙ over_back now (seen states low) (seen states high) (ap (λ l. first_over now (seen states l)) (sym same) ∙ sym none))
+
+-- ---- no session has expired
+
+fails_if : (b : Bool) → (b ≡ true → ⊥) → b ≡ false
+fails_if true fails = absurd (fails refl)
+fails_if false fails = refl
+
+none_over : (now : ℕ) (states : List KeyState) (ps : List Place) → list_any (is_over now) states ≡ false → AreWithin (length states) ps → first_over now (seen states ps) ≡ None
+none_over now states [] none within = refl
+none_over now states (p ∷ ps) none within =
+    let here : p.1 < length states = is_more p.1 (length states) (first (nat_lt p.1 (length states)) (are_within (length states) ps) within) in
+    ap (λ b. cond b (Some (p.0, state_at states p.1)) (first_over now (seen states ps)))
+    (fails_if (is_over now (state_at states p.1)) (λ is. let no : true ≡ false = sym (list_any_at (is_over now) states p.1 (Gone 0) here is) ∙ none in cc))
+    ∙ none_over now states ps none (second (nat_lt p.1 (length states)) (are_within (length states) ps) within)
+
+pub nobody_over : (now : ℕ) (states : List KeyState) (ps : List Place) (b : Bool) → b ≡ list_any (is_over now) states → b ≡ false → AreWithin (length states) ps → None ≡ first_over now (seen states ps)
+nobody_over now states ps b tests is within = sym (none_over now states ps (sym tests ∙ is) within)

@@ -2,6 +2,7 @@
 
 ghost use Rattle.std.specs.Prelude.{◌≡◌, length};
 ghost use Rattle.std.specs.Option.{option_map};
+ghost use Rattle.std.specs.List.{list_any};
 ghost use Rattle.std.specs.FinMap.{entries};
 ghost use Rattle.sv_model.specs.Time.{is_over, first_over};
 ghost use Rattle.sv_core.specs.Places.{AreWithin, seen};
@@ -35,10 +36,20 @@ impl Table {
         None
     }
 
+    /// A session has expired. The states are read as they stand in memory, which is faster than in order of their keys.
+    fn is_any_over(&self, now: u64) -> bool
+        ensures { result ≡ list_any (is_over now) self.now.states.items }
+    {
+        self.states().iter().any(|state| is_over(state, now))
+    }
+
     /// The least key whose session has expired.
     pub fn first_over(&self, now: u64) -> Option<(Key, &KeyState)>
         ensures { option_map (λ e. (e.0, e.1.now)) result ≡ first_over now (entries (keys_of self.now)) }
     {
+        if !self.is_any_over(now) {
+            return None;
+        }
         match self.first_among(self.places().low(), now) {
             Some(found) => Some(found),
             None => self.first_among(self.places().high(), now),

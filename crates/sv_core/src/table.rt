@@ -83,6 +83,13 @@ impl Table {
         self.sent.as_slice()
     }
 
+    /// What is known of the keys, in the order in which they came.
+    pub fn states(&self) -> &[KeyState]
+        ensures { result.now ≡ self.now.states.items }
+    {
+        self.states.as_slice()
+    }
+
     /// The state at a place.
     pub fn state(&self, place: usize) -> &KeyState
         requires { place < length self.now.states.items }

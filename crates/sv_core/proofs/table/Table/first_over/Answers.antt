@@ -3,7 +3,7 @@ use Rattle.sv_model.specs.Time.{first_over}
 use Rattle.sv_core.specs.declared.directory.Directory.{Directory}
 use Rattle.sv_core.specs.Places.{AreWithin}
 use Rattle.sv_core.specs.Directory.{places_in}
-use Rattle.sv_core.proofs.DirectoryLemmas.{front_within, back_within, over_low, over_high}
+use Rattle.sv_core.proofs.DirectoryLemmas.{front_within, back_within, over_low, over_high, nobody_over}
 use Rattle.sv_core.proofs.TableLemmas.{entries_are}
 use Rattle.sv_core.proofs.table.Table.first_over.Goals as goal
 
@@ -28,4 +28,10 @@ returns-in-None c =
     let t = c.args.self.now in
     over_high c.args.now t.states.items t.places.low.items t.places.high.items c.low.result.now (c.low.ensures ∙ ap (λ (d : Directory). d.low.items) c.places.ensures)
     c.high.result.now _ c.in-None.ensures (c.high.ensures ∙ ap (λ (d : Directory). d.high.items) c.places-in-None.ensures) c.first_among-in-None.ensures
+    ∙ sym (ap (first_over c.args.now) (entries_are t.states.items (places_in t.places) t.places.rises))
+
+pub returns-then-not-is_any_over : goal.returns-then-not-is_any_over
+returns-then-not-is_any_over c =
+    let t = c.args.self.now in
+    nobody_over c.args.now t.states.items (places_in t.places) c.is_any_over.result c.is_any_over.ensures c.if-not-is_any_over.true t.within
     ∙ sym (ap (first_over c.args.now) (entries_are t.states.items (places_in t.places) t.places.rises))
