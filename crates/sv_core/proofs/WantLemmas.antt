@@ -1,9 +1,10 @@
 -- Wants in their order, and where one stands.
 use Rattle.std.proofs.Common.{◌≡◌, ◌≢◌, ℕ, zero, suc, ◌+◌, ◌<◌, ◌≤◌, Bool, true, false, cond, Option, Some, None, Result, Ok, Err, IfOk, IfErr, List, [], ◌∷◌, ◌++◌, length, get_or, take, drop, append_assoc, take-append-drop, arith, refl, sym, ap, ◌∙◌, subst, inl, inr, ⊎_elim, ◌⊎◌}
-use Rattle.std.specs.Prelude.{T, ◌&&◌, ◌==◌, not, nat_le, position, remove, slice_get}
+use Rattle.std.proofs.lemmas.List.{length-map, map_push}
+use Rattle.std.specs.Prelude.{T, ◌&&◌, ◌||◌, ◌==◌, not, nat_le, position, remove, slice_get}
 use Rattle.std.specs.Result.{result_ok}
 use Rattle.std.specs.List as list
-use Rattle.std.specs.List.{AllWithin, filter, position_from}
+use Rattle.std.specs.List.{list_any, AllWithin, filter, position_from}
 use Rattle.std.specs.List.Sorted.{IsSearchInRange, IsBinarySearchResult, IsSortedBy}
 use Rattle.std.specs.Ordering.{is_lt, nat_cmp}
 use Rattle.std.specs.declared.cmp.Ordering.TheVariants.{Less, Equal, Greater}
@@ -16,7 +17,7 @@ use Rattle.sv_model.specs.declared.node.Parked.{Parked}
 use Rattle.sv_model.specs.declared.key.Key.{Key}
 use Rattle.sv_model.specs.Keys.{same_key}
 use Rattle.sv_model.specs.Migration.{is_wanted}
-use Rattle.sv_core.specs.Wants.{rise_from, Rise, IsLine, wants_in, wants_where, Stands, Lacks, around, IsAround}
+use Rattle.sv_core.specs.Wants.{rise_from, Rise, IsLine, keys_in, wants_in, with_key, wants_where, Stands, Lacks, around, IsAround}
 use Rattle.sv_core.proofs.OrderLemmas.{first, second, both}
 use Rattle.sv_core.proofs.KeptLemmas.{left}
 
@@ -363,6 +364,11 @@ where_append test (p ∷ ps) qs =
 pub same_where : (one other : Parked → Bool) (ps : List Parked) → ((p : Parked) → one p ≡ other p) → wants_where one ps ≡ wants_where other ps
 same_where one other ps same = ap (λ test. wants_where test ps) (λ i p. same p i)
 
+take_next : (ps : List Parked) (i : ℕ) (d : Parked) → i < length ps → take (suc i) ps ≡ take i ps ++ get_or ps i d ∷ []
+take_next [] i d is = absurd (omega (arith, is))
+take_next (p ∷ ps) zero d is = refl
+take_next (p ∷ ps) (suc i) d is = ap (λ l. p ∷ l) (take_next ps i d (omega (arith, is)))
+
 module _ (new old : Parked → Bool) where
   -- a walk has come so far
   abbrev pub walked : ℕ → List Parked → List ℕ
@@ -386,11 +392,6 @@ module _ (new old : Parked → Bool) where
   drop_at (p ∷ ps) zero d is = refl
   drop_at (p ∷ ps) (suc i) d is = drop_at ps i d (omega (arith, is))
 
-  take_more : (ps : List Parked) (i : ℕ) (d : Parked) → i < length ps → take (suc i) ps ≡ take i ps ++ get_or ps i d ∷ []
-  take_more [] i d is = absurd (omega (arith, is))
-  take_more (p ∷ ps) zero d is = refl
-  take_more (p ∷ ps) (suc i) d is = ap (λ l. p ∷ l) (take_more ps i d (omega (arith, is)))
-
   -- the next one stands among the others
   pub is_around : (ps : List Parked) (i : ℕ) (p : Parked) (ws : List ℕ) → Rise (wants_in ps) → i < length ps → p ≡ get_or ps i p → ws ≡ walked i ps
       → IsAround (wants_where new (take i ps)) p.want (old p) (wants_where old (drop (suc i) ps)) ws
@@ -411,7 +412,7 @@ module _ (new old : Parked → Bool) where
       one_more (new p) p.want (wants_where new (take i ps)) (wants_where old (drop (suc i) ps))
       ∙ ap (λ l. l ++ wants_where old (drop (suc i) ps)) (sym (where_append new (take i ps) (p ∷ [])))
       ∙ ap (λ (q : Parked). wants_where new (take i ps ++ q ∷ []) ++ wants_where old (drop (suc i) ps)) read
-      ∙ ap (λ l. wants_where new l ++ wants_where old (drop (suc i) ps)) (sym (take_more ps i p is))
+      ∙ ap (λ l. wants_where new l ++ wants_where old (drop (suc i) ps)) (sym (take_next ps i p is))
       ∙ ap (λ n. walked n ps) {x = suc i} (omega arith)
 
   pub all_walked : (ps : List Parked) (i : ℕ) → length ps ≤ i → walked i ps ≡ wants_where new ps
@@ -493,3 +494,51 @@ line_push low (q ∷ ps) p rise =
 
 pub line_joined : (ps : List Parked) (p : Parked) → IsLine p.want ps → IsLine (p.want + 1) (ps ++ p ∷ [])
 line_joined ps p line = line_push 0 ps p line
+
+-- ---- the keys that they wait for
+
+neither : (a b : Bool) → (a || b) ≡ false → (a ≡ false) × (b ≡ false)
+neither true b is = absurd (let no : true ≡ false = is in cc)
+neither false b is = (refl, is)
+
+nobody_among : (k : Key) (b : Bool) (test : Parked → Bool) (ps : List Parked) → list_any (λ q. same_key q k) (keys_in ps) ≡ false → wants_where test ps ≡ wants_where (with_key k b test) ps
+nobody_among k b test [] none = refl
+nobody_among k b test (p ∷ ps) none =
+    let parts = neither (same_key p.key k) (list_any (λ q. same_key q k) (keys_in ps)) none in
+    ap (λ l. cond (test p) (p.want ∷ l) l) (nobody_among k b test ps parts.1)
+    ∙ ap (λ c. cond (cond c b (test p)) (p.want ∷ wants_where (with_key k b test) ps) (wants_where (with_key k b test) ps)) (sym parts.0)
+
+-- nobody waits for the key
+pub nobody_waits : (k : Key) (b : Bool) (test : Parked → Bool) (ps : List Parked) (read : List Key) → read ≡ keys_in ps → list_any (λ q. same_key q k) read ≡ false → wants_where test ps ≡ wants_where (with_key k b test) ps
+nobody_waits k b test ps read same none = nobody_among k b test ps (ap (list_any (λ q. same_key q k)) (sym same) ∙ none)
+
+pub keys_left : (ps : List Parked) (at : ℕ) → remove (keys_in ps) at ≡ keys_in (remove ps at)
+keys_left [] zero = refl
+keys_left [] (suc at) = refl
+keys_left (p ∷ ps) zero = refl
+keys_left (p ∷ ps) (suc at) = ap (λ l. p.key ∷ l) (keys_left ps at)
+
+pub keys_more : (ps : List Parked) (i : ℕ) (p : Parked) → i < length ps → p ≡ get_or ps i p → keys_in (take i ps) ++ p.key ∷ [] ≡ keys_in (take (i + 1) ps)
+keys_more ps i p is read =
+    ap (λ (q : Parked). keys_in (take i ps) ++ q.key ∷ []) read ∙ sym (ap keys_in (take_next ps i p is) ∙ map_push (λ (q : Parked). q.key) (take i ps) (get_or ps i p))
+    ∙ ap (λ n. keys_in (take n ps)) {x = suc i} (omega arith)
+
+pub keys_all : (ps : List Parked) (i : ℕ) → length ps ≤ i → keys_in (take i ps) ≡ keys_in ps
+keys_all [] zero is = refl
+keys_all [] (suc i) is = refl
+keys_all (p ∷ ps) zero is = absurd (omega (arith, is))
+keys_all (p ∷ ps) (suc i) is = ap (λ l. p.key ∷ l) (keys_all ps i (omega (arith, is)))
+
+pub keys_joined : (ps : List Parked) (p : Parked) → keys_in ps ++ p.key ∷ [] ≡ keys_in (ps ++ p ∷ [])
+keys_joined ps p = sym (map_push (λ (q : Parked). q.key) ps p)
+
+length_passing : (test : Parked → Bool) (ps : List Parked) → length (filter test ps) ≤ length ps
+length_passing test [] = omega arith
+length_passing test (p ∷ ps) =
+    let rest = length_passing test ps in
+    elim (test p) as (λ b. length (cond b (p ∷ filter test ps) (filter test ps)) ≤ suc (length ps)) [ true ↦ omega (arith, rest) | false ↦ omega (arith, rest) ]
+
+pub passing_fits : (test : Parked → Bool) (ps left : List Parked) (keys : List Key) → keys ≡ keys_in ps → left ≡ filter test ps → length left ≤ length keys
+passing_fits test ps left keys same is =
+    let fewer = length_passing test ps in
+    subst (λ l. length l ≤ length keys) (sym is) (omega (arith, fewer, ap length same, length-map ps (λ (p : Parked). p.key)))

@@ -16,4 +16,5 @@ pub record TakesRecord (k : Kept) : Type 0 where
 pub record IsReady (k : Kept) : Type 0 where
   pub taking : TakesRecord k
   pub parked : vec_len k.parked < vec_capacity k.parked
+  pub waited : vec_len k.waited < vec_capacity k.waited
   pub settled : length k.parked.items < vec_capacity k.settled

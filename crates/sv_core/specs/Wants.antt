@@ -21,6 +21,10 @@ Rise ns = T (rise_from 0 ns)
 abbrev pub wants_in : List Parked → List ℕ
 wants_in parked = map (λ p. p.want) parked
 
+-- the keys of the sessions that they wait for
+abbrev pub keys_in : List Parked → List Key
+keys_in parked = map (λ p. p.key) parked
+
 -- the wants of those that wait rise, and the next one is above them
 abbrev pub IsLine : ℕ → List Parked → Type 0
 IsLine next_want parked = Rise (wants_in parked ++ next_want ∷ [])

@@ -98,6 +98,7 @@ impl Kept {
         ensures stage { self.new.stage ≡ stage_behind entry self.old.stage }
         ensures setting { self.new.setting ≡ self.old.setting }
         ensures parked { self.new.parked ≡ self.old.parked }
+        ensures waited { self.new.waited ≡ self.old.waited }
         ensures want { self.new.next_want ≡ self.old.next_want }
         ensures capacity { vec_capacity self.old.settled ≤ vec_capacity self.new.settled }
     {
@@ -114,7 +115,7 @@ impl Kept {
             _ => {}
         }
         self.stage = stage_behind(&entry, self.stage);
-        settle_behind(&mut self.settled, &self.parked, &entry);
+        settle_behind(&mut self.settled, &self.parked, &self.waited, &entry);
         self.keys.take_record(entry);
     }
 
@@ -127,6 +128,7 @@ impl Kept {
         ensures stage { self.new.stage ≡ stage_behind_if entry self.old.stage }
         ensures setting { self.new.setting ≡ self.old.setting }
         ensures parked { self.new.parked ≡ self.old.parked }
+        ensures waited { self.new.waited ≡ self.old.waited }
         ensures want { self.new.next_want ≡ self.old.next_want }
         ensures capacity { vec_capacity self.old.settled ≤ vec_capacity self.new.settled }
     {

@@ -2,7 +2,7 @@
 
 ghost use Rattle.std.specs.Prelude.{◌≡◌, ◌==◌, ◌+◌, ◌<◌, ◌≤◌, [], None, is_none, IfSome, OnOk, IfOk, length, vec_capacity};
 ghost use Rattle.sv_model.specs.declared.record.Record.TheVariants.{Boot};
-ghost use Rattle.sv_core.specs.Wants.{IsLine, wants_here};
+ghost use Rattle.sv_core.specs.Wants.{IsLine, keys_in, wants_here};
 ghost use Rattle.sv_core.specs.Plain.{recorded};
 ghost use Rattle.sv_core.specs.Table.{keys_of};
 ghost use Rattle.sv_model.specs.NodeState.{is_unmade, is_dead, last_number};
@@ -27,9 +27,13 @@ pub struct Kept {
     pub parked: Vec<Parked>,
     /// The number of the next want.
     pub next_want: u64,
+    /// The keys of the sessions that they wait for, one for each. They stand close together, so that a look whether somebody
+    /// waits for a key is short.
+    pub waited: Vec<Key>,
     /// The wants of those whose session is active or has ended here, in order.
     pub settled: Vec<u64>,
     pub alloc: Global,
+    ghost keyed: { waited.items ≡ keys_in parked.items },
     ghost line: { IsLine next_want parked.items },
     ghost walked: { settled.items ≡ wants_here (keys_of keys) parked.items },
 }
@@ -98,6 +102,7 @@ impl Kept {
         ensures room { OnOk result (IsReady self.new) }
     {
         self.reserve_record()?;
+        self.waited.try_reserve(1)?;
         self.parked.try_reserve(1)
     }
 }

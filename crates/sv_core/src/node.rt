@@ -52,6 +52,7 @@ impl<E> Core<E> {
             stage: Stage::Blank,
             parked: Vec::new(alloc),
             next_want: 1,
+            waited: Vec::new(alloc),
             settled: Vec::new(alloc),
             alloc,
         };

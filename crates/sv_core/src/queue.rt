@@ -9,7 +9,7 @@ use crate::decision::{Arrival, Waiting};
 use crate::kept::Kept;
 use crate::time::is_late;
 use crate::waiting::is_settled;
-use crate::wants::{push_if, remove, remove_late};
+use crate::wants::{forget, forget_late, list_keys, push_if};
 use sv_model::Parked;
 
 impl Kept {
@@ -18,6 +18,7 @@ impl Kept {
     /// The request joins those that wait, with the next want.
     fn join(&mut self, arrival: Arrival)
         requires parked { vec_len self.old.parked < vec_capacity self.old.parked }
+        requires waited { vec_len self.old.waited < vec_capacity self.old.waited }
         requires settled { length self.old.parked.items < vec_capacity self.old.settled }
         requires want { self.old.next_want + 1 ≤ last_number }
         ensures node { node_of self.new ≡ rearranged self.old.setting (Joins arrival) (node_of self.old) }
@@ -32,6 +33,7 @@ impl Kept {
             since,
         } = arrival;
         push_if(&mut self.settled, want, is_settled(self.keys.get(key)));
+        self.waited.push_reserved(key);
         self.parked.push_reserved(Parked {
             token,
             request,
@@ -50,7 +52,8 @@ impl Kept {
     {
         if place < self.parked.len() {
             let parked = self.parked.remove(place);
-            remove(&mut self.settled, parked.want);
+            self.waited.remove(place);
+            forget(&mut self.settled, parked.want);
         }
     }
 
@@ -61,13 +64,15 @@ impl Kept {
         ensures setting { self.new.setting ≡ self.old.setting }
     {
         let setting = self.setting;
-        remove_late(&mut self.settled, &self.parked, setting, now);
+        forget_late(&mut self.settled, &self.parked, setting, now);
         self.parked.retain(|parked| !is_late(setting, parked, now));
+        list_keys(&mut self.waited, &self.parked);
     }
 
     /// The requests that wait, behind what becomes of them.
     pub fn rearrange(&mut self, waiting: Waiting)
         requires parked { vec_len self.old.parked < vec_capacity self.old.parked }
+        requires waited { vec_len self.old.waited < vec_capacity self.old.waited }
         requires settled { length self.old.parked.items < vec_capacity self.old.settled }
         requires want { want_by waiting self.old.next_want ≤ last_number }
         ensures node { node_of self.new ≡ rearranged self.old.setting waiting (node_of self.old) }

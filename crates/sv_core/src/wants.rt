@@ -1,11 +1,12 @@
 //! The wants of the requests that wait, in their order.
 
+ghost use Rattle.std.specs.List.{list_any};
 ghost use Rattle.std.specs.Prelude.{◌≡◌, ◌<◌, ◌≤◌, ◌+◌, ◌++◌, ◌∷◌, [], ℕ, Bool, List, cond, false, IfOk, IfErr, length, vec_len, vec_capacity};
 ghost use Rattle.sv_model.specs.declared.node.Parked.{Parked};
 ghost use Rattle.sv_model.specs.NodeState.{is_settled};
 ghost use Rattle.sv_model.specs.Time.{is_late};
 ghost use Rattle.sv_model.specs.Keys.{same_key};
-ghost use Rattle.sv_core.specs.Wants.{Rise, Stands, Lacks, IsAround, around, wants_in, wants_where, with_key, settles, settled_by};
+ghost use Rattle.sv_core.specs.Wants.{Rise, Stands, Lacks, IsAround, around, keys_in, wants_in, wants_where, with_key, settles, settled_by};
 
 use crate::table::is_same;
 use crate::time::is_late;
@@ -48,7 +49,7 @@ pub fn push_if(wants: &mut Vec<u64>, want: u64, is_settled: bool)
 }
 
 /// The want is not among them.
-pub fn remove(wants: &mut Vec<u64>, want: u64)
+pub fn forget(wants: &mut Vec<u64>, want: u64)
     ensures items { (before : List ℕ) (was : Bool) (behind : List ℕ) → IsAround before want was behind wants.old.items → wants.new.items ≡ before ++ behind }
     ensures len { vec_len wants.new ≤ vec_len wants.old }
     ensures capacity { vec_capacity wants.old ≤ vec_capacity wants.new }
@@ -74,7 +75,7 @@ fn settle_one(wants: &mut Vec<u64>, parked: &Parked, key: Key, is_settled: bool)
     if is_settled {
         add(wants, parked.want);
     } else {
-        remove(wants, parked.want);
+        forget(wants, parked.want);
     }
 }
 
@@ -108,33 +109,71 @@ fn settles(entry: &Record) -> Option<(Key, bool)>
     }
 }
 
+/// Somebody waits for the key.
+fn is_waited(waited: &[Key], key: Key) -> bool
+    ensures { result ≡ list_any (λ q. same_key q key) waited.now }
+{
+    waited.iter().any(|other| is_same(*other, key))
+}
+
+/// The wants of those that wait for the key are among them from now on, or aren't. Mostly nobody waits for it.
+fn settle_if_waited(
+    wants: &mut Vec<u64>,
+    all: &[Parked],
+    waited: &[Key],
+    key: Key,
+    is_settled: bool,
+)
+    requires keyed { waited.now ≡ keys_in all.now }
+    requires rise { Rise (wants_in all.now) }
+    requires room { vec_len wants.old + length all.now ≤ vec_capacity wants.old }
+    ensures items { (test : Parked → Bool) → wants.old.items ≡ wants_where test all.now → wants.new.items ≡ wants_where (with_key key is_settled test) all.now }
+    ensures capacity { vec_capacity wants.old ≤ vec_capacity wants.new }
+{
+    if is_waited(waited, key) {
+        settle(wants, all, key, is_settled);
+    }
+}
+
 /// The wants of those that can be served, behind a record.
-pub fn settle_behind(wants: &mut Vec<u64>, all: &[Parked], entry: &Record)
+pub fn settle_behind(wants: &mut Vec<u64>, all: &[Parked], waited: &[Key], entry: &Record)
+    requires keyed { waited.now ≡ keys_in all.now }
     requires rise { Rise (wants_in all.now) }
     requires room { vec_len wants.old + length all.now ≤ vec_capacity wants.old }
     ensures items { (test : Parked → Bool) → wants.old.items ≡ wants_where test all.now → wants.new.items ≡ wants_where (settled_by (settles entry.now) test) all.now }
     ensures capacity { vec_capacity wants.old ≤ vec_capacity wants.new }
 {
     if let Some((key, is_settled)) = settles(entry) {
-        settle(wants, all, key, is_settled);
+        settle_if_waited(wants, all, waited, key, is_settled);
     }
 }
 
 /// The want of the request is not among them, where it has waited for as long as requests do.
-fn remove_if_late(wants: &mut Vec<u64>, parked: &Parked, setting: Setting, now: u64)
+fn forget_if_late(wants: &mut Vec<u64>, parked: &Parked, setting: Setting, now: u64)
     ensures items { (before : List ℕ) (was : Bool) (behind : List ℕ) → IsAround before parked.now.want was behind wants.old.items → wants.new.items ≡ around before parked.now.want (cond (is_late setting now parked.now) false was) behind }
 {
     if is_late(setting, parked, now) {
-        remove(wants, parked.want);
+        forget(wants, parked.want);
     }
 }
 
 /// The wants of those that have waited for as long as requests do are not among them.
-pub fn remove_late(wants: &mut Vec<u64>, all: &[Parked], setting: Setting, now: u64)
+pub fn forget_late(wants: &mut Vec<u64>, all: &[Parked], setting: Setting, now: u64)
     requires { Rise (wants_in all.now) }
     ensures { (test : Parked → Bool) → wants.old.items ≡ wants_where test all.now → wants.new.items ≡ wants_where (λ p. cond (is_late setting now p) false (test p)) all.now }
 {
     for parked in all {
-        remove_if_late(wants, parked, setting, now);
+        forget_if_late(wants, parked, setting, now);
+    }
+}
+
+/// The keys of those that wait, in their order. There is room for them.
+pub fn list_keys(keys: &mut Vec<Key>, all: &[Parked])
+    requires { length all.now ≤ vec_capacity keys.old }
+    ensures { keys.new.items ≡ keys_in all.now }
+{
+    keys.clear();
+    for parked in all {
+        keys.push_reserved(parked.key);
     }
 }

@@ -10,7 +10,7 @@ returns-then-is_settled-clause-items c = λ before was behind is.
 
 pub returns-else-is_settled-clause-items : goal.returns-else-is_settled-clause-items
 returns-else-is_settled-clause-items c = λ before was behind is.
-    c.remove.ensures.items before was behind is
+    c.forget.ensures.items before was behind is
     ∙ sym (ap (λ b. around before c.args.parked.now.want (cond b c.args.is_settled was) behind) (sym c.is_same.ensures ∙ c.if-not-is_same.false)
     ∙ ap (λ b. around before c.args.parked.now.want b behind) c.if-is_settled.false)
 

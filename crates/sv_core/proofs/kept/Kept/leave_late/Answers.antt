@@ -4,12 +4,12 @@ use Rattle.std.specs.List.{filter}
 use Rattle.std.proofs.lemmas.Fn.{filter_same}
 use Rattle.sv_model.specs.Time.{is_late}
 use Rattle.sv_core.specs.Table.{keys_of}
-use Rattle.sv_core.specs.Wants.{Rise, wants_in, is_here, IsLine, wants_here, wants_where}
+use Rattle.sv_core.specs.Wants.{Rise, keys_in, wants_in, is_here, IsLine, wants_here, wants_where}
 use Rattle.sv_core.proofs.WantLemmas.{line_rises, line_passing, where_filter}
 use Rattle.sv_core.proofs.kept.Kept.leave_late.Goals as goal
 
-pub remove_late-requires : goal.remove_late-requires
-remove_late-requires c = let k = c.args.self.now in subst (λ l. Rise (wants_in l)) (sym c.deref.ensures.value) (line_rises k.next_want k.parked.items k.line)
+pub forget_late-requires : goal.forget_late-requires
+forget_late-requires c = let k = c.args.self.now in subst (λ l. Rise (wants_in l)) (sym c.deref.ensures.value) (line_rises k.next_want k.parked.items k.line)
 
 pub invariant_of-self : goal.invariant_of-self
 invariant_of-self c =
@@ -17,8 +17,9 @@ invariant_of-self c =
     let left : c.retain.new.self.items ≡ filter (λ p. not (is_late k.setting c.args.now p)) k.parked.items =
     filter_same _ (λ p. not (is_late k.setting c.args.now p)) _ (λ x b f' k. search rules) _ _ c.retain.ensures.filtered in
     record {
+      keyed = c.list_keys.ensures ∙ ap keys_in c.deref-2.ensures.value;
       line = subst (IsLine k.next_want) (sym left) (line_passing (λ p. not (is_late k.setting c.args.now p)) k.next_want k.parked.items k.line);
-      walked = c.remove_late.ensures (is_here (keys_of k.keys)) (k.walked ∙ ap (wants_here (keys_of k.keys)) (sym c.deref.ensures.value))
+      walked = c.forget_late.ensures (is_here (keys_of k.keys)) (k.walked ∙ ap (wants_here (keys_of k.keys)) (sym c.deref.ensures.value))
           ∙ ap (wants_where (λ p. cond (is_late k.setting c.args.now p) false (is_here (keys_of k.keys) p))) c.deref.ensures.value
           ∙ where_filter (is_late k.setting c.args.now) (is_here (keys_of k.keys)) k.parked.items ∙ ap (wants_here (keys_of k.keys)) (sym left);
     }

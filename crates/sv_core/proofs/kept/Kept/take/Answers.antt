@@ -1,6 +1,6 @@
 use Rattle.std.proofs.Common.{sym, ap, subst, ◌∙◌}
 use Rattle.sv_core.specs.Table.{keys_of}
-use Rattle.sv_core.specs.Wants.{Rise, wants_in, wants_where, wants_here, is_here, settles, settled_by}
+use Rattle.sv_core.specs.Wants.{Rise, keys_in, wants_in, wants_where, wants_here, is_here, settles, settled_by}
 use Rattle.sv_core.proofs.WantLemmas.{line_rises}
 use Rattle.sv_core.proofs.SettledLemmas.{settled_behind}
 use Rattle.sv_core.proofs.kept.Kept.take.Goals as goal
@@ -8,11 +8,15 @@ use Rattle.sv_core.proofs.kept.Kept.take.Goals as goal
 pub settle_behind-requires-clause-rise : goal.settle_behind-requires-clause-rise
 settle_behind-requires-clause-rise c = let k = c.args.self.now in subst (λ l. Rise (wants_in l)) (sym c.deref.ensures.value) (line_rises k.next_want k.parked.items k.line)
 
+pub settle_behind-requires-clause-keyed : goal.settle_behind-requires-clause-keyed
+settle_behind-requires-clause-keyed c = let k = c.args.self.now in c.deref-2.ensures.value ∙ k.keyed ∙ ap keys_in (sym c.deref.ensures.value)
+
 pub invariant_of-self : goal.invariant_of-self
 invariant_of-self c =
     let k = c.args.self.now in
     let here = is_here (keys_of k.keys) in
     record {
+      keyed = k.keyed;
       line = k.line;
       walked = c.settle_behind.ensures.items here (k.walked ∙ ap (wants_where here) (sym c.deref.ensures.value))
           ∙ ap (wants_where (settled_by (settles c.args.entry) here)) c.deref.ensures.value

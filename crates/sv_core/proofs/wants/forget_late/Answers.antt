@@ -3,7 +3,7 @@ use Rattle.sv_model.specs.declared.node.Parked.{Parked}
 use Rattle.sv_model.specs.Time.{is_late}
 use Rattle.sv_core.specs.Wants.{wants_where}
 use Rattle.sv_core.proofs.WantLemmas.{is_around, walked_more, all_walked}
-use Rattle.sv_core.proofs.wants.remove_late.Goals as goal
+use Rattle.sv_core.proofs.wants.forget_late.Goals as goal
 
 pub loop-parked-preserved : goal.loop-parked-preserved
 loop-parked-preserved c = λ test are.
@@ -11,7 +11,7 @@ loop-parked-preserved c = λ test are.
     let i = c.loop-parked.parked-index in
     let p = c.parked-item.result in
     let new : Parked → Bool = λ p. cond (is_late c.args.setting c.args.now p) false (test p) in
-    c.remove_if_late.ensures.items (wants_where new (take i all)) (test p) (wants_where test (drop (suc i) all))
+    c.forget_if_late.ensures.items (wants_where new (take i all)) (test p) (wants_where test (drop (suc i) all))
     (is_around new test all i p c.loop-parked.wants.items c.requires c.loop-parked-test.true c.parked-item.is (c.loop-parked.invariant test are))
     ∙ walked_more new test all i p c.loop-parked-test.true c.parked-item.is
 

@@ -1,6 +1,6 @@
 use Rattle.std.proofs.Common.{IfOk, IfErr, subst, ◌∙◌}
 use Rattle.sv_core.proofs.WantLemmas.{IsThere, IsMissing, searched}
-use Rattle.sv_core.proofs.wants.remove.Goals as goal
+use Rattle.sv_core.proofs.wants.forget.Goals as goal
 
 pub returns-in-Ok-clause-items : goal.returns-in-Ok-clause-items
 returns-in-Ok-clause-items c = λ before was behind is.

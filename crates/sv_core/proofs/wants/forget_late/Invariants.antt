@@ -3,7 +3,7 @@ use Rattle.sv_model.specs.declared.node.Parked.{Parked}
 use Rattle.sv_model.specs.Time.{is_late}
 use Rattle.sv_core.specs.Wants.{wants_where}
 use Rattle.sv_core.proofs.WantLemmas.{walked}
-use Rattle.sv_core.proofs.wants.remove_late.Given as goal
+use Rattle.sv_core.proofs.wants.forget_late.Given as goal
 
 abbrev pub invariant-loop-parked : goal.invariant-loop-parked
 invariant-loop-parked l =
