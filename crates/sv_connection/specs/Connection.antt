@@ -16,6 +16,10 @@ is_closed c = c.closed
 abbrev pub is_waiting : Connection → Bool
 is_waiting c = c.waiting
 
+-- its client asked for the close with the request that was taken last
+abbrev pub is_leaving : Connection → Bool
+is_leaving c = c.leaving
+
 -- the bytes that were read and not yet served
 abbrev pub held_by : Connection → List ℕ
 held_by c = c.requests.rest

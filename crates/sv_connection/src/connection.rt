@@ -23,6 +23,8 @@ pub struct Connection {
     closed: bool,
     /// Its request was parked, and is not yet answered.
     waiting: bool,
+    /// The client asked for the close with the request that was taken last.
+    leaving: bool,
     alloc: Global,
     ghost shut: { requests.closed ≡ true → closed ≡ true },
 }
@@ -36,6 +38,7 @@ impl Drop for Connection {
             single: _,
             closed: _,
             waiting: _,
+            leaving: _,
             alloc: _,
         } = self;
     }
@@ -67,7 +70,7 @@ impl Connection {
     ghost use Rattle.sv_target.specs.Cookies.{cookies_of};
     ghost use Rattle.sv_connection.specs.Request.{params_in};
     ghost use Rattle.sv_connection.specs.Serve.{how, is_parked, IsAnswered, IsDirected, IsFed, IsLateAnswer, IsServed, parks};
-    ghost use Rattle.sv_connection.specs.Connection.{IsFresh, held_by, is_closed, is_single, is_waiting, sight_of};
+    ghost use Rattle.sv_connection.specs.Connection.{IsFresh, held_by, is_closed, is_leaving, is_single, is_waiting, sight_of};
     ghost use Rattle.sv_connection.specs.declared.outcome.Outcome.TheVariants.{Closed};
 
     /// A connection that has read nothing; `single` has it close behind its first answer.
@@ -80,6 +83,7 @@ impl Connection {
             single,
             closed: false,
             waiting: false,
+            leaving: false,
             alloc,
         }
     }
@@ -176,6 +180,23 @@ impl Connection {
         ensures { result ≡ is_waiting self.now }
     {
         self.waiting
+    }
+
+    /// The client asked for the close with the request that was taken last, and so sends no more (RFC 9112, section 9.6).
+    pub fn leaving(&self) -> bool
+        ensures { result ≡ is_leaving self.now }
+    {
+        self.leaving
+    }
+
+    /// Has it close behind its next answer.
+    pub fn become_single(&mut self)
+        ensures single { is_single self.new ≡ true }
+        ensures held { held_by self.new ≡ held_by self.old }
+        ensures closed { is_closed self.new ≡ is_closed self.old }
+        ensures waiting { is_waiting self.new ≡ is_waiting self.old }
+    {
+        self.single = true;
     }
 
     /// Writes the response to a request that was parked; `now` is in whole seconds since 1970.
@@ -282,6 +303,7 @@ impl Connection {
         ensures single { self.new.single ≡ self.old.single }
         ensures directed { IsDirected S.steps (how moment token self.old.single) raw site.old site.new (W.contents writer.old) (W.contents writer.new) self.new.closed result }
     {
+        self.leaving = raw.close;
         match read_request(self.alloc, &raw) {
             Ok(read) => self.ask(writer, site, moment, token, raw, read),
             Err(fault) => {
