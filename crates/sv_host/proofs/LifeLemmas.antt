@@ -36,6 +36,10 @@ upward low (input.Move k to) above = omega arith
 pub not_failed : (outcome : Outcome) → has_failed outcome ≡ false → outcome ≢ SiteFailed
 not_failed outcome fails is = let other : has_failed outcome ≡ true = ap has_failed is in cc
 
+pub none_failed : {T F : Type 0} (outcome : Outcome) (given : Result T F) → OnOk given (has_failed outcome ≡ false) → OnOk given (outcome ≢ SiteFailed)
+none_failed outcome (Ok value) fails = not_failed outcome fails
+none_failed outcome (Err fault) fails = tt
+
 -- both disks tell, by the names of a journal
 pub tell_by_names : {D : Type 0} (tells : D → Type 0) (on_a : Bool) (current other : D) → tells (cond on_a current other) → tells (cond on_a other current) → tells current × tells other
 tell_by_names tells true current other a b = (a, b)

@@ -9,7 +9,7 @@ use crate::desk::{Desk, Taken};
 use crate::fault::{HostFault, Stop};
 use crate::line::Line;
 use crate::machine::{Machine, seconds};
-use crate::porch::Porch;
+use crate::porch::{Arrival, Porch};
 use crate::serve::{PIECE, serve};
 use crate::stage::Stage;
 use sv_journal::{Disk, JournalFault};
@@ -170,20 +170,52 @@ fn serve_new<M: Machine, E: Engine, D: Disk>(
     }
 }
 
-/// Accepts somebody who stands at the door, and gives them a place; none where nobody stands there, or there is no memory.
+/// Accepts somebody who stands at the door, and gives them a place; none where nobody stands there, or there is no memory. Where
+/// there is no room for them, one that is open gives way.
 fn admit<M: Machine>(
     machine: &M,
     desk: &mut Desk,
     porch: &mut Porch,
 ) -> Result<Option<usize>, Stop> {
     match porch.accept() {
-        Ok(Some(stream)) => {
+        Ok(Arrival::Somebody(stream)) => {
             desk.hall.look_at_clock(machine);
             Ok(desk.hall.admit(Line::new(stream), Stage::New))
         }
-        Ok(None) => Ok(None),
+        Ok(Arrival::Nobody) => Ok(None),
+        Ok(Arrival::NoRoom) => {
+            if desk.hall.make_room() {
+                porch.try_again();
+            }
+            Ok(None)
+        }
         Err(fault) => Err(Stop::Fault(fault)),
     }
+}
+
+/// Goes on with all who have been reported, and with one who has come.
+fn serve_all<M: Machine, E: Engine, D: Disk>(
+    machine: &M,
+    desk: &mut Desk,
+    node: &mut Node<E, D>,
+    porch: &mut Porch,
+    piece: &mut [u8; PIECE],
+    numbers: &mut u64,
+) -> Result<(), Stop>
+    requires valid { IsNode E.valid D.tells D.seen D.may_leave node.old }
+    requires live { IsTrue (journal_of node.old).live }
+    ensures valid { IsNode E.valid D.tells D.seen D.may_leave node.new }
+    ensures gone { HasGone E.meaning E.heard D.tells D.may_leave numbers.old numbers.new node.old node.new result }
+{
+    serve_reported(machine, desk, node, porch, piece, numbers)?;
+    serve_new(machine, desk, node, porch, piece, numbers)
+}
+
+/// Waits until somebody is to be looked after, and looks who has taken too long.
+fn wait<M: Machine>(machine: &M, desk: &mut Desk, porch: &mut Porch) {
+    porch.wait(&mut desk.hall);
+    desk.hall.look_at_clock(machine);
+    desk.hall.look_round();
 }
 
 /// Waits until somebody is to be looked after, and goes on with all of them.
@@ -200,11 +232,8 @@ fn take_turn<M: Machine, E: Engine, D: Disk>(
     ensures valid { IsNode E.valid D.tells D.seen D.may_leave node.new }
     ensures gone { HasGone E.meaning E.heard D.tells D.may_leave numbers.old numbers.new node.old node.new result }
 {
-    porch.wait(desk.hall.is_empty());
-    desk.hall.look_at_clock(machine);
-    desk.hall.look_round();
-    serve_reported(machine, desk, node, porch, piece, numbers)?;
-    serve_new(machine, desk, node, porch, piece, numbers)?;
+    wait(machine, desk, porch);
+    serve_all(machine, desk, node, porch, piece, numbers)?;
     look_after(machine, desk, node)
 }
 

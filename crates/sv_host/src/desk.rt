@@ -1,7 +1,7 @@
 //! What a running node keeps beside its journal: its clients, its peers, its secrets, and the time.
 
 ghost use Rattle.std.specs.Prelude.{◌≡◌, ℕ, false, OnOk, IsTrue};
-ghost use Rattle.sv_model.specs.Ranges.{IsInput};
+ghost use Rattle.sv_model.specs.Ranges.{IsInput, IsPacket};
 ghost use Rattle.sv_node.specs.Call.{step_ends};
 ghost use Rattle.sv_node.specs.History.{IsAbove, number_in, HasGone};
 ghost use Rattle.sv_node.specs.Node.{IsNode, journal_of};
@@ -12,10 +12,13 @@ use crate::hall::Hall;
 use crate::lobby::Lobby;
 use crate::machine::{Machine, seconds};
 use crate::peers::address_of;
+use crate::persistence::Persistence;
 use crate::secrets::Secrets;
 use std::alloc::Global;
 use sv_journal::Disk;
-use sv_model::{Engine, Input, Moment, MoveRefusal, Output, Site, StepFault};
+use sv_model::{
+    Cause, Engine, Input, Moment, MoveRefusal, Output, Packet, Response, Site, StepFault,
+};
 use sv_node::Node;
 
 /// What a running node keeps beside its journal.
@@ -27,8 +30,8 @@ pub struct Desk {
     pub lobby: Lobby,
     /// A text on its way to whom it is for; empty between two steps.
     pub text: Vec<u8>,
-    /// A connection closes behind its first answer.
-    pub single: bool,
+    /// How many requests a client's connection brings.
+    pub persistence: Persistence,
     /// When the node last looked at the time, in seconds since 1970.
     pub ticked: u64,
     /// The length of the journal behind its last compaction; 0 before the first.
@@ -45,7 +48,7 @@ impl Drop for Desk {
             hall: _,
             lobby: _,
             text: _,
-            single: _,
+            persistence: _,
             ticked: _,
             compacted: _,
             alloc: _,
@@ -75,6 +78,9 @@ fn sum_up(outputs: &[Output]) -> Taken {
     }
 }
 
+/// Drops an input that no step has had, as one step of a proof.
+fn let_go(_input: Input) {}
+
 /// What comes of a step that was refused: a node goes on, unless its disk has failed.
 fn refused(fault: StepFault) -> Result<Taken, Stop>
     ensures { OnOk result (step_ends fault ≡ false) }
@@ -94,26 +100,38 @@ impl Desk {
         })
     }
 
+    /// Sends a packet to its node.
+    fn send(&mut self, machine: &impl Machine, packet: Packet)
+        requires { IsPacket packet }
+    {
+        match address_of(self.ports.as_slice(), &packet) {
+            Some(addr) => self.hall.send(machine, addr, packet),
+            None => {}
+        }
+    }
+
+    /// Answers the client that waits under a token.
+    fn answer(&mut self, token: u64, response: &Response, now: u64) {
+        if let Some(place) = self.lobby.take(token) {
+            self.hall.answer(place, token, response, now);
+        }
+    }
+
+    /// Refuses the client that waits under a token.
+    fn refuse(&mut self, token: u64, cause: Cause, now: u64) {
+        if let Some(place) = self.lobby.take(token) {
+            self.hall.refuse(place, token, cause, now);
+        }
+    }
+
     /// Hands on one output.
     fn hand_on_one(&mut self, machine: &impl Machine, output: Output, now: u64)
         requires { IsSendable output }
     {
         match output {
-            Output::Send(packet) => {
-                if let Some(addr) = address_of(self.ports.as_slice(), &packet) {
-                    self.hall.send(machine, addr, packet);
-                }
-            }
-            Output::Answer { token, response } => {
-                if let Some(place) = self.lobby.take(token) {
-                    self.hall.answer(place, &response, now);
-                }
-            }
-            Output::Refuse { token, cause } => {
-                if let Some(place) = self.lobby.take(token) {
-                    self.hall.refuse(place, cause, now);
-                }
-            }
+            Output::Send(packet) => self.send(machine, packet),
+            Output::Answer { token, response } => self.answer(token, &response, now),
+            Output::Refuse { token, cause } => self.refuse(token, cause, now),
             Output::Moved | Output::MoveRefused(_) => {}
         }
     }
@@ -140,7 +158,29 @@ impl Desk {
         ensures valid { IsNode E.valid D.tells D.seen D.may_leave node.new }
         ensures gone { (low : ℕ) → IsAbove low input → HasGone E.meaning E.heard D.tells D.may_leave low (number_in low input) node.old node.new result }
     {
-        let moment = self.moment(machine)?;
+        match self.moment(machine) {
+            Ok(moment) => self.step_at(machine, node, moment, input),
+            Err(stop) => {
+                let_go(input);
+                Err(stop)
+            }
+        }
+    }
+
+    /// The same at a moment.
+    fn step_at<E: Engine, D: Disk>(
+        &mut self,
+        machine: &impl Machine,
+        node: &mut Node<E, D>,
+        moment: Moment,
+        input: Input,
+    ) -> Result<Taken, Stop>
+        requires valid { IsNode E.valid D.tells D.seen D.may_leave node.old }
+        requires live { IsTrue (journal_of node.old).live }
+        requires input { IsInput input }
+        ensures valid { IsNode E.valid D.tells D.seen D.may_leave node.new }
+        ensures gone { (low : ℕ) → IsAbove low input → HasGone E.meaning E.heard D.tells D.may_leave low (number_in low input) node.old node.new result }
+    {
         match node.step(moment, input) {
             Ok(outputs) => {
                 let taken = sum_up(outputs.as_slice());

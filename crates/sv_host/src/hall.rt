@@ -2,31 +2,34 @@
 
 ghost use Rattle.sv_model.specs.Ranges.{IsPacket};
 
-use crate::line::{Line, Written};
+use crate::client::Client;
+use crate::line::{Line, Sign, Written};
 use crate::machine::Machine;
 use crate::stage::{Next, Open, Stage};
 use mio::net::TcpStream;
 use mio::{Interest, Registry};
 use std::alloc::{AllocFailed, Global};
 use std::io::ErrorKind;
-use std::mem::replace;
+use std::mem::{replace, swap};
 use std::net::SocketAddr;
 use std::time::Duration;
-use sv_connection::{Connection, refusal};
+use sv_connection::refusal;
 use sv_model::{Cause, Packet, Response};
 use sv_record::{Frame, write_frame};
 
-/// So many connections are open at once. Behind that the one that has been silent for longest is closed for a new one.
+/// So many connections are open at once. Behind that one that has been silent for longest is closed for a new one.
 const OPEN_LIMIT: usize = 1_000;
 
-/// Pieces that are read of what a client goes on sending whose request was refused.
+/// So many bytes are read of what a client goes on sending behind its last answer.
+const LAST_BYTES: usize = 131_072;
+
+/// Pieces of them that are read in turn, before others come in.
 const LAST_PIECES: u32 = 32;
 
 /// In milliseconds: so often is looked who has taken too long.
 const LOOKING: u64 = 500;
 
 /// The connections that are open, each at a place.
-#[derive(Drop)]
 pub struct Hall {
     places: Vec<Option<Open>>,
     free: Vec<usize>,
@@ -36,9 +39,37 @@ pub struct Hall {
     clock: Duration,
     /// When it was last looked who has taken too long.
     looked: Duration,
+    /// Where something is to be done that the poll may not report.
+    due: Vec<usize>,
     /// Where the last packet is still being sent.
     calling: Option<usize>,
     alloc: Global,
+}
+
+/// By hand, so that the proof of a caller has one step for it.
+impl Drop for Hall {
+    fn drop(self) {
+        let Hall {
+            places: _,
+            free: _,
+            count: _,
+            registry: _,
+            clock: _,
+            looked: _,
+            due: _,
+            calling: _,
+            alloc: _,
+        } = self;
+    }
+}
+
+/// A packet as a frame; none where memory is refused.
+fn spelled(alloc: Global, packet: Packet) -> Option<Vec<u8>>
+    requires { IsPacket packet }
+{
+    let mut frame = Vec::new(alloc);
+    write_frame(&Frame::Peer(packet), &mut frame).ok()?;
+    Some(frame)
 }
 
 impl Hall {
@@ -50,6 +81,7 @@ impl Hall {
             registry,
             clock: Duration::ZERO,
             looked: Duration::ZERO,
+            due: Vec::new(alloc),
             calling: None,
             alloc,
         }
@@ -120,12 +152,46 @@ impl Hall {
         }
     }
 
-    /// Has the poll report a connection again that has more to read.
+    /// Has a connection gone on with again, of which more may be there.
     pub fn call_again(&mut self, place: usize) {
-        if let Some(Some(open)) = self.places.get_mut(place) {
-            let _ = open
-                .line
-                .watch_anew(&self.registry, place, Interest::READABLE);
+        match self.places.get_mut(place) {
+            Some(
+                Some(
+                    Open {
+                        stage: Stage::Asked(_),
+                        ..
+                    },
+                ),
+            ) => self.put_down(place),
+            Some(Some(open)) => {
+                let _ = open
+                    .line
+                    .watch_anew(&self.registry, place, Interest::READABLE);
+            }
+            _ => {}
+        }
+    }
+
+    /// Puts a place down as one where something is to be done. Where there is no memory for it the connection is closed.
+    fn put_down(&mut self, place: usize) {
+        let put: Result<(), AllocFailed<usize>> = self.due.push(place);
+        if put.is_err() {
+            let _closed = self.take(place);
+            self.leave(place);
+        }
+    }
+
+    /// Hands over the places where something is to be done that the poll may not report, for none.
+    pub fn hand_over(&mut self, places: &mut Vec<usize>) {
+        places.clear();
+        swap(&mut self.due, places);
+    }
+
+    /// When that began which a connection now brings: for one that has rested it is its next request.
+    pub fn since(&self, stage: &Stage, begun: Duration) -> Duration {
+        match stage {
+            Stage::Resting(_) => self.clock,
+            _ => begun,
         }
     }
 
@@ -145,8 +211,8 @@ impl Hall {
         Some(place)
     }
 
-    /// Closes the connection that has been silent for longest, of those that are to say something.
-    fn make_room(&mut self) {
+    /// The one that has been silent for longest, of those that give way.
+    fn most_silent(&self) -> Option<usize> {
         let mut oldest: Option<(usize, Duration)> = None;
         for (place, slot) in self.places.iter().enumerate() {
             if let Some(open) = slot {
@@ -154,21 +220,29 @@ impl Hall {
                     Some((_, heard)) => open.heard < heard,
                     None => true,
                 };
-                if is_older && open.stage.listens() {
+                if is_older && open.stage.gives_way() {
                     oldest = Some((place, open.heard));
                 }
             }
         }
-        if let Some((place, _)) = oldest {
-            let _closed = self.take(place);
-            self.leave(place);
-        }
+        let (place, _) = oldest?;
+        Some(place)
     }
 
-    /// Gives a connection a place. Where there is no memory it is closed.
+    /// Closes the connection that has been silent for longest, of those that give way; false where none does.
+    pub fn make_room(&mut self) -> bool {
+        let Some(place) = self.most_silent() else {
+            return false;
+        };
+        let _closed = self.take(place);
+        self.leave(place);
+        true
+    }
+
+    /// Gives a connection a place. Where there is none, or no memory for it, the connection is closed.
     pub fn admit(&mut self, line: Line, stage: Stage) -> Option<usize> {
-        if self.count >= OPEN_LIMIT {
-            self.make_room();
+        if self.count >= OPEN_LIMIT && !self.make_room() {
+            return None;
         }
         let place = self.vacant()?;
         self.count = self.count.saturating_add(1);
@@ -176,26 +250,40 @@ impl Hall {
         Some(place)
     }
 
-    /// What follows once a text is written.
-    fn follow(&mut self, place: usize, line: Line, next: Next) {
+    /// What follows once a text is written; whether the connection is to be gone on with at once.
+    fn follow(&mut self, place: usize, line: Line, next: Next) -> bool {
         match next {
-            Next::Close => self.leave(place),
-            Next::Part => {
-                if line.end_writing().is_ok() {
-                    let begun = self.clock;
-                    self.part(place, line, LAST_PIECES, begun);
-                } else {
-                    self.leave(place);
-                }
+            Next::Close => {
+                self.leave(place);
+                false
             }
-            Next::Listen(connection) => self.begin(place, line, Stage::Asked(connection)),
+            Next::Part => {
+                self.half_close(place, line);
+                false
+            }
+            Next::Listen(client) => {
+                self.begin(place, line, Stage::Asked(client));
+                true
+            }
         }
     }
 
-    /// Says a text at a place. What isn't taken of it is kept, and leaves `text`.
-    pub fn say(&mut self, place: usize, line: Line, text: &mut Vec<u8>, next: Next) {
+    /// Says that nothing more is written, and reads on until the other end has closed too (RFC 9112, section 9.6). What came before
+    /// may be unread.
+    fn half_close(&mut self, place: usize, line: Line) {
+        if line.end_writing().is_err() {
+            self.leave(place);
+            return;
+        }
+        self.begin(place, line, Stage::Parting { bytes: LAST_BYTES });
+        self.call_again(place);
+    }
+
+    /// Says a text at a place; whether the connection is to be gone on with at once. What isn't taken of it is kept, and leaves
+    /// `text`.
+    pub fn say(&mut self, place: usize, line: Line, text: &mut Vec<u8>, next: Next) -> bool {
         let begun = self.clock;
-        self.say_on(place, line, text, next, begun);
+        self.say_on(place, line, text, next, begun)
     }
 
     /// A packet is sent or lost: the command that waits for that is answered.
@@ -225,7 +313,7 @@ impl Hall {
     pub fn tell(&mut self, place: usize, line: Line, byte: u8) {
         let mut text = Vec::new(self.alloc);
         if text.push(byte).is_ok() {
-            self.say(place, line, &mut text, Next::Close);
+            let _ = self.say(place, line, &mut text, Next::Close);
         } else {
             self.leave(place);
         }
@@ -235,14 +323,17 @@ impl Hall {
     pub fn send(&mut self, machine: &impl Machine, addr: SocketAddr, packet: Packet)
         requires { IsPacket packet }
     {
-        let mut frame = Vec::new(self.alloc);
-        if write_frame(&Frame::Peer(packet), &mut frame).is_err() {
-            return;
+        if let Some(frame) = spelled(self.alloc, packet)
+            && let Ok(stream) = TcpStream::connect(machine, addr)
+        {
+            self.call(Line::new(stream), frame);
         }
-        let Ok(stream) = TcpStream::connect(machine, addr) else {
-            return;
-        };
-        let mut line = Line::new(stream);
+    }
+
+    /// Sends a frame on a connection of its own.
+    fn call(&mut self, line: Line, frame: Vec<u8>) {
+        let mut line = line;
+        let mut frame = frame;
         if line.write(&mut frame) == Written::Part {
             self.calling = self.admit(
                 line,
@@ -290,17 +381,37 @@ impl Hall {
         }
     }
 
-    /// Answers the client whose request waits at a place.
-    pub fn answer(&mut self, place: usize, response: &Response, now: u64) {
+    /// Whether the client that waits at a place for the answer under a token wants the head alone; none where no such client is
+    /// there, be the place another's by now.
+    fn head_only_at(&self, place: usize, token: u64) -> Option<bool> {
+        match self.places.get(place) {
+            Some(
+                Some(
+                    Open {
+                        stage: Stage::Waiting {
+                            head_only,
+                            token: own,
+                            ..
+                        },
+                        ..
+                    },
+                ),
+            ) if *own == token => Some(*head_only),
+            _ => None,
+        }
+    }
+
+    /// Answers the client that waits at a place for the answer under a token.
+    pub fn answer(&mut self, place: usize, token: u64, response: &Response, now: u64) {
+        if self.head_only_at(place, token).is_none() {
+            return;
+        }
         let Some(open) = self.take(place) else {
             return;
         };
         let (line, stage, begun, heard) = open.into_parts();
         match stage {
-            Stage::Waiting {
-                connection,
-                head_only: _,
-            } => self.answer_at(place, line, connection, response, now),
+            Stage::Waiting { client, .. } => self.answer_at(place, line, client, response, now),
             other => self.keep(
                 place,
                 Open {
@@ -318,36 +429,25 @@ impl Hall {
         &mut self,
         place: usize,
         line: Line,
-        connection: Connection,
+        client: Client,
         response: &Response,
         now: u64,
     ) {
-        let mut connection = connection;
+        let mut client = client;
         let mut text = Vec::new(self.alloc);
-        let _ = connection.answer(&mut text, response, now);
-        let next = if connection.closed() {
-            Next::Close
-        } else {
-            Next::Listen(connection)
-        };
-        self.say(place, line, &mut text, next);
+        let _ = client.connection.answer(&mut text, response, now);
+        if self.say(place, line, &mut text, client.next()) {
+            self.put_down(place);
+        }
     }
 
-    /// Refuses the client whose request waits at a place.
-    pub fn refuse(&mut self, place: usize, cause: Cause, now: u64) {
-        let head_only = match self.places.get(place) {
-            Some(
-                Some(
-                    Open {
-                        stage: Stage::Waiting { head_only, .. },
-                        ..
-                    },
-                ),
-            ) => *head_only,
-            _ => return,
+    /// Refuses the client that waits at a place for the answer under a token.
+    pub fn refuse(&mut self, place: usize, token: u64, cause: Cause, now: u64) {
+        let Some(head_only) = self.head_only_at(place, token) else {
+            return;
         };
         match refusal(self.alloc, cause, head_only, true) {
-            Ok(response) => self.answer(place, &response, now),
+            Ok(response) => self.answer(place, token, &response, now),
             Err(_) => {
                 let _closed = self.take(place);
                 self.leave(place);
@@ -355,57 +455,71 @@ impl Hall {
         }
     }
 
-    /// Reads a piece of what a client goes on sending; whether it may send more.
-    fn read_away(line: &mut Line) -> Option<bool> {
+    /// Looks whether a client whose request waits is still there. One whose connection has broken gives its place back; one that
+    /// sends no more may have gone away or not, and is the first to give way.
+    fn look_at_guest(&mut self, place: usize, open: Open) {
+        match open.line.sign() {
+            Sign::Open => self.keep(place, open),
+            Sign::Ended => self.keep(place, open.silenced()),
+            Sign::Broken => self.leave(place),
+        }
+    }
+
+    /// Reads a piece of what a client goes on sending, and gives its length; none where nothing has come yet.
+    fn read_away(line: &mut Line) -> Option<usize> {
         let mut piece = [0u8; 4096];
         match line.read(&mut piece) {
-            Ok(0) => None,
-            Ok(_) => Some(true),
-            Err(fault) if fault.kind() == ErrorKind::WouldBlock => Some(false),
-            Err(_) => None,
+            Ok(count) => Some(count),
+            Err(fault) if fault.kind() == ErrorKind::WouldBlock => None,
+            Err(_) => Some(0),
         }
     }
 
-    /// Reads what a client goes on sending whose request was refused.
-    fn part(&mut self, place: usize, line: Line, pieces: u32, begun: Duration) {
+    /// Reads what a client goes on sending behind its last answer, up to so many bytes, until it has closed too.
+    fn part(&mut self, place: usize, line: Line, bytes: usize, begun: Duration) {
         let mut line = line;
-        let mut left = pieces;
+        let mut left = bytes;
+        let mut has_more = true;
         for _ in 0..LAST_PIECES {
-            if left == 0 {
-                break;
-            }
             match Hall::read_away(&mut line) {
-                Some(true) => left -= 1,
-                Some(false) => {
-                    self.keep(
-                        place,
-                        Open {
-                            line,
-                            stage: Stage::Parting { pieces: left },
-                            begun,
-                            heard: begun,
-                        },
-                    );
+                Some(count) if count > 0 && count < left => left -= count,
+                Some(_) => {
+                    self.leave(place);
                     return;
                 }
-                None => break,
+                None => {
+                    has_more = false;
+                    break;
+                }
             }
         }
-        self.leave(place);
+        self.keep(
+            place,
+            Open {
+                line,
+                stage: Stage::Parting { bytes: left },
+                begun,
+                heard: begun,
+            },
+        );
+        if has_more {
+            self.call_again(place);
+        }
     }
 
-    /// Goes on with a connection where no more than its socket is needed.
-    pub fn go_on(&mut self, place: usize) {
-        let Some(open) = self.take(place) else {
-            return;
-        };
+    /// Goes on with a connection that was taken, where no more than its socket is needed; whether it is to be gone on with at once.
+    pub fn go_on(&mut self, place: usize, open: Open) -> bool {
+        if let Stage::Waiting { .. } = open.stage {
+            self.look_at_guest(place, open);
+            return false;
+        }
         let (line, stage, begun, heard) = open.into_parts();
         match stage {
             Stage::Saying { text, next } => {
                 let mut text = text;
-                self.say_on(place, line, &mut text, next, begun);
+                return self.say_on(place, line, &mut text, next, begun);
             }
-            Stage::Parting { pieces } => self.part(place, line, pieces, begun),
+            Stage::Parting { bytes } => self.part(place, line, bytes, begun),
             Stage::Calling { frame, holder } => {
                 let mut frame = frame;
                 let mut line = line;
@@ -434,9 +548,10 @@ impl Hall {
                 },
             ),
         }
+        false
     }
 
-    /// Says more of a text that was begun at a moment.
+    /// Says more of a text that was begun at a moment; whether the connection is to be gone on with at once.
     fn say_on(
         &mut self,
         place: usize,
@@ -444,7 +559,7 @@ impl Hall {
         text: &mut Vec<u8>,
         next: Next,
         begun: Duration,
-    ) {
+    ) -> bool {
         let mut line = line;
         match line.write(text) {
             Written::All => self.follow(place, line, next),
@@ -459,8 +574,12 @@ impl Hall {
                         heard: begun,
                     },
                 );
+                false
             }
-            Written::Broken => self.leave(place),
+            Written::Broken => {
+                self.leave(place);
+                false
+            }
         }
     }
 

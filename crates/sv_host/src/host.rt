@@ -16,9 +16,11 @@ use crate::hall::Hall;
 use crate::lobby::Lobby;
 use crate::machine::{Machine, seconds};
 use crate::peers::loopback;
+use crate::persistence::Persistence;
 use crate::place::Place;
 use crate::porch::Porch;
 use crate::secrets::Secrets;
+use mio::Registry;
 use std::alloc::Global;
 use sv_journal::Disk;
 use sv_model::{Engine, Setting};
@@ -53,6 +55,29 @@ pub struct Ended<E, D> {
     pub fault: Option<HostFault>,
 }
 
+/// Listens at the node's port.
+fn open_door(machine: &impl Machine, place: &Place) -> Result<(Porch, Registry), HostFault> {
+    let port = place
+        .ports
+        .get(usize::from(place.setting.node))
+        .copied()
+        .unwrap_or(0);
+    match listen(machine, loopback(port)) {
+        Ok(listener) => Porch::new(machine, listener),
+        Err(_) => Err(HostFault::Socket),
+    }
+}
+
+/// Opens the file of secrets, and listens at the node's port.
+fn open_both(
+    machine: &impl Machine,
+    place: &Place,
+) -> Result<(Secrets, Porch, Registry), HostFault> {
+    let secrets = Secrets::open(machine, place.secrets.as_ref())?;
+    let (porch, registry) = open_door(machine, place)?;
+    Ok((secrets, porch, registry))
+}
+
 /// Says that the node of this number is ready, and serves until it is told to stop.
 fn serve_all<M: Machine, E: Engine, D: Disk>(
     machine: &M,
@@ -79,21 +104,20 @@ impl Host {
     ghost use Rattle.sv_host.specs.Host.{setting_of};
 
     /// Opens the file of secrets, and listens at the node's port. Faults are found in this order.
-    pub fn at(machine: &impl Machine, place: Place) -> Result<Host, HostFault>
+    pub fn at(
+        machine: &impl Machine,
+        place: Place,
+        persistence: Persistence,
+    ) -> Result<Host, HostFault>
         ensures { IfOk result (λ h. setting_of h ≡ place.setting) }
     {
+        let (secrets, porch, registry) = open_both(machine, &place)?;
+        let alloc: Global = machine.alloc();
         let Place {
             setting,
             ports,
-            secrets,
+            secrets: _,
         } = place;
-        let secrets = Secrets::open(machine, secrets.as_ref())?;
-        let port = ports.get(usize::from(setting.node)).copied().unwrap_or(0);
-        let Ok(listener) = listen(machine, loopback(port)) else {
-            return Err(HostFault::Socket);
-        };
-        let alloc: Global = machine.alloc();
-        let (porch, registry) = Porch::new(machine, listener)?;
         Ok(Host {
             setting,
             porch,
@@ -103,7 +127,7 @@ impl Host {
                 hall: Hall::new(registry, alloc),
                 lobby: Lobby::new(alloc),
                 text: Vec::new(alloc),
-                single: true,
+                persistence,
                 ticked: seconds(machine),
                 compacted: 0,
                 alloc,

@@ -8,6 +8,7 @@
 #![tactic(auto)]
 
 mod attend;
+mod client;
 mod deadline;
 mod desk;
 mod fault;
@@ -18,6 +19,7 @@ mod line;
 mod lobby;
 mod machine;
 mod peers;
+mod persistence;
 mod place;
 mod porch;
 mod run;
@@ -28,6 +30,7 @@ mod stage;
 pub use fault::HostFault;
 pub use host::{Ended, Host};
 pub use machine::Machine;
+pub use persistence::Persistence;
 pub use place::{Place, PlaceFault};
 pub use run::run_node;
 pub use secrets::secret_of;

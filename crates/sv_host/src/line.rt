@@ -38,6 +38,16 @@ pub enum Written {
     Broken,
 }
 
+/// What can be told of the other end of a connection that isn't read.
+#[derive(Clone, Copy, Debug, PartialEq, Eq)]
+pub enum Sign {
+    Open,
+    /// It sends no more. It may have gone away, or still want its answer.
+    Ended,
+    /// The connection has broken.
+    Broken,
+}
+
 impl Line {
     /// A socket that doesn't block.
     pub fn new(stream: TcpStream) -> Line {
@@ -77,25 +87,31 @@ impl Line {
         self.stream.shutdown(Shutdown::Write)
     }
 
+    /// What the other end does meanwhile, as far as that can be told without taking what it has sent.
+    pub fn sign(&self) -> Sign {
+        let mut piece = [0u8; 1];
+        match self.stream.peek(&mut piece) {
+            Ok(0) => Sign::Ended,
+            Ok(_) => Sign::Open,
+            Err(fault) if fault.kind() == ErrorKind::WouldBlock => Sign::Open,
+            Err(_) => Sign::Broken,
+        }
+    }
+
     /// Has the poll report under a place when the socket becomes ready. False where it can't.
     pub fn watch(&mut self, registry: &Registry, place: usize, interest: Interest) -> bool {
-        if self.watched == Some(interest) {
-            return true;
-        }
-        if self.watched.is_some() {
-            return self.watch_anew(registry, place, interest);
-        }
-        self.watched = Some(interest);
-        registry
-            .register(&mut self.stream, Token(place), interest)
-            .is_ok()
+        self.watched == Some(interest) || self.watch_anew(registry, place, interest)
     }
 
     /// Has the poll report the socket again, also where it has been ready for long.
     pub fn watch_anew(&mut self, registry: &Registry, place: usize, interest: Interest) -> bool {
+        let is_known = self.watched.is_some();
         self.watched = Some(interest);
-        registry
-            .reregister(&mut self.stream, Token(place), interest)
-            .is_ok()
+        let done = if is_known {
+            registry.reregister(&mut self.stream, Token(place), interest)
+        } else {
+            registry.register(&mut self.stream, Token(place), interest)
+        };
+        done.is_ok()
     }
 }

@@ -2,13 +2,15 @@
 
 use crate::deadline::TURN;
 use crate::fault::HostFault;
+use crate::hall::Hall;
 use crate::machine::Machine;
 use mio::unix::SourceFd;
 use mio::{Events, Interest, Poll, Registry, Token, net as quick};
 use std::alloc::{AllocFailed, Global};
+use std::io;
 use std::io::ErrorKind;
 use std::net::{OpenListener, OpenStream, TcpListener};
-use std::os::fd::AsRawFd;
+use std::os::fd::{AsRawFd, RawFd};
 use std::time::Duration;
 
 /// So many connections in turn can't be accepted before the node gives up its socket.
@@ -19,6 +21,15 @@ const EVENTS: usize = 256;
 
 /// What the poll calls the listener.
 const DOOR: usize = usize::MAX;
+
+/// Who has come.
+#[derive(Drop)]
+pub enum Arrival {
+    Somebody(quick::TcpStream),
+    Nobody,
+    /// Somebody may stand at the door, and can't be accepted: the process has as many files open as it may have, or worse.
+    NoRoom,
+}
 
 /// Where a node waits.
 pub struct Porch {
@@ -50,6 +61,14 @@ impl Drop for Porch {
     }
 }
 
+/// A poll that reports who comes to a listener of this number.
+fn poll_of(machine: &impl Machine, listener: RawFd) -> io::Result<(Poll, Registry)> {
+    let poll = Poll::new(machine)?;
+    let registry = poll.registry().try_clone()?;
+    registry.register(&mut SourceFd(&listener), Token(DOOR), Interest::READABLE)?;
+    Ok((poll, registry))
+}
+
 impl Porch {
     /// Has a poll report who comes to a listener, and all who are registered with it.
     pub fn new(
@@ -57,19 +76,9 @@ impl Porch {
         listener: TcpListener,
     ) -> Result<(Porch, Registry), HostFault> {
         let alloc: Global = machine.alloc();
-        let Ok(poll) = Poll::new(machine) else {
+        let Ok((poll, registry)) = poll_of(machine, listener.as_raw_fd()) else {
             return Err(HostFault::Socket);
         };
-        let Ok(registry) = poll.registry().try_clone() else {
-            return Err(HostFault::Socket);
-        };
-        let number = listener.as_raw_fd();
-        if registry
-            .register(&mut SourceFd(&number), Token(DOOR), Interest::READABLE)
-            .is_err()
-        {
-            return Err(HostFault::Socket);
-        }
         let Ok(events) = Events::with_capacity(alloc, EVENTS) else {
             return Err(HostFault::Socket);
         };
@@ -89,17 +98,18 @@ impl Porch {
 
     /// Waits until somebody is to be looked after, a turn at most. While nobody is in the hall it doesn't wait here, but at the
     /// door: that needs no call of the poll.
-    pub fn wait(&mut self, waits: bool) {
+    pub fn wait(&mut self, hall: &mut Hall) {
+        let waits = hall.is_empty();
         if waits != self.waits && self.listener.set_nonblocking(!waits).is_ok() {
             self.waits = waits;
             self.watch_door();
         }
-        self.reported.clear();
+        hall.hand_over(&mut self.reported);
         if self.waits {
             self.door = true;
             return;
         }
-        let timeout = if self.door {
+        let timeout = if self.door || !self.reported.is_empty() {
             Duration::ZERO
         } else {
             Duration::from_secs(TURN)
@@ -140,8 +150,8 @@ impl Porch {
         self.door
     }
 
-    /// Accepts a connection; none where nobody stands there, or one couldn't be accepted.
-    pub fn accept(&mut self) -> Result<Option<quick::TcpStream>, HostFault> {
+    /// Accepts a connection. Failures in turn, between which no connection could give way, are counted: too many end the node.
+    pub fn accept(&mut self) -> Result<Arrival, HostFault> {
         match self.listener.accept() {
             Ok((stream, _)) => {
                 self.failed = 0;
@@ -150,22 +160,33 @@ impl Porch {
                     self.watch_door();
                 }
                 match stream.set_nonblocking(true) {
-                    Ok(()) => Ok(Some(quick::TcpStream::from_std(stream))),
-                    Err(_) => Ok(None),
+                    Ok(()) => Ok(Arrival::Somebody(quick::TcpStream::from_std(stream))),
+                    Err(_) => Ok(Arrival::Nobody),
                 }
             }
             Err(fault) => {
                 self.door = false;
-                if fault.kind() == ErrorKind::WouldBlock {
-                    return Ok(None);
-                }
-                self.failed = self.failed.saturating_add(1);
-                if self.failed == TRIES {
-                    Err(HostFault::Socket)
-                } else {
-                    Ok(None)
+                match fault.kind() {
+                    ErrorKind::WouldBlock | ErrorKind::ConnectionAborted => Ok(Arrival::Nobody),
+                    _ => self.fail(),
                 }
             }
         }
+    }
+
+    /// Counts a connection that couldn't be accepted.
+    fn fail(&mut self) -> Result<Arrival, HostFault> {
+        self.failed = self.failed.saturating_add(1);
+        if self.failed == TRIES {
+            Err(HostFault::Socket)
+        } else {
+            Ok(Arrival::NoRoom)
+        }
+    }
+
+    /// A connection has given way: who stands at the door may be accepted.
+    pub fn try_again(&mut self) {
+        self.failed = 0;
+        self.door = true;
     }
 }

@@ -3,6 +3,7 @@
 use crate::fault::HostFault;
 use crate::host::{Ended, Host};
 use crate::machine::Machine;
+use crate::persistence::Persistence;
 use crate::place::Place;
 use sv_journal::FileDisk;
 use sv_model::Engine;
@@ -21,6 +22,26 @@ fn open_files<M: Machine>(machine: &M, journal: &str) -> Result<(FileDisk, FileD
     }
 }
 
+/// What a node has of its machine, and the files of its journal.
+fn open<M: Machine>(
+    machine: &M,
+    place: Place,
+    persistence: Persistence,
+    journal: &str,
+) -> Result<(Host, FileDisk, FileDisk), HostFault> {
+    let host = Host::at(machine, place, persistence)?;
+    let (a, b) = open_files(machine, journal)?;
+    Ok((host, a, b))
+}
+
+/// Why a node has ended, if not by a command.
+fn how_ended<E: Drop>(ended: Ended<E, FileDisk>) -> Result<(), HostFault> {
+    match ended.fault {
+        Some(fault) => Err(fault),
+        None => Ok(()),
+    }
+}
+
 /// Runs the node at a place of a cluster over the journal's file, and a second one beside it whose name ends in `.b`. Once it
 /// listens at its port it says so by the line `ready` with its number, and serves until a command stops it.
 ///
@@ -29,20 +50,14 @@ pub fn run_node<M: Machine, E: Engine + Drop>(
     machine: &M,
     engine: E,
     place: Place,
+    persistence: Persistence,
     journal: &str,
 ) -> Result<(), HostFault>
     requires { E.valid engine }
 {
-    let host = Host::at(machine, place)?;
-    let (a, b) = open_files(machine, journal)?;
+    let (host, a, b) = open(machine, place, persistence, journal)?;
     match host.run(machine, engine, a, b) {
-        Ok(
-            Ended {
-                fault: Some(fault),
-                ..
-            },
-        ) => Err(fault),
-        Ok(Ended { fault: None, .. }) => Ok(()),
+        Ok(ended) => how_ended(ended),
         Err(refused) => Err(refused.fault.into()),
     }
 }

@@ -11,11 +11,28 @@ use sv_model::Secret;
 
 /// Where a node's secrets come from.
 #[derive(Drop)]
-pub enum Secrets {
+enum Source {
     /// 16 bytes at a time from a file, such as `/dev/urandom`.
     Read(File),
     /// Numbers, each one more than the last: for a cluster whose peers and clients can all be trusted.
     Counted { last: u64 },
+}
+
+/// A node's secrets: each is had by one step at most.
+pub struct Secrets {
+    source: Source,
+    /// One that was drawn, and that no step has had.
+    unused: Option<Secret>,
+}
+
+/// By hand, so that the proof of a caller has one step for it.
+impl Drop for Secrets {
+    fn drop(self) {
+        let Secrets {
+            source: _,
+            unused: _,
+        } = self;
+    }
 }
 
 /// A secret that is counted: the number in 16 big-endian bytes.
@@ -36,23 +53,12 @@ fn read_secret(file: &mut File) -> Result<Secret, Stop> {
     }
 }
 
-impl Secrets {
-    /// Those of a file at a path, or counted ones, of which the first is 1.
-    pub fn open(machine: &impl Machine, path: Option<&String>) -> Result<Secrets, HostFault> {
-        let Some(path) = path else {
-            return Ok(Secrets::Counted { last: 0 });
-        };
-        match File::open(machine, path.as_str()) {
-            Ok(file) => Ok(Secrets::Read(file)),
-            Err(_) => Err(HostFault::Secrets),
-        }
-    }
-
+impl Source {
     /// The next secret.
-    pub fn next(&mut self) -> Result<Secret, Stop> {
+    fn draw(&mut self) -> Result<Secret, Stop> {
         match self {
-            Secrets::Read(file) => read_secret(file),
-            Secrets::Counted { last } => {
+            Source::Read(file) => read_secret(file),
+            Source::Counted { last } => {
                 let Some(number) = last.checked_add(1) else {
                     return Err(Stop::Done);
                 };
@@ -60,5 +66,35 @@ impl Secrets {
                 Ok(secret_of(number))
             }
         }
+    }
+}
+
+impl Secrets {
+    /// Those of a file at a path, or counted ones, of which the first is 1.
+    pub fn open(machine: &impl Machine, path: Option<&String>) -> Result<Secrets, HostFault> {
+        let source = match path {
+            None => Source::Counted { last: 0 },
+            Some(path) => match File::open(machine, path.as_str()) {
+                Ok(file) => Source::Read(file),
+                Err(_) => return Err(HostFault::Secrets),
+            },
+        };
+        Ok(Secrets {
+            source,
+            unused: None,
+        })
+    }
+
+    /// The next secret.
+    pub fn next(&mut self) -> Result<Secret, Stop> {
+        match self.unused.take() {
+            Some(secret) => Ok(secret),
+            None => self.source.draw(),
+        }
+    }
+
+    /// Gives one back that no step has had.
+    pub fn give_back(&mut self, secret: Secret) {
+        self.unused = Some(secret);
     }
 }

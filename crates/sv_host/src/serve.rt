@@ -1,24 +1,27 @@
 //! What comes on one connection.
 
-ghost use Rattle.std.specs.Prelude.{◌≡◌, ◌<◌, ℕ, IsTrue};
-ghost use Rattle.sv_model.specs.Ranges.{IsInput};
+ghost use Rattle.std.specs.Prelude.{◌≡◌, ◌<◌, ℕ, false, IsTrue, OnOk};
+ghost use Rattle.sv_model.specs.Ranges.{IsInput, IsPacket};
 ghost use Rattle.sv_record.specs.Frame.{IsFrame};
 ghost use Rattle.sv_node.specs.History.{IsAbove, number_in, HasGone};
 ghost use Rattle.sv_node.specs.Node.{IsNode, journal_of};
+ghost use Rattle.sv_connection.specs.Connection.{is_waiting};
 ghost use Rattle.sv_host.specs.Ending.{has_failed};
+ghost use Rattle.sv_host.specs.Outputs.{AreSendable};
 
+use crate::client::Client;
 use crate::desk::{Desk, Taken};
 use crate::fault::{HostFault, Stop};
 use crate::frames::take_in;
 use crate::line::Line;
 use crate::lobby::Guest;
 use crate::machine::Machine;
-use crate::stage::{Next, Open, Stage};
+use crate::stage::{Next, Open, Stage, Turn};
 use std::io::ErrorKind;
 use std::time::Duration;
-use sv_connection::{Connection, Outcome};
+use sv_connection::{Outcome, Served};
 use sv_journal::Disk;
-use sv_model::{Engine, Input, MoveRefusal};
+use sv_model::{Engine, Input, Moment, MoveRefusal, Packet};
 use sv_node::Node;
 use sv_record::Frame;
 
@@ -37,7 +40,7 @@ enum Heard {
     Say(Next),
     /// It is kept for the answer to its request.
     Wait {
-        connection: Connection,
+        client: Client,
         head_only: bool,
         token: u64,
     },
@@ -89,10 +92,7 @@ fn serve_frame<M: Machine, E: Engine, D: Disk>(
     ensures gone { (low : ℕ) → HasGone E.meaning E.heard D.tells D.may_leave low low node.old node.new result }
 {
     match frame {
-        Frame::Peer(packet) => {
-            desk.step(machine, node, Input::Packet(packet))?;
-            Ok(Heard::Nothing)
-        }
+        Frame::Peer(packet) => receive(machine, desk, node, packet),
         Frame::Move { key, to } => obey(machine, desk, node, Input::Move { key, to }),
         Frame::Tick => obey(machine, desk, node, Input::Tick),
         Frame::Halt => {
@@ -100,6 +100,23 @@ fn serve_frame<M: Machine, E: Engine, D: Disk>(
             Err(Stop::Done)
         }
     }
+}
+
+/// Has the node take the packet of a peer.
+fn receive<M: Machine, E: Engine, D: Disk>(
+    machine: &M,
+    desk: &mut Desk,
+    node: &mut Node<E, D>,
+    packet: Packet,
+) -> Result<Heard, Stop>
+    requires valid { IsNode E.valid D.tells D.seen D.may_leave node.old }
+    requires live { IsTrue (journal_of node.old).live }
+    requires packet { IsPacket packet }
+    ensures valid { IsNode E.valid D.tells D.seen D.may_leave node.new }
+    ensures gone { (low : ℕ) → HasGone E.meaning E.heard D.tells D.may_leave low low node.old node.new result }
+{
+    desk.step(machine, node, Input::Packet(packet))?;
+    Ok(Heard::Nothing)
 }
 
 /// Has the node take the step of a command.
@@ -150,20 +167,49 @@ fn has_failed(outcome: Outcome) -> bool
 }
 
 /// What is to be done for a client, by what came of its request.
-fn heard_of(connection: Connection, outcome: Outcome, token: u64) -> Heard {
+fn heard_of(client: Client, outcome: Outcome, token: u64) -> Heard {
     match outcome {
         Outcome::Parked { head_only } => Heard::Wait {
-            connection,
+            client,
             head_only,
             token,
         },
         Outcome::Refused(_) => Heard::Say(Next::Part),
-        Outcome::Answered if connection.closed() => Heard::Say(Next::Close),
-        Outcome::Answered => Heard::Say(Next::Listen(connection)),
+        Outcome::Answered => Heard::Say(client.next()),
         Outcome::Closed | Outcome::ReadFailed | Outcome::WriteFailed | Outcome::Failed => {
             Heard::Nothing
         }
     }
+}
+
+/// Hands on what a client's request has put out, and says what is to be done for the client.
+fn see_to<M: Machine>(
+    machine: &M,
+    desk: &mut Desk,
+    client: Client,
+    served: Served,
+    token: u64,
+    now: u64,
+) -> Result<Heard, Stop>
+    requires { AreSendable served.outputs.items }
+    ensures { OnOk result (has_failed served.outcome ≡ false) }
+{
+    let Served { outcome, outputs } = served;
+    desk.hand_on(machine, outputs, now);
+    if has_failed(outcome) {
+        Err(Stop::Fault(HostFault::Device))
+    } else {
+        Ok(heard_of(client, outcome, token))
+    }
+}
+
+/// A client whose request isn't whole yet, behind a piece of it; behind none it has begun none.
+fn unfinished(client: Client, piece: &[u8]) -> Heard {
+    Heard::More(if piece.is_empty() {
+        Stage::Resting(client)
+    } else {
+        Stage::Asking(client)
+    })
 }
 
 /// Hands a client's bytes to its connection, which has the node asked under a number where the request is then whole.
@@ -171,7 +217,7 @@ fn serve_client<M: Machine, E: Engine, D: Disk>(
     machine: &M,
     desk: &mut Desk,
     node: &mut Node<E, D>,
-    connection: Connection,
+    client: Client,
     piece: &[u8],
     token: u64,
 ) -> Result<Heard, Stop>
@@ -180,21 +226,42 @@ fn serve_client<M: Machine, E: Engine, D: Disk>(
     ensures valid { IsNode E.valid D.tells D.seen D.may_leave node.new }
     ensures gone { (low : ℕ) → low < token → HasGone E.meaning E.heard D.tells D.may_leave low token node.old node.new result }
 {
-    let mut connection = connection;
-    if connection.waiting() {
+    if client.connection.waiting() {
         return Ok(Heard::Nothing);
     }
-    let moment = desk.moment(machine)?;
+    match desk.moment(machine) {
+        Ok(moment) => serve_at(machine, desk, node, client, piece, moment, token),
+        Err(stop) => Err(stop),
+    }
+}
+
+/// The same at a moment. Where the request isn't whole, the moment's secret serves for another step.
+fn serve_at<M: Machine, E: Engine, D: Disk>(
+    machine: &M,
+    desk: &mut Desk,
+    node: &mut Node<E, D>,
+    client: Client,
+    piece: &[u8],
+    moment: Moment,
+    token: u64,
+) -> Result<Heard, Stop>
+    requires answered { is_waiting client.connection ≡ false }
+    requires valid { IsNode E.valid D.tells D.seen D.may_leave node.old }
+    requires live { IsTrue (journal_of node.old).live }
+    ensures valid { IsNode E.valid D.tells D.seen D.may_leave node.new }
+    ensures gone { (low : ℕ) → low < token → HasGone E.meaning E.heard D.tells D.may_leave low token node.old node.new result }
+{
+    let mut client = client;
     desk.text.clear();
-    match connection.feed(piece, &mut desk.text, node, moment, token) {
-        None => Ok(Heard::More(Stage::Asking(connection))),
-        Some(served) => {
-            desk.hand_on(machine, served.outputs, moment.now);
-            if has_failed(served.outcome) {
-                return Err(Stop::Fault(HostFault::Device));
-            }
-            Ok(heard_of(connection, served.outcome, token))
+    match client
+        .connection
+        .feed(piece, &mut desk.text, node, moment, token)
+    {
+        None => {
+            desk.secrets.give_back(moment.secret);
+            Ok(unfinished(client, piece))
         }
+        Some(served) => see_to(machine, desk, client, served, token, moment.now),
     }
 }
 
@@ -214,8 +281,8 @@ fn serve_stage<M: Machine, E: Engine, D: Disk>(
     ensures gone { (low : ℕ) → low < token → HasGone E.meaning E.heard D.tells D.may_leave low token node.old node.new result }
 {
     match stage {
-        Stage::Asking(connection) | Stage::Asked(connection) => {
-            serve_client(machine, desk, node, connection, piece, token)
+        Stage::Asking(client) | Stage::Asked(client) | Stage::Resting(client) => {
+            serve_client(machine, desk, node, client, piece, token)
         }
         Stage::Framing(bytes) => serve_framer(machine, desk, node, line, bytes, piece),
         other => Ok(Heard::More(other)),
@@ -223,26 +290,45 @@ fn serve_stage<M: Machine, E: Engine, D: Disk>(
 }
 
 /// The stage of a connection on which this comes.
-fn begun(desk: &Desk, stage: Stage, piece: &[u8]) -> Stage {
+fn stage_at(desk: &Desk, stage: Stage, piece: &[u8]) -> Stage {
     match (stage, piece) {
-        (Stage::New, [first, ..]) => Stage::begin(desk.alloc, desk.single, *first),
+        (Stage::New, [first, ..]) => Stage::begin(desk.alloc, desk.persistence, *first),
         (other, _) => other,
     }
 }
 
-/// Does with a connection what is to be done; whether more of it is to be read.
-fn see_off(desk: &mut Desk, place: usize, line: Line, heard: Heard, begun: Duration) -> bool {
+/// A connection on which this comes: its line, its stage, and when that began.
+fn begun(desk: &Desk, open: Open, piece: &[u8]) -> (Line, Stage, Duration) {
+    let (line, stage, since, _) = open.into_parts();
+    let since = desk.hall.since(&stage, since);
+    (line, stage_at(desk, stage, piece), since)
+}
+
+/// Where more may lie unread behind a request, a close would tear the answer away: that is read first.
+fn with_care(heard: Heard, piece: &[u8]) -> Heard {
     match heard {
+        Heard::Say(Next::Close) if piece.len() == PIECE => Heard::Say(Next::Part),
+        other => other,
+    }
+}
+
+/// Does with a connection what is to be done; whether it is to be gone on with at once.
+fn see_off(
+    desk: &mut Desk,
+    place: usize,
+    line: Line,
+    heard: Heard,
+    piece: &[u8],
+    begun: Duration,
+) -> bool {
+    match with_care(heard, piece) {
         Heard::More(stage) => {
             desk.hall.put(place, line, stage, begun);
             true
         }
-        Heard::Say(next) => {
-            desk.hall.say(place, line, &mut desk.text, next);
-            true
-        }
+        Heard::Say(next) => desk.hall.say(place, line, &mut desk.text, next),
         Heard::Wait {
-            connection,
+            client,
             head_only,
             token,
         } => {
@@ -251,10 +337,13 @@ fn see_off(desk: &mut Desk, place: usize, line: Line, heard: Heard, begun: Durat
                     place,
                     line,
                     Stage::Waiting {
-                        connection,
+                        client,
                         head_only,
+                        token,
+                        silent: false,
                     },
                 );
+                desk.hall.call_again(place);
             } else {
                 desk.hall.leave(place);
             }
@@ -285,8 +374,8 @@ enum Missing {
 }
 
 /// Reads once what has come on a connection.
-fn look<'a>(line: &mut Line, piece: &'a mut [u8; PIECE]) -> Result<&'a [u8], Missing> {
-    match line.read(piece) {
+fn look<'a>(open: &mut Open, piece: &'a mut [u8; PIECE]) -> Result<&'a [u8], Missing> {
+    match open.line.read(piece) {
         Ok(0) => Err(Missing::ForEver),
         Ok(count) => Ok(&piece[..count]),
         Err(fault) if fault.kind() == ErrorKind::WouldBlock => Err(Missing::Yet),
@@ -294,7 +383,15 @@ fn look<'a>(line: &mut Line, piece: &'a mut [u8; PIECE]) -> Result<&'a [u8], Mis
     }
 }
 
-/// Reads once what has come on a connection, and does what it leads to; whether more is to be read.
+/// Does with a connection on which nothing has come what is to be done.
+fn see_silent(desk: &mut Desk, place: usize, open: Open, missing: Missing) {
+    match missing {
+        Missing::Yet => desk.hall.keep(place, open),
+        Missing::ForEver => desk.hall.leave(place),
+    }
+}
+
+/// Reads once what has come on a connection, and does what it leads to; whether it is to be gone on with at once.
 fn listen_once<M: Machine, E: Engine, D: Disk>(
     machine: &M,
     desk: &mut Desk,
@@ -310,20 +407,16 @@ fn listen_once<M: Machine, E: Engine, D: Disk>(
     ensures gone { (low : ℕ) → low < token → HasGone E.meaning E.heard D.tells D.may_leave low token node.old node.new result }
 {
     let mut open = open;
-    match look(&mut open.line, piece) {
+    match look(&mut open, piece) {
         Ok(come) => take(machine, desk, node, place, open, come, token),
-        Err(Missing::Yet) => {
-            desk.hall.keep(place, open);
-            Ok(false)
-        }
-        Err(Missing::ForEver) => {
-            desk.hall.leave(place);
+        Err(missing) => {
+            see_silent(desk, place, open, missing);
             Ok(false)
         }
     }
 }
 
-/// Takes what has come on a connection, and does what it leads to; whether more is to be read.
+/// Takes what has come on a connection, and does what it leads to; whether it is to be gone on with at once.
 fn take<M: Machine, E: Engine, D: Disk>(
     machine: &M,
     desk: &mut Desk,
@@ -338,19 +431,18 @@ fn take<M: Machine, E: Engine, D: Disk>(
     ensures valid { IsNode E.valid D.tells D.seen D.may_leave node.new }
     ensures gone { (low : ℕ) → low < token → HasGone E.meaning E.heard D.tells D.may_leave low token node.old node.new result }
 {
-    let (line, stage, since, _) = open.into_parts();
-    let mut line = line;
-    let stage = begun(desk, stage, piece);
+    let (mut line, stage, since) = begun(desk, open, piece);
     let heard = serve_stage(machine, desk, node, &mut line, stage, piece, token)?;
-    Ok(see_off(desk, place, line, heard, since))
+    Ok(see_off(desk, place, line, heard, piece, since))
 }
 
-/// Goes on with a connection by one read or write; whether more is to be read.
-fn go_on<M: Machine, E: Engine, D: Disk>(
+/// Goes on with a connection that was taken, by one read or write; whether it is to be gone on with at once.
+fn go_on_with<M: Machine, E: Engine, D: Disk>(
     machine: &M,
     desk: &mut Desk,
     node: &mut Node<E, D>,
     place: usize,
+    open: Open,
     piece: &mut [u8; PIECE],
     token: u64,
 ) -> Result<bool, Stop>
@@ -359,19 +451,34 @@ fn go_on<M: Machine, E: Engine, D: Disk>(
     ensures valid { IsNode E.valid D.tells D.seen D.may_leave node.new }
     ensures gone { (low : ℕ) → low < token → HasGone E.meaning E.heard D.tells D.may_leave low token node.old node.new result }
 {
-    let Some(open) = desk.hall.take(place) else {
-        return Ok(false);
-    };
-    match open.stage {
-        Stage::Asked(_) => take(machine, desk, node, place, open, &[], token),
-        Stage::New | Stage::Asking(_) | Stage::Framing(_) => {
-            listen_once(machine, desk, node, place, open, piece, token)
-        }
-        _ => {
-            desk.hall.keep(place, open);
-            desk.hall.go_on(place);
-            Ok(false)
-        }
+    match open.stage.turn() {
+        Turn::Serve => take(machine, desk, node, place, open, &[], token),
+        Turn::Read => listen_once(machine, desk, node, place, open, piece, token),
+        Turn::Socket => Ok(desk.hall.go_on(place, open)),
+    }
+}
+
+/// Goes on with a connection by one read or write, under the next number; whether it is to be gone on with at once.
+fn go_on<M: Machine, E: Engine, D: Disk>(
+    machine: &M,
+    desk: &mut Desk,
+    node: &mut Node<E, D>,
+    place: usize,
+    piece: &mut [u8; PIECE],
+    numbers: &mut u64,
+) -> Result<bool, Stop>
+    requires valid { IsNode E.valid D.tells D.seen D.may_leave node.old }
+    requires live { IsTrue (journal_of node.old).live }
+    ensures valid { IsNode E.valid D.tells D.seen D.may_leave node.new }
+    ensures gone { HasGone E.meaning E.heard D.tells D.may_leave numbers.old numbers.new node.old node.new result }
+{
+    if *numbers == u64::MAX {
+        return Err(Stop::Done);
+    }
+    *numbers += 1;
+    match desk.hall.take(place) {
+        Some(open) => go_on_with(machine, desk, node, place, open, piece, *numbers),
+        None => Ok(false),
     }
 }
 
@@ -391,11 +498,7 @@ pub fn serve<M: Machine, E: Engine, D: Disk>(
     ensures gone { HasGone E.meaning E.heard D.tells D.may_leave numbers.old numbers.new node.old node.new result }
 {
     for _ in 0..PIECES {
-        if *numbers == u64::MAX {
-            return Err(Stop::Done);
-        }
-        *numbers += 1;
-        if !go_on(machine, desk, node, place, piece, *numbers)? {
+        if !go_on(machine, desk, node, place, piece, numbers)? {
             return Ok(());
         }
     }

@@ -1,10 +1,11 @@
 //! How far a connection has come.
 
+use crate::client::Client;
 use crate::line::Line;
+use crate::persistence::Persistence;
 use mio::Interest;
 use std::alloc::Global;
 use std::time::Duration;
-use sv_connection::Connection;
 use sv_record::{CONTROL, PEER};
 
 /// What is done with a connection once a text is written.
@@ -14,7 +15,7 @@ pub enum Next {
     /// It is closed once the client has sent what it is still sending.
     Part,
     /// Its next request is read.
-    Listen(Connection),
+    Listen(Client),
 }
 
 /// How far a connection has come.
@@ -23,15 +24,21 @@ pub enum Stage {
     /// Nothing has come yet.
     New,
     /// A client whose request isn't whole yet.
-    Asking(Connection),
+    Asking(Client),
     /// A client whose request was answered, and which may have sent the next one along.
-    Asked(Connection),
+    Asked(Client),
+    /// A client whose requests were answered, and of whose next one nothing has come since.
+    Resting(Client),
     /// A frame that isn't whole yet.
     Framing(Vec<u8>),
     /// A client whose request waits at the node.
     Waiting {
-        connection: Connection,
+        client: Client,
         head_only: bool,
+        /// The number under which the node was asked.
+        token: u64,
+        /// It sends no more, and so may have gone away.
+        silent: bool,
     },
     /// A command that is answered by this byte once its packet is sent or lost.
     Holding(u8),
@@ -40,9 +47,9 @@ pub enum Stage {
         text: Vec<u8>,
         next: Next,
     },
-    /// What a client still sends is read and forgotten, up to so many pieces.
+    /// What a client still sends is read and forgotten, up to so many bytes.
     Parting {
-        pieces: u32,
+        bytes: usize,
     },
     /// The rest of a packet to a peer, and the place of the command that waits until it is sent or lost.
     Calling {
@@ -81,7 +88,10 @@ const ASKING: u64 = 10;
 /// In seconds: so long may a client take to read its answer.
 const SAYING: u64 = 30;
 
-/// In seconds: so long is read what a client goes on sending whose request was refused.
+/// In seconds: so long may a connection that is kept bring no request.
+const RESTING: u64 = 30;
+
+/// In seconds: so long is read what a client goes on sending behind its last answer.
 const PARTING: u64 = 1;
 
 /// In seconds. A peer is on the same machine: it answers at once, or is not there.
@@ -90,24 +100,51 @@ const CALLING: u64 = 1;
 /// For ever, as far as a node goes.
 const UNBOUNDED: u64 = u64::MAX;
 
-impl Stage {
-    /// Who sends this byte first is a peer or gives a command, or is a client.
-    pub fn begin(alloc: Global, single: bool, first: u8) -> Stage {
-        match first {
-            PEER | CONTROL => Stage::Framing(Vec::new(alloc)),
-            _ => Stage::Asking(Connection::new(alloc, single)),
-        }
-    }
+/// How a connection is gone on with.
+#[derive(Clone, Copy, Debug, PartialEq, Eq)]
+pub enum Turn {
+    /// By what has come already.
+    Serve,
+    /// By what is read.
+    Read,
+    /// By its socket alone.
+    Socket,
+}
 
-    /// The other end is to say something.
-    pub fn listens(&self) -> bool {
+impl Stage {
+    /// How a connection at this stage is gone on with.
+    pub fn turn(&self) -> Turn {
         match self {
-            Stage::New | Stage::Asking(_) | Stage::Asked(_) | Stage::Framing(_) => true,
+            Stage::Asked(_) => Turn::Serve,
+            Stage::New | Stage::Asking(_) | Stage::Resting(_) | Stage::Framing(_) => Turn::Read,
             Stage::Waiting { .. }
             | Stage::Holding(_)
             | Stage::Saying { .. }
             | Stage::Parting { .. }
-            | Stage::Calling { .. } => false,
+            | Stage::Calling { .. } => Turn::Socket,
+        }
+    }
+
+    /// Who sends this byte first is a peer or gives a command, or is a client.
+    pub fn begin(alloc: Global, persistence: Persistence, first: u8) -> Stage {
+        match first {
+            PEER | CONTROL => Stage::Framing(Vec::new(alloc)),
+            _ => Stage::Asking(Client::new(alloc, persistence)),
+        }
+    }
+
+    /// It may be closed where there is no room for another: its other end is to say something, has been told all, or may have gone
+    /// away.
+    pub fn gives_way(&self) -> bool {
+        match self {
+            Stage::New
+            | Stage::Asking(_)
+            | Stage::Asked(_)
+            | Stage::Resting(_)
+            | Stage::Framing(_)
+            | Stage::Parting { .. } => true,
+            Stage::Waiting { silent, .. } => *silent,
+            Stage::Holding(_) | Stage::Saying { .. } | Stage::Calling { .. } => false,
         }
     }
 
@@ -117,10 +154,30 @@ impl Stage {
             Stage::New
             | Stage::Asking(_)
             | Stage::Asked(_)
+            | Stage::Resting(_)
             | Stage::Framing(_)
+            | Stage::Waiting { .. }
             | Stage::Parting { .. } => Some(Interest::READABLE),
             Stage::Saying { .. } | Stage::Calling { .. } => Some(Interest::WRITABLE),
-            Stage::Waiting { .. } | Stage::Holding(_) => None,
+            Stage::Holding(_) => None,
+        }
+    }
+
+    /// The stage of a client whose request waits, once it sends no more.
+    fn silenced(self) -> Stage {
+        match self {
+            Stage::Waiting {
+                client,
+                head_only,
+                token,
+                silent: _,
+            } => Stage::Waiting {
+                client,
+                head_only,
+                token,
+                silent: true,
+            },
+            other => other,
         }
     }
 
@@ -130,6 +187,7 @@ impl Stage {
             Stage::New | Stage::Asking(_) | Stage::Asked(_) | Stage::Framing(_) => {
                 (ASKING, SILENCE)
             }
+            Stage::Resting(_) => (RESTING, RESTING),
             Stage::Waiting { .. } | Stage::Holding(_) => (UNBOUNDED, UNBOUNDED),
             Stage::Saying { .. } => (SAYING, SAYING),
             Stage::Parting { .. } => (PARTING, PARTING),
@@ -148,6 +206,22 @@ impl Open {
             heard,
         } = self;
         (line, stage, begun, heard)
+    }
+
+    /// A client whose request waits, and that sends no more: it has been silent for longer than any other.
+    pub fn silenced(self) -> Open {
+        let Open {
+            line,
+            stage,
+            begun,
+            heard: _,
+        } = self;
+        Open {
+            line,
+            stage: stage.silenced(),
+            begun,
+            heard: Duration::ZERO,
+        }
     }
 
     /// It has taken longer than it may.

@@ -4,7 +4,7 @@ use crate::fault::Fault;
 use crate::stream::once;
 use std::alloc::Global;
 use std::io::{Read, Write};
-use sv_host::{Machine, Place, run_node};
+use sv_host::{Machine, Persistence, Place, run_node};
 use sv_model::Engine;
 
 /// What an engine is made for.
@@ -39,6 +39,7 @@ impl<R: Read, W: Write> Purpose for Stream<'_, R, W> {
 pub struct Running<'a, M: Machine> {
     pub machine: &'a M,
     pub place: Place,
+    pub persistence: Persistence,
     pub journal: &'a str,
 }
 
@@ -47,9 +48,10 @@ impl<M: Machine> Purpose for Running<'_, M> {
         let Running {
             machine,
             place,
+            persistence,
             journal,
         } = self;
-        run_node(machine, engine, place, journal)?;
+        run_node(machine, engine, place, persistence, journal)?;
         Ok(())
     }
 }

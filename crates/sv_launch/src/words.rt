@@ -2,8 +2,9 @@
 
 ghost use Rattle.std.specs.Prelude.{◌≡◌, map, string_bytes};
 ghost use Rattle.sv_samples.specs.Numeral.{number_in};
-ghost use Rattle.sv_launch.specs.Words.{command_of, command_in, once_at, node_at};
+ghost use Rattle.sv_launch.specs.Words.{command_of, command_in, once_at, node_at, of_three, of_four};
 
+use sv_host::Persistence;
 use sv_samples::{read_u8, read_u64};
 use thiserror::Error;
 
@@ -15,8 +16,9 @@ pub enum Words<'a> {
         config: &'a str,
         now: u64,
     },
-    /// `CONFIG JOURNAL NUMBER`: runs the node of that number.
+    /// `CONFIG JOURNAL NUMBER`: runs the node of that number; with `--keep-alive` before them its clients' connections are kept.
     Node {
+        persistence: Persistence,
         config: &'a str,
         journal: &'a str,
         number: u8,
@@ -25,7 +27,7 @@ pub enum Words<'a> {
 
 /// The words ask for nothing.
 #[derive(Clone, Copy, Debug, PartialEq, Eq, Error)]
-#[error("the words are neither `--once CONFIG NOW` nor `CONFIG JOURNAL NUMBER`")]
+#[error("the words are neither `--once CONFIG NOW` nor `[--keep-alive] CONFIG JOURNAL NUMBER`")]
 pub struct Arguments;
 
 /// `--once CONFIG NOW`.
@@ -39,16 +41,49 @@ fn read_once<'a>(config: &'a str, now: &str) -> Result<Words<'a>, Arguments>
 }
 
 /// `CONFIG JOURNAL NUMBER`.
-fn read_node<'a>(config: &'a str, journal: &'a str, number: &str) -> Result<Words<'a>, Arguments>
-    ensures { command_of result ≡ node_at config.now journal.now (number_in 8 number.now) }
+fn read_node<'a>(
+    persistence: Persistence,
+    config: &'a str,
+    journal: &'a str,
+    number: &str,
+) -> Result<Words<'a>, Arguments>
+    ensures { command_of result ≡ node_at persistence config.now journal.now (number_in 8 number.now) }
 {
     match read_u8(number) {
         Some(number) => Ok(Words::Node {
+            persistence,
             config,
             journal,
             number,
         }),
         None => Err(Arguments),
+    }
+}
+
+/// Three words.
+fn read_three<'a>(first: &'a str, second: &'a str, third: &str) -> Result<Words<'a>, Arguments>
+    ensures { command_of result ≡ of_three first.now second.now third.now }
+{
+    if first == "--once" {
+        read_once(second, third)
+    } else {
+        read_node(Persistence::Single, first, second, third)
+    }
+}
+
+/// Four words.
+fn read_four<'a>(
+    first: &str,
+    second: &'a str,
+    third: &'a str,
+    fourth: &str,
+) -> Result<Words<'a>, Arguments>
+    ensures { command_of result ≡ of_four first.now second.now third.now fourth.now }
+{
+    if first == "--keep-alive" {
+        read_node(Persistence::Kept, second, third, fourth)
+    } else {
+        Err(Arguments)
     }
 }
 
@@ -58,13 +93,14 @@ fn read_node<'a>(config: &'a str, journal: &'a str, number: &str) -> Result<Word
 pub fn read_words(words: &[String]) -> Result<Words<'_>, Arguments>
     ensures { command_of result ≡ command_in (map string_bytes words.now) }
 {
-    if words.len() != 3 {
-        return Err(Arguments);
-    }
-    let (first, second, third) = (words[0].as_str(), words[1].as_str(), words[2].as_str());
-    if first == "--once" {
-        read_once(second, third)
-    } else {
-        read_node(first, second, third)
+    match words {
+        [first, second, third] => read_three(first.as_str(), second.as_str(), third.as_str()),
+        [first, second, third, fourth] => read_four(
+            first.as_str(),
+            second.as_str(),
+            third.as_str(),
+            fourth.as_str(),
+        ),
+        _ => Err(Arguments),
     }
 }

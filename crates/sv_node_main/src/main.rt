@@ -5,8 +5,9 @@
 //! names stand for the samples of `sv_samples`, or `-` for the built-in one: the context `/shop` with each sample
 //! servlet.
 //!
-//! `node CONFIG JOURNAL NUMBER` runs the node of that number in the cluster of the descriptor: it listens at its port on the
-//! loopback address, keeps its sessions in the files JOURNAL and JOURNAL with `.b`, and serves until a command stops it.
+//! `node [--keep-alive] CONFIG JOURNAL NUMBER` runs the node of that number in the cluster of the descriptor: it listens at its
+//! port on the loopback address, keeps its sessions in the files JOURNAL and JOURNAL with `.b`, and serves until a command stops
+//! it. With `--keep-alive` a client's connection brings many requests, else one.
 //!
 //! A fault prints one line `node: ` and its name on standard error and ends the program with its status.
 #![tactic(auto)]
@@ -17,7 +18,7 @@ use std::net::{Net, TcpListener, TcpStream};
 use std::process::ExitCode;
 use std::rt::{Clock, Env, Files};
 use std::{env, io};
-use sv_host::Place;
+use sv_host::{Persistence, Place};
 use sv_launch::{Fault, Running, Words, read_config, read_words, serve, start};
 
 /// The words behind the program's name.
@@ -44,7 +45,13 @@ fn serve_input(rt: &HostRuntime, config: &str, now: u64) -> Result<(), Fault> {
 }
 
 /// Runs the node of a number in the cluster of a CONFIG, over a JOURNAL.
-fn run_in_cluster<R>(machine: &R, config: &str, journal: &str, number: u8) -> Result<(), Fault>
+fn run_in_cluster<R>(
+    machine: &R,
+    persistence: Persistence,
+    config: &str,
+    journal: &str,
+    number: u8,
+) -> Result<(), Fault>
 where
     R: Net<Listener = TcpListener, Stream = TcpStream>
         + Files<File = File>
@@ -57,6 +64,7 @@ where
     let running = Running {
         machine,
         place,
+        persistence,
         journal,
     };
     start(machine.alloc(), deployment, running)
@@ -68,11 +76,12 @@ fn run(rt: &HostRuntime) -> Result<(), Fault> {
         Ok(Words::Once { config, now }) => serve_input(rt, config, now),
         Ok(
             Words::Node {
+                persistence,
                 config,
                 journal,
                 number,
             },
-        ) => run_in_cluster(rt, config, journal, number),
+        ) => run_in_cluster(rt, persistence, config, journal, number),
         Err(_) => Err(Fault::Arguments),
     }
 }

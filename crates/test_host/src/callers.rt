@@ -3,13 +3,13 @@
 use crate::town::{HALT, Town, answer, heard, serve_all};
 use std::net::{OpenListener, OpenStream, Shutdown};
 use std::test::Fail;
-use sv_host::Host;
+use sv_host::{Host, Persistence};
 
 /// A session's first two requests, and one of its own for another client: no session has the key of these two bytes.
 #[test]
 fn clients_are_answered(rt: HostRuntime) -> Result<(), Fail> {
     let town = Town::new(&rt)?;
-    let host = Host::at(&rt, town.place(&rt)?)?;
+    let host = Host::at(&rt, town.place(&rt)?, Persistence::Single)?;
     let first = town.ask(&rt, [0, 9])?;
     let again = town.ask(&rt, [0, 1])?;
     let other = town.ask(&rt, [0, 7])?;
@@ -34,7 +34,7 @@ const NO: &[u8] = b"\xE1\0\0\0\x1D\x02\x04\x01\0\x01\0\0\0\0\0\0\0\x01\
 #[test]
 fn a_client_waits_for_the_other_node(rt: HostRuntime) -> Result<(), Fail> {
     let town = Town::new(&rt)?;
-    let host = Host::at(&rt, town.place(&rt)?)?;
+    let host = Host::at(&rt, town.place(&rt)?, Persistence::Single)?;
     let client = town.ask(&rt, [1, 1])?;
     let no = town.call(&rt, NO)?;
     let halted = town.call(&rt, HALT)?;
@@ -51,7 +51,7 @@ fn a_client_waits_for_the_other_node(rt: HostRuntime) -> Result<(), Fail> {
 #[test]
 fn a_node_stops_with_a_client_that_waits(rt: HostRuntime) -> Result<(), Fail> {
     let town = Town::new(&rt)?;
-    let host = Host::at(&rt, town.place(&rt)?)?;
+    let host = Host::at(&rt, town.place(&rt)?, Persistence::Single)?;
     let client = town.ask(&rt, [1, 1])?;
     town.call(&rt, HALT)?;
     assert_eq!(rt; serve_all(&rt, host)?, None);
@@ -77,7 +77,7 @@ const SAID: [(&[u8], &[u8]); 6] = [
 #[test]
 fn commands_are_answered_by_a_byte(rt: HostRuntime) -> Result<(), Fail> {
     let town = Town::new(&rt)?;
-    let host = Host::at(&rt, town.place(&rt)?)?;
+    let host = Host::at(&rt, town.place(&rt)?, Persistence::Single)?;
     let mut callers = Vec::new(rt.alloc());
     for (said, _) in SAID {
         let caller = town.call(&rt, said)?;
@@ -98,7 +98,7 @@ fn commands_are_answered_by_a_byte(rt: HostRuntime) -> Result<(), Fail> {
 #[test]
 fn those_behind_a_silent_caller_are_served(rt: HostRuntime) -> Result<(), Fail> {
     let town = Town::new(&rt)?;
-    let host = Host::at(&rt, town.place(&rt)?)?;
+    let host = Host::at(&rt, town.place(&rt)?, Persistence::Single)?;
     let silent = town.call(&rt, b"")?;
     let client = town.ask(&rt, [0, 9])?;
     town.call(&rt, HALT)?;

@@ -10,6 +10,8 @@ mod callers;
 #[cfg(test)]
 mod faults;
 #[cfg(test)]
+mod kept;
+#[cfg(test)]
 mod lives;
 #[cfg(test)]
 mod town;

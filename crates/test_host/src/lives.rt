@@ -3,7 +3,7 @@
 use crate::town::{HALT, Town, answer, live};
 use std::net::TcpStream;
 use std::test::Fail;
-use sv_host::{Ended, Host};
+use sv_host::{Ended, Host, Persistence};
 use sv_journal::MemoryDisk;
 use test_engine::Counter;
 
@@ -15,7 +15,7 @@ fn life(
     b: MemoryDisk,
     named: [u8; 2],
 ) -> Result<(TcpStream, Ended<Counter, MemoryDisk>), Fail> {
-    let host = Host::at(rt, town.place(rt)?)?;
+    let host = Host::at(rt, town.place(rt)?, Persistence::Single)?;
     let client = town.ask(rt, named)?;
     town.call(rt, HALT)?;
     Ok((client, live(rt, host, a, b)?))

@@ -18,7 +18,7 @@ const PATIENCE: u64 = 10;
 pub const HALT: &[u8] = b"\xE2\0\0\0\x01\x03";
 
 /// A request that is counted: a session is named by the two bytes of the body.
-const COUNT: &[u8] = b"POST /count HTTP/1.1\r\nHost: h\r\nContent-Length: 2\r\n\r\n";
+pub const COUNT: &[u8] = b"POST /count HTTP/1.1\r\nHost: h\r\nContent-Length: 2\r\n\r\n";
 
 /// The ports of the two nodes.
 #[derive(Drop)]
@@ -62,6 +62,18 @@ pub fn answer(alloc: Global, client: &TcpStream) -> io::Result<Option<char>> {
     )
 }
 
+/// The first byte of each body that comes on a connection until its other end is closed.
+pub fn answers(alloc: Global, client: &TcpStream) -> Result<String, Fail> {
+    let bytes = heard(alloc, client)?;
+    let mut first = String::new(alloc);
+    for window in bytes.as_slice().windows(5) {
+        if let [b'\r', b'\n', b'\r', b'\n', byte] = window {
+            first.push(*byte as char)?;
+        }
+    }
+    Ok(first)
+}
+
 /// Has a node on two disks serve all who have connected, the last of whom has it stop.
 pub fn live(
     rt: &HostRuntime,
@@ -93,17 +105,22 @@ impl Town {
 
     /// The place of node 0.
     pub fn place(&self, rt: &HostRuntime) -> Result<Place, Fail> {
-        self.place_with(rt, None)
+        self.place_with(rt, 30, None)
     }
 
-    /// The place of node 0, with secrets of a file.
-    pub fn place_with(&self, rt: &HostRuntime, secrets: Option<String>) -> Result<Place, Fail> {
+    /// The place of node 0, with a deadline in seconds, and with secrets of a file.
+    pub fn place_with(
+        &self,
+        rt: &HostRuntime,
+        deadline: u32,
+        secrets: Option<String>,
+    ) -> Result<Place, Fail> {
         let mut ports = Vec::new(rt.alloc());
         ports.push(self.port)?;
         ports.push(self.peer.local_addr()?.port())?;
         let cluster = Cluster {
             ports,
-            deadline: 30,
+            deadline,
             secrets,
         };
         Ok(Place::new(rt.alloc(), &cluster, 0)?)

@@ -3,6 +3,7 @@
 use super::NOW;
 use std::alloc::Global;
 use std::test::Fail;
+use sv_host::Persistence;
 use sv_launch::{Arguments, Words, read_words};
 
 /// Three words, and what they ask for.
@@ -30,6 +31,7 @@ const LINES: [Line; 8] = [
     Line(
         ["c", "j", "7"],
         Ok(Words::Node {
+            persistence: Persistence::Single,
             config: "c",
             journal: "j",
             number: 7,
@@ -52,6 +54,32 @@ fn words(rt: HostRuntime) -> Result<(), Fail> {
         let mut list = owned(rt.alloc(), *words)?;
         assert!(rt; read_words(list.as_slice()) == *meant, "{words:?}");
         list.truncate(2);
+        assert!(rt; read_words(list.as_slice()) == Err(Arguments));
+    }
+    Ok(())
+}
+
+/// A fourth word in front, and what it has the words of a node ask for.
+const FRONTS: [(&str, Result<Words<'static>, Arguments>); 2] = [
+    (
+        "--keep-alive",
+        Ok(Words::Node {
+            persistence: Persistence::Kept,
+            config: "c",
+            journal: "j",
+            number: 7,
+        }),
+    ),
+    ("--once", Err(Arguments)),
+];
+
+#[test]
+fn a_word_in_front(rt: HostRuntime) -> Result<(), Fail> {
+    for (front, meant) in &FRONTS {
+        let mut list = owned(rt.alloc(), ["c", "j", "7"])?;
+        list.insert(0, String::from_str(rt.alloc(), *front)?)?;
+        assert!(rt; read_words(list.as_slice()) == *meant, "{front}");
+        list.push(String::from_str(rt.alloc(), "8")?)?;
         assert!(rt; read_words(list.as_slice()) == Err(Arguments));
     }
     Ok(())

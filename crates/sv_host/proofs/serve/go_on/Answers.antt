@@ -1,18 +1,20 @@
-use Rattle.std.proofs.Common.{arith}
+use Rattle.std.proofs.Common.{◌+◌, inl, arith}
 use Rattle.sv_node.proofs.HistoryLemmas.{goes_nowhere}
 use Rattle.sv_host.proofs.serve.go_on.Goals as goal
 
-pub returns-in_default-clause-gone : goal.returns-in_default-clause-gone
-returns-in_default-clause-gone g c = λ low below.
+pub returns-then-numbers-eq18446744073709551615-clause-gone : goal.returns-then-numbers-eq18446744073709551615-clause-gone
+returns-then-numbers-eq18446744073709551615-clause-gone g c =
     let e = g.E.Engine in
     let d = g.D.Disk in
-    goes_nowhere e.meaning e.heard d.tells d.may_leave d.moment d.left_since low c.args.token c.args.node.now (omega (arith, below)) c.requires.live
+    let n = c.args.numbers.now in
+    inl (goes_nowhere e.meaning e.heard d.tells d.may_leave d.moment d.left_since n n c.args.node.now (omega arith) c.requires.live)
 
-pub returns-in_default-stage : goal.returns-in_default-stage
-returns-in_default-stage g c =
+pub returns-in-Some-clause-gone : goal.returns-in-Some-clause-gone
+returns-in-Some-clause-gone g c = c.go_on_with.ensures.gone c.args.numbers.now (omega arith)
+
+pub returns-in-None-clause-gone : goal.returns-in-None-clause-gone
+returns-in-None-clause-gone g c =
     let e = g.E.Engine in
     let d = g.D.Disk in
-    record {
-      valid = c.requires.valid;
-      gone = λ low below. goes_nowhere e.meaning e.heard d.tells d.may_leave d.moment d.left_since low c.args.token c.args.node.now (omega (arith, below)) c.requires.live;
-    }
+    let n = c.args.numbers.now in
+    goes_nowhere e.meaning e.heard d.tells d.may_leave d.moment d.left_since n (n + 1) c.args.node.now (omega arith) c.requires.live

@@ -1,0 +1,56 @@
+//! A client's connection among those that are open.
+
+use crate::persistence::Persistence;
+use crate::stage::Next;
+use std::alloc::Global;
+use sv_connection::Connection;
+
+/// So many requests come on one connection at most.
+const REQUEST_LIMIT: u32 = 10_000;
+
+/// A client's connection, and how often it was answered.
+pub struct Client {
+    pub connection: Connection,
+    answered: u32,
+}
+
+/// By hand, so that the proof of a caller has one step for it.
+impl Drop for Client {
+    fn drop(self) {
+        let Client {
+            connection: _,
+            answered: _,
+        } = self;
+    }
+}
+
+impl Client {
+    pub fn new(alloc: Global, persistence: Persistence) -> Client {
+        Client {
+            connection: Connection::new(alloc, persistence == Persistence::Single),
+            answered: 0,
+        }
+    }
+
+    /// What follows behind an answer (RFC 9112, section 9.6): the next request; or, where the connection closes, the close, at
+    /// once where the client asked for it, as it sends no more then.
+    pub fn next(self) -> Next {
+        if !self.connection.closed() {
+            Next::Listen(self.counted())
+        } else if self.connection.leaving() {
+            Next::Close
+        } else {
+            Next::Part
+        }
+    }
+
+    /// It was answered once more. The last answer but one has it close behind the next, which says so.
+    fn counted(self) -> Client {
+        let mut client = self;
+        client.answered = client.answered.saturating_add(1);
+        if client.answered.saturating_add(1) >= REQUEST_LIMIT {
+            client.connection.become_single();
+        }
+        client
+    }
+}
