@@ -6,7 +6,6 @@
 mod descriptors;
 mod dispatch;
 mod expiry;
-mod journals;
 mod mapping;
 mod messages;
 mod nesting;

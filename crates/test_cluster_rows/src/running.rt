@@ -1,0 +1,254 @@
+//! One node of three, over two disks: its number is 0. A line is an input (`input`) behind that number, or one of these.
+//!
+//! - `at SECOND SECRET`, as for a world.
+//! - `compact`, and the length of the journal behind it.
+//! - `reopen`: the node is stopped, what stands on its disks is told, and it is opened over them.
+//! - `reopen-without-b`: the same, with the first byte of the disk B closed between.
+//!
+//! At the end what stands on the disks is told.
+
+ghost use Rattle.std.specs.Prelude.{IfOk};
+
+use crate::disks::{both, closed};
+use crate::fault::RowFault;
+use crate::input::input;
+use crate::outputs::push_output;
+use crate::said::next_part;
+use crate::shop::shop;
+use crate::words::word;
+use crate::worlds::push_row;
+use crate::{clock, digits};
+use std::alloc::{AllocError, Global};
+use sv_journal::MemoryDisk;
+use sv_model::{Engine, Moment, Output, Setting, Site};
+use sv_node::{Node, NotOpened, OpenFault};
+
+const SETTING: Setting = Setting {
+    node: 0,
+    nodes: 3,
+    deadline: 30,
+};
+
+/// The node over its disks, started once more.
+pub fn open<E: Engine + Drop>(
+    alloc: Global,
+    engine: E,
+    a: MemoryDisk,
+    b: MemoryDisk,
+) -> Result<Node<E, MemoryDisk>, NotOpened<E, MemoryDisk>>
+    requires { E.valid engine }
+    ensures { IfOk result (λ n. ⟦<Node<E, MemoryDisk> as Site>⟧.site_valid n) }
+{
+    Node::open(alloc, engine, a, b, SETTING)
+}
+
+/// What was put out.
+fn put_out(alloc: Global, outputs: &[Output]) -> Result<String, AllocError> {
+    let mut text = String::new(alloc);
+    for output in outputs {
+        next_part(&mut text)?;
+        push_output(&mut text, output)?;
+    }
+    Ok(text)
+}
+
+/// What came of an act: what was put out, or the fault's name.
+#[derive(Drop)]
+pub enum Deed {
+    Done(String),
+    Refused(String),
+}
+
+/// A node is given an input.
+fn stepped<S: Site>(
+    alloc: Global,
+    site: &mut S,
+    moment: Moment,
+    token: u64,
+    words: &str,
+) -> Result<Deed, RowFault>
+    requires { S.site_valid site.old }
+    ensures { S.site_valid site.new }
+{
+    let input = input(alloc, token, words)?;
+    match site.step(moment, input) {
+        Ok(outputs) => Ok(Deed::Done(put_out(alloc, outputs.as_slice())?)),
+        Err(fault) => Ok(Deed::Refused(format!(in alloc; "{fault:?}")?)),
+    }
+}
+
+/// A node is compacted.
+fn compacted<E: Engine + Drop>(
+    alloc: Global,
+    node: &mut Node<E, MemoryDisk>,
+) -> Result<Deed, RowFault>
+    requires { ⟦<Node<E, MemoryDisk> as Site>⟧.site_valid node.old }
+    ensures { ⟦<Node<E, MemoryDisk> as Site>⟧.site_valid node.new }
+{
+    match node.compact() {
+        Ok(()) => Ok(Deed::Done(format!(in alloc; "{} bytes", node.journal_len())?)),
+        Err(fault) => Ok(Deed::Refused(format!(in alloc; "{fault:?}")?)),
+    }
+}
+
+/// An act of a node that runs on.
+pub fn acted<E: Engine + Drop>(
+    alloc: Global,
+    node: &mut Node<E, MemoryDisk>,
+    moment: Moment,
+    token: u64,
+    line: &str,
+) -> Result<Deed, RowFault>
+    requires { ⟦<Node<E, MemoryDisk> as Site>⟧.site_valid node.old }
+    ensures { ⟦<Node<E, MemoryDisk> as Site>⟧.site_valid node.new }
+{
+    match word(line) {
+        ("0", words) => stepped(alloc, node, moment, token, words),
+        ("compact", _) => compacted(alloc, node),
+        _ => Err(RowFault::Kind),
+    }
+}
+
+/// The same, told.
+fn act<E: Engine + Drop>(
+    alloc: Global,
+    node: Node<E, MemoryDisk>,
+    moment: Moment,
+    token: u64,
+    line: &str,
+    told: &mut String,
+) -> Result<Node<E, MemoryDisk>, RowFault>
+    requires { ⟦<Node<E, MemoryDisk> as Site>⟧.site_valid node }
+    ensures { IfOk result (λ n. ⟦<Node<E, MemoryDisk> as Site>⟧.site_valid n) }
+{
+    let mut node = node;
+    match acted(alloc, &mut node, moment, token, line)? {
+        Deed::Done(said) | Deed::Refused(said) => push_row(told, line, said.as_str())?,
+    }
+    Ok(node)
+}
+
+/// Tells what stands on both disks.
+fn tell_disks(
+    told: &mut String,
+    alloc: Global,
+    line: &str,
+    a: &MemoryDisk,
+    b: &MemoryDisk,
+) -> Result<(), AllocError> {
+    let said = both(alloc, a, b)?;
+    push_row(told, line, said.as_str())
+}
+
+/// A node that is stopped, and opened over what it left; a disk B whose first byte is closed before isn't read.
+fn reopened<E: Engine + Drop>(
+    alloc: Global,
+    node: Node<E, MemoryDisk>,
+    line: &str,
+    told: &mut String,
+) -> Result<Node<E, MemoryDisk>, RowFault>
+    requires { ⟦<Node<E, MemoryDisk> as Site>⟧.site_valid node }
+    ensures { IfOk result (λ n. ⟦<Node<E, MemoryDisk> as Site>⟧.site_valid n) }
+{
+    let (engine, a, b) = node.stop();
+    tell_disks(told, alloc, line, &a, &b)?;
+    let b = match line {
+        "reopen-without-b" => closed(alloc, &b)?,
+        _ => b,
+    };
+    match open(alloc, engine, a, b) {
+        Ok(node) => Ok(node),
+        Err(_) => Err(RowFault::Start),
+    }
+}
+
+/// What happens to a node by a line.
+fn take<E: Engine + Drop>(
+    alloc: Global,
+    node: Node<E, MemoryDisk>,
+    moment: Moment,
+    token: u64,
+    line: &str,
+    told: &mut String,
+) -> Result<Node<E, MemoryDisk>, RowFault>
+    requires { ⟦<Node<E, MemoryDisk> as Site>⟧.site_valid node }
+    ensures { IfOk result (λ n. ⟦<Node<E, MemoryDisk> as Site>⟧.site_valid n) }
+{
+    match word(line) {
+        ("at", _) => {
+            push_row(told, line, "")?;
+            Ok(node)
+        }
+        ("reopen" | "reopen-without-b", _) => reopened(alloc, node, line, told),
+        _ => act(alloc, node, moment, token, line, told),
+    }
+}
+
+/// The same, at a moment that the line may change.
+fn go_on<E: Engine + Drop>(
+    alloc: Global,
+    node: Node<E, MemoryDisk>,
+    moment: &mut Moment,
+    token: u64,
+    line: &str,
+    told: &mut String,
+) -> Result<Node<E, MemoryDisk>, RowFault>
+    requires { ⟦<Node<E, MemoryDisk> as Site>⟧.site_valid node }
+    ensures { IfOk result (λ n. ⟦<Node<E, MemoryDisk> as Site>⟧.site_valid n) }
+{
+    *moment = clock::behind(*moment, line)?;
+    take(alloc, node, *moment, token, line, told)
+}
+
+/// What happens to a node by these lines.
+fn live<E: Engine + Drop>(
+    alloc: Global,
+    node: Node<E, MemoryDisk>,
+    lines: &str,
+    told: &mut String,
+) -> Result<Node<E, MemoryDisk>, RowFault>
+    requires { ⟦<Node<E, MemoryDisk> as Site>⟧.site_valid node }
+{
+    let mut node = node;
+    let mut moment = clock::start();
+    for (place, line) in lines.lines().enumerate() {
+        node = go_on(alloc, node, &mut moment, place as u64, line, told)?;
+    }
+    Ok(node)
+}
+
+/// What happens to a node by these lines, and what stands on its disks then.
+fn live_and_stop<E: Engine + Drop>(
+    alloc: Global,
+    node: Node<E, MemoryDisk>,
+    lines: &str,
+    told: &mut String,
+) -> Result<(), RowFault>
+    requires { ⟦<Node<E, MemoryDisk> as Site>⟧.site_valid node }
+{
+    let (_, a, b) = live(alloc, node, lines, told)?.stop();
+    Ok(tell_disks(told, alloc, "stop", &a, &b)?)
+}
+
+/// A disk with the bytes that digits say.
+fn disk(alloc: Global, words: &str) -> Result<MemoryDisk, RowFault> {
+    let bytes = digits::bytes(alloc, words)?;
+    Ok(MemoryDisk::with(alloc, bytes.as_slice())?)
+}
+
+/// Tells why a node was not opened.
+fn tell_fault(told: &mut String, alloc: Global, fault: OpenFault) -> Result<(), RowFault> {
+    let fault = format!(in alloc; "{fault:?}")?;
+    Ok(push_row(told, "open", fault.as_str())?)
+}
+
+/// A node with the applications of a name, over a disk A with the bytes of some digits, and what happens to it: `NAME DIGITS`.
+pub fn play(alloc: Global, words: &str, lines: &str, told: &mut String) -> Result<(), RowFault> {
+    let (name, words) = word(words);
+    let a = disk(alloc, words)?;
+    let shop = shop(alloc, name)?;
+    match open(alloc, shop, a, MemoryDisk::new(alloc)) {
+        Ok(node) => live_and_stop(alloc, node, lines, told),
+        Err(refused) => tell_fault(told, alloc, refused.fault),
+    }
+}

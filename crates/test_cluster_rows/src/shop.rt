@@ -1,0 +1,125 @@
+//! The applications that nodes serve by: the samples, as the program `node` has them where no descriptor is given; with sessions that
+//! expire after a minute; or with a servlet more, which changes the id of a session.
+
+ghost use Rattle.std.specs.Prelude.{IfOk};
+ghost use Rattle.sv_container.specs.Life.{AreNamedNew};
+
+use crate::fault::RowFault;
+use crate::sample::Sample;
+use std::alloc::{AllocError, Global};
+use sv_config::Deployment;
+use sv_container::{Container, Named};
+use sv_model::Engine;
+use sv_samples::{Gate, Tally};
+use sv_servlet::Servlet;
+
+/// The applications, started.
+pub type Shop = Container<Sample, Gate, Tally>;
+
+const HEAD: &str = r#"[[context]]
+path = "/shop"
+"#;
+
+const A_MINUTE: &str = "interval = 60\n";
+
+const TABLES: &str = r#"
+[[context.servlet]]
+name = "hello"
+patterns = ["/hello"]
+
+[[context.servlet]]
+name = "count"
+patterns = ["/count"]
+
+[[context.servlet]]
+name = "snoop"
+patterns = ["/snoop", ""]
+
+[[context.servlet]]
+name = "login"
+patterns = ["/login"]
+
+[[context.servlet]]
+name = "includer"
+patterns = ["/inc"]
+
+[[context.servlet]]
+name = "forwarder"
+patterns = ["/fwd"]
+
+[[context.servlet]]
+name = "faulty"
+patterns = ["/faulty", "/oops"]
+
+[[context.listener]]
+name = "tally"
+"#;
+
+const RENEWING: &str = r#"
+[[context.servlet]]
+name = "renew"
+patterns = ["/renew"]
+"#;
+
+/// The descriptor of a name.
+fn descriptor(alloc: Global, name: &str) -> Result<String, RowFault> {
+    match name {
+        "built-in" => Ok(format!(in alloc; "{HEAD}{TABLES}")?),
+        "of-a-minute" => Ok(format!(in alloc; "{HEAD}{A_MINUTE}{TABLES}")?),
+        "renewing" => Ok(format!(in alloc; "{HEAD}{TABLES}{RENEWING}")?),
+        _ => Err(RowFault::Word),
+    }
+}
+
+/// The servlets of these names.
+fn servlets(alloc: Global, names: &[String]) -> Result<Vec<Named<Sample>>, RowFault>
+    ensures { IfOk result (λ all. AreNamedNew ⟦<Sample as Servlet>⟧.servlet_phase all.items) }
+{
+    let mut all = Vec::new(alloc);
+    for name in names {
+        let Some(object) = Sample::of_name(alloc, name.as_str()) else {
+            return Err(RowFault::Start);
+        };
+        let name = String::from_str(alloc, name.as_str())?;
+        all.push(Named {
+            context: 0,
+            name,
+            object,
+        })?;
+    }
+    Ok(all)
+}
+
+/// The listener.
+fn listeners(alloc: Global) -> Result<Vec<Named<Tally>>, AllocError> {
+    let mut all = Vec::new(alloc);
+    all.push(Named {
+        context: 0,
+        name: String::from_str(alloc, "tally")?,
+        object: Tally::new(),
+    })?;
+    Ok(all)
+}
+
+/// The applications of a deployment, started.
+fn started(alloc: Global, deployment: Deployment) -> Result<Shop, RowFault>
+    ensures { IfOk result (λ c. ⟦<Shop as Engine>⟧.valid c) }
+{
+    let Some(context) = deployment.contexts.first() else {
+        return Err(RowFault::Start);
+    };
+    let servlets = servlets(alloc, context.servlets.as_slice())?;
+    let listeners = listeners(alloc)?;
+    match Container::start(alloc, deployment, servlets, Vec::new(alloc), listeners) {
+        Ok(shop) => Ok(shop),
+        Err(_) => Err(RowFault::Start),
+    }
+}
+
+/// The applications of a name, started.
+pub fn shop(alloc: Global, name: &str) -> Result<Shop, RowFault>
+    ensures { IfOk result (λ c. ⟦<Shop as Engine>⟧.valid c) }
+{
+    let text = descriptor(alloc, name)?;
+    started(alloc, Deployment::from_toml(alloc, text.as_str())?)
+}
