@@ -189,13 +189,12 @@ fn a_writer_that_fails(rt: HostRuntime) -> Result<(), Fail> {
 const TOO_LONG: &str =
     "HTTP/1.1 431 Request Header Fields Too Large\r\nDate: Sun, 06 Nov 1994 08:49:37 GMT\r\ncontent-type: text/plain\r\nContent-Length: 36\r\nConnection: close\r\n\r\n431 Request Header Fields Too Large\n";
 
-/// A reader that never ends a message. Each read brings a byte, and a message is a head of 8,192 bytes at most, so
-/// a head that is too long ends the call long before its 1,048,576 reads are made: no input reaches that limit.
+/// A reader that never ends a head, a byte a read: 8,192 of them are too long for one.
 #[test]
-fn a_reader_that_never_ends(rt: HostRuntime) -> Result<(), Fail> {
+fn a_reader_that_never_ends_a_head(rt: HostRuntime) -> Result<(), Fail> {
     let mut connection = Connection::new(rt.alloc(), false);
     let mut reader = slow_reader(b"a", 0);
-    reader.endless = true;
+    reader.again_at = Some(0);
     let mut writer = Vec::new(rt.alloc());
     let mut site = Echo::new(rt.alloc());
     let served = serve(&mut connection, &mut reader, &mut writer, &mut site, 1);
@@ -204,6 +203,27 @@ fn a_reader_that_never_ends(rt: HostRuntime) -> Result<(), Fail> {
     assert_eq!(rt; reader.calls, 8_192);
     assert_eq!(rt; site.steps, 0);
     assert_eq!(rt; writer.as_slice(), TOO_LONG.as_bytes());
+    Ok(())
+}
+
+/// The head of a body in chunks, of 57 bytes, and a chunk of one byte behind a line of 67.
+const CHUNKS: &[u8] =
+    b"POST /a HTTP/1.1\r\nHost: h\r\nTransfer-Encoding: chunked\r\n\r\n1;aaaaaaaaaaaaaaaaaaaaaaaaaaaaaaaaaaaaaaaaaaaaaaaaaaaaaaaaaaaaaaa\r\nx\r\n";
+
+/// A reader that never ends a body, a byte a read: 65,536 chunks of 70 bytes would be 4,587,520 of them, and the call ends at
+/// 1,048,576.
+#[test]
+fn a_reader_that_never_ends_a_body(rt: HostRuntime) -> Result<(), Fail> {
+    let mut connection = Connection::new(rt.alloc(), false);
+    let mut reader = slow_reader(CHUNKS, 0);
+    reader.again_at = Some(57);
+    let mut writer = Vec::new(rt.alloc());
+    let mut site = Echo::new(rt.alloc());
+    let served = serve(&mut connection, &mut reader, &mut writer, &mut site, 1);
+    assert_eq!(rt; served.outcome, Outcome::ReadFailed);
+    assert_eq!(rt; reader.calls, 1_048_576);
+    assert_eq!(rt; site.steps, 0);
+    assert_eq!(rt; writer.len(), 0);
     Ok(())
 }
 

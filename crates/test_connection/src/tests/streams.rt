@@ -8,8 +8,8 @@ use std::io::{ErrorKind, Read, Write};
 #[derive(Drop)]
 pub(super) struct Drip<'a> {
     bytes: &'a [u8],
-    /// Begins again behind the last byte.
-    pub(super) endless: bool,
+    /// Where it begins again behind the last byte.
+    pub(super) again_at: Option<usize>,
     at: usize,
     pub(super) calls: usize,
     fails_at: usize,
@@ -20,7 +20,7 @@ pub(super) struct Drip<'a> {
 pub(super) fn slow_reader(bytes: &[u8], fails_at: usize) -> Drip<'_> {
     Drip {
         bytes,
-        endless: false,
+        again_at: None,
         at: 0,
         calls: 0,
         fails_at,
@@ -35,8 +35,8 @@ impl Read for Drip<'_> {
         if self.calls == self.fails_at {
             return Err(ErrorKind::ConnectionReset.into());
         }
-        if self.endless && self.at == self.bytes.len() {
-            self.at = 0;
+        if self.at == self.bytes.len() {
+            self.at = self.again_at.unwrap_or(self.at);
         }
         match (self.bytes.get(self.at), buf.first_mut()) {
             (Some(byte), Some(place)) => {
