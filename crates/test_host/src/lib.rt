@@ -14,4 +14,6 @@ mod kept;
 #[cfg(test)]
 mod lives;
 #[cfg(test)]
+mod scene;
+#[cfg(test)]
 mod town;

@@ -18,13 +18,19 @@ const PATIENCE: u64 = 10;
 pub const HALT: &[u8] = b"\xE2\0\0\0\x01\x03";
 
 /// A request that is counted: a session is named by the two bytes of the body.
-pub const COUNT: &[u8] = b"POST /count HTTP/1.1\r\nHost: h\r\nContent-Length: 2\r\n\r\n";
+const COUNT: &[u8] = b"POST /count HTTP/1.1\r\nHost: h\r\nContent-Length: 2\r\n\r\n";
 
 /// The ports of the two nodes.
-#[derive(Drop)]
 pub struct Town {
     port: u16,
     pub peer: TcpListener,
+}
+
+/// By hand, so that the proof of a test has one step for it.
+impl Drop for Town {
+    fn drop(self) {
+        let Town { port: _, peer: _ } = self;
+    }
 }
 
 fn local(port: u16) -> SocketAddr {
@@ -60,18 +66,6 @@ pub fn answer(alloc: Global, client: &TcpStream) -> io::Result<Option<char>> {
             _ => None,
         },
     )
-}
-
-/// The first byte of each body that comes on a connection until its other end is closed.
-pub fn answers(alloc: Global, client: &TcpStream) -> Result<String, Fail> {
-    let bytes = heard(alloc, client)?;
-    let mut first = String::new(alloc);
-    for window in bytes.as_slice().windows(5) {
-        if let [b'\r', b'\n', b'\r', b'\n', byte] = window {
-            first.push(*byte as char)?;
-        }
-    }
-    Ok(first)
 }
 
 /// Has a node on two disks serve all who have connected, the last of whom has it stop.
@@ -135,11 +129,24 @@ impl Town {
         Ok(stream)
     }
 
+    /// Has a client ask for the sessions of these two bytes each.
+    pub fn count(&self, mut client: &TcpStream, named: &[[u8; 2]]) -> io::Result<()> {
+        for bytes in named {
+            client.write_all(COUNT)?;
+            client.write_all(bytes)?;
+        }
+        Ok(())
+    }
+
+    /// A client that asks for the sessions of these two bytes each.
+    pub fn ask_all(&self, rt: &HostRuntime, named: &[[u8; 2]]) -> io::Result<TcpStream> {
+        let client = self.call(rt, b"")?;
+        self.count(&client, named)?;
+        Ok(client)
+    }
+
     /// A client that asks for the session of these two bytes.
     pub fn ask(&self, rt: &HostRuntime, named: [u8; 2]) -> io::Result<TcpStream> {
-        let stream = self.call(rt, COUNT)?;
-        let mut writer = &stream;
-        writer.write_all(&named)?;
-        Ok(stream)
+        self.ask_all(rt, &[named])
     }
 }
