@@ -1,4 +1,4 @@
-use Rattle.std.proofs.Common.{◌≡◌, length, sym, ap, subst, ◌∙◌}
+use Rattle.std.proofs.Common.{length, sym, ap, subst, ◌∙◌}
 use Rattle.sv_model.specs.Time.{first_over}
 use Rattle.sv_core.specs.declared.directory.Directory.{Directory}
 use Rattle.sv_core.specs.Places.{AreWithin}
