@@ -1,9 +1,9 @@
 //! What happens to a world, an event each.
 
 use std::alloc::{AllocError, Global};
-use sv_model::{Input, Key, Moment, Request, Secret};
+use sv_model::{Input, Key, Moment, Secret};
 use sv_world::WorldEvent;
-use test_engine::{hello, request};
+use test_engine::request;
 
 /// A key, by its home and its serial, of one byte each.
 pub type KeyName = (u8, u8);
@@ -20,22 +20,13 @@ pub const NOW: u64 = 1000;
 /// A stop comes behind the record of the step that it cuts.
 pub const KEPT: bool = true;
 
-/// A stop comes before the record of the step that it cuts.
-pub const LOST: bool = false;
-
 /// One event.
 #[derive(Clone, Copy)]
 pub enum Act {
     /// A request that counts, at a node, with no session.
     First(u8),
-    /// The same, in this second.
-    FirstAt(u8, u64),
     /// One that names a session.
     Again(u8, KeyName),
-    /// The same, in this second.
-    AgainAt(u8, KeyName, u64),
-    /// A request that touches nothing.
-    Hello(u8),
     /// The packet that was sent as this one, counting from 0, comes to its addressee.
     Deliver(usize),
     Poke(u8),
@@ -44,10 +35,6 @@ pub enum Act {
     Move(u8, KeyName, u8),
     Crash(u8),
     Restart(u8),
-    /// The node stops inside a request that names a session.
-    TornAgain(u8, KeyName, bool),
-    /// The node stops inside a request that touches nothing.
-    TornHello(u8, bool),
     /// The node stops inside a move.
     TornMove(u8, KeyName, u8, bool),
     /// The node stops inside its start.
@@ -84,16 +71,6 @@ pub fn ask(
     })
 }
 
-/// A request that touches nothing.
-fn ask_hello(alloc: Global, token: u64, node: u8) -> Result<WorldEvent, AllocError> {
-    Ok(WorldEvent::Ask {
-        node,
-        moment: at(NOW),
-        token,
-        request: hello(alloc)?,
-    })
-}
-
 /// A step that a stop cuts.
 pub fn torn(node: u8, input: Input, kept: bool) -> WorldEvent {
     WorldEvent::Torn {
@@ -102,11 +79,6 @@ pub fn torn(node: u8, input: Input, kept: bool) -> WorldEvent {
         input,
         kept,
     }
-}
-
-/// A request that a stop cuts.
-fn torn_ask(token: u64, node: u8, request: Request, kept: bool) -> WorldEvent {
-    torn(node, Input::Ask { token, request }, kept)
 }
 
 fn torn_move(node: u8, named: KeyName, to: u8, kept: bool) -> WorldEvent {
@@ -118,10 +90,7 @@ fn torn_move(node: u8, named: KeyName, to: u8, kept: bool) -> WorldEvent {
 pub fn event(alloc: Global, token: u64, act: Act) -> Result<WorldEvent, AllocError> {
     match act {
         Act::First(node) => ask(alloc, token, node, NOW, &[]),
-        Act::FirstAt(node, now) => ask(alloc, token, node, now, &[]),
         Act::Again(node, named) => ask(alloc, token, node, NOW, &[named.0, named.1]),
-        Act::AgainAt(node, named, now) => ask(alloc, token, node, now, &[named.0, named.1]),
-        Act::Hello(node) => ask_hello(alloc, token, node),
         Act::Deliver(place) => Ok(WorldEvent::Deliver {
             moment: at(NOW),
             place,
@@ -142,11 +111,6 @@ pub fn event(alloc: Global, token: u64, act: Act) -> Result<WorldEvent, AllocErr
         }),
         Act::Crash(node) => Ok(WorldEvent::Crash(node)),
         Act::Restart(node) => Ok(WorldEvent::Restart(node)),
-        Act::TornAgain(node, named, kept) => {
-            let request = request(alloc, &[named.0, named.1])?;
-            Ok(torn_ask(token, node, request, kept))
-        }
-        Act::TornHello(node, kept) => Ok(torn_ask(token, node, hello(alloc)?, kept)),
         Act::TornMove(node, named, to, kept) => Ok(torn_move(node, named, to, kept)),
         Act::TornRestart(node, kept) => Ok(WorldEvent::TornRestart { node, kept }),
     }

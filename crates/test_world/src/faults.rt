@@ -1,48 +1,10 @@
-//! Events that can't happen.
+//! Events that can't happen, as they were never sent or have used their number.
 
-use crate::act::{Act, K1, KEPT, LOST, NOW, ask, key, torn};
-use crate::stage::{Row, Story, expect_rows, expect_stories, nodes};
+use crate::act::{Act, K1, KEPT, NOW, ask, key, torn};
+use crate::stage::{Row, expect_rows, nodes};
 use std::test::Fail;
 use sv_model::{Input, Packet, Token};
 use sv_world::{WorldEvent, WorldFault};
-
-/// There are nodes 0, 1 and 2.
-const NO_NODE: [Row; 8] = [
-    (Act::First(3), "NoNode"),
-    (Act::Poke(3), "NoNode"),
-    (Act::Tick(255, NOW), "NoNode"),
-    (Act::Move(3, K1, 0), "NoNode"),
-    (Act::TornMove(3, K1, 0, LOST), "NoNode"),
-    (Act::Crash(3), "NoNode"),
-    (Act::Restart(3), "NoNode"),
-    (Act::TornRestart(3, KEPT), "NoNode"),
-];
-
-/// Node 0 runs, then it doesn't, and then it does. What it was sent in between comes when it runs.
-const RUNNING: [Row; 15] = [
-    (Act::Restart(0), "Running"),
-    (Act::TornRestart(0, LOST), "Running"),
-    (Act::Again(1, K1), "p0 Want 1 to 0, p1 Want 1 to 2"),
-    (Act::Crash(0), ""),
-    (Act::First(0), "NotRunning"),
-    (Act::Poke(0), "NotRunning"),
-    (Act::Tick(0, NOW), "NotRunning"),
-    (Act::Move(0, K1, 1), "NotRunning"),
-    (Act::TornMove(0, K1, 1, KEPT), "NotRunning"),
-    (Act::Crash(0), "NotRunning"),
-    (Act::Deliver(0), "NotRunning"),
-    (Act::Deliver(1), ""),
-    (Act::Deliver(2), "NoPacket"),
-    (Act::Restart(0), "Boot 2"),
-    (Act::Deliver(0), "p2 No 0 to 1"),
-];
-
-const STORIES: [Story; 2] = [("no such node", &NO_NODE), ("stops and starts", &RUNNING)];
-
-#[test]
-fn faults_of_nodes_and_packets(rt: HostRuntime) -> Result<(), Fail> {
-    expect_stories(&rt, rt.alloc(), &STORIES)
-}
 
 /// Requests under one number: the node that is asked, and the fault.
 const ONE_NUMBER: [(u8, Option<WorldFault>); 3] = [

@@ -1,17 +1,14 @@
-//! Tests of a world of nodes, as its users call it: lists of events, with what each of them does.
+//! Tests of a world of nodes, as its users call it: how it starts, lists of events in one run, and tokens.
 //!
 //! The top of the world's floor: it stands on `sv_world` and proves nothing of its own. What is expected is written out by
-//! hand beside each event, from the table of the node's step.
+//! hand beside each event, from the table of the node's step. What worlds do event by event is told by `test_cluster_rows`, whose
+//! nodes serve by real applications.
 #![tactic(auto)]
 
 #[cfg(test)]
 mod act;
 #[cfg(test)]
 mod faults;
-#[cfg(test)]
-mod memory;
-#[cfg(test)]
-mod moving;
 #[cfg(test)]
 mod runs;
 #[cfg(test)]
@@ -20,9 +17,3 @@ mod said;
 mod stage;
 #[cfg(test)]
 mod starts;
-#[cfg(test)]
-mod stops;
-#[cfg(test)]
-mod times;
-#[cfg(test)]
-mod waiting;

@@ -103,12 +103,3 @@ pub fn expect_rows(
     }
     Ok(())
 }
-
-/// Each story in a world of its own.
-pub fn expect_stories(rt: &impl Abort, alloc: Global, stories: &[Story]) -> Result<(), Fail> {
-    for story in stories {
-        let mut world = nodes(alloc, 3)?;
-        expect_rows(rt, alloc, &mut world, *story)?;
-    }
-    Ok(())
-}

@@ -1,10 +1,15 @@
 //! Forwards and includes, one in another (Jakarta Servlet 6.0, sections 9.3 and 9.4).
 
-use super::{Row, Want, add_servlets, expect};
+ghost use Rattle.test_sessions.specs.Staged.{IsStaged};
+
+use super::{Row, Want, add_servlets, call_of, expect};
 use crate::scripted::{Marking, Says, Scripted, Then};
 use crate::staged::empty_stage;
+use http::Method;
+use std::alloc::Global;
 use std::test::Fail;
-use sv_dispatch::{Ended, Stage};
+use sv_dispatch::{Ended, Stage, run};
+use sv_servlet::RequestAttributes;
 
 const SERVLETS: [Row; 16] = [
     ("/w", 201, Says::Text("w"), Then::Ends),
@@ -60,5 +65,47 @@ fn nested_dispatches(rt: HostRuntime) -> Result<(), Fail> {
         add_servlets(alloc, &mut stage, &SERVLETS)?;
         expect(&rt, stage, path, want)?;
     }
+    Ok(())
+}
+
+/// Dispatches a request for the servlet that forwards to itself: how it ends, unless memory is refused.
+fn run_loop(alloc: Global, stage: &mut Stage<Scripted, Marking>) -> Option<Ended>
+    requires { IsStaged stage.old }
+{
+    let method = Method::GET;
+    let attributes = RequestAttributes::new(alloc);
+    let call = call_of(&method, None, &attributes, "/shop/loop", "/loop");
+    run(alloc, stage, call).ok()
+}
+
+/// The calls of the first servlet.
+fn calls(stage: &Stage<Scripted, Marking>) -> u64 {
+    stage
+        .servlets
+        .first()
+        .map_or(0, |hosted| hosted.object.calls)
+}
+
+/// The calls of the servlet that forwards to itself, once a request for it is abandoned; none where it ends otherwise.
+fn abandoned(alloc: Global, stage: Stage<Scripted, Marking>) -> u64
+    requires { IsStaged stage }
+{
+    let mut stage = stage;
+    match run_loop(alloc, &mut stage) {
+        Some(Ended::Plain(500)) => calls(&stage),
+        _ => 0,
+    }
+}
+
+fn calls_of_a_loop(alloc: Global) -> Result<u64, Fail> {
+    let mut stage: Stage<Scripted, Marking> = empty_stage(alloc);
+    add_servlets(alloc, &mut stage, &SERVLETS[6..7])?;
+    Ok(abandoned(alloc, stage))
+}
+
+/// It is called once at each depth, and 16 dispatches may be one in another.
+#[test]
+fn a_loop_is_called_16_times(rt: HostRuntime) -> Result<(), Fail> {
+    assert_eq!(rt; calls_of_a_loop(rt.alloc())?, 16);
     Ok(())
 }

@@ -1,7 +1,7 @@
 //! The limits of attributes: names of 1 to 128 bytes, values of up to 65,536, and a session of 64 attributes
 //! and 131,072 bytes in all.
 
-use super::of_a_session;
+use super::{of_a_session, of_none};
 use std::test::Fail;
 use sv_session::{SessionEdit, SessionFault};
 
@@ -53,6 +53,23 @@ fn a_full_session(rt: HostRuntime) {
     assert!(rt; first_wrong(&mut edit, &FULL).is_none());
     assert!(rt; first_wrong(&mut edit, &REFUSED).is_none());
     assert_eq!(rt; edit.finish().events.len(), 3);
+}
+
+/// A request that has no session is told so, whatever is to be set.
+const WITHOUT: [Step; 6] = [
+    ("a", Some(65_535), Err(SessionFault::NoSession)),
+    ("b", Some(65_535), Err(SessionFault::NoSession)),
+    ("i", Some(0), Err(SessionFault::NoSession)),
+    ("a", Some(65_537), Err(SessionFault::NoSession)),
+    (NAME_129, Some(0), Err(SessionFault::NoSession)),
+    ("a", None, Err(SessionFault::NoSession)),
+];
+
+#[test]
+fn nothing_is_set_without_a_session(rt: HostRuntime) {
+    let mut edit = of_none(rt.alloc());
+    assert!(rt; first_wrong(&mut edit, &WITHOUT).is_none());
+    assert_eq!(rt; edit.finish().events.len(), 0);
 }
 
 /// 128 + 65,536 and 1 + 60,000 are 125,665, so 5,407 bytes are left, one of them for a name; what a change sets free can
