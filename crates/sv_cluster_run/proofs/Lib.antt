@@ -1,2 +1,1 @@
 mod RequestLemmas
-mod SessionLemmas

@@ -1,7 +1,7 @@
 -- The request for a path (RFC 9112, section 3), with the cookie of a session (RFC 6265, section 4.2.1).
 use Rattle.std.specs.Prelude.{ℕ, List, [], ◌++◌, codes, Option, Some, None}
 use Rattle.sv_target.specs.SessionCookie.{cookie_text}
-use Rattle.sv_cluster_run.specs.declared.session.Session.{Session}
+use Rattle.sv_client.specs.declared.session.Session.{Session}
 
 -- carriage return and line feed
 abbrev pub line_end : List ℕ

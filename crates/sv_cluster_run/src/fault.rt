@@ -2,9 +2,10 @@
 
 ghost use Rattle.std.specs.Prelude.{◌≡◌};
 ghost use Rattle.sv_cluster_run.specs.Fault.{status_of};
-ghost use Rattle.sv_cluster_run.specs.declared.fault.Fault.TheVariants.{Arguments, Script};
+ghost use Rattle.sv_cluster_run.specs.declared.fault.Fault.TheVariants.{Arguments, Script, Socket};
 
 use crate::words::Arguments as BadWords;
+use sv_client::Unanswered;
 use sv_config::ConfigFault;
 use sv_script::ScriptFault;
 use thiserror::Error;
@@ -48,6 +49,14 @@ impl From<BadWords> for Fault {
 
     fn from(_: BadWords) -> Self {
         Fault::Arguments
+    }
+}
+
+impl From<Unanswered> for Fault {
+    ghost from_gives = { λ _ fault. fault ≡ Socket };
+
+    fn from(_: Unanswered) -> Self {
+        Fault::Socket
     }
 }
 

@@ -14,7 +14,6 @@
 //! fault. A fault prints one line `cluster_run: ` and its name on standard error and ends the program with its status.
 #![tactic(auto)]
 
-mod exchange;
 mod fault;
 mod files;
 mod machine;
@@ -23,7 +22,6 @@ mod perform;
 mod process;
 mod reply;
 mod request;
-mod session;
 mod words;
 
 use fault::Fault;

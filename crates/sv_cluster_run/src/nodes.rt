@@ -2,15 +2,14 @@
 
 ghost use Rattle.std.specs.Prelude.{◌<◌, IfSome, vec_len};
 
-use crate::exchange::{Address, command, exchange};
 use crate::fault::Fault;
 use crate::machine::Machine;
 use crate::process::{await_end, kill, start};
 use crate::reply::read_reply;
 use crate::request::write_request;
-use crate::session::Session;
 use crate::words::Words;
 use std::process::Child;
+use sv_client::{Address, Session, command, exchange};
 use sv_config::Cluster as Described;
 use sv_record::Frame;
 use sv_script::NodeNumber;
@@ -141,12 +140,12 @@ impl<'a, M: Machine> Nodes<'a, M> {
             key: session.key,
             to: to.value,
         };
-        command(self.machine, self.address_of(node)?, &frame)
+        Ok(command(self.machine, self.address_of(node)?, &frame)?)
     }
 
     /// Has a node look at the time. The node's answer is given: 0, or why it refuses.
     pub fn tick(&self, node: NodeNumber) -> Result<u8, Fault> {
-        command(self.machine, self.address_of(node)?, &Frame::Tick)
+        Ok(command(self.machine, self.address_of(node)?, &Frame::Tick)?)
     }
 
     /// Halts a node, and waits for its end.

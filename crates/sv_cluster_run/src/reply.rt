@@ -1,9 +1,9 @@
 //! What a node answers to a request.
 
-use crate::session::{Session, session_set};
 use httparse::{EMPTY_HEADER, Header, Response, Status};
 use std::alloc::{AllocError, Global};
 use std::str;
+use sv_client::{Session, session_set};
 
 /// The fields of a response, at most: 64 of an application, and those that a container and a connection add.
 const FIELDS: usize = 80;

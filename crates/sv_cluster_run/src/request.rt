@@ -3,8 +3,8 @@
 ghost use Rattle.std.specs.Prelude.{◌≡◌, ◌++◌, OnOk, Some, option_copied};
 ghost use Rattle.sv_cluster_run.specs.Request.{cookie_field, cookie_fields, request_text};
 
-use crate::session::Session;
 use std::alloc::AllocError;
+use sv_client::Session;
 use sv_target::cookie_text;
 
 /// Adds the field with the session's cookie.

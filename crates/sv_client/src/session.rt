@@ -1,10 +1,10 @@
-//! The session that the script's requests belong to.
+//! The session that a cookie names.
 
 ghost use Rattle.sv_model.specs.Keys.{IsKey};
 
 use http_header::{HeaderName, HeaderValue};
 use std::alloc::{AllocError, Global};
-use sv_model::{CONTEXT_LIMIT, Cookie, Field, Key, Secret};
+use sv_model::{CONTEXT_LIMIT, Cookie, Field, Key, Secret, Sequence};
 use sv_target::{cookies, session_cookie};
 
 /// The session that a cookie names.
@@ -54,4 +54,18 @@ pub fn session_set(alloc: Global, value: &[u8]) -> Result<Option<Session>, Alloc
     };
     let pairs = cookies(alloc, &[field])?;
     Ok(session_among(pairs.as_slice()))
+}
+
+/// The cookie of a session with this value.
+fn cookie_of(alloc: Global, value: &str) -> Result<Cookie, AllocError> {
+    let mut name = Sequence::new(alloc);
+    name.extend_from_slice(b"JSESSIONID")?;
+    let mut bytes = Sequence::new(alloc);
+    bytes.extend_from_slice(value.as_bytes())?;
+    Ok(Cookie { name, value: bytes })
+}
+
+/// The session that a cookie's value names: 52 digits, of any context.
+pub fn session_named(alloc: Global, value: &str) -> Result<Option<Session>, AllocError> {
+    Ok(session_among(&[cookie_of(alloc, value)?]))
 }

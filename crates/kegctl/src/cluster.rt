@@ -1,0 +1,98 @@
+//! The nodes of a descriptor.
+
+use crate::fault::Fault;
+use crate::words::node_of;
+use std::alloc::{AllocError, Global};
+use std::fs;
+use std::rt::Files;
+use sv_config::{Cluster, ConfigFault, Deployment};
+use sv_model::NODE_LIMIT;
+use sv_script::NodeNumber;
+
+/// The fault's name.
+fn config_fault(fault: ConfigFault) -> Fault {
+    match fault {
+        ConfigFault::Memory => Fault::Memory,
+        fault => Fault::Config(fault),
+    }
+}
+
+/// The nodes of the descriptor at a path; it has ports.
+pub fn read_cluster<R: Files + AllocGlobal>(rt: &R, path: &str) -> Result<Cluster, Fault> {
+    let Ok(text) = fs::read_to_string(rt, path) else {
+        return Err(Fault::NoConfig);
+    };
+    let deployment = match Deployment::from_toml(rt.alloc(), text.as_str()) {
+        Ok(deployment) => deployment,
+        Err(fault) => return Err(config_fault(fault)),
+    };
+    let cluster = deployment.cluster;
+    if cluster.ports.is_empty() {
+        return Err(Fault::NoPorts);
+    }
+    Ok(cluster)
+}
+
+/// The port of a node.
+pub fn port_of(cluster: &Cluster, node: NodeNumber) -> Result<u16, Fault> {
+    match cluster.ports.get(usize::from(node.value)) {
+        Some(port) => Ok(*port),
+        None => Err(Fault::Arguments("the descriptor has no such node")),
+    }
+}
+
+/// Adds a node that is to take sessions of another.
+fn add(
+    all: &mut Vec<NodeNumber>,
+    cluster: &Cluster,
+    node: NodeNumber,
+    from: NodeNumber,
+) -> Result<(), Fault> {
+    port_of(cluster, node)?;
+    if node.value != from.value {
+        all.push(node)?;
+    }
+    Ok(())
+}
+
+/// The nodes that are listed, with commas between.
+fn listed(
+    alloc: Global,
+    cluster: &Cluster,
+    from: NodeNumber,
+    words: &str,
+) -> Result<Vec<NodeNumber>, Fault> {
+    let mut all = Vec::new(alloc);
+    for word in words.split(',') {
+        add(&mut all, cluster, node_of(word)?, from)?;
+    }
+    Ok(all)
+}
+
+/// All nodes but one.
+fn others(alloc: Global, cluster: &Cluster, from: NodeNumber) -> Result<Vec<NodeNumber>, Fault> {
+    let mut all = Vec::new(alloc);
+    for value in 0..NODE_LIMIT {
+        if usize::from(value) < cluster.ports.len() {
+            add(&mut all, cluster, NodeNumber { value }, from)?;
+        }
+    }
+    Ok(all)
+}
+
+/// The nodes that take the sessions of one: those that are listed, or all others.
+pub fn takers(
+    alloc: Global,
+    cluster: &Cluster,
+    from: NodeNumber,
+    to: Option<&str>,
+) -> Result<Vec<NodeNumber>, Fault> {
+    let all = match to {
+        Some(words) => listed(alloc, cluster, from, words)?,
+        None => others(alloc, cluster, from)?,
+    };
+    if all.is_empty() {
+        return Err(Fault::Arguments("no other node takes the sessions"));
+    }
+    Ok(all)
+}

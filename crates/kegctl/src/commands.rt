@@ -1,0 +1,52 @@
+//! The commands of a node, with what it answers in words.
+
+ghost use Rattle.sv_model.specs.Keys.{IsKey};
+
+use crate::fault::Fault;
+use crate::machine::Machine;
+use sv_client::{Address, command};
+use sv_model::Key;
+use sv_record::Frame;
+use sv_script::NodeNumber;
+
+/// How long a node may take for a command, in seconds: what it sends to a peer that doesn't answer takes one.
+const PATIENCE: u64 = 10;
+
+/// Where a node is called.
+fn address(port: u16) -> Address {
+    Address {
+        port,
+        patience: PATIENCE,
+    }
+}
+
+/// What a node's answer to a command means; a tick and a halt have no other refusal than the fifth.
+pub fn told(answer: u8) -> &'static str {
+    match answer {
+        0 => "done",
+        1 => "the node knows no such session",
+        2 => "the session isn't at this node",
+        3 => "there is no such other node",
+        4 => "the session can't be moved any more",
+        5 => "the node has no room in its journal, or no memory",
+        _ => "an answer that no node gives",
+    }
+}
+
+/// Has a node hand a session over to another; its answer.
+pub fn hand_over<M: Machine>(machine: &M, port: u16, key: Key, to: NodeNumber) -> Result<u8, Fault>
+    requires { IsKey key }
+{
+    let frame = Frame::Move { key, to: to.value };
+    Ok(command(machine, address(port), &frame)?)
+}
+
+/// Has a node do what is due; its answer.
+pub fn tick<M: Machine>(machine: &M, port: u16) -> Result<u8, Fault> {
+    Ok(command(machine, address(port), &Frame::Tick)?)
+}
+
+/// Halts a node; its answer.
+pub fn halt<M: Machine>(machine: &M, port: u16) -> Result<u8, Fault> {
+    Ok(command(machine, address(port), &Frame::Halt)?)
+}

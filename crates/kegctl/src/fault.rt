@@ -1,0 +1,82 @@
+//! Why the program ends before its work is done, and how it says so.
+
+use std::alloc::{AllocError, AllocFailed};
+use sv_client::Unanswered;
+use sv_config::ConfigFault;
+use sv_control::FoundFault;
+use thiserror::Error;
+
+/// Why the program ends before its work is done.
+#[derive(Clone, Copy, Debug, PartialEq, Eq, Error)]
+pub enum Fault {
+    /// Status 2: a word that is none of the command's. The text for the words themselves is clap's.
+    #[error("{0}")]
+    Arguments(&'static str),
+    /// Status 3: the CONFIG is no file of UTF-8 text that can be read.
+    #[error("the CONFIG can't be read")]
+    NoConfig,
+    /// Status 3: the descriptor is at fault.
+    #[error("the CONFIG: {0}")]
+    Config(ConfigFault),
+    /// Status 3: the descriptor has no nodes.
+    #[error("the CONFIG has no cluster.ports")]
+    NoPorts,
+    /// Status 4: a file of the journal can't be read.
+    #[error("the journal can't be read")]
+    Unreadable,
+    /// Status 4: what the files hold isn't shown.
+    #[error("the journal: {0}")]
+    Journal(FoundFault),
+    /// Status 5: a node doesn't answer.
+    #[error("the node doesn't answer")]
+    Unanswered,
+    /// Status 5: standard output can't be written.
+    #[error("standard output can't be written")]
+    Output,
+    /// Status 5.
+    #[error("memory was refused")]
+    Memory,
+    /// Status 6: the node refuses the command, or not all could be done; what, the program has said.
+    #[error("not done")]
+    NotDone,
+}
+
+impl Fault {
+    /// The exit status.
+    pub fn status(self) -> u8 {
+        match self {
+            Fault::Arguments(_) => 2,
+            Fault::NoConfig | Fault::Config(_) | Fault::NoPorts => 3,
+            Fault::Unreadable | Fault::Journal(_) => 4,
+            Fault::Unanswered | Fault::Output | Fault::Memory => 5,
+            Fault::NotDone => 6,
+        }
+    }
+}
+
+impl From<AllocError> for Fault {
+    fn from(_: AllocError) -> Self {
+        Fault::Memory
+    }
+}
+
+impl<T: Drop> From<AllocFailed<T>> for Fault {
+    fn from(_: AllocFailed<T>) -> Self {
+        Fault::Memory
+    }
+}
+
+impl From<Unanswered> for Fault {
+    fn from(_: Unanswered) -> Self {
+        Fault::Unanswered
+    }
+}
+
+impl From<FoundFault> for Fault {
+    fn from(fault: FoundFault) -> Self {
+        match fault {
+            FoundFault::Memory => Fault::Memory,
+            fault => Fault::Journal(fault),
+        }
+    }
+}

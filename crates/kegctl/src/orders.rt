@@ -1,0 +1,197 @@
+//! What is done for each command.
+
+ghost use Rattle.std.specs.Prelude.{IfOk};
+ghost use Rattle.sv_model.specs.Keys.{IsKey};
+
+use crate::cluster::read_cluster;
+use crate::commands::{halt, hand_over, tick, told};
+use crate::draining::take_out;
+use crate::fault::Fault;
+use crate::journal::{kept, records};
+use crate::machine::Machine;
+use crate::words::{Form, Order};
+use sv_client::session_named;
+use sv_control::{SessionLine, Shown, record_line, session_line, shown_key};
+use sv_model::{Key, Record};
+use sv_script::NodeNumber;
+
+/// A line on standard output.
+fn say<M: Machine>(machine: &M, text: &str) -> Result<(), Fault> {
+    match println!(machine; "{text}") {
+        Ok(()) => Ok(()),
+        Err(_) => Err(Fault::Output),
+    }
+}
+
+/// A session in the form that is asked for.
+fn text_of<M: Machine>(machine: &M, line: &SessionLine, form: Form) -> Result<String, Fault> {
+    let alloc = machine.alloc();
+    match form {
+        Form::Text => Ok(format!(in alloc; "{line}")?),
+        Form::Json => match serde_json::to_string(alloc, line) {
+            Ok(text) => Ok(text),
+            Err(_) => Err(Fault::Memory),
+        },
+    }
+}
+
+/// What a snapshot has of a session.
+fn line_of<M: Machine>(
+    machine: &M,
+    record: &Record,
+    shown: Shown,
+) -> Result<Option<SessionLine>, Fault> {
+    match record {
+        Record::State { key, state } => Ok(session_line(machine.alloc(), *key, state, shown)?),
+        _ => Ok(None),
+    }
+}
+
+/// A line for a session, where a snapshot has one.
+fn show_session<M: Machine>(
+    machine: &M,
+    record: &Record,
+    shown: Shown,
+    form: Form,
+) -> Result<(), Fault> {
+    let Some(line) = line_of(machine, record, shown)? else {
+        return Ok(());
+    };
+    match text_of(machine, &line, form) {
+        Ok(text) => say(machine, text.as_str()),
+        Err(fault) => Err(fault),
+    }
+}
+
+fn show_all<M: Machine>(
+    machine: &M,
+    kept: &[Record],
+    shown: Shown,
+    form: Form,
+) -> Result<(), Fault> {
+    for record in kept {
+        show_session(machine, record, shown, form)?;
+    }
+    Ok(())
+}
+
+fn show_sessions<M: Machine>(
+    machine: &M,
+    journal: &str,
+    shown: Shown,
+    form: Form,
+) -> Result<(), Fault> {
+    let found = kept(machine, journal)?;
+    show_all(machine, &found.kept, shown, form)
+}
+
+/// A line for a record, behind its place.
+fn show_record<M: Machine>(machine: &M, place: usize, record: &Record) -> Result<(), Fault> {
+    let alloc = machine.alloc();
+    let line = record_line(alloc, record)?;
+    match format!(in alloc; "{place} {line}") {
+        Ok(text) => say(machine, text.as_str()),
+        Err(_) => Err(Fault::Memory),
+    }
+}
+
+fn show_records<M: Machine>(machine: &M, journal: &str) -> Result<(), Fault> {
+    let records = records(machine, journal)?;
+    for (place, record) in records.iter().enumerate() {
+        if let Err(fault) = show_record(machine, place, record) {
+            return Err(fault);
+        }
+    }
+    Ok(())
+}
+
+/// Says what a node's answer means.
+fn say_answer<M: Machine>(machine: &M, answer: u8) -> Result<(), Fault> {
+    say(machine, told(answer))?;
+    match answer {
+        0 => Ok(()),
+        _ => Err(Fault::NotDone),
+    }
+}
+
+/// The key of the session that a word names: the value of its cookie, or its `HOME.SERIAL`.
+fn key_of<M: Machine>(machine: &M, word: &str) -> Result<Key, Fault>
+    ensures { IfOk result IsKey }
+{
+    if let Some(key) = shown_key(word) {
+        return Ok(key);
+    }
+    match session_named(machine.alloc(), word)? {
+        Some(session) => Ok(session.key),
+        None => Err(Fault::Arguments(
+            "SESSION is the value of a session's cookie, 52 digits, or HOME.SERIAL",
+        )),
+    }
+}
+
+fn move_session<M: Machine>(
+    machine: &M,
+    port: u16,
+    session: &str,
+    to: NodeNumber,
+) -> Result<(), Fault> {
+    let key = key_of(machine, session)?;
+    say_answer(machine, hand_over(machine, port, key, to)?)
+}
+
+fn tick_node<M: Machine>(machine: &M, port: u16) -> Result<(), Fault> {
+    say_answer(machine, tick(machine, port)?)
+}
+
+fn halt_node<M: Machine>(machine: &M, port: u16) -> Result<(), Fault> {
+    say_answer(machine, halt(machine, port)?)
+}
+
+/// Whether a node answers; it is asked to do what is due, which it would do by itself.
+fn state_of<M: Machine>(machine: &M, port: u16) -> &'static str {
+    match tick(machine, port) {
+        Ok(0) => "answers",
+        Ok(_) => "answers, and has no room in its journal or no memory",
+        Err(_) => "doesn't answer",
+    }
+}
+
+/// Says whether a node answers; whether all is well with it.
+fn show_node<M: Machine>(machine: &M, node: usize, port: u16) -> Result<bool, Fault> {
+    let state = state_of(machine, port);
+    match println!(machine; "node {node}, port {port}: {state}") {
+        Ok(()) => Ok(state == "answers"),
+        Err(_) => Err(Fault::Output),
+    }
+}
+
+fn show_nodes<M: Machine>(machine: &M, ports: &[u16]) -> Result<(), Fault> {
+    let mut is_well = true;
+    for (node, port) in ports.iter().enumerate() {
+        is_well = show_node(machine, node, *port)? && is_well;
+    }
+    if is_well { Ok(()) } else { Err(Fault::NotDone) }
+}
+
+/// Says which nodes of a cluster answer.
+fn show_status<M: Machine>(machine: &M, config: &str) -> Result<(), Fault> {
+    let cluster = read_cluster(machine, config)?;
+    show_nodes(machine, &cluster.ports)
+}
+
+/// Does what is asked for.
+pub fn carry_out<M: Machine>(machine: &M, order: Order<'_>) -> Result<(), Fault> {
+    match order {
+        Order::Sessions {
+            journal,
+            shown,
+            form,
+        } => show_sessions(machine, journal, shown, form),
+        Order::Records { journal } => show_records(machine, journal),
+        Order::Move { port, session, to } => move_session(machine, port, session, to),
+        Order::Tick { port } => tick_node(machine, port),
+        Order::Halt { port } => halt_node(machine, port),
+        Order::Status { config } => show_status(machine, config),
+        Order::Drain(order) => take_out(machine, order),
+    }
+}

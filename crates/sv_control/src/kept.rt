@@ -1,0 +1,84 @@
+//! What the records of a journal give.
+
+ghost use Rattle.std.specs.Prelude.{◌≡◌, IfOk};
+ghost use Rattle.sv_core.specs.Snapshot.{snapshot_of};
+ghost use Rattle.sv_model.specs.Replay.{blank, replayed};
+
+use crate::images::FoundFault;
+use std::alloc::{AllocError, Global};
+use sv_core::{ApplyFault, Core};
+use sv_model::{NODE_LIMIT, Record, Setting};
+use sv_record::{RecordFault, read_record};
+
+/// The record that a payload is, the one at this place.
+fn record_of(alloc: Global, place: usize, payload: &[u8]) -> Result<Record, FoundFault> {
+    match read_record(alloc, payload) {
+        Ok(record) => Ok(record),
+        Err(RecordFault::Memory) => Err(FoundFault::Memory),
+        Err(_) => Err(FoundFault::NoRecord(place)),
+    }
+}
+
+/// One record more.
+fn add(records: &mut Vec<Record>, record: Record) -> Result<(), AllocError> {
+    records.push(record)?;
+    Ok(())
+}
+
+/// The records that payloads are, the oldest first.
+pub fn records_of(alloc: Global, entries: &[Vec<u8>]) -> Result<Vec<Record>, FoundFault> {
+    let mut records = Vec::new(alloc);
+    for (place, payload) in entries.iter().enumerate() {
+        let record = record_of(alloc, place, payload)?;
+        add(&mut records, record)?;
+    }
+    Ok(records)
+}
+
+/// A snapshot of what the records give, at a node of this number.
+fn kept_at(alloc: Global, node: u8, records: &[Record]) -> Result<Vec<Record>, ApplyFault>
+    ensures { IfOk result (λ kept. kept.items ≡ snapshot_of (replayed blank records.now)) }
+{
+    let setting = Setting {
+        node,
+        nodes: NODE_LIMIT,
+        deadline: 1,
+    };
+    let core = match Core::recover(alloc, (), setting, records) {
+        Ok(core) => core,
+        Err(refused) => return Err(refused.fault),
+    };
+    match core.snapshot() {
+        Ok(kept) => Ok(kept),
+        Err(_) => Err(ApplyFault::Memory),
+    }
+}
+
+/// What a node keeps, as its journal has it.
+pub struct Replayed {
+    /// The least number of a node at which the records fit: that of the node, where it has ever made a session.
+    pub node: u8,
+    /// The counters, and then what is known of each key, in order of the keys.
+    pub kept: Vec<Record>,
+}
+
+/// By hand, so that letting one go is one step for a caller.
+impl Drop for Replayed {
+    fn drop(self) {
+        let Replayed { node: _, kept: _ } = self;
+    }
+}
+
+/// What the records give, one behind the other.
+pub fn replay(alloc: Global, records: &[Record]) -> Result<Replayed, FoundFault>
+    ensures { IfOk result (λ found. found.kept.items ≡ snapshot_of (replayed blank records.now)) }
+{
+    for node in 0..NODE_LIMIT {
+        match kept_at(alloc, node, records) {
+            Ok(kept) => return Ok(Replayed { node, kept }),
+            Err(ApplyFault::Memory) => return Err(FoundFault::Memory),
+            Err(ApplyFault::BadRecord) => {}
+        }
+    }
+    Err(FoundFault::Unfit)
+}
