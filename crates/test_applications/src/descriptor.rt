@@ -1,4 +1,4 @@
-//! Descriptors where memory is refused, and of a megabyte.
+//! What is said of a descriptor's fault, and descriptors of a megabyte.
 
-mod memory;
 mod size;
+mod texts;

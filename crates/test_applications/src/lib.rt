@@ -1,6 +1,6 @@
 //! Tests of what is public in the crates that say which applications are served, and which servlet a path has.
 //!
-//! Texts in and texts out are rows of `test_rows`; here are refused memory, limits, and what is said of a fault.
+//! Texts in and texts out are rows of `test_rows`; here are limits, and what is said of a fault.
 #![tactic(auto)]
 
 #[cfg(test)]

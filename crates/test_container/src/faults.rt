@@ -102,20 +102,3 @@ fn faults_hand_all_objects_back(rt: HostRuntime) -> Result<(), Fail> {
     }
     Ok(())
 }
-
-const WHOLE: Row = (S, F, L, StartFault::Memory);
-
-// Passes wherever memory is refused: the fault is then Memory, and all objects come back.
-#[test]
-fn memory_refused_at_the_start(rt: HostRuntime) -> Result<(), Fail> {
-    let Ok(diary) = new_diary(rt.alloc()) else {
-        return Ok(());
-    };
-    match start_with(rt.alloc(), &diary, &WHOLE) {
-        Ok(Err(back)) => {
-            assert_eq!(rt; back.fault, StartFault::Memory);
-            expect_back(&rt, &diary, back, &WHOLE)
-        }
-        _ => Ok(()),
-    }
-}

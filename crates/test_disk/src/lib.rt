@@ -16,8 +16,6 @@ mod fixtures;
 #[cfg(test)]
 mod format;
 #[cfg(test)]
-mod memory;
-#[cfg(test)]
 mod memory_disk;
 #[cfg(test)]
 mod stopped_files;

@@ -1,18 +1,12 @@
 //! Tests of messages, targets and parameters from outside, as their users call them.
 //!
 //! The top of the web floor: it stands on `sv_message` and `sv_target` and proves nothing of its own. Texts in and texts
-//! out are rows of `test_rows`; here are refused memory, and inputs that a loop makes.
+//! out are rows of `test_rows`; here are inputs that a loop makes.
 #![tactic(auto)]
 
 #[cfg(test)]
-mod cookies;
-#[cfg(test)]
 mod heads;
 #[cfg(test)]
-mod memory;
-#[cfg(test)]
 mod pipelines;
-#[cfg(test)]
-mod responses;
 #[cfg(test)]
 mod targets;

@@ -86,16 +86,3 @@ fn long_paths(rt: HostRuntime) -> Result<(), Fail> {
     assert_eq!(rt; answer.err(), Some(TargetFault::BadTarget));
     Ok(())
 }
-
-/// Run with each allocation failing in turn.
-#[test]
-fn refused_memory_reads_no_target(rt: HostRuntime) -> Result<(), Fail> {
-    let mut answer = Target::read_within(rt.alloc(), "/a/%41/../b?q");
-    if answer.is_err() {
-        assert_eq!(rt; answer.err(), Some(TargetFault::Memory));
-        answer = Target::read_within(rt.alloc(), "/a/%41/../b?q");
-    }
-    let target = answer?;
-    assert_eq!(rt; target.path.as_str(), "/a/b");
-    Ok(())
-}

@@ -52,23 +52,3 @@ fn refuses_patterns_past_the_limit(rt: HostRuntime) -> Result<(), Fail> {
     expect(&rt, &mappings, "/more", None);
     Ok(())
 }
-
-// Passes wherever memory is refused: a call then answers Memory and leaves the table as it was.
-#[test]
-fn keeps_the_table_where_memory_is_refused(rt: HostRuntime) {
-    let mut mappings = Mappings::new(rt.alloc());
-    for (servlet, text) in ["/a", "/a/*", "*.x", "/", ""].iter().enumerate() {
-        let before = mappings.len();
-        let added = match Pattern::read(rt.alloc(), text) {
-            Ok(pattern) => mappings.add(pattern, servlet),
-            Err(fault) => Err(fault),
-        };
-        match added {
-            Ok(()) => assert_eq!(rt; mappings.len(), before + 1, "after {text:?}"),
-            Err(fault) => {
-                assert_eq!(rt; fault, MappingFault::Memory, "for {text:?}");
-                assert_eq!(rt; mappings.len(), before, "after {text:?}");
-            }
-        }
-    }
-}

@@ -1,7 +1,7 @@
-//! What is said of a fault, and where memory is refused.
+//! What is said of a fault.
 
 use std::test::Fail;
-use sv_config::{ConfigFault, Deployment};
+use sv_config::ConfigFault;
 
 const FAULTS: [ConfigFault; 8] = [
     ConfigFault::NotToml,
@@ -23,14 +23,4 @@ fn says_what_to_look_for(rt: HostRuntime) -> Result<(), Fail> {
         assert!(rt; text.contains(word), "the text of {fault:?} is {text}");
     }
     Ok(())
-}
-
-// Passes wherever memory is refused: the answer is then Memory.
-#[test]
-fn answers_memory_where_it_is_refused(rt: HostRuntime) {
-    let text = "context = [{ path = \"/a\", servlet = [{ name = \"a\", patterns = [\"/\"] }] }]";
-    match Deployment::from_toml(rt.alloc(), text) {
-        Ok(deployment) => assert_eq!(rt; deployment.contexts.len(), 1),
-        Err(fault) => assert_eq!(rt; fault, ConfigFault::Memory),
-    }
 }

@@ -1,0 +1,249 @@
+//! The core of a node: each row of its step that takes memory, its records and its snapshot.
+
+use crate::again::{Refusals, Unshown};
+use crate::given;
+use std::alloc::{AllocError, Global};
+use sv_core::{ApplyFault, Core};
+use sv_model::{Input, KeyState, Moment, Output, Packet, Record, Setting};
+use test_engine::{Counter, output_text, request, state_text};
+
+type Shown = Result<String, Unshown>;
+
+const MOMENT: Moment = Moment {
+    now: given::NOW,
+    secret: given::SECRET,
+};
+
+const SETTING: Setting = Setting {
+    node: 0,
+    nodes: 3,
+    deadline: 30,
+};
+
+fn engine(alloc: Global) -> Counter {
+    Counter {
+        alloc,
+        secret: given::SECRET,
+    }
+}
+
+/// What a core is given, one behind the other: a session is made, wanted by node 1, handed to it and acknowledged; it is asked for
+/// here, waits, and comes back.
+#[derive(Clone, Copy)]
+enum Step {
+    Make,
+    Want,
+    Ack,
+    Ask,
+    Grant,
+    Poke,
+    Move,
+    Tick,
+}
+
+const STEPS: [Step; 8] = [
+    Step::Make,
+    Step::Want,
+    Step::Ack,
+    Step::Ask,
+    Step::Grant,
+    Step::Poke,
+    Step::Move,
+    Step::Tick,
+];
+
+fn asked(alloc: Global, token: u64, named: &[u8]) -> Result<Input, AllocError> {
+    Ok(Input::Ask {
+        token,
+        request: request(alloc, named)?,
+    })
+}
+
+fn granted(alloc: Global) -> Result<Input, AllocError> {
+    Ok(Input::Packet(Packet::Grant {
+        from: 1,
+        to: 0,
+        key: given::KEY,
+        epoch: 3,
+        session: given::session(alloc)?,
+    }))
+}
+
+fn input(alloc: Global, step: Step) -> Result<Input, AllocError> {
+    let key = given::KEY;
+    match step {
+        Step::Make => asked(alloc, 1, &[]),
+        Step::Want => Ok(Input::Packet(Packet::Want {
+            from: 1,
+            to: 0,
+            key,
+            boot: 1,
+            want: 1,
+        })),
+        Step::Ack => Ok(Input::Packet(Packet::Ack {
+            from: 1,
+            to: 0,
+            key,
+            epoch: 2,
+        })),
+        Step::Ask => asked(alloc, 2, &[0, 1]),
+        Step::Grant => granted(alloc),
+        Step::Poke => Ok(Input::Poke),
+        Step::Move => Ok(Input::Move { key, to: 2 }),
+        Step::Tick => Ok(Input::Tick),
+    }
+}
+
+/// A step is decided, and accepted.
+fn take_step(core: &mut Core<Counter>, input: Input) -> Result<Vec<Output>, AllocError> {
+    match core.decide(MOMENT, input) {
+        Ok(decision) => Ok(core.accept(decision)),
+        Err(_) => Err(AllocError),
+    }
+}
+
+fn step_again(
+    alloc: Global,
+    refusals: &mut Refusals,
+    core: &mut Core<Counter>,
+    one: Step,
+) -> Result<Vec<Output>, AllocError> {
+    let first = input(alloc, one)?;
+    match take_step(core, first) {
+        Ok(outputs) => Ok(outputs),
+        Err(AllocError) => {
+            refusals.add();
+            take_step(core, input(alloc, one)?)
+        }
+    }
+}
+
+/// Adds what is put out.
+fn add_outputs(alloc: Global, line: &mut String, outputs: &[Output]) -> Result<(), AllocError> {
+    for output in outputs {
+        line.push_str(output_text(alloc, output)?.as_str())?;
+        line.push_str(", ")?;
+    }
+    line.push(';')?;
+    Ok(())
+}
+
+fn core_of(alloc: Global, records: &[Record]) -> Result<Core<Counter>, Unshown> {
+    match Core::recover(alloc, engine(alloc), SETTING, records) {
+        Ok(core) => Ok(core),
+        Err(_) => Err(Unshown::Memory),
+    }
+}
+
+pub fn decide(alloc: Global, refusals: &mut Refusals) -> Shown {
+    let mut core = core_of(alloc, &[Record::Boot(1)])?;
+    let mut line = String::new(alloc);
+    for one in STEPS {
+        let outputs = step_again(alloc, refusals, &mut core, one)?;
+        add_outputs(alloc, &mut line, &outputs)?;
+    }
+    Ok(line)
+}
+
+fn start(core: &mut Core<Counter>) -> Result<(), AllocError> {
+    match core.decide_start() {
+        Ok(Some(decision)) => {
+            core.accept(decision);
+            Ok(())
+        }
+        Ok(None) => Ok(()),
+        Err(_) => Err(AllocError),
+    }
+}
+
+pub fn decide_start(alloc: Global, refusals: &mut Refusals) -> Shown {
+    let mut core = core_of(alloc, &[])?;
+    if start(&mut core).is_err() {
+        refusals.add();
+        start(&mut core)?;
+    }
+    Ok(format!(in alloc; "{}", core.boot())?)
+}
+
+fn state_of(alloc: Global, number: u8) -> Result<Record, AllocError> {
+    let session = given::session(alloc)?;
+    Ok(Record::State {
+        key: sv_model::Key {
+            home: number,
+            serial: 1,
+        },
+        state: KeyState::Sent {
+            epoch: 2,
+            session,
+            to: 2,
+        },
+    })
+}
+
+/// A snapshot of two keys of other homes.
+fn records(alloc: Global) -> Result<Vec<Record>, AllocError> {
+    let mut records = Vec::new(alloc);
+    records.push(Record::Counters { boot: 1, next: 1 })?;
+    records.push(state_of(alloc, 1)?)?;
+    records.push(state_of(alloc, 2)?)?;
+    Ok(records)
+}
+
+/// What a core knows of both keys.
+fn known(alloc: Global, core: &Core<Counter>) -> Result<String, AllocError> {
+    let one = sv_model::Key { home: 1, serial: 1 };
+    let two = sv_model::Key { home: 2, serial: 1 };
+    let first = state_text(alloc, core.state(one))?;
+    let second = state_text(alloc, core.state(two))?;
+    format!(in alloc; "{first} {second}")
+}
+
+pub fn recover(alloc: Global, refusals: &mut Refusals) -> Shown {
+    let records = records(alloc)?;
+    let refused = match Core::recover(alloc, engine(alloc), SETTING, &records) {
+        Ok(core) => return Ok(known(alloc, &core)?),
+        Err(refused) => refused,
+    };
+    refusals.add();
+    match Core::recover(alloc, refused.engine, SETTING, &records) {
+        Ok(core) => Ok(known(alloc, &core)?),
+        Err(_) => Err(Unshown::Other),
+    }
+}
+
+fn apply(alloc: Global, core: &mut Core<Counter>, number: u8) -> Result<(), ApplyFault> {
+    core.apply(state_of(alloc, number)?)
+}
+
+pub fn apply_again(alloc: Global, refusals: &mut Refusals) -> Shown {
+    let mut core = core_of(alloc, &[Record::Counters { boot: 1, next: 1 }])?;
+    for number in [1, 2] {
+        match apply(alloc, &mut core, number) {
+            Ok(()) => {}
+            Err(ApplyFault::BadRecord) => return Err(Unshown::Other),
+            Err(ApplyFault::Memory) => {
+                refusals.add();
+                if apply(alloc, &mut core, number).is_err() {
+                    return Err(Unshown::Other);
+                }
+            }
+        }
+    }
+    Ok(known(alloc, &core)?)
+}
+
+pub fn snapshot(alloc: Global, refusals: &mut Refusals) -> Shown {
+    let core = core_of(alloc, &records(alloc)?)?;
+    let snapshot = match core.snapshot() {
+        Ok(snapshot) => snapshot,
+        Err(_) => {
+            refusals.add();
+            match core.snapshot() {
+                Ok(snapshot) => snapshot,
+                Err(_) => return Err(Unshown::Other),
+            }
+        }
+    };
+    let again = core_of(alloc, &snapshot)?;
+    Ok(known(alloc, &again)?)
+}

@@ -1,0 +1,159 @@
+//! The samples, each called as a dispatch does: behind a refusal what it was lent is made anew.
+
+ghost use Rattle.std.specs.Prelude.{◌≡◌};
+ghost use Rattle.sv_servlet.specs.declared.servlet.Phase.TheVariants.{Ready, New};
+
+use crate::again::{Refusals, Unshown};
+use crate::given;
+use http::Method;
+use std::alloc::{AllocError, Global};
+use sv_model::Param;
+use sv_samples::{Count, Faulty, Forwarder, Gate, Hello, Includer, Login, Renew, Snoop, Stamp};
+use sv_servlet::{Call, Filter, Reply, RequestAttributes, Servlet};
+use sv_session::SessionEdit;
+
+type Shown = Result<String, Unshown>;
+
+/// A call for `/a` of the context `/shop`.
+fn call<'a>(
+    method: &'a Method,
+    params: &'a [Param],
+    attributes: &'a RequestAttributes,
+) -> Call<'a> {
+    Call {
+        method,
+        request_uri: "/shop/a",
+        context_path: "/shop",
+        servlet_path: "/a",
+        path_info: None,
+        query: Some("user=ann"),
+        params,
+        fields: &[],
+        body: b"",
+        attributes,
+        resume: 0,
+    }
+}
+
+/// A servlet serves a request of a session; the reply's body, and how many events there are.
+fn serve<S: Servlet>(
+    alloc: Global,
+    servlet: &mut S,
+    params: &[Param],
+    attributes: &RequestAttributes,
+) -> Result<String, AllocError>
+    requires { S.servlet_phase servlet.old ≡ Ready }
+    ensures { S.servlet_phase servlet.new ≡ Ready }
+{
+    let held = Some((given::KEY, given::session(alloc)?));
+    let fresh = (given::KEY, given::SECRET);
+    let mut edit = SessionEdit::begin(alloc, held, 0, 600, given::NOW, fresh);
+    let mut reply = Reply::new(alloc);
+    let method = Method::GET;
+    servlet.service(&call(&method, params, attributes), &mut edit, &mut reply)?;
+    let events = edit.finish().events.len();
+    let replied = reply.finish();
+    format!(in alloc;
+        "{} {events} {:?}",
+        replied.status.as_u16(),
+        replied.body.as_slice()
+    )
+}
+
+/// A servlet that was just made serves twice.
+fn served<S: Servlet>(alloc: Global, refusals: &mut Refusals, mut servlet: S) -> Shown
+    requires { S.servlet_phase servlet ≡ New }
+{
+    let params = given::params(alloc)?;
+    let attributes = RequestAttributes::new(alloc);
+    if servlet.init().is_err() {
+        return Err(Unshown::Other);
+    }
+    let first = match serve(alloc, &mut servlet, params.as_slice(), &attributes) {
+        Ok(first) => first,
+        Err(AllocError) => {
+            refusals.add();
+            serve(alloc, &mut servlet, params.as_slice(), &attributes)?
+        }
+    };
+    Ok(first)
+}
+
+pub fn hello(alloc: Global, refusals: &mut Refusals) -> Shown {
+    served(alloc, refusals, Hello::new(alloc))
+}
+
+pub fn count(alloc: Global, refusals: &mut Refusals) -> Shown {
+    served(alloc, refusals, Count::new(alloc))
+}
+
+pub fn snoop(alloc: Global, refusals: &mut Refusals) -> Shown {
+    served(alloc, refusals, Snoop::new(alloc))
+}
+
+pub fn login(alloc: Global, refusals: &mut Refusals) -> Shown {
+    served(alloc, refusals, Login::new(alloc))
+}
+
+pub fn renew(alloc: Global, refusals: &mut Refusals) -> Shown {
+    served(alloc, refusals, Renew::new(alloc))
+}
+
+pub fn includer(alloc: Global, refusals: &mut Refusals) -> Shown {
+    served(alloc, refusals, Includer::new(alloc))
+}
+
+pub fn forwarder(alloc: Global, refusals: &mut Refusals) -> Shown {
+    served(alloc, refusals, Forwarder::new(alloc))
+}
+
+pub fn faulty(alloc: Global, refusals: &mut Refusals) -> Shown {
+    served(alloc, refusals, Faulty::new(alloc))
+}
+
+/// A filter comes before a servlet and behind it; the reply's body.
+fn filter<F: Filter>(
+    alloc: Global,
+    filter: &mut F,
+    attributes: &RequestAttributes,
+) -> Result<String, AllocError>
+    requires { F.filter_phase filter.old ≡ Ready }
+    ensures { F.filter_phase filter.new ≡ Ready }
+{
+    let fresh = (given::KEY, given::SECRET);
+    let mut edit = SessionEdit::begin(alloc, None, 0, 600, given::NOW, fresh);
+    let mut reply = Reply::new(alloc);
+    let method = Method::GET;
+    let call = call(&method, &[], attributes);
+    filter.before(&call, &mut edit, &mut reply)?;
+    filter.after(&call, &mut edit, &mut reply)?;
+    format!(in alloc; "{:?}", reply.finish().body.as_slice())
+}
+
+fn filtered<F: Filter>(alloc: Global, refusals: &mut Refusals, mut object: F) -> Shown
+    requires { F.filter_phase object ≡ New }
+{
+    let attributes = RequestAttributes::new(alloc);
+    if object.init().is_err() {
+        return Err(Unshown::Other);
+    }
+    match filter(alloc, &mut object, &attributes) {
+        Ok(text) => Ok(text),
+        Err(AllocError) => {
+            refusals.add();
+            Ok(filter(alloc, &mut object, &attributes)?)
+        }
+    }
+}
+
+pub fn stamp(alloc: Global, refusals: &mut Refusals) -> Shown {
+    if let Ok(stamp) = Stamp::new(alloc, "stamp-b") {
+        return filtered(alloc, refusals, stamp);
+    }
+    refusals.add();
+    filtered(alloc, refusals, Stamp::new(alloc, "stamp-b")?)
+}
+
+pub fn gate(alloc: Global, refusals: &mut Refusals) -> Shown {
+    filtered(alloc, refusals, Gate::new(alloc))
+}

@@ -1,0 +1,187 @@
+//! Messages, targets, parameters, cookies, patterns and descriptors.
+
+use crate::again::{Refusals, Unshown, again, done};
+use crate::{given, shown};
+use http::Method;
+use http_header::{HeaderName, HeaderValue};
+use std::alloc::{AllocError, Global};
+use sv_config::Deployment;
+use sv_mapping::{
+    Dispatcher, Dispatchers, FilterMapping, FilterTarget, Mappings, Pattern, filters_for,
+};
+use sv_message::{RawRequest, RequestReader, write_response};
+use sv_model::Field;
+use sv_target::{Target, cookies, params};
+
+type Shown = Result<String, Unshown>;
+
+/// A request with a body in chunks and a trailer, and one with a body of declared length; each is cut inside.
+const PIECES: [&str; 4] = [
+    "POST /c HTTP/1.1\r\nHost: h\r\nX-Own: a value\r\nTransfer-Encoding: chunked\r\n\r\n4\r\nghi",
+    "j\r\n3\r\nklm\r\n0\r\nA: b\r\n\r\n",
+    "POST /b HTTP/1.1\r\nHost: h\r\nContent-Length: 6\r\n\r\nabc",
+    "def",
+];
+
+/// The body of a request that was read.
+fn add_body(line: &mut String, raw: &Option<RawRequest>) -> Result<(), AllocError> {
+    if let Some(raw) = raw {
+        line.push_str(str::from_utf8(raw.body.as_slice()).unwrap_or("?"))?;
+    }
+    line.push(';')?;
+    Ok(())
+}
+
+pub fn reader(alloc: Global, refusals: &mut Refusals) -> Shown {
+    let mut reader = RequestReader::new(alloc);
+    let mut line = String::new(alloc);
+    for piece in PIECES {
+        again(refusals, || reader.feed(piece.as_bytes()))?;
+        let raw = again(refusals, || reader.next())?;
+        add_body(&mut line, &raw)?;
+    }
+    Ok(line)
+}
+
+pub fn response(alloc: Global, refusals: &mut Refusals) -> Shown {
+    let response = given::response(alloc)?;
+    let mut out = Vec::from_slice(alloc, b"before ")?;
+    again(refusals, || {
+        write_response(alloc, &response, given::NOW, &mut out)
+    })?;
+    Ok(String::from_str(alloc, str::from_utf8(out.as_slice()).unwrap_or("?"))?)
+}
+
+fn shown_target(alloc: Global, target: &Target) -> Result<String, AllocError> {
+    let query = target.query.as_ref().map(|query| query.as_str());
+    format!(in alloc; "{} {}", target.path.as_str(), query.unwrap_or("-"))
+}
+
+pub fn target(alloc: Global, refusals: &mut Refusals) -> Shown {
+    let target = again(refusals, || {
+        Target::read(alloc, &Method::GET, "/a/./b%20c/../d;x=1?q=1")
+    })?;
+    Ok(shown_target(alloc, &target)?)
+}
+
+pub fn target_within(alloc: Global, refusals: &mut Refusals) -> Shown {
+    let target = again(refusals, || Target::read_within(alloc, "/a/b%20c?q=1"))?;
+    Ok(shown_target(alloc, &target)?)
+}
+
+pub fn parameters(alloc: Global, refusals: &mut Refusals) -> Shown {
+    let params = again(refusals, || params(alloc, b"a=1&b=x+y", b"c=%41"))?;
+    let mut line = String::new(alloc);
+    for param in params.as_slice() {
+        line.push_str(param.name.as_str())?;
+        line.push_str(param.value.as_str())?;
+    }
+    Ok(line)
+}
+
+/// The field of two cookies.
+fn cookie_field(alloc: Global) -> Result<Field, AllocError> {
+    let name = match HeaderName::from_bytes(alloc, b"cookie") {
+        Ok(name) => name,
+        Err(_) => return Err(AllocError),
+    };
+    let value = match HeaderValue::from_str(alloc, "a=1; colour=green") {
+        Ok(value) => value,
+        Err(_) => return Err(AllocError),
+    };
+    Ok(Field { name, value })
+}
+
+pub fn cookie_pairs(alloc: Global, refusals: &mut Refusals) -> Shown {
+    let fields = [cookie_field(alloc)?];
+    let cookies = again(refusals, || cookies(alloc, &fields))?;
+    let mut line = String::new(alloc);
+    for cookie in cookies.as_slice() {
+        line.push_str(str::from_utf8(cookie.name.as_slice()).unwrap_or("?"))?;
+        line.push_str(str::from_utf8(cookie.value.as_slice()).unwrap_or("?"))?;
+    }
+    Ok(line)
+}
+
+pub fn pattern(alloc: Global, refusals: &mut Refusals) -> Shown {
+    let pattern = again(refusals, || Pattern::read(alloc, "/foo/bar/*"))?;
+    Ok(String::from_str(alloc, pattern.as_str())?)
+}
+
+/// Maps a pattern to a servlet.
+fn add(
+    alloc: Global,
+    mappings: &mut Mappings,
+    pattern: &str,
+    servlet: usize,
+) -> Result<(), sv_mapping::MappingFault> {
+    let pattern = Pattern::read(alloc, pattern)?;
+    mappings.add(pattern, servlet)
+}
+
+pub fn mappings(alloc: Global, refusals: &mut Refusals) -> Shown {
+    let mut mappings = Mappings::new(alloc);
+    for (servlet, pattern) in ["/foo/*", "*.bop", "/catalog"].iter().enumerate() {
+        again(refusals, || add(alloc, &mut mappings, pattern, servlet))?;
+    }
+    let found = mappings.find("/catalog").map(|found| found.servlet);
+    Ok(format!(in alloc; "{} {}", mappings.len(), found.unwrap_or(9))?)
+}
+
+/// Maps a filter to all paths.
+fn add_filter(
+    alloc: Global,
+    all: &mut Vec<FilterMapping>,
+    filter: usize,
+) -> Result<(), sv_mapping::MappingFault> {
+    let pattern = Pattern::read(alloc, "/*")?;
+    all.push(FilterMapping {
+        filter,
+        target: FilterTarget::Pattern(pattern),
+        dispatchers: Dispatchers::of(&[]),
+    })?;
+    Ok(())
+}
+
+pub fn filters(alloc: Global, refusals: &mut Refusals) -> Shown {
+    let mut all = Vec::new(alloc);
+    done(add_filter(alloc, &mut all, 1))?;
+    done(add_filter(alloc, &mut all, 0))?;
+    let filters = again(refusals, || {
+        filters_for(alloc, &all, "/a", None, Dispatcher::Request)
+    })?;
+    Ok(format!(in alloc; "{:?}", filters.as_slice())?)
+}
+
+/// Something of each table.
+const DESCRIPTOR: &str = r#"cluster = { ports = [18080, 18081], deadline = 7 }
+[[context]]
+path = "/shop"
+servlet = [{ name = "hello", patterns = ["/hello", "*.hi"] }]
+filter = [{ name = "gate" }]
+filter-mapping = [{ filter = "gate", pattern = "/*", dispatch = ["REQUEST", "ERROR"] }]
+listener = [{ name = "tally" }]
+error-page = [{ path = "/oops", fault = "x" }, { path = "/gone", status = 404 }]
+"#;
+
+pub fn descriptor(alloc: Global, refusals: &mut Refusals) -> Shown {
+    let deployment = again(refusals, || Deployment::from_toml(alloc, DESCRIPTOR))?;
+    Ok(format!(in alloc; "{deployment:?}")?)
+}
+
+/// The paths of a deployment's contexts.
+fn paths_of(alloc: Global, deployment: &Deployment) -> Result<String, AllocError> {
+    let paths = deployment.context_paths(alloc)?;
+    format!(in alloc; "{paths:?}")
+}
+
+pub fn context_paths(alloc: Global, refusals: &mut Refusals) -> Shown {
+    let deployment = done(Deployment::from_toml(alloc, DESCRIPTOR))?;
+    match paths_of(alloc, &deployment) {
+        Ok(paths) => Ok(paths),
+        Err(AllocError) => {
+            refusals.add();
+            Ok(paths_of(alloc, &deployment)?)
+        }
+    }
+}
