@@ -20,3 +20,4 @@ pub use connection::Connection;
 pub use outcome::{Outcome, RequestFault, Served};
 pub use reply::refusal;
 pub use solo::Solo;
+pub use speak::memory_lines;

@@ -23,7 +23,7 @@ pub struct Said {
 
 /// What is written where memory is refused in reading a request or in making a text.
 #[tactic(auto, unfolding(crate::specs::Serve::memory_lines))]
-fn memory_lines() -> &'static [u8]
+pub fn memory_lines() -> &'static [u8]
     ensures { result.now ≡ memory_lines }
 {
     b"HTTP/1.1 503 Service Unavailable\r\nContent-Length: 0\r\nConnection: close\r\n\r\n"

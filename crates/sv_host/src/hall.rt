@@ -13,7 +13,7 @@ use std::io::ErrorKind;
 use std::mem::{replace, swap};
 use std::net::SocketAddr;
 use std::time::Duration;
-use sv_connection::refusal;
+use sv_connection::{memory_lines, refusal};
 use sv_model::{Cause, Packet, Response};
 use sv_record::{Frame, write_frame};
 
@@ -441,6 +441,19 @@ impl Hall {
         }
     }
 
+    /// Says to a client that memory was refused, and parts from it.
+    fn starve(&mut self, place: usize, line: Line) {
+        match Vec::from_slice(self.alloc, memory_lines()) {
+            Ok(lines) => {
+                let mut text = lines;
+                if self.say(place, line, &mut text, Next::Part) {
+                    self.put_down(place);
+                }
+            }
+            Err(_) => self.leave(place),
+        }
+    }
+
     /// Refuses the client that waits at a place for the answer under a token.
     pub fn refuse(&mut self, place: usize, token: u64, cause: Cause, now: u64) {
         let Some(head_only) = self.head_only_at(place, token) else {
@@ -449,8 +462,10 @@ impl Hall {
         match refusal(self.alloc, cause, head_only, true) {
             Ok(response) => self.answer(place, token, &response, now),
             Err(_) => {
-                let _closed = self.take(place);
-                self.leave(place);
+                if let Some(open) = self.take(place) {
+                    let (line, _stage, _begun, _heard) = open.into_parts();
+                    self.starve(place, line);
+                }
             }
         }
     }
