@@ -1,0 +1,81 @@
+"""A Chromium without a window, told what to do by its DevTools protocol over two pipes, where each message ends in a zero byte."""
+import json
+import os
+import shutil
+import subprocess
+import tempfile
+import time
+
+# Seconds for a page to be there.
+PATIENCE = 60
+
+
+def is_here():
+    return shutil.which("chromium") is not None
+
+
+class Browser:
+    """One page of a browser that keeps its cookies as long as it runs."""
+
+    def __init__(self, width=1280, height=800):
+        self.profile = tempfile.TemporaryDirectory(ignore_cleanup_errors=True)
+        asked, self.ask = os.pipe()
+        self.told, tell = os.pipe()
+        words = ["--headless=new", "--no-sandbox", "--disable-gpu", f"--user-data-dir={self.profile.name}", "--remote-debugging-pipe"]
+        # The browser reads what it is told from 3, and answers to 4.
+        call = ["bash", "-c", f'exec "$0" "$@" 3<&{asked} 4>&{tell}', shutil.which("chromium"), *words, f"--window-size={width},{height}"]
+        self.process = subprocess.Popen(call, pass_fds=(asked, tell), stderr=subprocess.DEVNULL)
+        os.close(asked)
+        os.close(tell)
+        self.number, self.rest, self.session = 0, b"", None
+        target = self.do("Target.createTarget", url="about:blank")["targetId"]
+        self.session = self.do("Target.attachToTarget", targetId=target, flatten=True)["sessionId"]
+
+    def message(self):
+        while b"\0" not in self.rest:
+            piece = os.read(self.told, 1 << 16)
+            if not piece:
+                raise OSError("the browser has ended")
+            self.rest += piece
+        message, self.rest = self.rest.split(b"\0", 1)
+        return json.loads(message)
+
+    def do(self, method, **words):
+        """What the browser answers to a method of the protocol."""
+        self.number += 1
+        asked = {"id": self.number, "method": method, "params": words}
+        if self.session:
+            asked["sessionId"] = self.session
+        os.write(self.ask, json.dumps(asked).encode() + b"\0")
+        while True:
+            message = self.message()
+            if message.get("id") == self.number:
+                if "error" in message:
+                    raise OSError(f"{method}: {message['error']['message']}")
+                return message["result"]
+
+    def value(self, code):
+        """The value of an expression in the page."""
+        return self.do("Runtime.evaluate", expression=code, awaitPromise=True, returnByValue=True)["result"].get("value")
+
+    def wait(self):
+        """Waits until the page is there."""
+        for _ in range(PATIENCE * 50):
+            if self.value("document.readyState") == "complete":
+                return
+            time.sleep(0.02)
+        raise OSError("the page doesn't come")
+
+    def open(self, url):
+        found = self.do("Page.navigate", url=url)
+        if "errorText" in found:
+            raise OSError(found["errorText"])
+        self.wait()
+
+    def text(self):
+        return self.value("document.body.innerText")
+
+    def end(self):
+        self.process.terminate()
+        self.process.wait(timeout=PATIENCE)
+        self.profile.cleanup()
