@@ -14,9 +14,9 @@ use std::io::{Read, Write};
 use sv_config::Deployment;
 use sv_container::{Container, Named};
 use sv_samples::{
-    Count, Faulty, Forwarder, Gate, Hello, Includer, Login, Renew, Snoop, Stamp, Tally,
+    Count, Faulty, Forwarder, Gate, Hello, Includer, Login, Renew, Sample, Snoop, Stamp, Tally,
 };
-use sv_servlet::{Filter, Listener, Servlet};
+use sv_servlet::{Filter, GenericServlet, Listener, Servlet};
 
 /// Serves the reader's requests to their end by the applications of a deployment, all at `now`.
 pub fn serve<R: Read, W: Write>(
@@ -37,6 +37,20 @@ pub fn serve<R: Read, W: Write>(
     )
 }
 
+/// The sample of a kind.
+fn sample_of(alloc: Global, kind: ServletKind) -> Sample {
+    match kind {
+        ServletKind::Hello => Sample::Hello(Hello::new(alloc)),
+        ServletKind::Count => Sample::Count(Count::new(alloc)),
+        ServletKind::Snoop => Sample::Snoop(Snoop::new(alloc)),
+        ServletKind::Login => Sample::Login(Login::new(alloc)),
+        ServletKind::Renew => Sample::Renew(Renew::new(alloc)),
+        ServletKind::Includer => Sample::Includer(Includer::new(alloc)),
+        ServletKind::Forwarder => Sample::Forwarder(Forwarder::new(alloc)),
+        ServletKind::Faulty => Sample::Faulty(Faulty::new(alloc)),
+    }
+}
+
 /// Starts the applications of a deployment, and serves by them to the end.
 ///
 /// Each object that the deployment names is a sample of the kind that its name says.
@@ -49,16 +63,10 @@ pub fn start<P: Purpose>(alloc: Global, deployment: Deployment, purpose: P) -> R
             name,
             kind,
         } = entry;
-        let object: Box<dyn Servlet> = match kind {
-            ServletKind::Hello => Box::new(alloc, Hello::new(alloc))?,
-            ServletKind::Count => Box::new(alloc, Count::new(alloc))?,
-            ServletKind::Snoop => Box::new(alloc, Snoop::new(alloc))?,
-            ServletKind::Login => Box::new(alloc, Login::new(alloc))?,
-            ServletKind::Renew => Box::new(alloc, Renew::new(alloc))?,
-            ServletKind::Includer => Box::new(alloc, Includer::new(alloc))?,
-            ServletKind::Forwarder => Box::new(alloc, Forwarder::new(alloc))?,
-            ServletKind::Faulty => Box::new(alloc, Faulty::new(alloc))?,
-        };
+        let object: Box<dyn Servlet> = Box::new(
+            alloc,
+            GenericServlet::new(sample_of(alloc, kind)),
+        )?;
         servlets.push(Named {
             context,
             name,

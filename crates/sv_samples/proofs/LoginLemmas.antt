@@ -5,14 +5,13 @@ use Rattle.sv_session.proofs.EditLemmas.{create_keeps, invalidate_keeps, value_k
 use Rattle.sv_session.specs.Calls.{Expected, after, create_result, invalidate_result, value_result}
 use Rattle.sv_session.specs.Edit.{KeepsEdit}
 use Rattle.sv_session.specs.Fault.{fault_name}
-use Rattle.sv_session.specs.declared.fault.SessionFault.{SessionFault}
 use Rattle.sv_servlet.proofs.KeepsLemmas.{KeepsReply-refl}
 use Rattle.sv_servlet.specs.Call.{Asked}
 use Rattle.sv_servlet.specs.Servlet.{KeepsLent, Lent, lent}
 use Rattle.sv_servlet.specs.declared.servlet.Next.TheVariants.{Done}
 use Rattle.sv_samples.specs.Login.{begun, begun_again, created, has_session, kept, login_of, login_serves, made_again, named, user_of, welcomed}
 use Rattle.sv_samples.specs.Parameter.{parameter}
-use Rattle.sv_samples.specs.Refusal.{on_edit, written}
+use Rattle.sv_samples.specs.Refusal.{on_edit}
 use Rattle.sv_samples.proofs.RefusalLemmas.{edit_keeps, either_keeps, plain_keeps, written_keeps}
 
 again_keeps : (l : Lent) (x : Expected Bool) → KeepsEdit l.edit (after l.edit x) → KeepsLent l (made_again l x).lent

@@ -1,5 +1,4 @@
 -- What the servlet that changes a session's id leaves of what it was lent.
-use Rattle.std.proofs.Common.{ℕ}
 use Rattle.std.specs.Prelude.{codes}
 use Rattle.sv_session.proofs.EditLemmas.{change_id_keeps, create_keeps}
 use Rattle.sv_session.specs.Calls.{change_id_result, create_result}

@@ -1,5 +1,5 @@
 -- What the filter does that lets a request through where it has the key (Jakarta Servlet 6.0, section 6.2.1).
-use Rattle.std.specs.Prelude.{ℕ, Bool, false, List, codes, bytes_eq, Option, if◌then◌else◌}
+use Rattle.std.specs.Prelude.{Bool, false, codes, bytes_eq, if◌then◌else◌}
 use Rattle.std.specs.Option.{option_map_or}
 use Rattle.sv_servlet.specs.Call.{Asked}
 use Rattle.sv_servlet.specs.Filter.{Filters, verdict}

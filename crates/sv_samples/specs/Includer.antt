@@ -1,5 +1,5 @@
 -- What the servlet answers that puts another one's text between brackets (Jakarta Servlet 6.0, section 9.3).
-use Rattle.std.specs.Prelude.{ℕ, ◌==◌, codes, if◌then◌else◌}
+use Rattle.std.specs.Prelude.{◌==◌, codes, if◌then◌else◌}
 use Rattle.sv_servlet.specs.Call.{Asked}
 use Rattle.sv_servlet.specs.Servlet.{Serves, Lent, Answer}
 use Rattle.sv_servlet.specs.declared.servlet.Next.TheVariants.{Done, Include}

@@ -12,3 +12,4 @@ pub mod Faulty
 pub mod Stamp
 pub mod Gate
 pub mod Tally
+pub mod Sample

@@ -1,5 +1,5 @@
 -- What the servlet answers that begins a user's session (Jakarta Servlet 6.0, chapter "Sessions").
-use Rattle.std.specs.Prelude.{ℕ, Bool, List, ◌++◌, codes, is_some, is_ok, Result, Ok, Err, if◌then◌else◌}
+use Rattle.std.specs.Prelude.{ℕ, Bool, List, ◌++◌, codes, is_some, is_ok, Ok, Err, if◌then◌else◌}
 use Rattle.sv_session.specs.Calls.{Expected, create_result, invalidate_result, key_result, value_result}
 use Rattle.sv_session.specs.Edit.{Edit}
 use Rattle.sv_session.specs.Fault.{fault_name}

@@ -9,12 +9,12 @@ use Rattle.sv_model.specs.Field.{plain_type}
 use Rattle.sv_servlet.specs.Filter.{Verdict, verdict}
 use Rattle.sv_servlet.specs.Reply.{fault_name as reply_fault_name, field_result, write_result}
 use Rattle.sv_servlet.specs.declared.filter.Before.{Before}
-use Rattle.sv_servlet.specs.declared.filter.Before.TheVariants.{Pass, SendError as RefuseBy}
+use Rattle.sv_servlet.specs.declared.filter.Before.TheVariants.{SendError as RefuseBy}
 use Rattle.sv_servlet.specs.Servlet.{Lent, lent, Answer, answer}
 use Rattle.sv_servlet.specs.declared.reply.ReplyFault.{ReplyFault}
 use Rattle.sv_servlet.specs.declared.reply.ReplyFault.TheVariants.{BadStatus, BadHeader, Reserved, TooMany, TooLong, Memory as ReplyMemory}
 use Rattle.sv_servlet.specs.declared.servlet.Next.{Next}
-use Rattle.sv_servlet.specs.declared.servlet.Next.TheVariants.{Done, SendError}
+use Rattle.sv_servlet.specs.declared.servlet.Next.TheVariants.{SendError}
 use Rattle.sv_samples.specs.declared.refusal.Refusal.{Refusal}
 use Rattle.sv_samples.specs.declared.refusal.Refusal.TheVariants.{Memory, Fault}
 

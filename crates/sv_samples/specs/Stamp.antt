@@ -1,7 +1,6 @@
 -- What the filter does that puts a mark round a reply's text (Jakarta Servlet 6.0, section 6.2.1).
 use Rattle.std.specs.Prelude.{ℕ, Bool, ◌==◌, nat_lt, List, ◌++◌, length, codes, if◌then◌else◌}
 use Rattle.std.specs.List.{after_first, position_or_len}
-use Rattle.sv_servlet.specs.Call.{Asked}
 use Rattle.sv_servlet.specs.Filter.{Filters, Verdict}
 use Rattle.sv_servlet.specs.Reply.{write_result}
 use Rattle.sv_servlet.specs.Servlet.{Lent, lent}

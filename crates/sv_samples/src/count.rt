@@ -5,15 +5,13 @@ ghost use Rattle.sv_servlet.specs.Servlet.{lent};
 ghost use Rattle.sv_samples.specs.Numeral.{number_in};
 ghost use Rattle.sv_samples.specs.Count.{count_in, count_of, counted, kept};
 ghost use Rattle.sv_samples.specs.Refusal.{Ends};
-ghost use Rattle.sv_servlet.specs.declared.servlet.Phase.TheVariants.{New};
 ghost use Rattle.sv_samples.specs.Count.{count_serves};
 
-use crate::life::Life;
 use crate::numeral::read_u64;
 use crate::refusal::{Refusal, next_after};
 use std::alloc::{AllocError, Global};
 use sv_model::plain_type;
-use sv_servlet::{Call, InitFault, Next, Reply, Servlet};
+use sv_servlet::{Answers, Call, Next, Reply};
 use sv_session::SessionEdit;
 
 /// The attribute that holds the count.
@@ -23,10 +21,9 @@ const COUNT: &str = "count";
 /// digits and a line feed.
 ///
 /// The number is kept in the session's attribute `count`; one that is no decimal number of 64 bits counts as 0, and the
-/// greatest stays. The servlet counts its own calls too, up to the greatest number; no answer shows that count.
+/// greatest stays.
 #[derive(Drop)]
 pub struct Count {
-    life: Life,
     alloc: Global,
 }
 
@@ -78,42 +75,27 @@ fn count_request(alloc: Global, edit: &mut SessionEdit, reply: &mut Reply) -> Re
 }
 
 impl Count {
-    /// A servlet that has not been initialised.
     pub fn new(alloc: Global) -> Count
-        ensures phase { ⟦<Count as Servlet>⟧.servlet_phase result ≡ New }
-        ensures meaning { ⟦<Count as Servlet>⟧.serves result ≡ count_serves }
+        ensures { ⟦<Count as Answers>⟧.answers result ≡ count_serves }
     {
-        Count {
-            life: Life::new(),
-            alloc,
-        }
+        Count { alloc }
     }
 }
 
-impl Servlet for Count {
+impl Answers for Count {
     ghost use Rattle.sv_samples.specs.Count.{count_serves};
 
-    ghost serves = { λ s. count_serves };
+    ghost answers = { λ s. count_serves };
 
-    ghost servlet_phase = { λ s. s.life.phase };
-
-    fn init(&mut self) -> Result<(), InitFault> {
-        self.life.begin();
-        Ok(())
-    }
-
-    fn service(
+    fn answer(
         &mut self,
         _call: &Call<'_>,
         edit: &mut SessionEdit,
         reply: &mut Reply,
     ) -> Result<Next, AllocError> {
-        self.life.count();
         let ended = count_request(self.alloc, edit, reply);
         next_after(self.alloc, ended)
     }
 
-    fn destroy(&mut self) {
-        self.life.end();
-    }
+    fn goes_on(&self) {}
 }

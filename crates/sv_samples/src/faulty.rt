@@ -5,24 +5,21 @@ ghost use Rattle.sv_servlet.specs.Servlet.{lent};
 ghost use Rattle.sv_samples.specs.Faulty as spec;
 ghost use Rattle.sv_samples.specs.Parameter.{parameter};
 ghost use Rattle.sv_samples.specs.Refusal.{Ends};
-ghost use Rattle.sv_servlet.specs.declared.servlet.Phase.TheVariants.{New};
 ghost use Rattle.sv_samples.specs.Faulty.{faulty_serves};
 
-use crate::life::Life;
 use crate::numeral::read_u16;
 use crate::parameter::value_of;
 use crate::refusal::{Refusal, next_after};
 use http_header::{HeaderName, HeaderValue};
 use std::alloc::{AllocError, Global};
 use sv_model::{Field, Text, plain_type};
-use sv_servlet::{Call, InitFault, Next, Reply, Servlet};
+use sv_servlet::{Answers, Call, Next, Reply};
 use sv_session::SessionEdit;
 
 /// Sends the error of its first parameter `code`, or else the fault of its first parameter `fault`; as an error page it
 /// faults with `again`. Asked for no error it answers with status 418 and a field of its own.
 #[derive(Drop)]
 pub struct Faulty {
-    life: Life,
     alloc: Global,
 }
 
@@ -123,42 +120,27 @@ fn fail(
 }
 
 impl Faulty {
-    /// A servlet that has not been initialised.
     pub fn new(alloc: Global) -> Faulty
-        ensures phase { ⟦<Faulty as Servlet>⟧.servlet_phase result ≡ New }
-        ensures meaning { ⟦<Faulty as Servlet>⟧.serves result ≡ faulty_serves }
+        ensures { ⟦<Faulty as Answers>⟧.answers result ≡ faulty_serves }
     {
-        Faulty {
-            life: Life::new(),
-            alloc,
-        }
+        Faulty { alloc }
     }
 }
 
-impl Servlet for Faulty {
+impl Answers for Faulty {
     ghost use Rattle.sv_samples.specs.Faulty.{faulty_serves};
 
-    ghost serves = { λ s. faulty_serves };
+    ghost answers = { λ s. faulty_serves };
 
-    ghost servlet_phase = { λ s. s.life.phase };
-
-    fn init(&mut self) -> Result<(), InitFault> {
-        self.life.begin();
-        Ok(())
-    }
-
-    fn service(
+    fn answer(
         &mut self,
         call: &Call<'_>,
         edit: &mut SessionEdit,
         reply: &mut Reply,
     ) -> Result<Next, AllocError> {
-        self.life.count();
         let ended = fail(self.alloc, call, edit, reply);
         next_after(self.alloc, ended)
     }
 
-    fn destroy(&mut self) {
-        self.life.end();
-    }
+    fn goes_on(&self) {}
 }

@@ -4,21 +4,18 @@ ghost use Rattle.std.specs.Prelude.{◌≡◌};
 ghost use Rattle.sv_servlet.specs.Servlet.{lent};
 ghost use Rattle.sv_samples.specs.Includer.{bracketed, includer_of};
 ghost use Rattle.sv_samples.specs.Refusal.{Ends};
-ghost use Rattle.sv_servlet.specs.declared.servlet.Phase.TheVariants.{New};
 ghost use Rattle.sv_samples.specs.Includer.{includer_serves};
 
-use crate::life::Life;
 use crate::parameter::value_or;
 use crate::refusal::{Refusal, next_after};
 use std::alloc::{AllocError, Global};
 use sv_model::plain_type;
-use sv_servlet::{Call, InitFault, Next, Reply, Servlet};
+use sv_servlet::{Answers, Call, Next, Reply};
 use sv_session::SessionEdit;
 
 /// Writes `[`, includes the path of its first parameter `path`, or `/hello`, and writes `]` behind it.
 #[derive(Drop)]
 pub struct Includer {
-    life: Life,
     alloc: Global,
 }
 
@@ -55,42 +52,27 @@ fn include(
 }
 
 impl Includer {
-    /// A servlet that has not been initialised.
     pub fn new(alloc: Global) -> Includer
-        ensures phase { ⟦<Includer as Servlet>⟧.servlet_phase result ≡ New }
-        ensures meaning { ⟦<Includer as Servlet>⟧.serves result ≡ includer_serves }
+        ensures { ⟦<Includer as Answers>⟧.answers result ≡ includer_serves }
     {
-        Includer {
-            life: Life::new(),
-            alloc,
-        }
+        Includer { alloc }
     }
 }
 
-impl Servlet for Includer {
+impl Answers for Includer {
     ghost use Rattle.sv_samples.specs.Includer.{includer_serves};
 
-    ghost serves = { λ s. includer_serves };
+    ghost answers = { λ s. includer_serves };
 
-    ghost servlet_phase = { λ s. s.life.phase };
-
-    fn init(&mut self) -> Result<(), InitFault> {
-        self.life.begin();
-        Ok(())
-    }
-
-    fn service(
+    fn answer(
         &mut self,
         call: &Call<'_>,
         edit: &mut SessionEdit,
         reply: &mut Reply,
     ) -> Result<Next, AllocError> {
-        self.life.count();
         let ended = include(self.alloc, call, edit, reply);
         next_after(self.alloc, ended)
     }
 
-    fn destroy(&mut self) {
-        self.life.end();
-    }
+    fn goes_on(&self) {}
 }

@@ -1,9 +1,10 @@
 //! Sample servlets, filters and a listener, each with a meaning that is written down and proved.
 //!
 //! Stands on servlets, filters and listeners alone. What a sample means is a definition of the file of its name in
-//! `specs/`, and each call is that meaning whatever the object has lived through: each counts its calls in a number that
-//! no answer shows. Nothing here knows contexts, mappings or which names a descriptor gives. The reading of decimal
-//! numbers is here for others too.
+//! `specs/`, and each call is that meaning whatever the object has lived through. A servlet of a sample is a
+//! [`sv_servlet::GenericServlet`] of it, which counts its calls as the filters here do, in a number that no answer shows.
+//! Nothing here knows contexts, mappings or which names a descriptor gives. The reading of decimal numbers is here for
+//! others too.
 #![tactic(auto)]
 
 mod count;
@@ -18,6 +19,7 @@ mod numeral;
 mod parameter;
 mod refusal;
 mod renew;
+mod sample;
 mod snoop;
 mod stamp;
 mod tally;
@@ -31,6 +33,7 @@ pub use includer::Includer;
 pub use login::Login;
 pub use numeral::{read_u8, read_u16, read_u64};
 pub use renew::Renew;
+pub use sample::Sample;
 pub use snoop::Snoop;
 pub use stamp::Stamp;
 pub use tally::Tally;

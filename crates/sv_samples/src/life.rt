@@ -1,11 +1,11 @@
-//! What all samples have beside their meaning.
+//! What the filters have beside their meaning.
 
 ghost use Rattle.std.specs.Prelude.{◌≡◌};
 ghost use Rattle.sv_servlet.specs.declared.servlet.Phase.TheVariants.{New, Ready, Destroyed};
 
 use sv_servlet::Phase;
 
-/// The phase of a servlet or a filter, and a count of its calls, which no answer shows and which stays at the greatest
+/// The phase of a filter, and a count of its calls, which no answer shows and which stays at the greatest
 /// number.
 #[derive(Drop)]
 pub struct Life {

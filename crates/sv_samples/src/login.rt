@@ -6,15 +6,13 @@ ghost use Rattle.sv_servlet.specs.Servlet.{lent};
 ghost use Rattle.sv_servlet.specs.declared.servlet.Next.TheVariants.{Done};
 ghost use Rattle.sv_samples.specs.Login as spec;
 ghost use Rattle.sv_samples.specs.Refusal.{Ends, written};
-ghost use Rattle.sv_servlet.specs.declared.servlet.Phase.TheVariants.{New};
 ghost use Rattle.sv_samples.specs.Login.{login_serves};
 
-use crate::life::Life;
 use crate::parameter::{value_of, value_or};
 use crate::refusal::{Refusal, next_after};
 use std::alloc::{AllocError, Global};
 use sv_model::plain_type;
-use sv_servlet::{Call, InitFault, Next, Reply, Servlet};
+use sv_servlet::{Answers, Call, Next, Reply};
 use sv_session::{SessionEdit, SessionFault};
 
 /// Ends the session that is held, if one is, begins another for the user of the first parameter `user`, or `anonymous`,
@@ -24,7 +22,6 @@ use sv_session::{SessionEdit, SessionFault};
 /// writes the fault's name.
 #[derive(Drop)]
 pub struct Login {
-    life: Life,
     alloc: Global,
 }
 
@@ -157,42 +154,27 @@ fn log_in(
 }
 
 impl Login {
-    /// A servlet that has not been initialised.
     pub fn new(alloc: Global) -> Login
-        ensures phase { ⟦<Login as Servlet>⟧.servlet_phase result ≡ New }
-        ensures meaning { ⟦<Login as Servlet>⟧.serves result ≡ login_serves }
+        ensures { ⟦<Login as Answers>⟧.answers result ≡ login_serves }
     {
-        Login {
-            life: Life::new(),
-            alloc,
-        }
+        Login { alloc }
     }
 }
 
-impl Servlet for Login {
+impl Answers for Login {
     ghost use Rattle.sv_samples.specs.Login.{login_serves};
 
-    ghost serves = { λ s. login_serves };
+    ghost answers = { λ s. login_serves };
 
-    ghost servlet_phase = { λ s. s.life.phase };
-
-    fn init(&mut self) -> Result<(), InitFault> {
-        self.life.begin();
-        Ok(())
-    }
-
-    fn service(
+    fn answer(
         &mut self,
         call: &Call<'_>,
         edit: &mut SessionEdit,
         reply: &mut Reply,
     ) -> Result<Next, AllocError> {
-        self.life.count();
         let ended = log_in(self.alloc, call, edit, reply);
         next_after(self.alloc, ended)
     }
 
-    fn destroy(&mut self) {
-        self.life.end();
-    }
+    fn goes_on(&self) {}
 }

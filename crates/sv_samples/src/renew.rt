@@ -4,15 +4,13 @@ ghost use Rattle.std.specs.Prelude.{◌≡◌, codes};
 ghost use Rattle.sv_servlet.specs.Servlet.{lent};
 ghost use Rattle.sv_samples.specs.Renew as spec;
 ghost use Rattle.sv_samples.specs.Refusal.{Ends};
-ghost use Rattle.sv_servlet.specs.declared.servlet.Phase.TheVariants.{New};
 ghost use Rattle.sv_samples.specs.Renew.{renew_serves};
 
-use crate::life::Life;
 use crate::parameter::value_of;
 use crate::refusal::{Refusal, next_after};
 use std::alloc::{AllocError, Global};
 use sv_model::plain_type;
-use sv_servlet::{Call, InitFault, Next, Reply, Servlet};
+use sv_servlet::{Answers, Call, Next, Reply};
 use sv_session::SessionEdit;
 
 /// Changes the id of the session that is held, and says so.
@@ -21,7 +19,6 @@ use sv_session::SessionEdit;
 /// goes with a change in the same request, and the answer is then the error page of the fault.
 #[derive(Drop)]
 pub struct Renew {
-    life: Life,
     alloc: Global,
 }
 
@@ -93,42 +90,27 @@ fn renew_session(
 }
 
 impl Renew {
-    /// A servlet that has not been initialised.
     pub fn new(alloc: Global) -> Renew
-        ensures phase { ⟦<Renew as Servlet>⟧.servlet_phase result ≡ New }
-        ensures meaning { ⟦<Renew as Servlet>⟧.serves result ≡ renew_serves }
+        ensures { ⟦<Renew as Answers>⟧.answers result ≡ renew_serves }
     {
-        Renew {
-            life: Life::new(),
-            alloc,
-        }
+        Renew { alloc }
     }
 }
 
-impl Servlet for Renew {
+impl Answers for Renew {
     ghost use Rattle.sv_samples.specs.Renew.{renew_serves};
 
-    ghost serves = { λ s. renew_serves };
+    ghost answers = { λ s. renew_serves };
 
-    ghost servlet_phase = { λ s. s.life.phase };
-
-    fn init(&mut self) -> Result<(), InitFault> {
-        self.life.begin();
-        Ok(())
-    }
-
-    fn service(
+    fn answer(
         &mut self,
         call: &Call<'_>,
         edit: &mut SessionEdit,
         reply: &mut Reply,
     ) -> Result<Next, AllocError> {
-        self.life.count();
         let ended = renew_session(call, edit, reply);
         next_after(self.alloc, ended)
     }
 
-    fn destroy(&mut self) {
-        self.life.end();
-    }
+    fn goes_on(&self) {}
 }

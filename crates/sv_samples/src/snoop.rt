@@ -6,22 +6,19 @@ ghost use Rattle.sv_session.specs.Edit.{Edit};
 ghost use Rattle.sv_servlet.specs.Servlet.{lent};
 ghost use Rattle.sv_samples.specs.Refusal.{Ends};
 ghost use Rattle.sv_samples.specs.Snoop as spec;
-ghost use Rattle.sv_servlet.specs.declared.servlet.Phase.TheVariants.{New};
 ghost use Rattle.sv_samples.specs.Snoop.{snoop_serves};
 
-use crate::life::Life;
 use crate::refusal::{Refusal, next_after};
 use http::Method;
 use std::alloc::{AllocError, Global};
 use sv_model::{Param, plain_type};
-use sv_servlet::{Call, InitFault, Next, Reply, RequestAttributes, Servlet};
+use sv_servlet::{Answers, Call, Next, Reply, RequestAttributes};
 use sv_session::SessionEdit;
 
 /// Writes as plain text, a line each: the method, the paths and the query of the call, with `-` for what is absent; then
 /// its parameters in order, and its attributes in order of their names.
 #[derive(Drop)]
 pub struct Snoop {
-    life: Life,
     alloc: Global,
 }
 
@@ -116,42 +113,27 @@ fn show(alloc: Global, call: &Call<'_>, reply: &mut Reply) -> Result<Next, Refus
 }
 
 impl Snoop {
-    /// A servlet that has not been initialised.
     pub fn new(alloc: Global) -> Snoop
-        ensures phase { ⟦<Snoop as Servlet>⟧.servlet_phase result ≡ New }
-        ensures meaning { ⟦<Snoop as Servlet>⟧.serves result ≡ snoop_serves }
+        ensures { ⟦<Snoop as Answers>⟧.answers result ≡ snoop_serves }
     {
-        Snoop {
-            life: Life::new(),
-            alloc,
-        }
+        Snoop { alloc }
     }
 }
 
-impl Servlet for Snoop {
+impl Answers for Snoop {
     ghost use Rattle.sv_samples.specs.Snoop.{snoop_serves};
 
-    ghost serves = { λ s. snoop_serves };
+    ghost answers = { λ s. snoop_serves };
 
-    ghost servlet_phase = { λ s. s.life.phase };
-
-    fn init(&mut self) -> Result<(), InitFault> {
-        self.life.begin();
-        Ok(())
-    }
-
-    fn service(
+    fn answer(
         &mut self,
         call: &Call<'_>,
         _edit: &mut SessionEdit,
         reply: &mut Reply,
     ) -> Result<Next, AllocError> {
-        self.life.count();
         let ended = show(self.alloc, call, reply);
         next_after(self.alloc, ended)
     }
 
-    fn destroy(&mut self) {
-        self.life.end();
-    }
+    fn goes_on(&self) {}
 }

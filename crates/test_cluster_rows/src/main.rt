@@ -29,7 +29,6 @@ mod records;
 mod request;
 mod running;
 mod said;
-mod sample;
 mod sessions;
 mod shop;
 mod story;

@@ -5,16 +5,20 @@ ghost use Rattle.std.specs.Prelude.{IfOk};
 ghost use Rattle.sv_container.specs.Life.{AreNamedNew};
 
 use crate::fault::RowFault;
-use crate::sample::Sample;
 use std::alloc::{AllocError, Global};
 use sv_config::Deployment;
 use sv_container::{Container, Named};
 use sv_model::Engine;
-use sv_samples::{Gate, Tally};
-use sv_servlet::Servlet;
+use sv_samples::{
+    Count, Faulty, Forwarder, Gate, Hello, Includer, Login, Renew, Sample, Snoop, Tally,
+};
+use sv_servlet::{GenericServlet, Servlet};
+
+/// A servlet of the samples.
+type Served = GenericServlet<Sample>;
 
 /// The applications, started.
-pub type Shop = Container<Sample, Gate, Tally>;
+pub type Shop = Container<Served, Gate, Tally>;
 
 const HEAD: &str = r#"[[context]]
 path = "/shop"
@@ -71,20 +75,35 @@ fn descriptor(alloc: Global, name: &str) -> Result<String, RowFault> {
     }
 }
 
+/// The sample of a name; none where the name is that of no sample.
+fn sample_of(alloc: Global, name: &str) -> Option<Sample> {
+    match name {
+        "hello" => Some(Sample::Hello(Hello::new(alloc))),
+        "count" => Some(Sample::Count(Count::new(alloc))),
+        "snoop" => Some(Sample::Snoop(Snoop::new(alloc))),
+        "login" => Some(Sample::Login(Login::new(alloc))),
+        "renew" => Some(Sample::Renew(Renew::new(alloc))),
+        "includer" => Some(Sample::Includer(Includer::new(alloc))),
+        "forwarder" => Some(Sample::Forwarder(Forwarder::new(alloc))),
+        "faulty" => Some(Sample::Faulty(Faulty::new(alloc))),
+        _ => None,
+    }
+}
+
 /// The servlets of these names.
-fn servlets(alloc: Global, names: &[String]) -> Result<Vec<Named<Sample>>, RowFault>
-    ensures { IfOk result (λ all. AreNamedNew ⟦<Sample as Servlet>⟧.servlet_phase all.items) }
+fn servlets(alloc: Global, names: &[String]) -> Result<Vec<Named<Served>>, RowFault>
+    ensures { IfOk result (λ all. AreNamedNew ⟦<Served as Servlet>⟧.servlet_phase all.items) }
 {
     let mut all = Vec::new(alloc);
     for name in names {
-        let Some(object) = Sample::of_name(alloc, name.as_str()) else {
+        let Some(sample) = sample_of(alloc, name.as_str()) else {
             return Err(RowFault::Start);
         };
         let name = String::from_str(alloc, name.as_str())?;
         all.push(Named {
             context: 0,
             name,
-            object,
+            object: GenericServlet::new(sample),
         })?;
     }
     Ok(all)

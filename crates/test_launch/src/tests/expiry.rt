@@ -8,6 +8,7 @@ use sv_host::secret_of;
 use sv_launch::deployment_in;
 use sv_model::Moment;
 use sv_samples::{Count, Gate, Tally};
+use sv_servlet::GenericServlet;
 
 /// A shop whose sessions expire after a minute.
 const SHORT: &str =
@@ -43,7 +44,7 @@ fn written(alloc: Global, moments: [u64; 2], input: &str) -> Result<Vec<u8>, Fai
     servlets.push(Named {
         context: 0,
         name: String::from_str(alloc, "count")?,
-        object: Count::new(alloc),
+        object: GenericServlet::new(Count::new(alloc)),
     })?;
     let filters: Vec<Named<Gate>> = Vec::new(alloc);
     let listeners: Vec<Named<Tally>> = Vec::new(alloc);

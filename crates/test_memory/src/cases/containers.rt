@@ -10,11 +10,13 @@ use sv_config::Deployment;
 use sv_container::{Container, Named, StartFault};
 use sv_model::{Engine, Key, Outcome, Request, Secret};
 use sv_samples::{Faulty, Stamp, Tally};
-use sv_servlet::{Filter, Servlet};
+use sv_servlet::{Filter, GenericServlet, Servlet};
 
 type Shown = Result<String, Unshown>;
 
-type Shop = Container<Faulty, Stamp, Tally>;
+type Erring = GenericServlet<Faulty>;
+
+type Shop = Container<Erring, Stamp, Tally>;
 
 const FRESH: (Key, Secret) = (Key { home: 0, serial: 2 }, Secret([2; 16]));
 
@@ -28,15 +30,15 @@ listener = [{ name = "tally" }]
 error-page = [{ path = "/oops" }]
 "#;
 
-fn servlets(alloc: Global) -> Result<Vec<Named<Faulty>>, AllocError>
-    ensures { IfOk result (λ all. AreNamedNew ⟦<Faulty as Servlet>⟧.servlet_phase all.items) }
+fn servlets(alloc: Global) -> Result<Vec<Named<Erring>>, AllocError>
+    ensures { IfOk result (λ all. AreNamedNew ⟦<Erring as Servlet>⟧.servlet_phase all.items) }
 {
     let name = String::from_str(alloc, "faulty")?;
     let mut all = Vec::new(alloc);
     all.push(Named {
         context: 0,
         name,
-        object: Faulty::new(alloc),
+        object: GenericServlet::new(Faulty::new(alloc)),
     })?;
     Ok(all)
 }

@@ -9,7 +9,7 @@ use http::Method;
 use std::alloc::{AllocError, Global};
 use sv_model::Param;
 use sv_samples::{Count, Faulty, Forwarder, Gate, Hello, Includer, Login, Renew, Snoop, Stamp};
-use sv_servlet::{Call, Filter, Reply, RequestAttributes, Servlet};
+use sv_servlet::{Answers, Call, Filter, GenericServlet, Reply, RequestAttributes, Servlet};
 use sv_session::SessionEdit;
 
 type Shown = Result<String, Unshown>;
@@ -61,9 +61,8 @@ fn serve<S: Servlet>(
 }
 
 /// A servlet that was just made serves twice.
-fn served<S: Servlet>(alloc: Global, refusals: &mut Refusals, mut servlet: S) -> Shown
-    requires { S.servlet_phase servlet ≡ New }
-{
+fn served<A: Answers>(alloc: Global, refusals: &mut Refusals, sample: A) -> Shown {
+    let mut servlet = GenericServlet::new(sample);
     let params = given::params(alloc)?;
     let attributes = RequestAttributes::new(alloc);
     if servlet.init().is_err() {
