@@ -14,22 +14,10 @@
 //! fault. A fault prints one line `cluster_run: ` and its name on standard error and ends the program with its status.
 #![tactic(auto)]
 
-mod fault;
-mod files;
-mod machine;
-mod nodes;
-mod perform;
-mod process;
-mod reply;
-mod request;
-mod words;
-
-use fault::Fault;
-use perform::run_script;
 use std::env;
 use std::process::ExitCode;
 use std::rt::Env;
-use words::read_words;
+use sv_cluster::{Fault, read_words, run_script};
 
 /// The words behind the program's name.
 fn words_of<R: Env + AllocGlobal>(rt: &R) -> Result<Vec<String>, Fault> {

@@ -1,7 +1,7 @@
 use Rattle.std.proofs.Common.{ap, ◌∙◌, List, ℕ, ◌++◌}
-use Rattle.sv_cluster_run.specs.Request.{request_text}
-use Rattle.sv_cluster_run.proofs.RequestLemmas.{five}
-use Rattle.sv_cluster_run.proofs.request.write_request.Goals as goal
+use Rattle.sv_cluster.specs.Request.{request_text}
+use Rattle.sv_cluster.proofs.RequestLemmas.{five}
+use Rattle.sv_cluster.proofs.request.write_request.Goals as goal
 
 pub returns : goal.returns
 unfolding request_text

@@ -1,7 +1,7 @@
 -- The words of the command line.
 use Rattle.std.specs.Prelude.{ℕ, List, [], ◌∷◌, Option, Some, None, Result, Ok, Err}
-use Rattle.sv_cluster_run.specs.declared.words.Words.{Words}
-use Rattle.sv_cluster_run.specs.declared.words.Arguments.{Arguments}
+use Rattle.sv_cluster.specs.declared.words.Words.{Words}
+use Rattle.sv_cluster.specs.declared.words.Arguments.{Arguments}
 
 -- NODE, CONFIG, DIR and SCRIPT
 pub record Call : Type 0 where

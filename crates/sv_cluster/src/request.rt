@@ -1,7 +1,7 @@
 //! What is sent to a node.
 
 ghost use Rattle.std.specs.Prelude.{◌≡◌, ◌++◌, OnOk, Some, option_copied};
-ghost use Rattle.sv_cluster_run.specs.Request.{cookie_field, cookie_fields, request_text};
+ghost use Rattle.sv_cluster.specs.Request.{cookie_field, cookie_fields, request_text};
 
 use std::alloc::AllocError;
 use sv_client::Session;

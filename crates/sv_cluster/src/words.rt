@@ -1,7 +1,7 @@
 //! The words of the command line.
 
 ghost use Rattle.std.specs.Prelude.{◌≡◌, map, string_bytes};
-ghost use Rattle.sv_cluster_run.specs.Words.{call_in, call_of};
+ghost use Rattle.sv_cluster.specs.Words.{call_in, call_of};
 
 use thiserror::Error;
 

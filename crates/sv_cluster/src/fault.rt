@@ -1,8 +1,8 @@
 //! Why the program ends before its script does, and how it says so.
 
 ghost use Rattle.std.specs.Prelude.{◌≡◌};
-ghost use Rattle.sv_cluster_run.specs.Fault.{status_of};
-ghost use Rattle.sv_cluster_run.specs.declared.fault.Fault.TheVariants.{Arguments, Script, Socket};
+ghost use Rattle.sv_cluster.specs.Fault.{status_of};
+ghost use Rattle.sv_cluster.specs.declared.fault.Fault.TheVariants.{Arguments, Script, Socket};
 
 use crate::words::Arguments as BadWords;
 use sv_client::Unanswered;

@@ -1,6 +1,6 @@
 use Rattle.std.proofs.Common.{ap, ◌∙◌, List, ℕ, ◌++◌}
-use Rattle.sv_cluster_run.proofs.RequestLemmas.{three}
-use Rattle.sv_cluster_run.proofs.request.write_cookie.Goals as goal
+use Rattle.sv_cluster.proofs.RequestLemmas.{three}
+use Rattle.sv_cluster.proofs.request.write_cookie.Goals as goal
 
 pub returns : goal.returns
 returns c =

@@ -1,7 +1,7 @@
 -- Why the program ends before its script does.
 use Rattle.std.specs.Prelude.{ℕ}
-use Rattle.sv_cluster_run.specs.declared.fault.Fault.{Fault}
-use Rattle.sv_cluster_run.specs.declared.fault.Fault.TheVariants.{Arguments, Script, Process, Socket}
+use Rattle.sv_cluster.specs.declared.fault.Fault.{Fault}
+use Rattle.sv_cluster.specs.declared.fault.Fault.TheVariants.{Arguments, Script, Process, Socket}
 
 -- the exit status
 abbrev pub status_of : Fault → ℕ
