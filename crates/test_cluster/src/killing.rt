@@ -1,0 +1,103 @@
+//! Nodes that are killed, by the signal that no process can hear: between requests, and inside of one. What was answered is there
+//! when they are started again.
+
+use crate::client::Client;
+use crate::cluster::{Cluster, loopback};
+use crate::running::start;
+use crate::trouble::Trouble;
+use std::io::Write;
+use std::net::{TcpListener, TcpStream};
+use std::thread;
+use std::time::Duration;
+
+const COUNT: &str = "/shop/count";
+
+/// How often a caller is looked for, a hundredth of a second apart.
+const LOOKS: u32 = 1000;
+
+/// Starts a node, asks it for a count, and kills it.
+fn asked_and_killed(
+    rt: &HostRuntime,
+    cluster: &Cluster,
+    node: u8,
+    client: &mut Client,
+) -> Result<String, Trouble> {
+    let running = start(rt, cluster, node)?;
+    let said = client.ask(rt, cluster.port(node), COUNT)?;
+    drop(running);
+    Ok(said)
+}
+
+/// A node that is killed behind each answer.
+pub fn between(rt: &HostRuntime) -> Result<String, Trouble> {
+    let cluster = Cluster::new(rt, "between", 1, "")?;
+    let mut client = Client::new();
+    let first = asked_and_killed(rt, &cluster, 0, &mut client)?;
+    let second = asked_and_killed(rt, &cluster, 0, &mut client)?;
+    let third = asked_and_killed(rt, &cluster, 0, &mut client)?;
+    Ok(format!(in rt.alloc(); "{first}, {second}, {third}")?)
+}
+
+/// Starts a node, sends it all of a request but the last byte, and kills it.
+fn half_asked_and_killed(
+    rt: &HostRuntime,
+    cluster: &Cluster,
+    node: u8,
+    client: &Client,
+) -> Result<(), Trouble> {
+    let _running = start(rt, cluster, node)?;
+    let request = client.request(rt.alloc(), COUNT)?;
+    let mut stream = TcpStream::connect(rt, loopback(cluster.port(node)))?;
+    if let Some((_, begun)) = request.split_last() {
+        stream.write_all(begun)?;
+    }
+    Ok(())
+}
+
+/// A node that is killed while a request comes: it isn't counted.
+pub fn within(rt: &HostRuntime) -> Result<String, Trouble> {
+    let cluster = Cluster::new(rt, "within", 1, "")?;
+    let mut client = Client::new();
+    let first = asked_and_killed(rt, &cluster, 0, &mut client)?;
+    half_asked_and_killed(rt, &cluster, 0, &client)?;
+    let second = asked_and_killed(rt, &cluster, 0, &mut client)?;
+    Ok(format!(in rt.alloc(); "{first}, {second}")?)
+}
+
+/// Waits until somebody calls, for ten seconds.
+fn await_call(rt: &HostRuntime, listener: &TcpListener) -> Result<(), Trouble> {
+    listener.set_nonblocking(true)?;
+    for _ in 0..LOOKS {
+        if listener.accept().is_ok() {
+            return Ok(());
+        }
+        thread::sleep(rt, Duration::from_millis(10));
+    }
+    Err(Trouble::NoCaller)
+}
+
+/// Starts node 1, asks it for the session of node 0, in whose place this program listens, and kills it once it has called there: by
+/// then the client waits.
+fn killed_while_one_waits(
+    rt: &HostRuntime,
+    cluster: &Cluster,
+    client: &Client,
+) -> Result<(), Trouble> {
+    let peer = TcpListener::bind(rt, loopback(cluster.port(0)))?;
+    let _running = start(rt, cluster, 1)?;
+    let request = client.request(rt.alloc(), COUNT)?;
+    let mut stream = TcpStream::connect(rt, loopback(cluster.port(1)))?;
+    stream.write_all(request.as_slice())?;
+    await_call(rt, &peer)
+}
+
+/// A node that is killed while a client waits at it for a session of another node: the session is where it was, and isn't counted.
+pub fn waiting(rt: &HostRuntime) -> Result<String, Trouble> {
+    let cluster = Cluster::new(rt, "waiting", 2, "")?;
+    let mut client = Client::new();
+    let first = asked_and_killed(rt, &cluster, 0, &mut client)?;
+    killed_while_one_waits(rt, &cluster, &client)?;
+    let _peer = start(rt, &cluster, 0)?;
+    let second = asked_and_killed(rt, &cluster, 1, &mut client)?;
+    Ok(format!(in rt.alloc(); "{first}, {second}")?)
+}
