@@ -1,30 +1,27 @@
 -- The steps of a stream are a history of the node alone, in which each request has a token of its own.
-use Rattle.std.proofs.Common.{◌≡◌, ◌⊎◌, ℕ, ◌+◌, ◌<◌, ◌≤◌, Bool, true, false, cond, Option, Some, None, List, [], ◌∷◌, ◌++◌, Result, Ok, Err, arith, refl, sym, ap, ◌∙◌, subst, inl, inr}
+use Rattle.std.proofs.Common.{◌≡◌, ◌⊎◌, ℕ, ◌+◌, ◌<◌, ◌≤◌, Bool, true, false, cond, Option, List, [], ◌∷◌, ◌++◌, Result, Ok, Err, arith, refl, sym, ap, subst, inl, inr}
 use Rattle.std.specs.Prelude.{◌==◌, ◌&&◌}
 use Rattle.std.specs.Option.{option_to_list}
 use Rattle.std.proofs.lemmas.Bool.{and_parts, eqb-true}
 use Rattle.std.proofs.lemmas.List.{append-nil}
-use Rattle.std.proofs.lemmas.Grind.{flat_map-append}
 use Rattle.sv_model.specs.declared.key.Token.{Token}
 use Rattle.sv_model.specs.declared.key.Moment.{Moment}
 use Rattle.sv_model.specs.declared.node.Setting.{Setting}
 use Rattle.sv_model.specs.declared.request.Request.{Request}
-use Rattle.sv_model.specs.declared.input.Input.{Input}
 use Rattle.sv_model.specs.declared.input.Input.TheVariants.{Ask}
 use Rattle.sv_model.specs.declared.output.Output.{Output}
 use Rattle.sv_model.specs.declared.site.StepFault.{StepFault}
 use Rattle.sv_model.specs.Engine.{EngineMeaning, TouchesOnlyHanded, NamesKeys}
 use Rattle.sv_model.specs.NodeState.{Node}
-use Rattle.sv_model.specs.Node.{decided}
 use Rattle.sv_model.specs.Serving.{token_of}
 use Rattle.sv_model.specs.Step.{View}
-use Rattle.sv_model.specs.Trace.{Call, Item, Leads, item_of, item_by, node_by, trace_of, asked_of, same_token, times}
+use Rattle.sv_model.specs.Trace.{Call, Item, Leads, item_by, node_by, trace_of, asked_of, same_token, times}
 use Rattle.sv_model.specs.OneContainer.{AreDistinct}
 use Rattle.sv_message.specs.declared.request.RawRequest.{RawRequest}
 use Rattle.sv_connection.specs.declared.outcome.Served.{Served}
 use Rattle.sv_connection.specs.declared.solo.Solo.{Solo}
 use Rattle.sv_connection.specs.Table.{alone, node_of}
-use Rattle.sv_connection.specs.Solo.{IsNew, IsHistory, solo_steps, view_of, view_at}
+use Rattle.sv_connection.specs.Solo.{IsNew, IsHistory, solo_steps, view_of}
 use Rattle.sv_connection.specs.Request.{request_of}
 use Rattle.sv_connection.specs.Serve.{How, Sight, IsDirected, IsServed}
 use Rattle.sv_connection.proofs.TraceLemmas.{times-append, all_runs, one_container, acknowledged, served_once}

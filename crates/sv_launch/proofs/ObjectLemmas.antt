@@ -1,13 +1,13 @@
 -- Names and what they stand for, context by context.
-use Rattle.std.proofs.Common.{◌≡◌, ℕ, ◌+◌, zero, suc, ◌<◌, ◌≤◌, List, [], ◌∷◌, ◌++◌, length, get_or, drop, map, Bool, true, Option, Some, None, arith, refl, sym, ap, ◌∙◌}
-use Rattle.std.specs.Prelude.{is_none, ◌||◌}
+use Rattle.std.proofs.Common.{◌≡◌, ℕ, ◌+◌, zero, suc, ◌<◌, ◌≤◌, List, [], ◌∷◌, ◌++◌, length, get_or, drop, map, true, Option, None, arith, refl, sym, ap, ◌∙◌}
+use Rattle.std.specs.Prelude.{is_none}
 use Rattle.std.specs.List.{list_any}
 use Rattle.std.proofs.Math.Bool.{or-true}
 use Rattle.std.proofs.Math.Seq.{drop-cons}
 use Rattle.std.proofs.lemmas.List.{append-nil, append_assoc, drop_all}
-use Rattle.std.proofs.lemmas.List.Folds.{list_any_at, list_any-append}
+use Rattle.std.proofs.lemmas.List.Folds.{list_any-append}
 use Rattle.sv_config.specs.Values.{ContextData}
-use Rattle.sv_launch.specs.Objects.{Lookup, lookup, looked_up, lookups, is_missing}
+use Rattle.sv_launch.specs.Objects.{Lookup, looked_up, lookups, is_missing}
 
 -- a name that stands for nothing
 pub found : {K N : Type 0} (named : List ℕ → Option K) (context : ℕ) (view : N → List ℕ) (names : List N) (i : ℕ) (d : N) → i < length names → named (view (get_or names i d)) ≡ None

@@ -1,6 +1,6 @@
 -- Which object each name of a descriptor stands for.
-use Rattle.std.specs.Prelude.{ℕ, ◌+◌, Bool, true, false, List, [], ◌∷◌, ◌++◌, map, codes, bytes_eq, string_bytes, Option, Some, None, is_none, if◌then◌else◌}
-use Rattle.std.specs.List.{before_first, list_any}
+use Rattle.std.specs.Prelude.{ℕ, ◌+◌, Bool, List, [], ◌∷◌, ◌++◌, map, codes, bytes_eq, string_bytes, Option, Some, None, is_none, if◌then◌else◌}
+use Rattle.std.specs.List.{before_first}
 use Rattle.sv_config.specs.Values.{ContextData}
 use Rattle.sv_samples.specs.Stamp.{is_dash}
 use Rattle.sv_launch.specs.declared.kinds.ServletKind.{ServletKind}

@@ -1,8 +1,7 @@
 //! What each caller of a node is told.
 
 use crate::scene::{Said, play};
-use crate::town::{HALT, Town, heard};
-use std::net::OpenListener;
+use crate::town::{HALT, Town};
 use std::test::Fail;
 use sv_host::Persistence;
 
@@ -35,8 +34,7 @@ fn a_client_waits_for_the_other_node(rt: HostRuntime) -> Result<(), Fail> {
     let all = [Said::Counts(&[[1, 1]]), Said::Frame(NO), Said::Frame(HALT)];
     let told = play(&rt, &town, Persistence::Single, &all)?;
     assert_eq!(rt; told.as_slice(), b"1||\0|".as_slice());
-    let (asked, _) = town.peer.accept()?;
-    assert_eq!(rt; heard(rt.alloc(), &asked)?.as_slice(), WANT);
+    assert_eq!(rt; town.asked(rt.alloc())?.as_slice(), WANT);
     Ok(())
 }
 

@@ -1,10 +1,10 @@
 //! Why a node ends before it is told to.
 
-use crate::town::{Town, answer, heard, live, serve_all};
+use crate::town::{Town, answer, heard, serve_all};
+use std::net::TcpStream;
 use std::test::Fail;
 use std::{env, fs, process};
 use sv_host::{Host, HostFault, Persistence, Place};
-use sv_journal::MemoryDisk;
 
 /// The path of a file of this test's process alone, which is left where temporary files go.
 fn own_path(rt: &HostRuntime, name: &str) -> Result<String, Fail> {
@@ -22,19 +22,44 @@ fn place_of(rt: &HostRuntime, town: &Town, deadline: u32, secrets: usize) -> Res
     town.place_with(rt, deadline, Some(path))
 }
 
+/// Why a node at a place has ended, and the clients who had asked for the sessions of these two bytes.
+fn ended(
+    rt: &HostRuntime,
+    town: &Town,
+    place: Place,
+    named: &[[u8; 2]],
+) -> Result<(Option<HostFault>, Vec<TcpStream>), Fail> {
+    let host = Host::at(rt, place, Persistence::Single)?;
+    let mut clients = Vec::new(rt.alloc());
+    for bytes in named {
+        clients.push(town.ask(rt, *bytes)?)?;
+    }
+    Ok((serve_all(rt, host)?, clients))
+}
+
+/// The same with a deadline in seconds and so many secrets.
+fn ended_by_secrets(
+    rt: &HostRuntime,
+    deadline: u32,
+    secrets: usize,
+    named: &[[u8; 2]],
+) -> Result<(Option<HostFault>, Vec<TcpStream>), Fail> {
+    let town = Town::new(rt)?;
+    let place = place_of(rt, &town, deadline, secrets)?;
+    ended(rt, &town, place, named)
+}
+
 /// The node serves one request, and ends where it needs another secret, be it for the second request or for the tick where a second
 /// has passed. Then the connection of the second may be reset, unread.
 #[test]
 fn secrets_come_to_an_end(rt: HostRuntime) -> Result<(), Fail> {
-    let town = Town::new(&rt)?;
-    let host = Host::at(&rt, place_of(&rt, &town, 30, 1)?, Persistence::Single)?;
-    let client = town.ask(&rt, [0, 9])?;
-    let late = town.ask(&rt, [0, 9])?;
-    let (a, b) = (MemoryDisk::new(rt.alloc()), MemoryDisk::new(rt.alloc()));
-    let ended = live(&rt, host, a, b)?;
-    assert_eq!(rt; ended.fault, Some(HostFault::Secrets));
-    assert_eq!(rt; answer(rt.alloc(), &client)?, Some('1'));
-    assert!(rt; !matches!(answer(rt.alloc(), &late), Ok(Some(_))));
+    let (fault, clients) = ended_by_secrets(&rt, 30, 1, &[[0, 9], [0, 9]])?;
+    let [first, second] = clients.as_slice() else {
+        return Err("not two clients".into());
+    };
+    assert_eq!(rt; fault, Some(HostFault::Secrets));
+    assert!(rt; matches!(answer(rt.alloc(), first), Ok(Some('1'))));
+    assert!(rt; !matches!(answer(rt.alloc(), second), Ok(Some(_))));
     Ok(())
 }
 
@@ -42,11 +67,12 @@ fn secrets_come_to_an_end(rt: HostRuntime) -> Result<(), Fail> {
 /// a second while it waits, for a look at the time and a look for its session; then they come to an end, and the node stops.
 #[test]
 fn who_waits_is_refused_though_nobody_calls(rt: HostRuntime) -> Result<(), Fail> {
-    let town = Town::new(&rt)?;
-    let host = Host::at(&rt, place_of(&rt, &town, 1, 12)?, Persistence::Single)?;
-    let client = town.ask(&rt, [1, 1])?;
-    assert_eq!(rt; serve_all(&rt, host)?, Some(HostFault::Secrets));
-    let told = heard(rt.alloc(), &client)?;
+    let (fault, clients) = ended_by_secrets(&rt, 1, 12, &[[1, 1]])?;
+    let [client] = clients.as_slice() else {
+        return Err("not one client".into());
+    };
+    assert_eq!(rt; fault, Some(HostFault::Secrets));
+    let told = heard(rt.alloc(), client)?;
     assert!(rt; told.as_slice().starts_with(b"HTTP/1.1 503 "));
     assert!(rt; told.as_slice().ends_with(b"\r\n\r\n503 Deadline\n"));
     Ok(())

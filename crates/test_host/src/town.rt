@@ -129,6 +129,12 @@ impl Town {
         Ok(stream)
     }
 
+    /// What node 1 was asked first.
+    pub fn asked(&self, alloc: Global) -> io::Result<Vec<u8>> {
+        let (caller, _) = self.peer.accept()?;
+        heard(alloc, &caller)
+    }
+
     /// Has a client ask for the sessions of these two bytes each.
     pub fn count(&self, mut client: &TcpStream, named: &[[u8; 2]]) -> io::Result<()> {
         for bytes in named {
