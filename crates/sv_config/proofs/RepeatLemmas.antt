@@ -50,7 +50,7 @@ module _ {K : Type 0} (same : K → K → Bool) where
 
 -- ---- texts behind references
 
-abbrev Shown : Type 0
+abbrev pub Shown : Type 0
 Shown = Bor (List ℕ)
 
 abbrev pub texts_shown : List Shown → List Text

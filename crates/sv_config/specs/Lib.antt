@@ -8,4 +8,6 @@ pub mod Spelling
 pub mod Repeats
 pub mod Limits
 pub mod Fault
+pub mod Place
+pub mod Places
 pub mod Values

@@ -11,21 +11,21 @@ use std::alloc::{AllocError, Global};
 use sv_mapping::MAX_PATTERNS;
 use toml::Table;
 
-const MAX_NODES: usize = 8;
+pub(crate) const MAX_NODES: usize = 8;
 
-const MAX_CONTEXTS: usize = 16;
+pub(crate) const MAX_CONTEXTS: usize = 16;
 
-const MAX_SERVLETS: usize = 64;
+pub(crate) const MAX_SERVLETS: usize = 64;
 
-const MAX_FILTERS: usize = 32;
+pub(crate) const MAX_FILTERS: usize = 32;
 
-const MAX_FILTER_MAPPINGS: usize = 64;
+pub(crate) const MAX_FILTER_MAPPINGS: usize = 64;
 
-const MAX_LISTENERS: usize = 16;
+pub(crate) const MAX_LISTENERS: usize = 16;
 
-const MAX_ERROR_PAGES: usize = 32;
+pub(crate) const MAX_ERROR_PAGES: usize = 32;
 
-const MAX_NAME_BYTES: usize = 64;
+pub(crate) const MAX_NAME_BYTES: usize = 64;
 
 /// Whether a table of a kind passes a limit.
 #[tactic(auto, unfolding(crate::specs::Limits::is_exceeding))]
@@ -99,14 +99,14 @@ fn has_too_many_patterns(alloc: Global, context: &Table) -> Result<bool, AllocEr
 }
 
 /// Whether the array at a key has more members than the limit.
-fn has_over(table: &Table, key: &str, limit: usize) -> bool
+pub(crate) fn has_over(table: &Table, key: &str, limit: usize) -> bool
     ensures { result ≡ spec.has_over limit key.now (table_view table.now) }
 {
     values_at(table, key).len() > limit
 }
 
 /// Whether the integer at a key lies outside the range.
-fn is_outside_at(table: &Table, key: &str, least: i64, most: i64) -> bool
+pub(crate) fn is_outside_at(table: &Table, key: &str, least: i64, most: i64) -> bool
     ensures { result ≡ spec.is_outside_at least most key.now (table_view table.now) }
 {
     match integer_at(table, key) {
@@ -122,7 +122,7 @@ pub(crate) fn is_outside(integer: i64, least: i64, most: i64) -> bool
 }
 
 /// Whether the name has no byte, or too many.
-fn has_bad_length(table: &Table) -> bool
+pub(crate) fn has_bad_length(table: &Table) -> bool
     ensures { result ≡ spec.has_bad_length (codes "name") (table_view table.now) }
 {
     match text_at(table, "name") {

@@ -56,7 +56,10 @@ pub(crate) fn has_stranger_among(
     Ok(false)
 }
 
-fn names_of<'a>(alloc: Global, names: &[&'a str]) -> Result<BTreeSet<&'a str>, AllocError>
+pub(crate) fn names_of<'a>(
+    alloc: Global,
+    names: &[&'a str],
+) -> Result<BTreeSet<&'a str>, AllocError>
     ensures { IfOk result (λ set. (text : Text) → contains_by (λ name. slice_cmp nat_cmp text name.now) set ≡ list_any (λ name. bytes_eq name text) (map (λ name. name.now) names.now)) }
 {
     let mut set = BTreeSet::new(alloc);

@@ -24,7 +24,7 @@ fn lacks_field(kind: TableKind, table: &Table) -> bool
     lacks_some(table, rules(kind))
 }
 
-fn lacks_contents(kind: TableKind, table: &Table) -> bool
+pub(crate) fn lacks_contents(kind: TableKind, table: &Table) -> bool
     ensures { result ≡ spec.lacks_contents kind (table_view table.now) }
 {
     match kind {
@@ -34,7 +34,7 @@ fn lacks_contents(kind: TableKind, table: &Table) -> bool
     }
 }
 
-fn lacks(table: &Table, rule: &FieldRule) -> bool
+pub(crate) fn lacks(table: &Table, rule: &FieldRule) -> bool
     ensures { result ≡ spec.lacks (table_view table.now) (rule_of rule.now) }
 {
     rule.required && !has(table, rule.key)

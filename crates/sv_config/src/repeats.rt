@@ -115,13 +115,13 @@ fn count_defaults(pages: &[&Table]) -> usize
 }
 
 /// Whether an error page names neither a status nor a fault.
-fn is_default_page(page: &Table) -> bool
+pub(crate) fn is_default_page(page: &Table) -> bool
     ensures { result ≡ spec.is_default_page (table_view page.now) }
 {
     !has(page, "status") && !has(page, "fault")
 }
 
-fn has_both(table: &Table, one: &str, other: &str) -> bool
+pub(crate) fn has_both(table: &Table, one: &str, other: &str) -> bool
     ensures { result ≡ spec.has_both one.now other.now (table_view table.now) }
 {
     has(table, one) && has(table, other)

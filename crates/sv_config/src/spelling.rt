@@ -57,7 +57,7 @@ fn has_bad_pattern(patterns: &[&str]) -> bool
     false
 }
 
-fn has_bad_context_path(alloc: Global, context: &Table) -> Result<bool, AllocError>
+pub(crate) fn has_bad_context_path(alloc: Global, context: &Table) -> Result<bool, AllocError>
     ensures { IfOk result (λ b. b ≡ spec.fails_at spec.is_context_path (codes "path") (table_view context.now)) }
 {
     match text_at(context, "path") {
@@ -66,7 +66,7 @@ fn has_bad_context_path(alloc: Global, context: &Table) -> Result<bool, AllocErr
     }
 }
 
-fn has_bad_name(table: &Table) -> bool
+pub(crate) fn has_bad_name(table: &Table) -> bool
     ensures { result ≡ spec.fails_at spec.is_name (codes "name") (table_view table.now) }
 {
     match text_at(table, "name") {
@@ -75,7 +75,7 @@ fn has_bad_name(table: &Table) -> bool
     }
 }
 
-fn has_bad_target(mapping: &Table) -> bool
+pub(crate) fn has_bad_target(mapping: &Table) -> bool
     ensures { result ≡ spec.fails_at is_pattern (codes "pattern") (table_view mapping.now) }
 {
     match text_at(mapping, "pattern") {
@@ -84,7 +84,7 @@ fn has_bad_target(mapping: &Table) -> bool
     }
 }
 
-fn has_bad_page_path(page: &Table) -> bool
+pub(crate) fn has_bad_page_path(page: &Table) -> bool
     ensures { result ≡ spec.fails_at spec.is_page_path (codes "path") (table_view page.now) }
 {
     match text_at(page, "path") {

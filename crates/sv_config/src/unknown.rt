@@ -39,7 +39,7 @@ fn has_unlisted(table: &Table, rules: &[FieldRule]) -> bool
     table.keys().any(|key| !is_listed(rules, key))
 }
 
-fn is_listed(rules: &[FieldRule], key: &str) -> bool
+pub(crate) fn is_listed(rules: &[FieldRule], key: &str) -> bool
     ensures { result ≡ list_any (λ rule. bytes_eq rule.key.now key.now) rules.now }
 {
     rules.iter().any(|rule| rule.key == key)

@@ -1,0 +1,12 @@
+use Rattle.std.proofs.Common.{◌≡◌, ◌++◌, map, drop}
+use Rattle.std.specs.Prelude.{codes}
+use Rattle.toml.specs.View.{table_view, view}
+use Rattle.sv_config.specs.Document.{values_at}
+use Rattle.sv_config.specs.Place.{spot}
+use Rattle.sv_config.specs.Places.{texts_from}
+use Rattle.sv_config.proofs.items.add_patterns.Given as goal
+
+abbrev pub invariant-loop-index : goal.invariant-loop-index
+invariant-loop-index l =
+    map (λ i. (i.0.now, spot i.1)) l.items.items ++ texts_from l.place (codes "patterns") l.index (map view (drop l.index l.value-items))
+    ≡ map (λ i. (i.0.now, spot i.1)) l.fn.items.items ++ texts_from l.place (codes "patterns") 0 (values_at (codes "patterns") (table_view l.servlet))

@@ -1,0 +1,8 @@
+use Rattle.std.proofs.Common.{◌≡◌, map, take}
+use Rattle.std.specs.List.{flat_map}
+use Rattle.sv_config.specs.Place.{spot, child}
+use Rattle.sv_config.specs.Places.{default_page}
+use Rattle.sv_config.proofs.items.defaults_of.Given as goal
+
+abbrev pub invariant-loop-index : goal.invariant-loop-index
+invariant-loop-index l = map spot l.pages.items ≡ flat_map (default_page l.place) (map child (take l.index-index l.tables))

@@ -1,0 +1,9 @@
+use Rattle.std.proofs.Common.{◌≡◌, map, take}
+use Rattle.std.specs.List.{flat_map}
+use Rattle.sv_config.specs.Place.{spot, child}
+use Rattle.sv_config.specs.Places.{patterns_in}
+use Rattle.sv_config.proofs.items.patterns_of.Given as goal
+
+abbrev pub invariant-loop-index : goal.invariant-loop-index
+invariant-loop-index l =
+    map (λ i. (i.0.now, spot i.1)) l.items.items ≡ flat_map (patterns_in l.place) (map child (take l.index-index l.servlets))

@@ -1,0 +1,10 @@
+use Rattle.std.proofs.Common.{◌≡◌, ◌++◌, map, drop}
+use Rattle.toml.specs.View.{view}
+use Rattle.sv_config.specs.Place.{spot, placed, members_from, members_where}
+use Rattle.sv_config.specs.Places.{is_unfit}
+use Rattle.sv_config.proofs.members.add_members.Given as goal
+
+abbrev pub invariant-loop-index : goal.invariant-loop-index
+invariant-loop-index l =
+    map spot l.places.items ++ members_from (is_unfit l.unfit) l.at.place l.key l.index (map view (drop l.index l.value-items))
+    ≡ map spot l.fn.places.items ++ members_where (is_unfit l.unfit) (placed l.at) l.key

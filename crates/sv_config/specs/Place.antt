@@ -1,0 +1,124 @@
+-- Where in a document a fault stands: the table, the field, the member of the field's array, and what is there.
+use Rattle.std.specs.declared.alloc.Global.{Global}
+use Rattle.std.specs.Prelude.{String, ℕ, ◌+◌, ℤ, Bool, List, [], ◌∷◌, ◌++◌, map, codes, Option, Some, None, if◌then◌else◌, true, false}
+use Rattle.std.specs.Option.{option_map_or}
+use Rattle.std.specs.List.{flat_map}
+use Rattle.std.specs.BTreeMap.{BTreeMap}
+use Rattle.std.specs.Borrow.{Bor}
+use Rattle.toml.specs.Data.{Data, string, integer, Members, get_member, as_table}
+use Rattle.toml.specs.View.{table_view}
+use Rattle.toml.specs.declared.value.Value.{Value}
+use Rattle.sv_mapping.specs.Path.{Text}
+use Rattle.sv_config.specs.Document.{table_at, values_at}
+use Rattle.sv_config.specs.declared.rules.TableKind.{TableKind}
+use Rattle.sv_config.specs.declared.rules.TableKind.TheVariants.{Top, Cluster, Context, Servlet, Filter, Mapping, Listener, Page}
+use Rattle.sv_config.specs.declared.place.TablePlace.{TablePlace}
+use Rattle.sv_config.specs.declared.place.TablePlace.TheVariants.{Document, OfNodes, OfContext, Within}
+use Rattle.sv_config.specs.declared.place.Found.{Found}
+use Rattle.sv_config.specs.declared.place.Found.TheVariants.{Nothing, Words, Number, Count}
+use Rattle.sv_config.specs.declared.place.Place.{Place}
+use Rattle.sv_config.specs.declared.placed.Placed.{Placed}
+
+-- what stands at a place: nothing that is shown, a text, an integer, or so many
+pub data Shown : Type 0 where
+  nothing : Shown
+  words : Text → Shown
+  number : ℤ → Shown
+  count : ℕ → Shown
+
+-- a place: the field of a table, and the member of its array
+pub record Spot : Type 0 where
+  pub table : TablePlace
+  pub key : Text
+  pub index : Option ℕ
+  pub shown : Shown
+
+abbrev pub shown_in : Data → Shown
+shown_in (string text) = words text
+shown_in (integer z) = number z
+shown_in _ = nothing
+
+abbrev pub shown_at : Text → Members → Shown
+shown_at key t = option_map_or shown_in (get_member key t) nothing
+
+-- the kind of the table at a place
+abbrev pub kind_of : TablePlace → TableKind
+kind_of Document = Top
+kind_of OfNodes = Cluster
+kind_of (OfContext context) = Context
+kind_of (Within context kind index) = kind
+
+-- ---- tables with their places
+
+-- the tables of an array, each by its place in it
+abbrev pub numbered : ℕ → List Data → List (ℕ × Members)
+numbered n [] = []
+numbered n (d ∷ ds) = option_map_or (λ s. (n, s) ∷ []) (as_table d) [] ++ numbered (n + 1) ds
+
+abbrev pub children : Text → Members → List (ℕ × Members)
+children key t = numbered 0 (values_at key t)
+
+abbrev pub placed_as : ℕ → TableKind → List (ℕ × Members) → List (TablePlace × Members)
+placed_as context kind tables = map (λ c. (Within context kind c.0, c.1)) tables
+
+-- a context, by its number, and the tables in it
+unfoldable pub placed_in : ℕ × Members → List (TablePlace × Members)
+placed_in c =
+    (OfContext c.0, c.1) ∷ [] ++ placed_as c.0 Servlet (children (codes "servlet") c.1)
+    ++ placed_as c.0 Filter (children (codes "filter") c.1)
+    ++ placed_as c.0 Mapping (children (codes "filter-mapping") c.1)
+    ++ placed_as c.0 Listener (children (codes "listener") c.1)
+    ++ placed_as c.0 Page (children (codes "error-page") c.1)
+
+abbrev pub placed_cluster : Members → List (TablePlace × Members)
+placed_cluster t = option_map_or (λ c. (OfNodes, c) ∷ []) (table_at (codes "cluster") t) []
+
+-- the tables of a document that are there, each with its place
+unfoldable pub placed_tables : Members → List (TablePlace × Members)
+placed_tables t = (Document, t) ∷ [] ++ placed_cluster t ++ flat_map placed_in (children (codes "context") t)
+
+-- ---- places in a table
+
+-- the table as a whole, where the fault stands there
+abbrev pub table_where : Bool → TablePlace × Members → List Spot
+table_where holds p = if holds then record { table = p.0; key = []; index = None; shown = nothing } ∷ [] else []
+
+-- a field, where the fault stands there
+abbrev pub field_where : Bool → TablePlace × Members → Text → List Spot
+field_where holds p key = if holds then record { table = p.0; key = key; index = None; shown = shown_at key p.1 } ∷ [] else []
+
+-- a field of too many
+abbrev pub count_where : Bool → TablePlace × Members → Text → ℕ → List Spot
+count_where holds p key n = if holds then record { table = p.0; key = key; index = None; shown = count n } ∷ [] else []
+
+-- the members of an array at which the test holds
+abbrev pub members_from : (Data → Bool) → TablePlace → Text → ℕ → List Data → List Spot
+members_from test place key n [] = []
+members_from test place key n (d ∷ ds) =
+    (if test d then record { table = place; key = key; index = Some n; shown = shown_in d } ∷ [] else [])
+    ++ members_from test place key (n + 1) ds
+
+abbrev pub members_where : (Data → Bool) → TablePlace × Members → Text → List Spot
+members_where test p key = members_from test p.0 key 0 (values_at key p.1)
+
+-- there is some place
+abbrev pub is_some_place : List Spot → Bool
+is_some_place [] = false
+is_some_place (spot ∷ spots) = true
+
+-- ---- places and tables of the code
+
+abbrev pub shown : Found → Shown
+shown Nothing = nothing
+shown (Words text) = words text.now
+shown (Number z) = number z
+shown (Count n) = count n
+
+abbrev pub spot : Place → Spot
+spot p = record { table = p.table; key = p.key.now; index = p.index; shown = shown p.found }
+
+abbrev pub placed : Placed → TablePlace × Members
+placed p = (p.place, table_view p.table.now)
+
+abbrev pub child : ℕ × Bor (BTreeMap (String Global) Value) → ℕ × Members
+child c = (c.0, table_view c.1.now)

@@ -1,0 +1,120 @@
+//! Where limits are passed.
+
+ghost use Rattle.std.specs.Prelude.{◌≡◌, ◌++◌, map, OnOk, codes};
+ghost use Rattle.sv_config.specs.Place.{kind_of, spot, placed};
+ghost use Rattle.sv_config.specs.Places as spec;
+
+use crate::columns::{patterns_of, tables_at};
+use crate::document::{is_empty_at, values_at};
+use crate::limits::{
+    MAX_CONTEXTS, MAX_ERROR_PAGES, MAX_FILTER_MAPPINGS, MAX_FILTERS, MAX_LISTENERS, MAX_NODES,
+    MAX_SERVLETS, has_bad_length, has_over, is_outside_at,
+};
+use crate::members::{Unfit, add_count, add_field, add_members};
+use crate::place::{Place, kind_of};
+use crate::placed::Placed;
+use crate::rules::TableKind;
+use std::alloc::{AllocError, Global};
+use sv_mapping::MAX_PATTERNS;
+
+/// Adds each array, number and name of a table that passes its limit.
+pub(crate) fn add_exceeding<'a>(
+    alloc: Global,
+    places: &mut Vec<Place<'a>>,
+    at: Placed<'a>,
+) -> Result<(), AllocError>
+    ensures { OnOk result (map spot places.new.items ≡ map spot places.old.items ++ spec.exceeding_in (kind_of at.entry.place) (placed at.entry)) }
+{
+    match kind_of(at.place) {
+        TableKind::Top => add_too_many(places, at, "context", MAX_CONTEXTS),
+        TableKind::Cluster => add_in_cluster(places, at),
+        TableKind::Context => add_in_context(alloc, places, at),
+        TableKind::Servlet | TableKind::Filter | TableKind::Listener => {
+            add_field(places, has_bad_length(at.table), at, "name")
+        }
+        TableKind::Mapping => Ok(()),
+        TableKind::Page => add_field(
+            places,
+            is_outside_at(at.table, "status", 400, 599),
+            at,
+            "status",
+        ),
+    }
+}
+
+#[tactic(auto, unfolding(crate::specs::Places::exceeding_in_cluster))]
+fn add_in_cluster<'a>(places: &mut Vec<Place<'a>>, at: Placed<'a>) -> Result<(), AllocError>
+    ensures { OnOk result (map spot places.new.items ≡ map spot places.old.items ++ spec.exceeding_in_cluster (placed at.entry)) }
+{
+    let is_miscounted = is_empty_at(at.table, "ports") || has_over(at.table, "ports", MAX_NODES);
+    add_counted(places, is_miscounted, at, "ports")?;
+    add_members(places, Unfit::NoPort, at, "ports")?;
+    add_field(
+        places,
+        is_outside_at(at.table, "deadline", 1, 86400),
+        at,
+        "deadline",
+    )
+}
+
+#[tactic(auto, unfolding(crate::specs::Places::exceeding_in_context))]
+fn add_in_context<'a>(
+    alloc: Global,
+    places: &mut Vec<Place<'a>>,
+    at: Placed<'a>,
+) -> Result<(), AllocError>
+    ensures { OnOk result (map spot places.new.items ≡ map spot places.old.items ++ spec.exceeding_in_context (placed at.entry)) }
+{
+    let is_outside = is_outside_at(at.table, "interval", -2_147_483_648, 2_147_483_647);
+    add_field(places, is_outside, at, "interval")?;
+    add_too_many(places, at, "servlet", MAX_SERVLETS)?;
+    add_too_many(places, at, "filter", MAX_FILTERS)?;
+    add_too_many(places, at, "filter-mapping", MAX_FILTER_MAPPINGS)?;
+    add_too_many(places, at, "listener", MAX_LISTENERS)?;
+    add_too_many(places, at, "error-page", MAX_ERROR_PAGES)?;
+    add_too_many_patterns(alloc, places, at)
+}
+
+/// Adds an array of more members than the limit.
+fn add_too_many<'a>(
+    places: &mut Vec<Place<'a>>,
+    at: Placed<'a>,
+    key: &'a str,
+    limit: usize,
+) -> Result<(), AllocError>
+    ensures { OnOk result (map spot places.new.items ≡ map spot places.old.items ++ spec.too_many_at limit (placed at.entry) key.now) }
+{
+    add_counted(places, has_over(at.table, key, limit), at, key)
+}
+
+/// Adds an array with the number of its members, where that is wrong.
+fn add_counted<'a>(
+    places: &mut Vec<Place<'a>>,
+    holds: bool,
+    at: Placed<'a>,
+    key: &'a str,
+) -> Result<(), AllocError>
+    ensures { OnOk result (map spot places.new.items ≡ map spot places.old.items ++ spec.counted holds (placed at.entry) key.now) }
+{
+    let count = values_at(at.table, key).len();
+    add_count(places, holds, at, key, count)
+}
+
+/// Adds the patterns of a context's servlets, where they are too many.
+fn add_too_many_patterns<'a>(
+    alloc: Global,
+    places: &mut Vec<Place<'a>>,
+    at: Placed<'a>,
+) -> Result<(), AllocError>
+    ensures { OnOk result (map spot places.new.items ≡ map spot places.old.items ++ spec.too_many_patterns (placed at.entry)) }
+{
+    let servlets = tables_at(alloc, at.table, "servlet")?;
+    let patterns = patterns_of(alloc, &servlets)?;
+    add_count(
+        places,
+        patterns.len() > MAX_PATTERNS,
+        at,
+        "patterns",
+        patterns.len(),
+    )
+}

@@ -1,0 +1,49 @@
+//! Where fields are missing.
+
+ghost use Rattle.std.specs.Prelude.{◌≡◌, ◌++◌, map, OnOk};
+ghost use Rattle.std.specs.List.{flat_map};
+ghost use Rattle.sv_config.specs.Missing.{lacks};
+ghost use Rattle.sv_config.specs.Place.{kind_of, spot, placed, field_where};
+ghost use Rattle.sv_config.specs.Places as spec;
+ghost use Rattle.sv_config.specs.Rules.{rule_of, rules_of};
+
+use crate::members::add_field;
+use crate::missing::{lacks, lacks_contents};
+use crate::place::{Place, kind_of};
+use crate::placed::Placed;
+use crate::rules::{FieldRule, TableKind, rules};
+use std::alloc::AllocError;
+
+/// Adds each field that a table lacks.
+pub(crate) fn add_missing<'a>(places: &mut Vec<Place<'a>>, at: Placed<'a>) -> Result<(), AllocError>
+    ensures { OnOk result (map spot places.new.items ≡ map spot places.old.items ++ spec.missing_places (placed at.entry)) }
+{
+    add_required(places, at, rules(kind_of(at.place)))?;
+    add_contents(places, at)?;
+    Ok(())
+}
+
+fn add_required<'a>(
+    places: &mut Vec<Place<'a>>,
+    at: Placed<'a>,
+    rules: &[FieldRule],
+) -> Result<(), AllocError>
+    ensures { OnOk result (map spot places.new.items ≡ map spot places.old.items ++ flat_map (λ rule. field_where (lacks (placed at.entry).1 rule) (placed at.entry) rule.key) (map rule_of rules.now)) }
+{
+    for rule in rules {
+        add_field(places, lacks(at.table, rule), at, rule.key)?;
+    }
+    Ok(())
+}
+
+/// Adds what is missing beside single fields.
+fn add_contents<'a>(places: &mut Vec<Place<'a>>, at: Placed<'a>) -> Result<(), AllocError>
+    ensures { OnOk result (map spot places.new.items ≡ map spot places.old.items ++ spec.lacking_in (kind_of at.entry.place) (placed at.entry)) }
+{
+    let kind = kind_of(at.place);
+    match kind {
+        TableKind::Top => add_field(places, lacks_contents(kind, at.table), at, "context"),
+        TableKind::Mapping => add_field(places, lacks_contents(kind, at.table), at, "pattern"),
+        _ => Ok(()),
+    }
+}

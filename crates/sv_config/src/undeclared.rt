@@ -1,0 +1,144 @@
+//! Where names stand that nothing declares.
+
+ghost use Rattle.std.specs.Prelude.{◌≡◌, ◌++◌, map, IfOk, OnOk, codes};
+ghost use Rattle.std.specs.BTreeSet.{contains_by};
+ghost use Rattle.std.specs.Cmp.Lexicographic.{slice_cmp};
+ghost use Rattle.std.specs.List.{flat_map};
+ghost use Rattle.std.specs.Ordering.{nat_cmp};
+ghost use Rattle.toml.specs.View.{table_view};
+ghost use Rattle.sv_config.specs.Document.{column};
+ghost use Rattle.sv_config.specs.Place.{kind_of, spot, placed, child, field_where};
+ghost use Rattle.sv_config.specs.Places as spec;
+ghost use Rattle.sv_config.specs.Rules.{rule_of, rules_of};
+ghost use Rattle.sv_config.specs.Spelling.{fails_at};
+ghost use Rattle.sv_config.specs.Unknown as spec_of_names;
+
+use crate::columns::column;
+use crate::document::text_at;
+use crate::lists::names_of;
+use crate::members::{Unfit, add_field, add_members};
+use crate::place::{Found, Place, TablePlace, kind_of};
+use crate::placed::{Placed, children};
+use crate::rules::{FieldRule, TableKind, rules};
+use crate::unknown::is_listed;
+use std::alloc::{AllocError, Global};
+use std::collections::BTreeSet;
+use toml::Table;
+
+/// Adds each key, dispatcher, filter and servlet of a table that nothing declares.
+pub(crate) fn add_unknown<'a>(
+    alloc: Global,
+    places: &mut Vec<Place<'a>>,
+    at: Placed<'a>,
+) -> Result<(), AllocError>
+    ensures { OnOk result (map spot places.new.items ≡ map spot places.old.items ++ spec.unknown_places (placed at.entry)) }
+{
+    add_unlisted(places, at, rules(kind_of(at.place)))?;
+    add_unknown_names(alloc, places, at)
+}
+
+fn add_unlisted<'a>(
+    places: &mut Vec<Place<'a>>,
+    at: Placed<'a>,
+    rules: &[FieldRule],
+) -> Result<(), AllocError>
+    ensures { OnOk result (map spot places.new.items ≡ map spot places.old.items ++ spec.unlisted_among (map rule_of rules.now) at.entry.place (placed at.entry).1) }
+{
+    for (key, _) in at.table.iter() {
+        if !is_known(rules, key) {
+            places.push(Place {
+                table: at.place,
+                key: key.as_str(),
+                index: None,
+                found: Found::Nothing,
+            })?;
+        }
+    }
+    Ok(())
+}
+
+/// Whether a rule has the key.
+fn is_known(rules: &[FieldRule], key: &str) -> bool
+    ensures { result ≡ spec_of_names.is_listed (map rule_of rules.now) key.now }
+{
+    is_listed(rules, key)
+}
+
+fn add_unknown_names<'a>(
+    alloc: Global,
+    places: &mut Vec<Place<'a>>,
+    at: Placed<'a>,
+) -> Result<(), AllocError>
+    ensures { OnOk result (map spot places.new.items ≡ map spot places.old.items ++ spec.unknown_in (kind_of at.entry.place) (placed at.entry)) }
+{
+    match kind_of(at.place) {
+        TableKind::Context => {
+            add_undeclared(alloc, places, at, "filter")?;
+            add_undeclared(alloc, places, at, "servlet")
+        }
+        TableKind::Mapping => add_members(places, Unfit::NoDispatcher, at, "dispatch"),
+        _ => Ok(()),
+    }
+}
+
+/// The number of the context that a table is, or is in.
+pub(crate) fn number_of(place: TablePlace) -> usize
+    ensures { result ≡ spec.number_of place }
+{
+    match place {
+        TablePlace::Document | TablePlace::OfNodes => 0,
+        TablePlace::OfContext(context) => context,
+        TablePlace::Within { context, .. } => context,
+    }
+}
+
+/// Adds each filter mapping of a context that names at a key what the array at that key does not declare.
+fn add_undeclared<'a>(
+    alloc: Global,
+    places: &mut Vec<Place<'a>>,
+    at: Placed<'a>,
+    key: &'a str,
+) -> Result<(), AllocError>
+    ensures { OnOk result (map spot places.new.items ≡ map spot places.old.items ++ spec.undeclared_at key.now (placed at.entry)) }
+{
+    let declared = column(alloc, at.table, key, "name")?;
+    let mappings = children(alloc, at.table, "filter-mapping")?;
+    let context = number_of(at.place);
+    add_strangers(alloc, places, context, key, &declared, &mappings)
+}
+
+/// Adds each of these filter mappings of a context that names at the key what is not declared.
+fn add_strangers<'a>(
+    alloc: Global,
+    places: &mut Vec<Place<'a>>,
+    context: usize,
+    key: &'a str,
+    declared: &[&str],
+    mappings: &[(usize, &'a Table)],
+) -> Result<(), AllocError>
+    ensures { OnOk result (map spot places.new.items ≡ map spot places.old.items ++ flat_map (spec.stranger_at context key.now (map (λ name. name.now) declared.now)) (map child mappings.now)) }
+{
+    let names = names_of(alloc, declared)?;
+    for (index, table) in mappings {
+        let at = Placed {
+            place: TablePlace::Within {
+                context,
+                kind: TableKind::Mapping,
+                index: *index,
+            },
+            table,
+        };
+        add_field(places, is_undeclared(&names, table, key), at, key)?;
+    }
+    Ok(())
+}
+
+/// Whether the text at a key is none of the names.
+fn is_undeclared(names: &BTreeSet<&str>, table: &Table, key: &str) -> bool
+    ensures { result ≡ fails_at (λ text. contains_by (λ name. slice_cmp nat_cmp text name.now) names.now) key.now (table_view table.now) }
+{
+    match text_at(table, key) {
+        Some(text) => !names.contains(text),
+        None => false,
+    }
+}
