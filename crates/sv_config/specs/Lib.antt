@@ -10,4 +10,5 @@ pub mod Limits
 pub mod Fault
 pub mod Place
 pub mod Places
+pub mod Listed
 pub mod Values

@@ -18,7 +18,7 @@ use toml::Table;
 /// A descriptor as a document of TOML 1.1, with its faults if it has any.
 #[derive(Drop)]
 pub struct Document {
-    table: Table,
+    pub(crate) table: Table,
 }
 
 /// Why a text is not looked into.
@@ -54,7 +54,8 @@ impl Document {
 
     /// The descriptor's least fault with each place where it stands, or `None` where it has no fault.
     pub fn faults(&self, alloc: Global) -> Result<Option<Faulty<'_>>, AllocError>
-        ensures { IfOk result (λ found. option_map (λ f. (f.fault, map spot f.places.items)) found ≡ spec.faults_of (table_view self.now.table)) }
+        ensures places { IfOk result (λ found. option_map (λ f. (f.fault, map spot f.places.items)) found ≡ spec.faults_of (table_view self.now.table)) }
+        ensures fault { IfOk result (λ found. option_map (λ f. f.fault) found ≡ fault_of (table_view self.now.table)) }
     {
         match least_fault(alloc, &self.table)? {
             Some(fault) => Ok(Some(with_places(alloc, &self.table, fault)?)),

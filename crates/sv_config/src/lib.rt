@@ -22,6 +22,7 @@ mod lacking;
 mod laws;
 mod least;
 mod limits;
+mod listed;
 mod lists;
 mod mappings;
 mod members;
