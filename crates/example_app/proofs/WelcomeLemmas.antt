@@ -1,4 +1,4 @@
--- The servlet goes on with what it is lent.
+-- The answer goes on with what it is lent.
 use Rattle.std.proofs.Common.{Result, Ok, Err, IfOk}
 use Rattle.std.specs.Prelude.{codes}
 use Rattle.sv_session.proofs.EditLemmas.{KeepsEdit-refl}

@@ -9,8 +9,9 @@ use std::alloc::Global;
 use sv_config::Deployment;
 use sv_container::{Container, Named};
 use sv_model::Engine;
+use sv_servlet::GenericServlet;
 
-pub type Desk = Container<Welcome, Latch, Visits>;
+pub type Desk = Container<GenericServlet<Welcome>, Latch, Visits>;
 
 const DESCRIPTOR: &str = r#"[[context]]
 path = "/desk"
@@ -31,7 +32,7 @@ pub fn start(alloc: Global) -> Option<Desk>
         .push(Named {
             context: 0,
             name,
-            object: Welcome::new(),
+            object: GenericServlet::new(Welcome),
         })
         .ok()?;
     let mut filters = Vec::new(alloc);

@@ -1,18 +1,15 @@
-//! A servlet.
+//! What a servlet answers.
 
 ghost use Rattle.std.specs.Prelude.{◌≡◌, OnOk, Ok};
 ghost use Rattle.sv_servlet.specs.Reply.{write_result};
-ghost use Rattle.sv_servlet.specs.declared.servlet.Phase.TheVariants.{New};
 
 use std::alloc::AllocError;
-use sv_servlet::{Call, InitFault, Next, Phase, Reply, Servlet};
+use sv_servlet::{Answers, Call, Next, Reply};
 use sv_session::SessionEdit;
 
 /// Welcomes whoever asks.
 #[derive(Drop)]
-pub struct Welcome {
-    phase: Phase,
-}
+pub struct Welcome;
 
 /// Writes a text. Where the reply takes no more, the request ends as one for which memory is refused.
 fn write(reply: &mut Reply, text: &str) -> Result<(), AllocError>
@@ -24,27 +21,12 @@ fn write(reply: &mut Reply, text: &str) -> Result<(), AllocError>
     }
 }
 
-impl Welcome {
-    pub fn new() -> Welcome
-        ensures { ⟦<Welcome as Servlet>⟧.servlet_phase result ≡ New }
-    {
-        Welcome { phase: Phase::New }
-    }
-}
-
-impl Servlet for Welcome {
+impl Answers for Welcome {
     ghost use Rattle.example_app.specs.Welcome.{welcomed};
 
-    ghost serves = { λ _. welcomed };
+    ghost answers = { λ _. welcomed };
 
-    ghost servlet_phase = { λ w. w.phase };
-
-    fn init(&mut self) -> Result<(), InitFault> {
-        self.phase = Phase::Ready;
-        Ok(())
-    }
-
-    fn service(
+    fn answer(
         &mut self,
         _call: &Call<'_>,
         _edit: &mut SessionEdit,
@@ -54,7 +36,5 @@ impl Servlet for Welcome {
         Ok(Next::Done)
     }
 
-    fn destroy(&mut self) {
-        self.phase = Phase::Destroyed;
-    }
+    fn goes_on(&self) {}
 }

@@ -1,5 +1,5 @@
 use Rattle.example_app.proofs.WelcomeLemmas.{welcomed_keeps}
-use Rattle.example_app.proofs.welcome.WelcomeServlet.init.Goals as goal
+use Rattle.example_app.proofs.welcome.WelcomeAnswers.goes_on.Goals as goal
 
 pub returns-clause-keeps_edits : goal.returns-clause-keeps_edits
 returns-clause-keeps_edits c call l = (welcomed_keeps call l).edit
