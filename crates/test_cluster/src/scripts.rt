@@ -7,6 +7,11 @@ use crate::trouble::Trouble;
 use std::fs;
 use sv_cluster::{Words, run_script};
 
+/// For how many seconds a request may wait: a cluster with a mistake is told before the program's time is over.
+const DEADLINE: &str = "deadline = 5";
+
+const SHORT_DEADLINE: &str = "deadline = 1";
+
 /// A session that lives on three nodes in turn, one of which is halted and started again. Each count is one more than the last,
 /// wherever the session is.
 const MOVED: &str = "start 0
@@ -72,18 +77,18 @@ fn first_sessions(rt: &HostRuntime, cluster: &Cluster) -> Result<String, Trouble
 /// It was made at node 0 in epoch 1, and was handed to 1, to 2, and back to 0. Each node is a process of its own, of which that of
 /// node 2 was started twice.
 pub fn moved(rt: &HostRuntime) -> Result<String, Trouble> {
-    let cluster = Cluster::new(rt, "moved", 3, "")?;
+    let cluster = Cluster::new(rt, "moved", 3, DEADLINE)?;
     let said = play(rt, &cluster, MOVED)?;
     let held = first_sessions(rt, &cluster)?;
     Ok(format!(in rt.alloc(); "{said}; {held}")?)
 }
 
 pub fn in_turn(rt: &HostRuntime) -> Result<String, Trouble> {
-    let cluster = Cluster::new(rt, "in-turn", 3, "")?;
+    let cluster = Cluster::new(rt, "in-turn", 3, DEADLINE)?;
     play(rt, &cluster, IN_TURN)
 }
 
 pub fn absent(rt: &HostRuntime) -> Result<String, Trouble> {
-    let cluster = Cluster::new(rt, "absent", 2, "deadline = 1")?;
+    let cluster = Cluster::new(rt, "absent", 2, SHORT_DEADLINE)?;
     play(rt, &cluster, ABSENT)
 }
