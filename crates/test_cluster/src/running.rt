@@ -57,7 +57,7 @@ fn launch_node(rt: &HostRuntime, cluster: &Cluster, node: u8) -> Result<Running,
 /// Starts a node of a cluster, and waits until it says that it is ready.
 pub fn start(rt: &HostRuntime, cluster: &Cluster, node: u8) -> Result<Running, Trouble> {
     let mut running = launch_node(rt, cluster, node)?;
-    running.hear_ready(node)?;
+    running.hear_ready(rt.alloc(), node)?;
     Ok(running)
 }
 
@@ -73,16 +73,14 @@ fn ending(alloc: Global, status: ExitStatus, complaint: &[u8]) -> Result<String,
 
 impl Running {
     /// Waits for the line `ready` with the node's number.
-    fn hear_ready(&mut self, node: u8) -> Result<(), Trouble> {
+    fn hear_ready(&mut self, alloc: Global, node: u8) -> Result<(), Trouble> {
         let Some(output) = self.process.stdout.as_mut() else {
             return Err(Trouble::NotReady);
         };
+        let ready = format!(in alloc; "ready {node}\n")?;
         let mut said = [0u8; 8];
-        if output.read_exact(&mut said).is_err() {
-            return Err(Trouble::NotReady);
-        }
-        match said {
-            [b'r', b'e', b'a', b'd', b'y', b' ', digit, b'\n'] if digit == b'0' | node => Ok(()),
+        match output.read_exact(&mut said) {
+            Ok(()) if said.as_slice() == ready.as_bytes() => Ok(()),
             _ => Err(Trouble::NotReady),
         }
     }

@@ -2,6 +2,7 @@
 
 ghost use Rattle.std.specs.Prelude.{◌≡◌, IfOk};
 ghost use Rattle.sv_container.specs.Life.{AreNamedNew};
+ghost use Rattle.sv_servlet.specs.declared.servlet.Phase.TheVariants.{New};
 
 use crate::noting::{Diary, NotingFilter, NotingListener, NotingServlet, Pen};
 use std::alloc::{AllocError, Global};
@@ -20,10 +21,32 @@ pub fn new_diary(alloc: Global) -> Result<Diary, AllocError> {
     Ok(Rc::new(alloc, RefCell::new(String::new(alloc)))?)
 }
 
-fn pen_of(diary: &Diary, name: &'static str) -> Result<Pen, AllocError> {
+fn pen_of(alloc: Global, diary: &Diary, name: &str) -> Result<Pen, AllocError> {
     Ok(Pen {
-        name,
+        name: String::from_str(alloc, name)?,
         diary: diary.clone()?,
+    })
+}
+
+/// A servlet that can be initialised, as it was made.
+pub fn servlet_of(alloc: Global, diary: &Diary, name: &str) -> Result<NotingServlet, AllocError>
+    ensures { IfOk result (λ s. s.phase ≡ New) }
+{
+    Ok(NotingServlet {
+        pen: pen_of(alloc, diary, name)?,
+        is_able: true,
+        phase: Phase::New,
+    })
+}
+
+/// A filter that can be initialised, as it was made.
+pub fn filter_of(alloc: Global, diary: &Diary, name: &str) -> Result<NotingFilter, AllocError>
+    ensures { IfOk result (λ f. f.phase ≡ New) }
+{
+    Ok(NotingFilter {
+        pen: pen_of(alloc, diary, name)?,
+        is_able: true,
+        phase: Phase::New,
     })
 }
 
@@ -40,7 +63,7 @@ pub fn servlets_of(
     for part in parts {
         let (context, name) = *part;
         let object = NotingServlet {
-            pen: pen_of(diary, name)?,
+            pen: pen_of(alloc, diary, name)?,
             is_able: name != unable,
             phase: Phase::New,
         };
@@ -67,7 +90,7 @@ pub fn filters_of(
     for part in parts {
         let (context, name) = *part;
         let object = NotingFilter {
-            pen: pen_of(diary, name)?,
+            pen: pen_of(alloc, diary, name)?,
             is_able: name != unable,
             phase: Phase::New,
         };
@@ -90,7 +113,7 @@ pub fn listeners_of(
     for part in parts {
         let (context, name) = *part;
         let object = NotingListener {
-            pen: pen_of(diary, name)?,
+            pen: pen_of(alloc, diary, name)?,
         };
         let name = String::from_str(alloc, name)?;
         all.push(Named {

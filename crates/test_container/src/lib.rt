@@ -7,6 +7,8 @@
 #![tactic(auto)]
 
 #[cfg(test)]
+mod boxed;
+#[cfg(test)]
 mod cast;
 #[cfg(test)]
 mod events;

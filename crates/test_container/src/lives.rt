@@ -15,7 +15,7 @@ use sv_model::Engine;
 
 pub type Noted = Container<NotingServlet, NotingFilter, NotingListener>;
 
-const DESCRIPTOR: &str = r#"[[context]]
+pub const DESCRIPTOR: &str = r#"[[context]]
 path = "/a"
 servlet = [{ name = "s1", patterns = ["/1"] }, { name = "s2", patterns = ["/2"] }]
 filter = [{ name = "f1" }, { name = "f2" }]
@@ -31,17 +31,18 @@ listener = [{ name = "l3" }, { name = "l4" }]
 "#;
 
 // Handed in in another order than they are declared.
-const SERVLETS: [Part; 3] = [(1, "s3"), (0, "s2"), (0, "s1")];
+pub const SERVLETS: [Part; 3] = [(1, "s3"), (0, "s2"), (0, "s1")];
 
-const FILTERS: [Part; 3] = [(0, "f2"), (1, "f3"), (0, "f1")];
+pub const FILTERS: [Part; 3] = [(0, "f2"), (1, "f3"), (0, "f1")];
 
-const LISTENERS: [Part; 4] = [(1, "l4"), (0, "l2"), (1, "l3"), (0, "l1")];
+pub const LISTENERS: [Part; 4] = [(1, "l4"), (0, "l2"), (1, "l3"), (0, "l1")];
 
-const NAMES: [&str; 10] = ["s1", "s2", "s3", "f1", "f2", "f3", "l1", "l2", "l3", "l4"];
+pub const NAMES: [&str; 10] = ["s1", "s2", "s3", "f1", "f2", "f3", "l1", "l2", "l3", "l4"];
 
 // A context's listeners hear before its filters are initialised, and these are before its servlets; each in the order of
 // declaration, and so are the contexts.
-const STARTED: &str = "l1.up l2.up f1.init f2.init s1.init s2.init l3.up l4.up f3.init s3.init ";
+pub const STARTED: &str =
+    "l1.up l2.up f1.init f2.init s1.init s2.init l3.up l4.up f3.init s3.init ";
 
 /// The two applications, started; the servlet or filter that is called `unable` can't be initialised.
 pub fn started(alloc: Global, diary: &Diary, unable: &str) -> Result<Noted, Fail>

@@ -18,14 +18,14 @@ pub type Diary = Rc<RefCell<String>>;
 
 /// Writes into the diary for an object, and writes when it is dropped.
 pub struct Pen {
-    pub name: &'static str,
+    pub name: String,
     pub diary: Diary,
 }
 
 impl Pen {
     fn note(&self, word: &str) {
         if let Ok(mut notes) = self.diary.try_borrow_mut() {
-            let _ = notes.push_str(self.name);
+            let _ = notes.push_str(self.name.as_str());
             let _ = notes.push_str(".");
             let _ = notes.push_str(word);
             let _ = notes.push_str(" ");

@@ -25,7 +25,7 @@ fn request_for(alloc: Global, path: &str) -> Result<Request, AllocError> {
 }
 
 /// Serves a request for a path, and tells what is to be told; the status.
-fn serve<E: Engine>(alloc: Global, engine: &mut E, path: &str) -> Result<u16, Fail>
+pub fn serve<E: Engine>(alloc: Global, engine: &mut E, path: &str) -> Result<u16, Fail>
     requires { E.valid engine.old }
     ensures { E.valid engine.new }
 {
