@@ -3,6 +3,7 @@
 mod connections;
 mod containers;
 mod cores;
+mod dispatches;
 mod journals;
 mod model;
 mod nodes;
@@ -17,7 +18,7 @@ use crate::again::{Refusals, Unshown};
 use std::alloc::Global;
 
 /// All of them, in the order of the floors.
-pub const NAMES: [&str; 86] = [
+pub const NAMES: [&str; 88] = [
     "text-copy",
     "bytes-copy",
     "field-copy",
@@ -40,6 +41,7 @@ pub const NAMES: [&str; 86] = [
     "attributes-insert",
     "attributes-insert-again",
     "attributes-names",
+    "attributes-push",
     "plain-body",
     "plain-page",
     "reader-feed-next",
@@ -77,6 +79,7 @@ pub const NAMES: [&str; 86] = [
     "faulty",
     "stamp",
     "gate",
+    "dispatch-run",
     "container-start",
     "container-serve",
     "record-read-write",
@@ -177,6 +180,7 @@ fn of_records(alloc: Global, refusals: &mut Refusals, name: &str) -> Shown {
 
 fn of_container(alloc: Global, refusals: &mut Refusals, name: &str) -> Shown {
     match name {
+        "dispatch-run" => dispatches::dispatched(alloc, refusals),
         "container-start" => containers::start(alloc, refusals),
         "container-serve" => containers::serve_again(alloc, refusals),
         _ => of_records(alloc, refusals, name),
@@ -261,6 +265,7 @@ pub fn shown(alloc: Global, refusals: &mut Refusals, name: &str) -> Shown {
         "attributes-insert" => model::inserted(alloc, refusals),
         "attributes-insert-again" => model::inserted_again(alloc, refusals),
         "attributes-names" => model::names(alloc, refusals),
+        "attributes-push" => model::pushed(alloc, refusals),
         "plain-body" => model::body(alloc, refusals),
         "plain-page" => model::page(alloc, refusals),
         _ => of_web(alloc, refusals, name),

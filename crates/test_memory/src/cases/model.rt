@@ -1,12 +1,14 @@
 //! The plain data: copies, attributes, lists, pages.
 
+ghost use Rattle.std.specs.Prelude.{◌≡◌, [], OnErr};
+
 use crate::again::{Refusals, Unshown, again};
 use crate::{given, shown};
 use http::StatusCode;
 use std::alloc::{AllocError, Global};
 use sv_model::{
-    Change, Commit, Copied, Event, Input, KeyState, Output, Packet, Record, Sequence, Token, Told,
-    plain_body, plain_page,
+    Attributes, Change, Commit, Copied, Event, Input, KeyState, Output, Packet, Record, Sequence,
+    Text, Token, Told, plain_body, plain_page,
 };
 
 type Shown = Result<String, Unshown>;
@@ -250,6 +252,29 @@ pub fn names(alloc: Global, refusals: &mut Refusals) -> Shown {
         [name] => Ok(String::from_str(alloc, name.as_str())?),
         _ => Err(Unshown::Other),
     }
+}
+
+/// Adds the first attribute, above all that are there.
+fn push_first(alloc: Global, attributes: &mut Attributes) -> Result<(), AllocError>
+    requires { attributes.old ≡ [] }
+    ensures { OnErr result (attributes.new ≡ []) }
+{
+    let name = Text::from_str(alloc, "user")?;
+    let value = Sequence::from_vec(Vec::from_slice(alloc, b"ann")?);
+    attributes.push(name, value)
+}
+
+/// The name and the value are made anew; the one growth of the call itself is the room of the list.
+pub fn pushed(alloc: Global, refusals: &mut Refusals) -> Shown {
+    let mut attributes = Attributes::new(alloc);
+    if push_first(alloc, &mut attributes).is_err() {
+        refusals.add();
+        if attributes.size() != 0 {
+            return Err(Unshown::Other);
+        }
+        push_first(alloc, &mut attributes)?;
+    }
+    Ok(shown::attributes(alloc, &attributes)?)
 }
 
 pub fn body(alloc: Global, refusals: &mut Refusals) -> Shown {
