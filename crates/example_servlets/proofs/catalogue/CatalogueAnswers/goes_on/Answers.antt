@@ -1,0 +1,8 @@
+use Rattle.example_servlets.proofs.AnswerLemmas.{catalogue_keeps}
+use Rattle.example_servlets.proofs.catalogue.CatalogueAnswers.goes_on.Goals as goal
+
+pub returns-clause-keeps_edits : goal.returns-clause-keeps_edits
+returns-clause-keeps_edits c call l = (catalogue_keeps c.args.self.now.articles.now call l).edit
+
+pub returns-clause-keeps_replies : goal.returns-clause-keeps_replies
+returns-clause-keeps_replies c call l = (catalogue_keeps c.args.self.now.articles.now call l).reply

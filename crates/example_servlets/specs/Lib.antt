@@ -1,0 +1,12 @@
+pub mod Basket
+pub mod Catalogue
+pub mod Checkout
+pub mod Error
+pub mod Guard
+pub mod Kept
+pub mod Login
+pub mod Orders
+pub mod Sent
+pub mod Shop
+pub mod Style
+pub mod Told

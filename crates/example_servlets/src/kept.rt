@@ -1,0 +1,64 @@
+//! What the shop keeps in a session.
+
+ghost use Rattle.std.specs.Prelude.{◌≡◌, OnOk, option_copied};
+ghost use Rattle.sv_session.specs.Calls.{after, change_id_result, create_result, value_result};
+ghost use Rattle.example_servlets.specs.Kept.{has_session, seen};
+
+use std::alloc::AllocError;
+use sv_session::SessionEdit;
+
+/// The attribute that holds the cart.
+pub const CART: &str = "cart";
+
+/// The attribute that holds the last order.
+pub const ORDER: &str = "order";
+
+/// The attribute that holds the name of whoever has logged in.
+pub const NAME: &str = "name";
+
+/// What an attribute holds; none where there is no such attribute, or no session.
+pub fn seen<'a>(edit: &'a SessionEdit, name: &str) -> Option<&'a [u8]>
+    ensures { option_copied result ≡ seen edit.entry.now name.now }
+{
+    match edit.get(name) {
+        Ok(value) => value,
+        Err(_) => None,
+    }
+}
+
+/// There is a session.
+pub fn has_session(edit: &SessionEdit) -> bool
+    ensures { result ≡ has_session edit.entry.now }
+{
+    edit.key().is_ok()
+}
+
+/// Makes a session where there is none.
+pub fn create(edit: &mut SessionEdit) -> Result<(), AllocError>
+    ensures { OnOk result (edit.new ≡ after edit.old (create_result edit.old)) }
+{
+    match edit.create() {
+        Ok(_) => Ok(()),
+        Err(_) => Err(AllocError),
+    }
+}
+
+/// Gives the session another id.
+pub fn change_id(edit: &mut SessionEdit) -> Result<(), AllocError>
+    ensures { OnOk result (edit.new ≡ after edit.old (change_id_result edit.old)) }
+{
+    match edit.change_id() {
+        Ok(()) => Ok(()),
+        Err(_) => Err(AllocError),
+    }
+}
+
+/// Keeps a value under a name.
+pub fn keep(edit: &mut SessionEdit, name: &str, value: &[u8]) -> Result<(), AllocError>
+    ensures { OnOk result (edit.new ≡ after edit.old (value_result edit.old name.now value.now)) }
+{
+    match edit.set(name, Some(value)) {
+        Ok(()) => Ok(()),
+        Err(_) => Err(AllocError),
+    }
+}
