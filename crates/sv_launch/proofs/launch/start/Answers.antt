@@ -14,6 +14,6 @@ boxed at i y x made = read_made own-1 (own-1.entry at) at refl Phase (λ e v. e.
 pub loop-entry-preserved : goal.loop-entry-preserved
 loop-entry-preserved g c =
     let fresh : (own-1.entry c.into_dyn_box.result.vtable).1.servlet_phase c.into_dyn_box.result.value ≡ New =
-        boxed (inl tt) c.into_dyn_box.result.vtable c.into_dyn_box.result.value c.in_ok-new.field-0.value c.into_dyn_box.ensures.1 ∙ (rw c.in_ok-new.ensures.ok c.new.ensures.phase)
+    boxed (inl tt) c.into_dyn_box.result.vtable c.into_dyn_box.result.value c.in_ok-new.field-0.value c.into_dyn_box.ensures.1 ∙ (rw c.in_ok-new.ensures.ok c.new.ensures.phase)
     in
     rw c.in_ok-push.ensures.items (All-push (λ n. (own-1.entry n.object.vtable).1.servlet_phase n.object.value ≡ New) _ _ c.loop-entry.invariant fresh)
