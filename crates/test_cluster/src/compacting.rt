@@ -86,13 +86,28 @@ fn lengths(rt: &HostRuntime, cluster: &Cluster) -> Result<String, Trouble> {
     Ok(format!(in rt.alloc(); "{a} and {b} bytes")?)
 }
 
+/// A node is started, a session is counted so often, and the node is halted: what the last answer says, and how long the files are.
+fn run_and_measure(
+    rt: &HostRuntime,
+    cluster: &Cluster,
+    client: &mut Client,
+    times: u32,
+) -> Result<String, Trouble> {
+    let said = run_for(rt, cluster, client, times)?;
+    let lengths = lengths(rt, cluster)?;
+    Ok(format!(in rt.alloc(); "{said}, {lengths}")?)
+}
+
+/// A count that is the first past the limit, and one more.
+fn counts(rt: &HostRuntime, cluster: &Cluster, client: &mut Client) -> Result<String, Trouble> {
+    let first = run_and_measure(rt, cluster, client, 64)?;
+    let second = run_and_measure(rt, cluster, client, 1)?;
+    Ok(format!(in rt.alloc(); "{first}; {second}")?)
+}
+
 pub fn compacted(rt: &HostRuntime) -> Result<String, Trouble> {
     let cluster = Cluster::new(rt, "compacted", 1, "")?;
     let mut client = Client::new();
     log_in(rt, &cluster, &mut client)?;
-    let before = run_for(rt, &cluster, &mut client, 64)?;
-    let first = lengths(rt, &cluster)?;
-    let behind = run_for(rt, &cluster, &mut client, 1)?;
-    let second = lengths(rt, &cluster)?;
-    Ok(format!(in rt.alloc(); "{before}, {first}; {behind}, {second}")?)
+    counts(rt, &cluster, &mut client)
 }

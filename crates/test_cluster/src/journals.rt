@@ -11,13 +11,23 @@ use sv_model::{Key, KeyState, Record, Setting};
 /// The first session that node 0 makes.
 const FIRST: Key = Key { home: 0, serial: 1 };
 
-/// The records of a node's journal, with which it opens from its two files.
+/// The second file beside the one at a path.
+fn other(rt: &HostRuntime, path: &str) -> Result<Vec<u8>, Trouble> {
+    let other = format!(in rt.alloc(); "{path}.b")?;
+    Ok(fs::read(rt, other.as_str())?)
+}
+
+/// The entries with which a journal opens from its two files.
+fn entries(rt: &HostRuntime, path: &str) -> Result<Vec<Vec<u8>>, Trouble> {
+    let a = fs::read(rt, path)?;
+    let b = other(rt, path)?;
+    Ok(entries_of(rt.alloc(), a.as_slice(), b.as_slice())?)
+}
+
+/// The records of a node's journal.
 fn records(rt: &HostRuntime, cluster: &Cluster, node: u8) -> Result<Vec<Record>, Trouble> {
     let path = cluster.journal(rt.alloc(), node)?;
-    let other = format!(in rt.alloc(); "{path}.b")?;
-    let a = fs::read(rt, path.as_str())?;
-    let b = fs::read(rt, other.as_str())?;
-    let entries = entries_of(rt.alloc(), a.as_slice(), b.as_slice())?;
+    let entries = entries(rt, path.as_str())?;
     Ok(records_of(rt.alloc(), entries.as_slice())?)
 }
 
@@ -47,10 +57,15 @@ fn known(alloc: Global, state: Option<&KeyState>) -> Result<String, AllocError> 
     }
 }
 
+/// How often a node was started, and what it knows of the first session.
+fn told(alloc: Global, core: &Core<()>) -> Result<String, AllocError> {
+    let known = known(alloc, core.state(FIRST))?;
+    format!(in alloc; "start {}, {known}", core.boot())
+}
+
 /// What a node's journal has of the first session of node 0, and how often the node was started.
 pub fn first_session(rt: &HostRuntime, cluster: &Cluster, node: u8) -> Result<String, Trouble> {
     let records = records(rt, cluster, node)?;
     let core = recovered(rt.alloc(), node, records.as_slice())?;
-    let known = known(rt.alloc(), core.state(FIRST))?;
-    Ok(format!(in rt.alloc(); "start {}, {known}", core.boot())?)
+    Ok(told(rt.alloc(), &core)?)
 }

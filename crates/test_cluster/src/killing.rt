@@ -28,14 +28,25 @@ fn asked_and_killed(
     Ok(said)
 }
 
+/// The same once more: what was said before, and what is said now.
+fn again(
+    rt: &HostRuntime,
+    cluster: &Cluster,
+    node: u8,
+    client: &mut Client,
+    before: &str,
+) -> Result<String, Trouble> {
+    let said = asked_and_killed(rt, cluster, node, client)?;
+    Ok(format!(in rt.alloc(); "{before}, {said}")?)
+}
+
 /// A node that is killed behind each answer.
 pub fn between(rt: &HostRuntime) -> Result<String, Trouble> {
     let cluster = Cluster::new(rt, "between", 1, "")?;
     let mut client = Client::new();
-    let first = asked_and_killed(rt, &cluster, 0, &mut client)?;
-    let second = asked_and_killed(rt, &cluster, 0, &mut client)?;
-    let third = asked_and_killed(rt, &cluster, 0, &mut client)?;
-    Ok(format!(in rt.alloc(); "{first}, {second}, {third}")?)
+    let mut said = asked_and_killed(rt, &cluster, 0, &mut client)?;
+    said = again(rt, &cluster, 0, &mut client, said.as_str())?;
+    again(rt, &cluster, 0, &mut client, said.as_str())
 }
 
 /// Starts a node, sends it all of a request but the last byte, and kills it.
@@ -58,10 +69,9 @@ fn half_asked_and_killed(
 pub fn within(rt: &HostRuntime) -> Result<String, Trouble> {
     let cluster = Cluster::new(rt, "within", 1, "")?;
     let mut client = Client::new();
-    let first = asked_and_killed(rt, &cluster, 0, &mut client)?;
+    let said = asked_and_killed(rt, &cluster, 0, &mut client)?;
     half_asked_and_killed(rt, &cluster, 0, &client)?;
-    let second = asked_and_killed(rt, &cluster, 0, &mut client)?;
-    Ok(format!(in rt.alloc(); "{first}, {second}")?)
+    again(rt, &cluster, 0, &mut client, said.as_str())
 }
 
 /// Waits until somebody calls, for ten seconds.
@@ -91,13 +101,22 @@ fn killed_while_one_waits(
     await_call(rt, &peer)
 }
 
+/// Starts both nodes, asks node 1 for the session, and kills them.
+fn found_at_the_other(
+    rt: &HostRuntime,
+    cluster: &Cluster,
+    client: &mut Client,
+    before: &str,
+) -> Result<String, Trouble> {
+    let _peer = start(rt, cluster, 0)?;
+    again(rt, cluster, 1, client, before)
+}
+
 /// A node that is killed while a client waits at it for a session of another node: the session is where it was, and isn't counted.
 pub fn waiting(rt: &HostRuntime) -> Result<String, Trouble> {
     let cluster = Cluster::new(rt, "waiting", 2, "")?;
     let mut client = Client::new();
-    let first = asked_and_killed(rt, &cluster, 0, &mut client)?;
+    let said = asked_and_killed(rt, &cluster, 0, &mut client)?;
     killed_while_one_waits(rt, &cluster, &client)?;
-    let _peer = start(rt, &cluster, 0)?;
-    let second = asked_and_killed(rt, &cluster, 1, &mut client)?;
-    Ok(format!(in rt.alloc(); "{first}, {second}")?)
+    found_at_the_other(rt, &cluster, &mut client, said.as_str())
 }

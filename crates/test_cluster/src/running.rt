@@ -31,15 +31,28 @@ fn add_words(command: &mut Command, words: &[&str]) -> io::Result<()> {
     Ok(())
 }
 
-/// Starts a program with these words; what it prints and what it complains of is kept.
-pub fn launch(rt: &HostRuntime, program: &str, words: &[&str]) -> Result<Running, Trouble> {
-    let mut command = Command::new(rt.alloc(), program)?;
-    add_words(&mut command, words)?;
-    let process = command
+/// A program with these words.
+fn command_of(alloc: Global, program: &str, words: &[&str]) -> io::Result<Command> {
+    let mut command = Command::new(alloc, program)?;
+    match add_words(&mut command, words) {
+        Ok(()) => Ok(command),
+        Err(error) => Err(error),
+    }
+}
+
+/// Starts a command; what it prints and what it complains of is kept.
+fn spawn(rt: &HostRuntime, mut command: Command) -> io::Result<Child> {
+    command
         .stdin(Stdio::null())
         .stdout(Stdio::piped())
         .stderr(Stdio::piped())
-        .spawn(rt)?;
+        .spawn(rt)
+}
+
+/// Starts a program with these words.
+pub fn launch(rt: &HostRuntime, program: &str, words: &[&str]) -> Result<Running, Trouble> {
+    let command = command_of(rt.alloc(), program, words)?;
+    let process = spawn(rt, command)?;
     Ok(Running { process })
 }
 
