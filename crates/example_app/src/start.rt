@@ -53,5 +53,8 @@ pub fn start(alloc: Global) -> Option<Desk>
             object: Visits::new(),
         })
         .ok()?;
-    Container::start(alloc, deployment, servlets, filters, listeners).ok()
+    match Container::start(alloc, deployment, servlets, filters, listeners) {
+        Ok(desk) => Some(desk),
+        Err(_) => None,
+    }
 }
