@@ -38,6 +38,7 @@ fn of_descriptor(alloc: Global, kind: &str, parts: &str) -> Result<String, RowFa
     match kind {
         "config" => descriptors::config(alloc, parts),
         "counted" => descriptors::counted(alloc, parts),
+        "checked" => descriptors::checked(alloc, parts),
         "cluster" => descriptors::cluster(alloc, parts),
         "contexts" => descriptors::contexts(alloc, parts),
         "deployed-context" => deployed::context(alloc, parts),

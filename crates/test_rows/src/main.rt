@@ -10,7 +10,7 @@
 //! - `web`, messages: `stream`, `body`, `long`, `length`, `fields` and `response`;
 //! - `web`, targets: `path`, `target`, `method`, `raw-path`, `params`, `both` and `form`;
 //! - `web`, cookies: `cookies`, `session`, `asked` and `session-text`;
-//! - `application`, descriptors: `config`, `counted`, `cluster`, `contexts`, `deployed-context`, `deployed-servlet` and
+//! - `application`, descriptors: `config`, `counted`, `checked`, `cluster`, `contexts`, `deployed-context`, `deployed-servlet` and
 //!   `deployed-filters`;
 //! - `application`, paths: `context`, `below`, `servlet`, `pattern`, `long-pattern`, `filters` and `dispatcher`;
 //! - `record`: `record`, `old-record`, `packet`, `old-packet`, `frame`, `old-frame`, `attributes`, `changed` and `count`, whose

@@ -1,11 +1,12 @@
 //! Descriptors, and what each says.
 
 use crate::application::shown::{cluster_text, contexts_text};
-use crate::escape::{bytes_of, push_bytes};
+use crate::escape::{bytes_of, push_bytes, shown};
 use crate::fault::RowFault;
 use crate::row::{first, number};
 use std::alloc::{AllocError, Global};
 use sv_config::{ConfigFault, Deployment};
+use sv_control::look_at;
 
 /// The deployment of a part that is a descriptor.
 pub fn deployment_of(alloc: Global, part: &str) -> Result<Deployment, ConfigFault> {
@@ -80,4 +81,20 @@ pub fn contexts(alloc: Global, parts: &str) -> Result<String, RowFault> {
         Ok(deployment) => Ok(contexts_text(alloc, &deployment.contexts)?),
         Err(fault) => Ok(format!(in alloc; "{fault:?}")?),
     }
+}
+
+fn checked_bytes(alloc: Global, bytes: &[u8]) -> Result<String, RowFault> {
+    match str::from_utf8(bytes) {
+        Ok(text) => {
+            let look = look_at(alloc, text)?;
+            Ok(shown(alloc, look.text.as_bytes())?)
+        }
+        Err(_) => Err(RowFault::Part),
+    }
+}
+
+/// The lines that are told of a descriptor: what it says, or its least fault with the places where it stands.
+pub fn checked(alloc: Global, parts: &str) -> Result<String, RowFault> {
+    let bytes = bytes_of(alloc, parts)?;
+    checked_bytes(alloc, &bytes)
 }
