@@ -4,24 +4,32 @@ use crate::fault::Fault;
 use crate::words::node_of;
 use std::alloc::{AllocError, Global};
 use std::fs;
+use std::io::ErrorKind;
 use std::rt::Files;
 use sv_config::{Cluster, ConfigFault, Deployment};
 use sv_model::NODE_LIMIT;
 use sv_script::NodeNumber;
 
-/// The fault's name.
-fn config_fault(fault: ConfigFault) -> Fault {
+/// The fault of the program for that of a descriptor.
+pub fn config_fault(fault: ConfigFault) -> Fault {
     match fault {
         ConfigFault::Memory => Fault::Memory,
         fault => Fault::Config(fault),
     }
 }
 
+/// The text of the descriptor at a path.
+pub fn read_config<R: Files + AllocGlobal>(rt: &R, path: &str) -> Result<String, Fault> {
+    match fs::read_to_string(rt, path) {
+        Ok(text) => Ok(text),
+        Err(refused) if refused.kind() == ErrorKind::OutOfMemory => Err(Fault::Memory),
+        Err(_) => Err(Fault::NoConfig),
+    }
+}
+
 /// The nodes of the descriptor at a path; it has ports.
 pub fn read_cluster<R: Files + AllocGlobal>(rt: &R, path: &str) -> Result<Cluster, Fault> {
-    let Ok(text) = fs::read_to_string(rt, path) else {
-        return Err(Fault::NoConfig);
-    };
+    let text = read_config(rt, path)?;
     let deployment = match Deployment::from_toml(rt.alloc(), text.as_str()) {
         Ok(deployment) => deployment,
         Err(fault) => return Err(config_fault(fault)),

@@ -3,7 +3,7 @@
 ghost use Rattle.std.specs.Prelude.{IfOk};
 ghost use Rattle.sv_model.specs.Keys.{IsKey};
 
-use crate::cluster::read_cluster;
+use crate::cluster::{config_fault, read_cluster, read_config};
 use crate::commands::{halt, hand_over, tick, told};
 use crate::draining::take_out;
 use crate::fault::Fault;
@@ -11,7 +11,7 @@ use crate::journal::{kept, records};
 use crate::machine::Machine;
 use crate::words::{Form, Order};
 use sv_client::session_named;
-use sv_control::{SessionLine, Shown, record_line, session_line, shown_key};
+use sv_control::{Look, SessionLine, Shown, look_at, record_line, session_line, shown_key};
 use sv_model::{Key, Record};
 use sv_script::NodeNumber;
 
@@ -21,6 +21,26 @@ fn say<M: Machine>(machine: &M, text: &str) -> Result<(), Fault> {
         Ok(()) => Ok(()),
         Err(_) => Err(Fault::Output),
     }
+}
+
+/// Says what is told of a descriptor.
+fn tell<M: Machine>(machine: &M, look: &Look) -> Result<(), Fault> {
+    say(machine, look.text.as_str())?;
+    match look.fault {
+        None => Ok(()),
+        Some(fault) => Err(config_fault(fault)),
+    }
+}
+
+fn check_text<M: Machine>(machine: &M, text: &str) -> Result<(), Fault> {
+    let look = look_at(machine.alloc(), text)?;
+    tell(machine, &look)
+}
+
+/// Says what a descriptor has, or where it is at fault.
+fn check_config<M: Machine>(machine: &M, config: &str) -> Result<(), Fault> {
+    let text = read_config(machine, config)?;
+    check_text(machine, text.as_str())
 }
 
 /// A session in the form that is asked for.
@@ -182,6 +202,7 @@ fn show_status<M: Machine>(machine: &M, config: &str) -> Result<(), Fault> {
 /// Does what is asked for.
 pub fn carry_out<M: Machine>(machine: &M, order: Order<'_>) -> Result<(), Fault> {
     match order {
+        Order::Check { config } => check_config(machine, config),
         Order::Sessions {
             journal,
             shown,

@@ -19,6 +19,9 @@ pub enum Form {
 /// What the program is asked to do.
 #[derive(Clone, Copy, Debug, PartialEq, Eq)]
 pub enum Order<'a> {
+    Check {
+        config: &'a str,
+    },
     Sessions {
         journal: &'a str,
         shown: Shown,
@@ -71,6 +74,12 @@ fn choice<'a>(alloc: Global, id: &'a str, help: &'a str) -> Arg<'a> {
         .long(id)
         .action(ArgAction::SetTrue)
         .help(help)
+}
+
+fn check<'a>(alloc: Global) -> Result<Command<'a>, AllocError> {
+    Command::new(alloc, "check")
+        .about("says what a descriptor has, or where it is at fault and what to write there")
+        .arg(word(alloc, "CONFIG", "the descriptor of the nodes"))
 }
 
 fn sessions<'a>(alloc: Global) -> Result<Command<'a>, AllocError> {
@@ -155,19 +164,20 @@ fn with<'a>(
     }
 }
 
-/// The commands on journals.
-fn on_journals<'a>(alloc: Global) -> Result<Command<'a>, AllocError> {
+/// The commands on files.
+fn on_files<'a>(alloc: Global) -> Result<Command<'a>, AllocError> {
     let program = Command::new(alloc, "kegctl")
         .about("what an operator of nodes has in hand")
         .subcommand_required(true)
         .arg_required_else_help(true);
+    let program = with(program, check(alloc))?;
     let program = with(program, sessions(alloc))?;
     with(program, records(alloc))
 }
 
 /// And those on running nodes.
 fn on_nodes<'a>(alloc: Global) -> Result<Command<'a>, AllocError> {
-    let program = with(on_journals(alloc)?, to_move(alloc))?;
+    let program = with(on_files(alloc)?, to_move(alloc))?;
     let program = with(program, at_port(alloc, "tick", "has a node do what is due"))?;
     with(program, at_port(alloc, "halt", "halts a node at once"))
 }
@@ -226,13 +236,23 @@ fn sessions_of<'a>(matches: &ArgMatches<'a>) -> Order<'a> {
     }
 }
 
+/// What a command on files asks for.
+fn order_on_files<'a>(name: &str, matches: &ArgMatches<'a>) -> Order<'a> {
+    match name {
+        "check" => Order::Check {
+            config: text(matches, "CONFIG"),
+        },
+        "records" => Order::Records {
+            journal: text(matches, "JOURNAL"),
+        },
+        _ => sessions_of(matches),
+    }
+}
+
 /// What a command and its words ask for.
 fn order_of<'a>(name: &str, matches: &ArgMatches<'a>) -> Result<Order<'a>, Fault> {
     match name {
-        "sessions" => Ok(sessions_of(matches)),
-        "records" => Ok(Order::Records {
-            journal: text(matches, "JOURNAL"),
-        }),
+        "check" | "sessions" | "records" => Ok(order_on_files(name, matches)),
         "move" => Ok(Order::Move {
             port: port(matches)?,
             session: text(matches, "SESSION"),
