@@ -1,4 +1,5 @@
 """A Chromium without a window, told what to do by its DevTools protocol over two pipes, where each message ends in a zero byte."""
+import base64
 import json
 import os
 import shutil
@@ -71,6 +72,24 @@ class Browser:
         if "errorText" in found:
             raise OSError(found["errorText"])
         self.wait()
+
+    def do_and_wait(self, code):
+        """Does what leads to another page, a click for example, and waits until that is there."""
+        self.value(f"window.isOld = true; {code}")
+        for _ in range(PATIENCE * 50):
+            if self.value("window.isOld === undefined && document.readyState === 'complete'"):
+                return
+            time.sleep(0.02)
+        raise OSError(f"no page comes behind {code}")
+
+    def size(self, width, height):
+        """The page's width and height in pixels, as on a screen of that size."""
+        self.do("Emulation.setDeviceMetricsOverride", width=width, height=height, deviceScaleFactor=1, mobile=False)
+
+    def picture(self, path):
+        """Saves what is seen of the page as a PNG."""
+        with open(path, "wb") as file:
+            file.write(base64.b64decode(self.do("Page.captureScreenshot", format="png")["data"]))
 
     def text(self):
         return self.value("document.body.innerText")
