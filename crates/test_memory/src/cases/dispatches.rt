@@ -135,6 +135,27 @@ fn params(alloc: Global) -> Result<Sequence<Param>, AllocError> {
     Ok(params)
 }
 
+/// A call for `/a` of the context `/shop`.
+fn call<'a>(
+    method: &'a Method,
+    params: &'a [Param],
+    attributes: &'a RequestAttributes,
+) -> Call<'a> {
+    Call {
+        method,
+        request_uri: "/shop/a",
+        context_path: "/shop",
+        servlet_path: "/a",
+        path_info: None,
+        query: None,
+        params,
+        fields: &[],
+        body: b"",
+        attributes,
+        resume: 0,
+    }
+}
+
 /// Dispatches a request for `/a`, with another edit and another reply.
 fn dispatch<S: Servlet, F: Filter>(
     alloc: Global,
@@ -149,20 +170,7 @@ fn dispatch<S: Servlet, F: Filter>(
     stage.reply = reply;
     let method = Method::GET;
     let attributes = RequestAttributes::new(alloc);
-    let call = Call {
-        method: &method,
-        request_uri: "/shop/a",
-        context_path: "/shop",
-        servlet_path: "/a",
-        path_info: None,
-        query: None,
-        params,
-        fields: &[],
-        body: b"",
-        attributes: &attributes,
-        resume: 0,
-    };
-    run(alloc, stage, call)
+    run(alloc, stage, call(&method, params, &attributes))
 }
 
 /// How it ended, and the reply.
