@@ -8,11 +8,16 @@
 #![tactic(auto)]
 
 mod kinds;
-mod run;
 mod start;
 
-use run::run;
+use start::Shop;
 use std::process::ExitCode;
+use sv_launch::{Fault, words_of};
+
+fn run(rt: &HostRuntime) -> Result<(), Fault> {
+    let words = words_of(rt)?;
+    sv_launch::run(&Shop, rt, words.as_slice())
+}
 
 fn main(rt: HostRuntime) -> ExitCode {
     match run(&rt) {

@@ -1,4 +1,4 @@
-//! Starts the shop, and serves by it.
+//! The objects of the shop, and how it is started.
 
 ghost use Rattle.std.specs.Prelude.{IfOk};
 ghost use Rattle.sv_container.specs.Life.{AreNamedNew};
@@ -11,7 +11,7 @@ use example_servlets::{
 use std::alloc::Global;
 use sv_config::{Context, Deployment};
 use sv_container::{Container, Named};
-use sv_launch::{Entry, Fault, Purpose, entries_of};
+use sv_launch::{Applications, Entry, Fault, Purpose, entries_of};
 use sv_servlet::{Filter, GenericServlet, Servlet};
 
 /// The servlet of a kind.
@@ -91,16 +91,24 @@ fn listeners_of(alloc: Global, contexts: &[Context]) -> Result<Vec<Named<Orders>
     Ok(listeners)
 }
 
-/// Starts the shop by a deployment, and serves by it to the end.
-///
-/// Each object that the deployment names is one of the shop's, by its name.
-pub fn start<P: Purpose>(alloc: Global, deployment: Deployment, purpose: P) -> Result<(), Fault> {
-    let servlets = servlets_of(alloc, deployment.contexts.as_slice())?;
-    let filters = filters_of(alloc, deployment.contexts.as_slice())?;
-    let listeners = listeners_of(alloc, deployment.contexts.as_slice())?;
-    let container = match Container::start(alloc, deployment, servlets, filters, listeners) {
-        Ok(container) => container,
-        Err(not_started) => return Err(not_started.fault.into()),
-    };
-    purpose.serve(alloc, container)
+/// The objects of the shop.
+pub struct Shop;
+
+impl Applications for Shop {
+    /// Each object that the deployment names is one of the shop's, by its name.
+    fn start<P: Purpose>(
+        &self,
+        alloc: Global,
+        deployment: Deployment,
+        purpose: P,
+    ) -> Result<(), Fault> {
+        let servlets = servlets_of(alloc, deployment.contexts.as_slice())?;
+        let filters = filters_of(alloc, deployment.contexts.as_slice())?;
+        let listeners = listeners_of(alloc, deployment.contexts.as_slice())?;
+        let container = match Container::start(alloc, deployment, servlets, filters, listeners) {
+            Ok(container) => container,
+            Err(not_started) => return Err(not_started.fault.into()),
+        };
+        purpose.serve(alloc, container)
+    }
 }

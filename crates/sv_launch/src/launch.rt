@@ -1,8 +1,9 @@
 //! Starts the applications of a deployment with the sample objects, and serves by them.
 //!
-//! Boxes of objects stay in the function that makes them and those that it calls, so each kind of object is made in a
-//! step of its own, which goes on to the next.
+//! The servlets are of one type, and so are the listeners. The filters are boxes, which stay in the function that makes them and those
+//! that it calls.
 
+ghost use Rattle.std.specs.Prelude.{IfOk};
 ghost use Rattle.sv_container.specs.Life.{AreNamedNew};
 
 use crate::fault::Fault;
@@ -11,12 +12,12 @@ use crate::objects::{Entry, entries_of};
 use crate::purpose::{Purpose, Stream};
 use std::alloc::Global;
 use std::io::{Read, Write};
-use sv_config::Deployment;
+use sv_config::{Context, Deployment};
 use sv_container::{Container, Named};
 use sv_samples::{
     Count, Faulty, Forwarder, Gate, Hello, Includer, Login, Renew, Sample, Snoop, Stamp, Tally,
 };
-use sv_servlet::{Filter, GenericServlet, Listener, Servlet};
+use sv_servlet::{Filter, GenericServlet, Servlet};
 
 /// Serves the reader's requests to their end by the applications of a deployment, all at `now`.
 pub fn serve<R: Read, W: Write>(
@@ -51,40 +52,53 @@ fn sample_of(alloc: Global, kind: ServletKind) -> Sample {
     }
 }
 
-/// Starts the applications of a deployment, and serves by them to the end.
-///
-/// Each object that the deployment names is a sample of the kind that its name says.
-pub fn start<P: Purpose>(alloc: Global, deployment: Deployment, purpose: P) -> Result<(), Fault> {
-    let entries: Vec<Entry<ServletKind>> = entries_of(alloc, deployment.contexts.as_slice())?;
-    let mut servlets: Vec<Named<Box<dyn Servlet>>> = Vec::new(alloc);
+/// The servlets that the contexts declare: of each name the sample of its kind.
+fn servlets_of(
+    alloc: Global,
+    contexts: &[Context],
+) -> Result<Vec<Named<GenericServlet<Sample>>>, Fault>
+    ensures { IfOk result (λ servlets. AreNamedNew ⟦<GenericServlet<Sample> as Servlet>⟧.servlet_phase servlets.items) }
+{
+    let entries: Vec<Entry<ServletKind>> = entries_of(alloc, contexts)?;
+    let mut servlets: Vec<Named<GenericServlet<Sample>>> = Vec::new(alloc);
     for entry in entries {
         let Entry {
             context,
             name,
             kind,
         } = entry;
-        let object: Box<dyn Servlet> = Box::new(
-            alloc,
-            GenericServlet::new(sample_of(alloc, kind)),
-        )?;
         servlets.push(Named {
             context,
             name,
-            object,
+            object: GenericServlet::new(sample_of(alloc, kind)),
         })?;
     }
-    with_servlets(alloc, deployment, servlets, purpose)
+    Ok(servlets)
 }
 
-/// Makes the filters.
-fn with_servlets<S: Servlet, P: Purpose>(
-    alloc: Global,
-    deployment: Deployment,
-    servlets: Vec<Named<S>>,
-    purpose: P,
-) -> Result<(), Fault>
-    requires { AreNamedNew S.servlet_phase servlets.items }
-{
+/// The listeners that the contexts declare.
+fn listeners_of(alloc: Global, contexts: &[Context]) -> Result<Vec<Named<Tally>>, Fault> {
+    let entries: Vec<Entry<ListenerKind>> = entries_of(alloc, contexts)?;
+    let mut listeners: Vec<Named<Tally>> = Vec::new(alloc);
+    for entry in entries {
+        let Entry {
+            context,
+            name,
+            kind: ListenerKind::Tally,
+        } = entry;
+        listeners.push(Named {
+            context,
+            name,
+            object: Tally::new(),
+        })?;
+    }
+    Ok(listeners)
+}
+
+/// Starts the applications of a deployment, and serves by them to the end.
+///
+/// Each object that the deployment names is a sample of the kind that its name says.
+pub fn start<P: Purpose>(alloc: Global, deployment: Deployment, purpose: P) -> Result<(), Fault> {
     let entries: Vec<Entry<FilterKind>> = entries_of(alloc, deployment.contexts.as_slice())?;
     let mut filters: Vec<Named<Box<dyn Filter>>> = Vec::new(alloc);
     for entry in entries {
@@ -103,52 +117,20 @@ fn with_servlets<S: Servlet, P: Purpose>(
             object,
         })?;
     }
-    with_filters(alloc, deployment, servlets, filters, purpose)
+    with_filters(alloc, deployment, filters, purpose)
 }
 
-/// Makes the listeners.
-fn with_filters<S: Servlet, F: Filter, P: Purpose>(
+/// The same once the filters are made.
+fn with_filters<F: Filter, P: Purpose>(
     alloc: Global,
     deployment: Deployment,
-    servlets: Vec<Named<S>>,
     filters: Vec<Named<F>>,
     purpose: P,
 ) -> Result<(), Fault>
-    requires servlets { AreNamedNew S.servlet_phase servlets.items }
-    requires filters { AreNamedNew F.filter_phase filters.items }
+    requires { AreNamedNew F.filter_phase filters.items }
 {
-    let entries: Vec<Entry<ListenerKind>> = entries_of(alloc, deployment.contexts.as_slice())?;
-    let mut listeners: Vec<Named<Box<dyn Listener>>> = Vec::new(alloc);
-    for entry in entries {
-        let Entry {
-            context,
-            name,
-            kind,
-        } = entry;
-        let object: Box<dyn Listener> = match kind {
-            ListenerKind::Tally => Box::new(alloc, Tally::new())?,
-        };
-        listeners.push(Named {
-            context,
-            name,
-            object,
-        })?;
-    }
-    with_objects(alloc, deployment, servlets, filters, listeners, purpose)
-}
-
-/// Starts the applications, and serves.
-fn with_objects<S: Servlet, F: Filter, L: Listener, P: Purpose>(
-    alloc: Global,
-    deployment: Deployment,
-    servlets: Vec<Named<S>>,
-    filters: Vec<Named<F>>,
-    listeners: Vec<Named<L>>,
-    purpose: P,
-) -> Result<(), Fault>
-    requires servlets { AreNamedNew S.servlet_phase servlets.items }
-    requires filters { AreNamedNew F.filter_phase filters.items }
-{
+    let servlets = servlets_of(alloc, deployment.contexts.as_slice())?;
+    let listeners = listeners_of(alloc, deployment.contexts.as_slice())?;
     let container = match Container::start(alloc, deployment, servlets, filters, listeners) {
         Ok(container) => container,
         Err(not_started) => return Err(not_started.fault.into()),

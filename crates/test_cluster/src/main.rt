@@ -12,30 +12,13 @@ mod compacting;
 mod faults;
 mod journals;
 mod killing;
-mod node;
 mod running;
 mod scripts;
 mod secrets;
 mod trouble;
 
-use std::env;
-use std::io::ErrorKind;
 use std::process::ExitCode;
-use sv_launch::Fault;
-
-/// The words behind the program's name.
-fn words_of(rt: &HostRuntime) -> Result<Vec<String>, Fault> {
-    let mut words = Vec::new(rt.alloc());
-    let args = match env::args(rt) {
-        Ok(args) => args,
-        Err(fault) if fault.kind() == ErrorKind::OutOfMemory => return Err(Fault::Memory),
-        Err(_) => return Err(Fault::Arguments),
-    };
-    for word in args.skip(1) {
-        words.push(word)?;
-    }
-    Ok(words)
-}
+use sv_launch::{Fault, Samples, words_of};
 
 /// Runs a node where there are words, or else all cases.
 fn run(rt: &HostRuntime) -> Result<(), Fault> {
@@ -46,7 +29,7 @@ fn run(rt: &HostRuntime) -> Result<(), Fault> {
             Err(_) => Err(Fault::Output),
         };
     }
-    node::run(rt, words.as_slice())
+    sv_launch::run(&Samples, rt, words.as_slice())
 }
 
 fn main(rt: HostRuntime) -> ExitCode {

@@ -3,6 +3,6 @@ use Rattle.sv_servlet.specs.declared.servlet.Phase.TheVariants.{New}
 use Rattle.sv_launch.proofs.launch.start.OwnLists.{own-1}
 use Rattle.sv_launch.proofs.launch.start.Given as goal
 
--- all servlets are as they were made
+-- all filters are as they were made
 abbrev pub invariant-loop-entry : goal.invariant-loop-entry
-invariant-loop-entry g l = All (λ n. (own-1.entry n.object.vtable).1.servlet_phase n.object.value ≡ New) l.servlets.items
+invariant-loop-entry g l = All (λ n. (own-1.entry n.object.vtable).1.filter_phase n.object.value ≡ New) l.filters.items
