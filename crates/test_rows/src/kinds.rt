@@ -2,16 +2,17 @@
 
 use crate::application::{contexts, deployed, descriptors, filters, patterns, servlets};
 use crate::fault::RowFault;
-use crate::record::{self, attributes, changed, frames, packets, records};
+use crate::record::{self, attributes, changed, frames, spelled};
 use crate::web::{cookies, fields, forms, lengths, responses, streams, targets};
 use std::alloc::Global;
+use sv_model::{Packet, Record};
 
 fn of_record(alloc: Global, kind: &str, parts: &str) -> Result<String, RowFault> {
     match kind {
-        "record" => records::record(alloc, parts),
-        "old-record" => records::old(alloc, parts),
-        "packet" => packets::packet(alloc, parts),
-        "old-packet" => packets::old(alloc, parts),
+        "record" => spelled::now::<Record>(alloc, parts),
+        "old-record" => spelled::old::<Record>(alloc, parts),
+        "packet" => spelled::now::<Packet>(alloc, parts),
+        "old-packet" => spelled::old::<Packet>(alloc, parts),
         "frame" => frames::frame(alloc, parts),
         "old-frame" => frames::old(alloc, parts),
         "attributes" => attributes::attributes(alloc, parts),

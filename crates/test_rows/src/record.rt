@@ -3,9 +3,8 @@
 pub mod attributes;
 pub mod changed;
 pub mod frames;
-pub mod packets;
-pub mod records;
 mod shown;
+pub mod spelled;
 
 use crate::digits::bytes_of_digits;
 use crate::fault::RowFault;

@@ -2,9 +2,10 @@
 
 use crate::digits::bytes_of_digits;
 use crate::fault::RowFault;
-use crate::record::records::record_again;
+use crate::record::spelled::Spelled;
 use crate::row::{first, number};
 use std::alloc::{AllocError, Global};
+use sv_model::Record;
 
 /// A record behind its version, up to the count of its session's attributes.
 const TAKEN: &str = "05 00 0000000000000001 0000000000000002 03 \
@@ -61,7 +62,7 @@ fn read_text(is_spelled: bool) -> &'static str {
 
 /// Whether the bytes are read, and by version 2 spelled again; or the fault.
 fn outcome(alloc: Global, bytes: &[u8], is_long: bool) -> Result<String, AllocError> {
-    match record_again(alloc, bytes) {
+    match Record::again(alloc, bytes) {
         Ok((_, again)) => {
             let is_spelled = !is_long || again.as_slice() == bytes;
             String::from_str(alloc, read_text(is_spelled))

@@ -2,9 +2,10 @@
 
 use crate::digits::bytes_of_digits;
 use crate::fault::RowFault;
-use crate::record::records::record_again;
+use crate::record::spelled::Spelled;
 use crate::row::{first, place};
 use std::alloc::{AllocError, Global};
+use sv_model::Record;
 use sv_record::RecordFault;
 
 /// The bytes with this value at a place.
@@ -26,7 +27,7 @@ fn spelled(is_so: bool) -> Result<bool, RowFault> {
 
 /// Whether bytes are read as a record; and if so, it has to be spelled so.
 fn is_read(alloc: Global, bytes: &[u8]) -> Result<bool, RowFault> {
-    match record_again(alloc, bytes) {
+    match Record::again(alloc, bytes) {
         Ok((_, again)) => spelled(again.as_slice() == bytes),
         Err(RecordFault::Memory) => Err(RowFault::Memory),
         Err(_) => Ok(false),
