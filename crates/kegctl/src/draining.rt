@@ -4,9 +4,6 @@
 //! Only commands are sent, each of which a node carries out whole or not at all. So a drain may be interrupted anywhere, and run
 //! again.
 
-ghost use Rattle.std.specs.Prelude.{IfSome};
-ghost use Rattle.sv_model.specs.Keys.{IsKey};
-
 use crate::cluster::{port_of, read_cluster, takers};
 use crate::commands::{halt, hand_over, tick, told};
 use crate::fault::Fault;
@@ -17,7 +14,7 @@ use std::alloc::Global;
 use std::thread;
 use std::time::Duration;
 use sv_config::Cluster;
-use sv_control::key_text;
+use sv_control::{key_text, to_move};
 use sv_model::{Key, KeyState, NODE_LIMIT, Record};
 use sv_script::NodeNumber;
 
@@ -53,19 +50,6 @@ fn left_in(kept: &[Record]) -> Left {
         }
     }
     left
-}
-
-/// The key of a session that is active, by a record of a snapshot.
-fn active_key(record: &Record) -> Option<Key>
-    ensures { IfSome result IsKey }
-{
-    match record {
-        Record::State {
-            key,
-            state: KeyState::Active { .. },
-        } if key.home < NODE_LIMIT && key.serial > 0 => Some(*key),
-        _ => None,
-    }
 }
 
 /// Where sessions go from a node.
@@ -109,12 +93,14 @@ fn say_stays<M: Machine>(machine: &M, key: Key, answer: u8) -> Result<(), Fault>
 }
 
 /// Hands one session over to the next node; one that has gone or ended meanwhile is none of ours any more.
-fn move_one<M: Machine>(machine: &M, route: &mut Route, at: usize, key: Key) -> Result<(), Fault>
-    requires { IsKey key }
-{
+fn move_one<M: Machine>(machine: &M, route: &mut Route, at: usize, key: Key) -> Result<(), Fault> {
     let Some(to) = route.to.get(at) else {
         return Ok(());
     };
+    // No node makes another key, so none is in a journal.
+    if key.home >= NODE_LIMIT || key.serial == 0 {
+        return Ok(());
+    }
     match hand_over(machine, route.port, key, *to)? {
         0 => {
             route.count(at);
@@ -125,17 +111,19 @@ fn move_one<M: Machine>(machine: &M, route: &mut Route, at: usize, key: Key) -> 
     }
 }
 
-/// Hands over each session that is active.
-fn move_all<M: Machine>(machine: &M, route: &mut Route, kept: &[Record]) -> Result<(), Fault> {
+/// Hands sessions over, to the nodes in turn.
+fn move_each<M: Machine>(machine: &M, route: &mut Route, keys: &[Key]) -> Result<(), Fault> {
     let count = route.to.len().max(1);
-    let mut at = 0usize;
-    for record in kept {
-        if let Some(key) = active_key(record) {
-            move_one(machine, route, at % count, key)?;
-            at = at.wrapping_add(1);
-        }
+    for (number, key) in keys.iter().enumerate() {
+        move_one(machine, route, number % count, *key)?;
     }
     Ok(())
+}
+
+/// Hands over each session that is active by what was just read.
+fn move_all<M: Machine>(machine: &M, route: &mut Route, kept: &[Record]) -> Result<(), Fault> {
+    let keys = to_move(machine.alloc(), kept)?;
+    move_each(machine, route, &keys)
 }
 
 /// Looks at what a node keeps, and moves what is active there; what was left.

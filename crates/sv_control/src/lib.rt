@@ -3,17 +3,22 @@
 //!
 //! Under the program `kegctl`, a `main` over it, which has the files and the sockets. [`entries_of`] reads a journal from images of
 //! its two files, in memory, so that nothing is ever written; [`replay`] gives what its records give. [`session_line`] and
-//! [`record_line`] are a line each; [`look_at`] tells of a descriptor.
+//! [`record_line`] are a line each; [`to_move`] says which sessions a drain moves; [`look_at`] tells of a descriptor.
 #![tactic(auto)]
 
 mod descriptor;
 mod images;
 mod kept;
+pub mod laws;
 mod lines;
+mod moving;
 mod naming;
 
 pub use descriptor::{Look, look_at};
 pub use images::{FoundFault, entries_of};
 pub use kept::{Replayed, records_of, replay};
-pub use lines::{AttributeLine, SessionLine, Shown, record_line, session_line};
+pub use lines::{
+    AttributeLine, SessionLine, SessionPlace, SessionTimes, Shown, record_line, session_line,
+};
+pub use moving::to_move;
 pub use naming::{key_text, shown_key};

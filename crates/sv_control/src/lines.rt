@@ -1,5 +1,8 @@
 //! What is shown of a journal: a line for each session, and one for each record.
 
+ghost use Rattle.std.specs.Prelude.{◌≡◌, IfOk, is_some};
+ghost use Rattle.sv_control.specs.Lines.{has_session};
+
 use crate::naming::key_text;
 use serde::Serialize;
 use std::alloc::{AllocError, Global};
@@ -25,11 +28,9 @@ pub struct AttributeLine {
     pub value: Option<String>,
 }
 
-/// What is shown of a session: what a node that holds it, or has sent it and has no acknowledgement yet, keeps of it.
-#[derive(Drop, Serialize)]
-pub struct SessionLine {
-    /// `HOME.SERIAL`.
-    pub key: String,
+/// Where a session is.
+#[derive(Clone, Copy, Serialize)]
+pub struct SessionPlace {
     /// `active` here, or `sent` to another node.
     pub state: &'static str,
     pub epoch: u64,
@@ -37,12 +38,27 @@ pub struct SessionLine {
     pub to: Option<u8>,
     /// The number of its context.
     pub context: u8,
-    /// When it was made, in whole seconds since 1970.
+}
+
+/// When a session was made and named, in whole seconds since 1970.
+#[derive(Clone, Copy, Serialize)]
+pub struct SessionTimes {
     pub created: u64,
     /// When a request last named it.
     pub last: u64,
     /// When it expires if no request names it; none where it never does.
     pub expires: Option<u64>,
+}
+
+/// What is shown of a session: what a node that holds it, or has sent it and has no acknowledgement yet, keeps of it.
+#[derive(Drop, Serialize)]
+pub struct SessionLine {
+    /// `HOME.SERIAL`.
+    pub key: String,
+    #[serde(flatten)]
+    pub place: SessionPlace,
+    #[serde(flatten)]
+    pub times: SessionTimes,
     pub attributes: Vec<AttributeLine>,
 }
 
@@ -96,31 +112,26 @@ fn expiry(session: &Session) -> Option<u64> {
     }
 }
 
-/// Where a session is.
-#[derive(Clone, Copy)]
-struct Place {
-    state: &'static str,
-    epoch: u64,
-    to: Option<u8>,
+fn times_of(session: &Session) -> SessionTimes {
+    SessionTimes {
+        created: session.created,
+        last: session.last,
+        expires: expiry(session),
+    }
 }
 
 fn line_of(
     alloc: Global,
     key: Key,
-    place: Place,
+    place: SessionPlace,
     session: &Session,
     shown: Shown,
 ) -> Result<SessionLine, AllocError> {
     let attributes = attribute_lines(alloc, &session.attributes, shown)?;
     Ok(SessionLine {
         key: key_text(alloc, key)?,
-        state: place.state,
-        epoch: place.epoch,
-        to: place.to,
-        context: session.context,
-        created: session.created,
-        last: session.last,
-        expires: expiry(session),
+        place,
+        times: times_of(session),
         attributes,
     })
 }
@@ -131,21 +142,25 @@ pub fn session_line(
     key: Key,
     state: &KeyState,
     shown: Shown,
-) -> Result<Option<SessionLine>, AllocError> {
+) -> Result<Option<SessionLine>, AllocError>
+    ensures { IfOk result (λ line. is_some line ≡ has_session state.now) }
+{
     let (place, session) = match state {
         KeyState::Active { epoch, session } => {
-            let place = Place {
+            let place = SessionPlace {
                 state: "active",
                 epoch: *epoch,
                 to: None,
+                context: session.context,
             };
             (place, session)
         }
         KeyState::Sent { epoch, session, to } => {
-            let place = Place {
+            let place = SessionPlace {
                 state: "sent",
                 epoch: *epoch,
                 to: Some(*to),
+                context: session.context,
             };
             (place, session)
         }
@@ -164,18 +179,29 @@ impl fmt::Display for AttributeLine {
     }
 }
 
-impl fmt::Display for SessionLine {
+impl fmt::Display for SessionPlace {
     fn fmt<W: fmt::Write>(&self, f: &mut fmt::Formatter<W>) -> fmt::Result {
-        write!(f, "{} {}", self.key, self.state)?;
+        f.write_str(self.state)?;
         if let Some(to) = self.to {
             write!(f, " to {to}")?;
         }
-        write!(f, ", epoch {}, context {}, ", self.epoch, self.context)?;
+        write!(f, ", epoch {}, context {}", self.epoch, self.context)
+    }
+}
+
+impl fmt::Display for SessionTimes {
+    fn fmt<W: fmt::Write>(&self, f: &mut fmt::Formatter<W>) -> fmt::Result {
         write!(f, "made {}, last {}, ", self.created, self.last)?;
         match self.expires {
-            Some(expires) => write!(f, "expires {expires},")?,
-            None => f.write_str("never expires,")?,
+            Some(expires) => write!(f, "expires {expires}"),
+            None => f.write_str("never expires"),
         }
+    }
+}
+
+impl fmt::Display for SessionLine {
+    fn fmt<W: fmt::Write>(&self, f: &mut fmt::Formatter<W>) -> fmt::Result {
+        write!(f, "{} {}, {},", self.key, self.place, self.times)?;
         for attribute in &self.attributes {
             write!(f, " {attribute}")?;
         }

@@ -1,0 +1,16 @@
+-- What is active by a snapshot.
+use Rattle.std.proofs.Common.{◌≡◌, refl, ap, List, [], ◌∷◌, ◌++◌, map}
+use Rattle.std.specs.List.{flat_map}
+use Rattle.std.specs.FinMap.{entries}
+use Rattle.sv_core.specs.Snapshot.{snapshot_of, state_record}
+use Rattle.sv_model.specs.NodeState.{Durable}
+use Rattle.sv_model.specs.declared.key.Key.{Key}
+use Rattle.sv_model.specs.declared.state.KeyState.{KeyState}
+use Rattle.sv_control.specs.Moving.{active_at, active_in, active_of, if_active}
+
+states_active : (es : List (Key × KeyState)) → flat_map active_at (map state_record es) ≡ flat_map (λ (e : Key × KeyState). if_active e.0 e.1) es
+states_active [] = refl
+states_active (e ∷ es) = ap (λ ks. if_active e.0 e.1 ++ ks) (states_active es)
+
+pub snapshot_active : (d : Durable) → active_in (snapshot_of d) ≡ active_of d
+snapshot_active d = states_active (entries d.keys)
