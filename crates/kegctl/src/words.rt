@@ -8,6 +8,9 @@ use sv_control::Shown;
 use sv_model::NODE_LIMIT;
 use sv_script::NodeNumber;
 
+/// The program's name in what it prints, whatever its file is called.
+const NAME: &str = "kegctl";
+
 /// In which form sessions are shown.
 #[derive(Clone, Copy, Debug, PartialEq, Eq)]
 pub enum Form {
@@ -166,7 +169,8 @@ fn with<'a>(
 
 /// The commands on files.
 fn on_files<'a>(alloc: Global) -> Result<Command<'a>, AllocError> {
-    let program = Command::new(alloc, "kegctl")
+    let program = Command::new(alloc, NAME)
+        .bin_name(NAME)?
         .about("what an operator of nodes has in hand")
         .subcommand_required(true)
         .arg_required_else_help(true);
