@@ -1,3 +1,4 @@
 pub mod AnswerLemmas
+pub mod LeftLemmas
 pub mod LoginLemmas
 pub mod SentLemmas

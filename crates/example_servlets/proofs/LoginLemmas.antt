@@ -18,7 +18,7 @@ use Rattle.example_servlets.specs.Kept.{created, has_session}
 use Rattle.example_servlets.specs.Login.{GoesOnAs, entered}
 
 -- the session that is held is there again, with other contents
-held_again : (fate : Fate) (handed : Option Key) (fresh : Key × Secret) (held : Key × Session) (s : Session) → held_by Absent fate handed fresh ≡ Some held
+pub held_again : (fate : Fate) (handed : Option Key) (fresh : Key × Secret) (held : Key × Session) (s : Session) → held_by Absent fate handed fresh ≡ Some held
     → held_by (birth_with Absent s) (fate_with Absent fate s) handed fresh ≡ Some (held.0, s)
 unfolding held_by
 held_again Untouched handed fresh held s is = absurd (cc)

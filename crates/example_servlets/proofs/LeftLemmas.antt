@@ -1,0 +1,158 @@
+-- What a login leaves of a session as it was: each attribute but the name.
+use Rattle.std.proofs.Common.{◌≡◌, refl, sym, ap, ◌∙◌, subst, ℕ, Bool, true, false, cond, List, [], ◌∷◌, length, Option, Some, None, Ok, Err}
+use Rattle.std.specs.Prelude.{bytes_eq, codes, is_some, nat_lt}
+use Rattle.std.specs.Map.{lookup}
+use Rattle.std.specs.Ordering.{is_eq, match_ordering}
+use Rattle.std.specs.declared.cmp.Ordering.{Ordering}
+use Rattle.std.specs.declared.cmp.Ordering.TheVariants.{Less, Equal, Greater}
+use Rattle.std.proofs.lemmas.Bool.{cond-false}
+use Rattle.std.proofs.lemmas.Map.Text.{is_eq-slice_cmp}
+use Rattle.std.proofs.lemmas.Option.{same_Some}
+use Rattle.std.proofs.lemmas.Slice.Eq.{bytes_eq-Decides}
+use Rattle.sv_model.specs.Attributes.{Attribute, name_cmp, value_of, with_attribute}
+use Rattle.sv_model.specs.declared.event.Event.TheVariants.{Created}
+use Rattle.sv_model.specs.declared.key.Key.{Key}
+use Rattle.sv_model.specs.declared.key.Secret.{Secret}
+use Rattle.sv_model.specs.declared.outcome.Birth.{Birth}
+use Rattle.sv_model.specs.declared.outcome.Birth.TheVariants.{Absent, Alive, Ended as BirthEnded}
+use Rattle.sv_model.specs.declared.outcome.Fate.{Fate}
+use Rattle.sv_model.specs.declared.session.Session.{Session}
+use Rattle.sv_model.specs.declared.session.TheConstants.{VALUE_LIMIT}
+use Rattle.sv_session.specs.Calls.{Expected, after, change_id_result, create_result, done, get_result, id_changed, is_name, is_too_large, made_session, on_session, tell, value_result, value_set}
+use Rattle.sv_session.specs.Edit.{Edit, birth_with, fate_with, has_made, has_used_secret, held_by, held_of, with_held}
+use Rattle.sv_session.specs.declared.fault.SessionFault.TheVariants.{BadName, SecondCreation, SecretUsed, SessionTooLarge, ValueTooLong}
+use Rattle.sv_servlet.specs.Call.{Asked}
+use Rattle.sv_servlet.specs.Servlet.{Answer, Lent}
+use Rattle.example_servlets.specs.Kept.{created, has_session, kept, or_none, seen}
+use Rattle.example_servlets.specs.Login.{entered, login, taken, taken_as}
+use Rattle.example_servlets.specs.Told.{is_post, name_of}
+use Rattle.example_servlets.proofs.LoginLemmas.{held_again}
+
+-- ---- a value that is put at a name, seen at another
+
+module _ (name value other : List ℕ) (apart : bytes_eq other name ≡ false) where
+  put_here : (o : Ordering) (e : Attribute) (es rest : List Attribute) → o ≡ name_cmp name e.0 → value_of rest other ≡ value_of es other
+      → value_of (match_ordering o ((name, value) ∷ e ∷ es) ((e.0, value) ∷ es) (e ∷ rest)) other ≡ value_of (e ∷ es) other
+  unfolding value_of
+  put_here Less e es rest is same = cond-false (bytes_eq other name) (Some value) (lookup (bytes_eq other) (e ∷ es)) apart
+  put_here Equal e es rest is same =
+      let here : name ≡ e.0 = (bytes_eq-Decides name e.0).0 (sym (ap is_eq is ∙ is_eq-slice_cmp name e.0)) in
+      let further : bytes_eq other e.0 ≡ false = subst (λ (k : List ℕ). bytes_eq other k ≡ false) here apart in
+      cond-false (bytes_eq other e.0) (Some value) (lookup (bytes_eq other) es) further
+      ∙ sym (cond-false (bytes_eq other e.0) (Some e.1) (lookup (bytes_eq other) es) further)
+  put_here Greater e es rest is same = ap (λ (found : Option (List ℕ)). cond (bytes_eq other e.0) (Some e.1) found) same
+
+  put_elsewhere : (es : List Attribute) → value_of (with_attribute es name value) other ≡ value_of es other
+  unfolding with_attribute value_of
+  put_elsewhere [] = cond-false (bytes_eq other name) (Some value) None apart
+  put_elsewhere (e ∷ es) = put_here (name_cmp name e.0) e es (with_attribute es name value) refl (put_elsewhere es)
+
+-- ---- the session that is held, with other contents
+
+held_with_by : (birth : Birth) (fate : Fate) (handed : Option Key) (fresh : Key × Secret) (held : Key × Session) (s : Session) → held_by birth fate handed fresh ≡ Some held
+    → held_by (birth_with birth s) (fate_with birth fate s) handed fresh ≡ Some (held.0, s)
+unfolding held_by
+held_with_by Absent fate handed fresh held s is = held_again fate handed fresh held s is
+held_with_by (Alive old) fate handed fresh held s is = ap (λ (h : Key × Session). let o : Option (Key × Session) = Some (h.0, s) in o) (same_Some _ _ is)
+held_with_by BirthEnded fate handed fresh held s is = held_again fate handed fresh held s is
+
+held_with : (e : Edit) (held : Key × Session) (s : Session) → held_of e ≡ Some held → held_of (with_held e s) ≡ Some (held.0, s)
+held_with e held s is = held_with_by e.birth e.fate e.handed e.fresh held s is
+
+-- ---- what is seen at a name
+
+module _ (q : List ℕ) where
+  abbrev seen_in : Option (Key × Session) → Option (List ℕ)
+  seen_in o = or_none (on_session o (λ held. Ok (value_of held.1.attributes q)))
+
+  seen_is : (e : Edit) → seen e q ≡ seen_in (held_of e)
+  unfolding get_result
+  seen_is e = refl
+
+  module _ (e : Edit) where
+    stays : (new : Edit) (held now : Key × Session) → held_of e ≡ Some held → held_of new ≡ Some now
+        → value_of now.1.attributes q ≡ value_of held.1.attributes q → seen new q ≡ seen e q
+    stays new held now was is same = seen_is new ∙ ap seen_in is ∙ same ∙ sym (seen_is e ∙ ap seen_in was)
+
+    either : {A : Type 0} (b : Bool) (x y : Expected A) → seen (after e x) q ≡ seen e q → seen (after e y) q ≡ seen e q → seen (after e (cond b x y)) q ≡ seen e q
+    either true x y hx hy = hx
+    either false x y hx hy = hy
+
+    either_edit : (b : Bool) (x y : Edit) → seen x q ≡ seen e q → seen y q ≡ seen e q → seen (cond b x y) q ≡ seen e q
+    either_edit true x y hx hy = hx
+    either_edit false x y hx hy = hy
+
+    -- another id
+    changed_held : (held : Option (Key × Session)) → held_of e ≡ held
+        → seen (after e (on_session held (λ h. cond (has_used_secret e) (Err SecretUsed) (done (id_changed e h))))) q ≡ seen e q
+    changed_held None is = refl
+    changed_held (Some held) is =
+        let s : Session = record held.1 { secret = e.fresh.1 } in
+        either (has_used_secret e) (Err SecretUsed) (done (id_changed e held)) refl (stays (id_changed e held) held (held.0, s) is (held_with e held s is) refl)
+
+    changed_seen : seen (after e (change_id_result e)) q ≡ seen e q
+    unfolding change_id_result
+    changed_seen = changed_held (held_of e) refl
+
+    -- a session that is made, which has no attributes
+    abbrev born : Edit
+    born = tell (record e { birth = Alive (made_session e) }) (Created e.fresh.0)
+
+    none_born : seen_in (held_of born) ≡ None
+    unfolding held_by value_of
+    none_born = refl
+
+    created_held : (held : Option (Key × Session)) → held_of e ≡ held
+        → seen (after e (cond (is_some held) (Ok (false, e)) (cond (has_made e) (Err SecondCreation) (Ok (true, born))))) q ≡ seen e q
+    created_held (Some held) is = refl
+    created_held None is =
+        either (has_made e) (Err SecondCreation) (Ok (true, born)) refl (seen_is born ∙ none_born ∙ sym (seen_is e ∙ ap seen_in is))
+
+    created_seen : seen (created e) q ≡ seen e q
+    unfolding create_result
+    created_seen = created_held (held_of e) refl
+
+    entered_seen : seen (entered e) q ≡ seen e q
+    unfolding entered
+    entered_seen = either_edit (has_session e) (after e (change_id_result e)) (created e) changed_seen created_seen
+
+    -- a value that is kept under another name
+    module _ (name value : List ℕ) (apart : bytes_eq q name ≡ false) where
+      set_seen : (held : Key × Session) → held_of e ≡ Some held → seen (value_set e held name value) q ≡ seen e q
+      set_seen held is =
+          let s : Session = record held.1 { attributes = with_attribute held.1.attributes name value } in
+          stays (value_set e held name value) held (held.0, s) is (held_with e held s is) (put_elsewhere name value q apart held.1.attributes)
+
+      kept_held : (held : Option (Key × Session)) → held_of e ≡ held
+          → seen (after e (on_session held (λ h. cond (is_name name) (cond (nat_lt VALUE_LIMIT (length value)) (Err ValueTooLong)
+          (cond (is_too_large (with_attribute h.1.attributes name value)) (Err SessionTooLarge) (done (value_set e h name value)))) (Err BadName)))) q ≡ seen e q
+      kept_held None is = refl
+      kept_held (Some held) is =
+          let set : Expected (Unit {0}) = done (value_set e held name value) in
+          let small : Expected (Unit {0}) = cond (is_too_large (with_attribute held.1.attributes name value)) (Err SessionTooLarge) set in
+          let short : Expected (Unit {0}) = cond (nat_lt VALUE_LIMIT (length value)) (Err ValueTooLong) small in
+          either (is_name name) short (Err BadName)
+          (either (nat_lt VALUE_LIMIT (length value)) (Err ValueTooLong) small refl
+          (either (is_too_large (with_attribute held.1.attributes name value)) (Err SessionTooLarge) set refl (set_seen held is)))
+          refl
+
+      kept_seen : seen (kept e name value) q ≡ seen e q
+      unfolding value_result
+      kept_seen = kept_held (held_of e) refl
+
+-- ---- logging in
+
+module _ (q : List ℕ) (apart : bytes_eq q (codes "name") ≡ false) where
+  taken_seen : (name : Option (List ℕ)) (l : Lent) → seen (taken_as name l).lent.edit q ≡ seen l.edit q
+  taken_seen None l = refl
+  taken_seen (Some name) l = kept_seen q (entered l.edit) (codes "name") name apart ∙ entered_seen q l.edit
+
+  either_answer : (b : Bool) (l : Lent) (x y : Answer) → seen x.lent.edit q ≡ seen l.edit q → seen y.lent.edit q ≡ seen l.edit q → seen (cond b x y).lent.edit q ≡ seen l.edit q
+  either_answer true l x y hx hy = hx
+  either_answer false l x y hx hy = hy
+
+  pub login_seen : (call : Asked) (l : Lent) → seen (login call l).lent.edit q ≡ seen l.edit q
+  login_seen call l = either_answer (is_post call.method) l (taken call.params l) _ (taken_seen (name_of call.params) l) refl
+
+pub cart_seen : (call : Asked) (l : Lent) → seen (login call l).lent.edit (codes "cart") ≡ seen l.edit (codes "cart")
+cart_seen = login_seen (codes "cart") refl
