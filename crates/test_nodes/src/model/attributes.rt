@@ -4,6 +4,9 @@ use std::alloc::Global;
 use std::test::Fail;
 use sv_model::{Attributes, Sequence, Text};
 
+/// Attributes as their names and values.
+type Pairs = &'static [(&'static str, &'static [u8])];
+
 /// Puts a value at a name, and gives the old one.
 fn put(
     alloc: Global,
@@ -19,82 +22,184 @@ fn put(
     Ok(attributes.insert(name, value)?)
 }
 
-/// The attributes in order, as `name=value;`.
-fn shown(alloc: Global, attributes: &Attributes) -> Result<String, Fail> {
-    let mut text = String::new(alloc);
-    for (name, value) in attributes.iter() {
-        text.push_str(name)?;
-        text.push_str("=")?;
-        text.push_str(str::from_utf8(value)?)?;
-        text.push_str(";")?;
+/// The attributes are those of these names and values, in order.
+fn are_attributes(attributes: &Attributes, pairs: &[(&str, &[u8])]) -> bool {
+    let mut are_so = attributes.len() == pairs.len();
+    for ((name, value), (its, want)) in attributes.iter().zip(pairs) {
+        are_so = are_so && name == *its && value == *want;
     }
-    Ok(text)
+    are_so
+}
+
+/// The value is this one, or there is none.
+fn is_value(value: &Option<Sequence<u8>>, want: Option<&[u8]>) -> bool {
+    match (value, want) {
+        (Some(value), Some(want)) => value.as_slice() == want,
+        (None, None) => true,
+        _ => false,
+    }
+}
+
+/// A value that is put at a name, the old value, and all attributes behind that, with the bytes of all.
+struct Step {
+    name: &'static str,
+    value: &'static [u8],
+    old: Option<&'static [u8]>,
+    all: Pairs,
+    size: usize,
 }
 
 /// Names are in order of their bytes: capitals before small letters, and `é` (0xC3 0xA9) behind `z` (0x7A).
 /// The bytes of all are added up by hand.
+const PUT: [Step; 6] = [
+    Step {
+        name: "z",
+        value: b"1",
+        old: None,
+        all: &[("z", b"1")],
+        size: 2,
+    },
+    Step {
+        name: "a",
+        value: b"22",
+        old: None,
+        all: &[("a", b"22"), ("z", b"1")],
+        size: 5,
+    },
+    Step {
+        name: "é",
+        value: b"",
+        old: None,
+        all: &[("a", b"22"), ("z", b"1"), ("é", b"")],
+        size: 7,
+    },
+    Step {
+        name: "B",
+        value: b"3",
+        old: None,
+        all: &[("B", b"3"), ("a", b"22"), ("z", b"1"), ("é", b"")],
+        size: 9,
+    },
+    Step {
+        name: "a",
+        value: b"",
+        old: Some(b"22"),
+        all: &[("B", b"3"), ("a", b""), ("z", b"1"), ("é", b"")],
+        size: 7,
+    },
+    Step {
+        name: "z",
+        value: b"long",
+        old: Some(b"1"),
+        all: &[("B", b"3"), ("a", b""), ("z", b"long"), ("é", b"")],
+        size: 10,
+    },
+];
+
+/// The attributes are as they are behind a row, with its value at its name.
+fn are_behind(attributes: &Attributes, row: &Step) -> bool {
+    are_attributes(attributes, row.all)
+        && attributes.size() == row.size
+        && attributes.get(row.name) == Some(row.value)
+}
+
+/// Puts the value of a row, and compares.
+fn is_put(alloc: Global, attributes: &mut Attributes, row: &Step) -> Result<bool, Fail> {
+    let old = put(alloc, attributes, row.name, row.value)?;
+    Ok(is_value(&old, row.old) && are_behind(attributes, row))
+}
+
 #[test]
-fn values_are_put_and_removed(rt: HostRuntime) -> Result<(), Fail> {
-    let alloc = rt.alloc();
-    let mut attributes = Attributes::new(alloc);
+fn values_are_put(rt: HostRuntime) -> Result<(), Fail> {
+    let mut attributes = Attributes::new(rt.alloc());
+    for row in &PUT {
+        assert!(rt; is_put(rt.alloc(), &mut attributes, row)?, "{}", row.name);
+    }
+    Ok(())
+}
+
+#[test]
+fn there_are_none_at_first(rt: HostRuntime) {
+    let attributes = Attributes::new(rt.alloc());
     assert_eq!(rt; attributes.len(), 0);
     assert_eq!(rt; attributes.size(), 0);
-    let rows: [(&str, &[u8], Option<&[u8]>, &str, usize); 6] = [
-        ("z", b"1", None, "z=1;", 2),
-        ("a", b"22", None, "a=22;z=1;", 5),
-        ("é", b"", None, "a=22;z=1;é=;", 7),
-        ("B", b"3", None, "B=3;a=22;z=1;é=;", 9),
-        ("a", b"", Some(b"22"), "B=3;a=;z=1;é=;", 7),
-        ("z", b"long", Some(b"1"), "B=3;a=;z=long;é=;", 10),
-    ];
-    for (name, value, old, want, size) in rows {
-        let was = put(alloc, &mut attributes, name, value)?;
-        assert_eq!(rt;
-            was.as_ref().map(|was| was.as_slice()),
-            old,
-            "the old value at {name}"
-        );
-        assert_eq!(rt; shown(alloc, &attributes)?.as_str(), want, "behind {name}");
-        assert_eq!(rt; attributes.size(), size, "the size behind {name}");
-        assert_eq!(rt; attributes.get(name), Some(value), "the value at {name}");
+}
+
+/// What all rows leave behind.
+fn all(alloc: Global) -> Result<Attributes, Fail> {
+    let mut attributes = Attributes::new(alloc);
+    for row in &PUT {
+        let _old = put(alloc, &mut attributes, row.name, row.value)?;
     }
+    Ok(attributes)
+}
+
+/// The names are these, in order.
+fn are_names(names: &[Text], want: &[&str]) -> bool {
+    let mut are_so = names.len() == want.len();
+    for (name, its) in names.iter().zip(want) {
+        are_so = are_so && name.as_str() == *its;
+    }
+    are_so
+}
+
+fn have_names(alloc: Global, attributes: &Attributes, want: &[&str]) -> Result<bool, Fail> {
+    Ok(are_names(attributes.names(alloc)?.as_slice(), want))
+}
+
+#[test]
+fn names_are_in_order(rt: HostRuntime) -> Result<(), Fail> {
+    let attributes = all(rt.alloc())?;
     assert_eq!(rt; attributes.len(), 4);
     assert_eq!(rt; attributes.get("A"), None);
-    let names = attributes.names(alloc)?;
-    let mut joined = String::new(alloc);
-    for name in names.as_slice() {
-        joined.push_str(name.as_str())?;
-    }
-    assert_eq!(rt; joined.as_str(), "Bazé");
+    assert!(rt; have_names(rt.alloc(), &attributes, &["B", "a", "z", "é"])?);
+    Ok(())
+}
 
-    let removals: [(&str, Option<&[u8]>, &str, usize); 3] = [
-        ("z", Some(b"long"), "B=3;a=;é=;", 5),
-        ("z", None, "B=3;a=;é=;", 5),
-        ("B", Some(b"3"), "a=;é=;", 3),
-    ];
-    for (name, old, want, size) in removals {
-        let was = attributes.remove(name);
-        assert_eq!(rt;
-            was.as_ref().map(|was| was.as_slice()),
-            old,
-            "what was removed at {name}"
-        );
-        assert_eq!(rt; shown(alloc, &attributes)?.as_str(), want, "without {name}");
+/// A name whose value is removed, the old value, and all attributes behind that, with the bytes of all.
+const REMOVED: [(&str, Option<&[u8]>, Pairs, usize); 3] = [
+    (
+        "z",
+        Some(b"long"),
+        &[("B", b"3"), ("a", b""), ("é", b"")],
+        5,
+    ),
+    ("z", None, &[("B", b"3"), ("a", b""), ("é", b"")], 5),
+    ("B", Some(b"3"), &[("a", b""), ("é", b"")], 3),
+];
+
+#[test]
+fn values_are_removed(rt: HostRuntime) -> Result<(), Fail> {
+    let mut attributes = all(rt.alloc())?;
+    for (name, old, want, size) in REMOVED {
+        assert!(rt; is_value(&attributes.remove(name), old), "{name}");
+        assert!(rt; are_attributes(&attributes, want), "without {name}");
         assert_eq!(rt; attributes.size(), size, "the size without {name}");
     }
     Ok(())
 }
 
-/// A copy lives on by itself.
-#[test]
-fn copies_are_equal(rt: HostRuntime) -> Result<(), Fail> {
-    let alloc = rt.alloc();
+/// Two attributes.
+fn two(alloc: Global) -> Result<Attributes, Fail> {
     let mut attributes = Attributes::new(alloc);
     let _new = put(alloc, &mut attributes, "k", b"one")?;
     let _new = put(alloc, &mut attributes, "j", b"two")?;
+    Ok(attributes)
+}
+
+/// A copy of the two, of which one has another value since.
+fn copied_before(alloc: Global) -> Result<Attributes, Fail> {
+    let mut attributes = two(alloc)?;
     let copy = attributes.copy(alloc)?;
     let _old = put(alloc, &mut attributes, "k", b"other")?;
-    assert_eq!(rt; shown(alloc, &copy)?.as_str(), "j=two;k=one;");
+    Ok(copy)
+}
+
+/// A copy lives on by itself.
+#[test]
+fn copies_are_equal(rt: HostRuntime) -> Result<(), Fail> {
+    let copy = copied_before(rt.alloc())?;
+    assert!(rt; are_attributes(&copy, &[("j", b"two"), ("k", b"one")]));
     assert_eq!(rt; copy.size(), 8);
     Ok(())
 }
@@ -113,8 +218,7 @@ pub(super) fn single(alloc: Global, name: &str, value: &[u8]) -> Result<Attribut
 
 #[test]
 fn attributes_are_pushed(rt: HostRuntime) -> Result<(), Fail> {
-    let alloc = rt.alloc();
-    let attributes = single(alloc, "k", b"one")?;
-    assert_eq!(rt; shown(alloc, &attributes)?.as_str(), "k=one;");
+    let attributes = single(rt.alloc(), "k", b"one")?;
+    assert!(rt; are_attributes(&attributes, &[("k", b"one")]));
     Ok(())
 }

@@ -59,128 +59,172 @@ fn place_of_packet(packet: &Packet) -> usize {
     }
 }
 
+/// It has the parts of the session above.
+fn is_that_session(copy: &Session) -> bool {
+    copy.context == 5
+        && copy.secret == Secret([9; 16])
+        && copy.created == 1000
+        && copy.last == 1001
+        && copy.interval == -1
+        && copy.fresh
+        && copy.attributes.get("count") == Some(b"22".as_slice())
+}
+
+fn is_copied_session(alloc: Global) -> Result<bool, Fail> {
+    let session = session(alloc)?;
+    Ok(is_that_session(&session.copy(alloc)?))
+}
+
 #[test]
 fn sessions_are_copied(rt: HostRuntime) -> Result<(), Fail> {
-    let alloc = rt.alloc();
-    let copy = session(alloc)?.copy(alloc)?;
-    assert_eq!(rt; copy.context, 5);
-    assert_eq!(rt; copy.secret, Secret([9; 16]));
-    assert_eq!(rt; copy.created, 1000);
-    assert_eq!(rt; copy.last, 1001);
-    assert_eq!(rt; copy.interval, -1);
-    assert!(rt; copy.fresh);
-    assert_eq!(rt; copy.attributes.get("count"), Some(b"22".as_slice()));
+    assert!(rt; is_copied_session(rt.alloc())?);
     Ok(())
+}
+
+/// The state whose variant is at a place.
+fn state(alloc: Global, place: usize) -> Result<KeyState, Fail> {
+    match place {
+        0 => Ok(KeyState::Active {
+            epoch: 4,
+            session: session(alloc)?,
+        }),
+        1 => Ok(KeyState::Sent {
+            epoch: 4,
+            session: session(alloc)?,
+            to: 6,
+        }),
+        2 => Ok(KeyState::Gone { epoch: 4 }),
+        _ => Ok(KeyState::Ended { epoch: 4 }),
+    }
+}
+
+/// The place of the copy's variant.
+fn copied_state(alloc: Global, place: usize) -> Result<usize, Fail> {
+    let state = state(alloc, place)?;
+    Ok(place_of_state(&state.copy(alloc)?))
 }
 
 #[test]
 fn states_are_copied(rt: HostRuntime) -> Result<(), Fail> {
-    let alloc = rt.alloc();
-    let states = [
-        KeyState::Active {
-            epoch: 4,
-            session: session(alloc)?,
-        },
-        KeyState::Sent {
-            epoch: 4,
-            session: session(alloc)?,
-            to: 6,
-        },
-        KeyState::Gone { epoch: 4 },
-        KeyState::Ended { epoch: 4 },
-    ];
-    for (place, state) in states.iter().enumerate() {
-        assert_eq!(rt; place_of_state(&state.copy(alloc)?), place);
+    for place in 0..4 {
+        assert_eq!(rt; copied_state(rt.alloc(), place)?, place);
     }
     Ok(())
+}
+
+/// The change whose variant is at a place.
+fn change(alloc: Global, place: usize) -> Result<Change, Fail> {
+    match place {
+        0 => Ok(Change::Absent),
+        1 => Ok(Change::Alive {
+            key: KEY,
+            session: session(alloc)?,
+        }),
+        _ => Ok(Change::Ended(KEY)),
+    }
+}
+
+/// The place of the copy's variant.
+fn copied_change(alloc: Global, place: usize) -> Result<usize, Fail> {
+    let change = change(alloc, place)?;
+    Ok(place_of_change(&change.copy(alloc)?))
 }
 
 #[test]
 fn changes_are_copied(rt: HostRuntime) -> Result<(), Fail> {
-    let alloc = rt.alloc();
-    let changes = [
-        Change::Absent,
-        Change::Alive {
-            key: KEY,
-            session: session(alloc)?,
-        },
-        Change::Ended(KEY),
-    ];
-    for (place, change) in changes.iter().enumerate() {
-        assert_eq!(rt; place_of_change(&change.copy(alloc)?), place);
+    for place in 0..3 {
+        assert_eq!(rt; copied_change(rt.alloc(), place)?, place);
     }
     Ok(())
 }
 
-#[test]
-fn records_are_copied(rt: HostRuntime) -> Result<(), Fail> {
-    let alloc = rt.alloc();
-    let records = [
-        Record::Boot(8),
-        Record::Commit {
+/// The record whose variant is at a place.
+fn record(alloc: Global, place: usize) -> Result<Record, Fail> {
+    match place {
+        0 => Ok(Record::Boot(8)),
+        1 => Ok(Record::Commit {
             named: Change::Absent,
             born: Change::Ended(KEY),
-        },
-        Record::Expired(KEY),
-        Record::Sent {
+        }),
+        2 => Ok(Record::Expired(KEY)),
+        3 => Ok(Record::Sent {
             key: KEY,
             epoch: 4,
             to: 6,
             session: session(alloc)?,
-        },
-        Record::Taken {
+        }),
+        4 => Ok(Record::Taken {
             key: KEY,
             epoch: 4,
             from: 6,
             session: session(alloc)?,
-        },
-        Record::Gone { key: KEY, epoch: 4 },
-        Record::State {
+        }),
+        5 => Ok(Record::Gone { key: KEY, epoch: 4 }),
+        6 => Ok(Record::State {
             key: KEY,
             state: KeyState::Ended { epoch: 4 },
-        },
-        Record::Counters { boot: 0, next: 2 },
-    ];
-    for (place, record) in records.iter().enumerate() {
-        assert_eq!(rt; place_of_record(&record.copy(alloc)?), place);
+        }),
+        _ => Ok(Record::Counters { boot: 0, next: 2 }),
+    }
+}
+
+/// The place of the copy's variant.
+fn copied_record(alloc: Global, place: usize) -> Result<usize, Fail> {
+    let record = record(alloc, place)?;
+    Ok(place_of_record(&record.copy(alloc)?))
+}
+
+#[test]
+fn records_are_copied(rt: HostRuntime) -> Result<(), Fail> {
+    for place in 0..8 {
+        assert_eq!(rt; copied_record(rt.alloc(), place)?, place);
     }
     Ok(())
 }
 
-#[test]
-fn packets_are_copied(rt: HostRuntime) -> Result<(), Fail> {
-    let alloc = rt.alloc();
-    let packets = [
-        Packet::Want {
+/// The packet whose variant is at a place.
+fn packet(alloc: Global, place: usize) -> Result<Packet, Fail> {
+    match place {
+        0 => Ok(Packet::Want {
             from: 1,
             to: 2,
             key: KEY,
             boot: 4,
             want: 5,
-        },
-        Packet::Grant {
+        }),
+        1 => Ok(Packet::Grant {
             from: 1,
             to: 2,
             key: KEY,
             epoch: 4,
             session: session(alloc)?,
-        },
-        Packet::Ack {
+        }),
+        2 => Ok(Packet::Ack {
             from: 1,
             to: 2,
             key: KEY,
             epoch: 4,
-        },
-        Packet::No {
+        }),
+        _ => Ok(Packet::No {
             from: 1,
             to: 2,
             key: KEY,
             boot: 4,
             want: 5,
-        },
-    ];
-    for (place, packet) in packets.iter().enumerate() {
-        assert_eq!(rt; place_of_packet(&packet.copy(alloc)?), place);
+        }),
+    }
+}
+
+/// The place of the copy's variant.
+fn copied_packet(alloc: Global, place: usize) -> Result<usize, Fail> {
+    let packet = packet(alloc, place)?;
+    Ok(place_of_packet(&packet.copy(alloc)?))
+}
+
+#[test]
+fn packets_are_copied(rt: HostRuntime) -> Result<(), Fail> {
+    for place in 0..4 {
+        assert_eq!(rt; copied_packet(rt.alloc(), place)?, place);
     }
     Ok(())
 }
