@@ -1,6 +1,6 @@
 //! Compactions: the bytes that they write, and which of two disks is read.
 use crate::fixtures::{
-    added, compacted, listed, new_journal, opened, records_of, shown_calls, shown_of, with_gate,
+    added, compacted, journal_on, listed, new_journal, read, records_of, shown_calls, with_gate,
 };
 use std::alloc::Global;
 use std::process::Abort;
@@ -24,12 +24,17 @@ const COMPACTED: &[u8] = b"\xA5SVJRNL\x01\0\0\0\0\0\0\0\x02\
 \xA5\0\0\0\x12\x02\x08\0\0\0\0\0\0\0\x01\0\0\0\0\0\0\0\x02\
 \xA5\0\0\0\x48\x02\x07\0\0\0\0\0\0\0\0\x01\x01\0\0\0\0\0\0\0\x01\0\0\0\0\0\0\0\0\0\0\0\0\0\0\0\x01\0\0\0\0\0\0\0\x03\xE8\0\0\0\0\0\0\x03\xE8\0\0\x07\x08\x01\0\x01\0\x05count\0\0\0\x011\0";
 
+// Adds what a node writes first, and compacts that.
+fn add_and_compact(alloc: Global, journal: &mut Journal<MemoryDisk>) -> Result<(), Fail> {
+    added(journal, BOOT)?;
+    added(journal, COMMIT)?;
+    Ok(compacted(journal, &listed(alloc, &[COUNTERS, STATE])?)?)
+}
+
 // The journal on disk A is compacted to disk B.
 fn compacted_journal(alloc: Global) -> Result<Journal<MemoryDisk>, Fail> {
     let mut journal = new_journal(alloc)?;
-    added(&mut journal, BOOT)?;
-    added(&mut journal, COMMIT)?;
-    compacted(&mut journal, &listed(alloc, &[COUNTERS, STATE])?)?;
+    add_and_compact(alloc, &mut journal)?;
     Ok(journal)
 }
 
@@ -44,46 +49,73 @@ fn a_compaction_writes_the_other_disk(rt: HostRuntime) -> Result<(), Fail> {
 
 fn is_read(
     rt: &impl Abort,
-    alloc: Global,
     journal: &mut Journal<MemoryDisk>,
     len: u64,
     entries: &[&[u8]],
 ) -> Result<(), Fail> {
     assert_eq!(rt; journal.len(), len);
-    let mut wanted = Vec::new(alloc);
-    for entry in entries {
-        wanted.extend_from_slice(entry)?;
-        wanted.push(b'|')?;
-    }
-    let found = shown_of(alloc, journal)?;
-    assert_eq!(rt; found.as_slice(), wanted.as_slice());
+    assert!(rt; are_entries(&read(journal)?, entries));
     Ok(())
 }
 
-// B is opened and grows; a second compaction makes A current, and B keeps what it held.
+// The entries are these, in order.
+fn are_entries(found: &[Vec<u8>], entries: &[&[u8]]) -> bool {
+    let mut are_so = found.len() == entries.len();
+    for (entry, wanted) in found.iter().zip(entries) {
+        are_so = are_so && entry.as_slice() == *wanted;
+    }
+    are_so
+}
+
+// B is opened and grows, and is compacted to A.
+fn grows(rt: &impl Abort, alloc: Global, journal: &mut Journal<MemoryDisk>) -> Result<(), Fail> {
+    is_read(rt, journal, 117, &[COUNTERS, STATE])?;
+    added(journal, BOOT)?;
+    is_read(rt, journal, 132, &[COUNTERS, STATE, BOOT])?;
+    Ok(compacted(journal, &listed(alloc, &[STATE])?)?)
+}
+
+// The journal on B, opened once more.
+fn reopened(alloc: Global) -> Result<Journal<MemoryDisk>, Fail> {
+    let (a, b) = compacted_journal(alloc)?.into_disks();
+    journal_on(alloc, a, b)
+}
+
+// A second compaction makes A current, and B keeps what it held.
 #[test]
 fn the_greater_generation_is_read(rt: HostRuntime) -> Result<(), Fail> {
     let alloc = rt.alloc();
-    let (a, b) = compacted_journal(alloc)?.into_disks();
-    let mut journal = opened(alloc, a, b)?;
-    is_read(&rt, alloc, &mut journal, 117, &[COUNTERS, STATE])?;
-    added(&mut journal, BOOT)?;
-    is_read(&rt, alloc, &mut journal, 132, &[COUNTERS, STATE, BOOT])?;
-    compacted(&mut journal, &listed(alloc, &[STATE])?)?;
+    let mut journal = reopened(alloc)?;
+    grows(&rt, alloc, &mut journal)?;
     let (a, b) = journal.into_disks();
     assert_eq!(rt; a.bytes().get(15), Some(&3));
     assert_eq!(rt; b.bytes().get(15), Some(&2));
     assert_eq!(rt; b.bytes().len(), 132);
     // 16 + 77 + 1
-    is_read(&rt, alloc, &mut opened(alloc, a, b)?, 94, &[STATE])
+    is_read(&rt, &mut journal_on(alloc, a, b)?, 94, &[STATE])
+}
+
+// The journal with the gate of disk B closed.
+fn with_b_closed(alloc: Global) -> Result<Journal<MemoryDisk>, Fail> {
+    let (a, b) = compacted_journal(alloc)?.into_disks();
+    let b = MemoryDisk::with(alloc, &with_gate(alloc, b.bytes(), 0)?)?;
+    journal_on(alloc, a, b)
 }
 
 #[test]
 fn a_closed_disk_is_not_read(rt: HostRuntime) -> Result<(), Fail> {
     let alloc = rt.alloc();
-    let (a, b) = compacted_journal(alloc)?.into_disks();
-    let b = MemoryDisk::with(alloc, &with_gate(alloc, b.bytes(), 0)?)?;
-    is_read(&rt, alloc, &mut opened(alloc, a, b)?, 102, &[BOOT, COMMIT])
+    is_read(&rt, &mut with_b_closed(alloc)?, 102, &[BOOT, COMMIT])
+}
+
+// What is read with this gate on A.
+fn records_of_torn_a(alloc: Global, a: &[u8], b: &[u8], gate: u8) -> Result<Vec<u8>, JournalFault> {
+    records_of(alloc, &with_gate(alloc, a, gate)?, b)
+}
+
+// What is read with this gate on B.
+fn records_of_torn_b(alloc: Global, a: &[u8], b: &[u8], gate: u8) -> Result<Vec<u8>, JournalFault> {
+    records_of(alloc, a, &with_gate(alloc, b, gate)?)
 }
 
 // Each byte in the place of either gate: what is read is the journal of the disk that is open, or of the newer one.
@@ -94,15 +126,22 @@ fn each_torn_gate_of_a_compaction_opens(rt: HostRuntime) -> Result<(), Fail> {
     let old = records_of(alloc, a.bytes(), b"")?;
     let new = records_of(alloc, b"", b.bytes())?;
     for gate in 0..=255u8 {
-        let torn = with_gate(alloc, a.bytes(), gate)?;
-        let found = records_of(alloc, &torn, b.bytes())?;
+        let found = records_of_torn_a(alloc, a.bytes(), b.bytes(), gate)?;
         assert_eq!(rt; found.as_slice(), new.as_slice(), "A, {gate}");
-        let torn = with_gate(alloc, b.bytes(), gate)?;
-        let found = records_of(alloc, a.bytes(), &torn)?;
+        let found = records_of_torn_b(alloc, a.bytes(), b.bytes(), gate)?;
         let wanted = if gate == 0xA5 { &new } else { &old };
         assert_eq!(rt; found.as_slice(), wanted.as_slice(), "B, {gate}");
     }
     Ok(())
+}
+
+// The journal, compacted to a disk A that has told no calls yet.
+fn compacted_to_a(alloc: Global) -> Result<Journal<MemoryDisk>, Fail> {
+    let (a, b) = compacted_journal(alloc)?.into_disks();
+    let a = MemoryDisk::with(alloc, a.bytes())?;
+    let mut journal = journal_on(alloc, a, b)?;
+    compacted(&mut journal, &[])?;
+    Ok(journal)
 }
 
 // The calls of a compaction over an older journal, behind the sync of its opening: the gate is closed, the rest is cut
@@ -110,10 +149,7 @@ fn each_torn_gate_of_a_compaction_opens(rt: HostRuntime) -> Result<(), Fail> {
 #[test]
 fn a_compaction_is_four_changes_and_four_syncs(rt: HostRuntime) -> Result<(), Fail> {
     let alloc = rt.alloc();
-    let (a, b) = compacted_journal(alloc)?.into_disks();
-    let a = MemoryDisk::with(alloc, a.bytes())?;
-    let mut journal = opened(alloc, a, b)?;
-    compacted(&mut journal, &[])?;
+    let journal = compacted_to_a(alloc)?;
     let wanted = b"S|W\0\0|S|C\x01|S|W\x01SVJRNL\x01\0\0\0\0\0\0\0\x03\0|S|W\0\xA5|S|";
     let found = shown_calls(alloc, journal.into_disks().0.calls())?;
     assert_eq!(rt; found.as_slice(), wanted.as_slice());
@@ -128,7 +164,7 @@ const BEFORE: &[u8] = b"\xA5SVJRNL\x01\xFF\xFF\xFF\xFF\xFF\xFF\xFF\xFE\0";
 fn journal_of(alloc: Global, a: &[u8], b: &[u8]) -> Result<Journal<MemoryDisk>, Fail> {
     let a = MemoryDisk::with(alloc, a)?;
     let b = MemoryDisk::with(alloc, b)?;
-    Ok(opened(alloc, a, b)?)
+    journal_on(alloc, a, b)
 }
 
 #[test]
@@ -136,9 +172,13 @@ fn the_last_generation_is_full(rt: HostRuntime) -> Result<(), Fail> {
     let alloc = rt.alloc();
     let mut journal = journal_of(alloc, BEFORE, LAST)?;
     assert_eq!(rt; compacted(&mut journal, &[]), Err(JournalFault::Full));
-    added(&mut journal, b"y")?;
-    is_read(&rt, alloc, &mut journal, 29, &[b"x", b"y"])?;
-    let mut journal = journal_of(alloc, BEFORE, b"")?;
+    assert_eq!(rt; added(&mut journal, b"y"), Ok(()));
+    is_read(&rt, &mut journal, 29, &[b"x", b"y"])
+}
+
+#[test]
+fn the_generation_before_the_last_is_not_full(rt: HostRuntime) -> Result<(), Fail> {
+    let mut journal = journal_of(rt.alloc(), BEFORE, b"")?;
     assert_eq!(rt; compacted(&mut journal, &[]), Ok(()));
     assert_eq!(rt; compacted(&mut journal, &[]), Err(JournalFault::Full));
     Ok(())

@@ -1,5 +1,8 @@
 //! Scripts of appends and compactions in which each call of either disk fails in turn.
-use crate::fixtures::{added, compacted, image, opened, read, records_of, shown_calls, shown_of};
+use crate::fixtures::{
+    added, compacted, image, journal_on, new_journal, opened, read_fault, records_of, shown_again,
+    shown_calls,
+};
 use std::alloc::Global;
 use std::process::Abort;
 use std::test::Fail;
@@ -68,34 +71,41 @@ struct Ended {
     b: MemoryDisk,
 }
 
-// Opens the disks and takes the steps, up to the first fault.
-fn script(alloc: Global, a: MemoryDisk, b: MemoryDisk) -> Ended {
-    let mut journal = match opened(alloc, a, b) {
-        Ok(journal) => journal,
-        Err(refused) => {
-            return Ended {
-                acknowledged: 0,
-                fault: Some(refused.fault),
-                a: refused.a,
-                b: refused.b,
-            };
-        }
-    };
-    let mut fault = None;
+// Takes the steps up to the first fault: how many were acknowledged, and the fault.
+fn take_steps(alloc: Global, journal: &mut Journal<MemoryDisk>) -> (usize, Option<JournalFault>) {
     let mut acknowledged: usize = 0;
     for next in SCRIPT {
-        if let Err(met) = take_step(alloc, &mut journal, next) {
-            fault = Some(met);
-            break;
+        if let Err(fault) = take_step(alloc, journal, next) {
+            return (acknowledged, Some(fault));
         }
         acknowledged = acknowledged.saturating_add(1);
     }
+    (acknowledged, None)
+}
+
+// Takes the steps on a journal that is open.
+fn script_on(alloc: Global, journal: Journal<MemoryDisk>) -> Ended {
+    let mut journal = journal;
+    let (acknowledged, fault) = take_steps(alloc, &mut journal);
     let (a, b) = journal.into_disks();
     Ended {
         acknowledged,
         fault,
         a,
         b,
+    }
+}
+
+// Opens the disks and takes the steps.
+fn script(alloc: Global, a: MemoryDisk, b: MemoryDisk) -> Ended {
+    match opened(alloc, a, b) {
+        Ok(journal) => script_on(alloc, journal),
+        Err(refused) => Ended {
+            acknowledged: 0,
+            fault: Some(refused.fault),
+            a: refused.a,
+            b: refused.b,
+        },
     }
 }
 
@@ -120,8 +130,55 @@ fn has_these(
     Ok(())
 }
 
-// The same with each call of either disk failing in turn while the two are opened again.
+// The disks with the k-th call of the first failing, or a later one of the second.
+fn failing_disks(
+    alloc: Global,
+    a: &[u8],
+    b: &[u8],
+    k: u64,
+) -> Result<(MemoryDisk, MemoryDisk), Fail> {
+    let mut first = MemoryDisk::with(alloc, a)?;
+    let mut second = MemoryDisk::with(alloc, b)?;
+    if k < 12 {
+        first.fail_at(k);
+    } else {
+        second.fail_at(k.saturating_sub(11));
+    }
+    Ok((first, second))
+}
+
+// The disks behind an attempt to open them.
+fn opened_once(
+    rt: &impl Abort,
+    alloc: Global,
+    a: MemoryDisk,
+    b: MemoryDisk,
+) -> (MemoryDisk, MemoryDisk) {
+    match opened(alloc, a, b) {
+        Ok(journal) => journal.into_disks(),
+        Err(refused) => {
+            assert_eq!(rt; refused.fault, JournalFault::Device);
+            (refused.a, refused.b)
+        }
+    }
+}
+
+// The same entries with a call failing while the two are opened again.
 fn opens_with_these(
+    rt: &impl Abort,
+    alloc: Global,
+    a: &[u8],
+    b: &[u8],
+    acknowledged: usize,
+    k: u64,
+) -> Result<(), Fail> {
+    let (a, b) = failing_disks(alloc, a, b, k)?;
+    let (a, b) = opened_once(rt, alloc, a, b);
+    has_these(rt, alloc, a.bytes(), b.bytes(), acknowledged)
+}
+
+// The same with each call of either disk failing in turn while the two are opened again.
+fn opens_each_time(
     rt: &impl Abort,
     alloc: Global,
     a: &[u8],
@@ -130,49 +187,42 @@ fn opens_with_these(
 ) -> Result<(), Fail> {
     has_these(rt, alloc, a, b, acknowledged)?;
     for k in 1..24u64 {
-        let mut first = MemoryDisk::with(alloc, a)?;
-        let mut second = MemoryDisk::with(alloc, b)?;
-        if k < 12 {
-            first.fail_at(k);
-        } else {
-            second.fail_at(k.saturating_sub(11));
-        }
-        let (first, second) = match opened(alloc, first, second) {
-            Ok(journal) => journal.into_disks(),
-            Err(refused) => {
-                assert_eq!(rt; refused.fault, JournalFault::Device);
-                (refused.a, refused.b)
-            }
-        };
-        has_these(rt, alloc, first.bytes(), second.bytes(), acknowledged)?;
+        opens_with_these(rt, alloc, a, b, acknowledged, k)?;
     }
     Ok(())
+}
+
+// Runs the script with the k-th call of one disk failing.
+fn script_failing_at(alloc: Global, on_a: bool, k: u64) -> Ended {
+    let mut a = MemoryDisk::new(alloc);
+    let mut b = MemoryDisk::new(alloc);
+    if on_a {
+        a.fail_at(k);
+    } else {
+        b.fail_at(k);
+    }
+    script(alloc, a, b)
+}
+
+// What a script leaves whose k-th call failed, and whether it was through before that.
+fn is_through(rt: &impl Abort, alloc: Global, ended: &Ended, k: u64) -> Result<bool, Fail> {
+    let (a, b) = (ended.a.bytes(), ended.b.bytes());
+    if ended.fault.is_none() {
+        assert_eq!(rt; ended.acknowledged, 10);
+        has_these(rt, alloc, a, b, 10)?;
+        return Ok(true);
+    }
+    assert_eq!(rt; ended.fault, Some(JournalFault::Device), "call {k}");
+    opens_each_time(rt, alloc, a, b, ended.acknowledged)?;
+    Ok(false)
 }
 
 // Runs the script with the k-th call of one disk failing, until none fails, and tells how many calls that were.
 fn fails_in_turn(rt: &impl Abort, alloc: Global, on_a: bool) -> Result<u64, Fail> {
     for k in 1..200u64 {
-        let mut a = MemoryDisk::new(alloc);
-        let mut b = MemoryDisk::new(alloc);
-        if on_a {
-            a.fail_at(k);
-        } else {
-            b.fail_at(k);
-        }
-        let ended = script(alloc, a, b);
-        if ended.fault.is_none() {
-            assert_eq!(rt; ended.acknowledged, 10);
-            has_these(rt, alloc, ended.a.bytes(), ended.b.bytes(), 10)?;
+        if is_through(rt, alloc, &script_failing_at(alloc, on_a, k), k)? {
             return Ok(k.saturating_sub(1));
         }
-        assert_eq!(rt; ended.fault, Some(JournalFault::Device), "call {k}");
-        opens_with_these(
-            rt,
-            alloc,
-            ended.a.bytes(),
-            ended.b.bytes(),
-            ended.acknowledged,
-        )?;
     }
     Ok(200)
 }
@@ -187,62 +237,86 @@ fn each_call_of_a_script_fails_in_turn(rt: HostRuntime) -> Result<(), Fail> {
     Ok(())
 }
 
+// A journal of which the k-th call of its first disk fails.
+fn new_journal_failing_at(alloc: Global, k: u64) -> Result<Journal<MemoryDisk>, Fail> {
+    let mut a = MemoryDisk::new(alloc);
+    a.fail_at(k);
+    journal_on(alloc, a, MemoryDisk::new(alloc))
+}
+
+// The journal, opened once more, with the k-th call of its first disk failing from there.
+fn reopened_failing_at(
+    alloc: Global,
+    journal: Journal<MemoryDisk>,
+    k: u64,
+) -> Result<Journal<MemoryDisk>, Fail> {
+    let (mut a, b) = journal.into_disks();
+    a.fail_at(k);
+    journal_on(alloc, a, b)
+}
+
 // After Device all calls but two answer Failed, until the disks are opened again.
 #[test]
 fn a_journal_that_met_device_answers_failed(rt: HostRuntime) -> Result<(), Fail> {
     let alloc = rt.alloc();
-    let mut a = MemoryDisk::new(alloc);
-    a.fail_at(9);
-    let mut journal = opened(alloc, a, MemoryDisk::new(alloc))?;
+    let mut journal = new_journal_failing_at(alloc, 9)?;
     // The ninth call is the read of `records`: Device leaves the journal usable.
-    assert_eq!(rt; read(&mut journal).err(), Some(JournalFault::Device));
-    added(&mut journal, b"x")?;
-    let (mut a, b) = journal.into_disks();
+    assert_eq!(rt; read_fault(&mut journal), Some(JournalFault::Device));
+    assert_eq!(rt; added(&mut journal, b"x"), Ok(()));
     // Opening again takes a sync, the length and three reads, and the sixth call is the append's first write.
-    a.fail_at(6);
-    let mut journal = opened(alloc, a, b)?;
+    let mut journal = reopened_failing_at(alloc, journal, 6)?;
     assert_eq!(rt; added(&mut journal, b"y"), Err(JournalFault::Device));
     assert_eq!(rt; added(&mut journal, b"y"), Err(JournalFault::Failed));
-    assert_eq!(rt; read(&mut journal).err(), Some(JournalFault::Failed));
+    assert_eq!(rt; read_fault(&mut journal), Some(JournalFault::Failed));
     assert_eq!(rt; journal.len(), 23);
     assert!(rt; !journal.is_live());
     let (a, b) = journal.into_disks();
-    let found = shown_of(alloc, &mut opened(alloc, a, b)?)?;
-    assert_eq!(rt; found.as_slice(), b"x|".as_slice());
+    assert_eq!(rt; shown_again(alloc, a, b)?.as_slice(), b"x|".as_slice());
     Ok(())
+}
+
+// A journal on disk B, with an entry behind its compaction.
+fn grown(alloc: Global) -> Result<Journal<MemoryDisk>, Fail> {
+    let mut journal = new_journal(alloc)?;
+    grow(&mut journal)?;
+    Ok(journal)
+}
+
+fn grow(journal: &mut Journal<MemoryDisk>) -> Result<(), JournalFault> {
+    compacted(journal, &[])?;
+    added(journal, b"z")
 }
 
 // After Device in a compaction all calls but two answer Failed, and the disks come back in their order.
 #[test]
 fn a_compaction_that_met_device_answers_failed(rt: HostRuntime) -> Result<(), Fail> {
     let alloc = rt.alloc();
-    let mut journal = opened(alloc, MemoryDisk::new(alloc), MemoryDisk::new(alloc))?;
-    compacted(&mut journal, &[])?;
-    added(&mut journal, b"z")?;
-    let (mut a, b) = journal.into_disks();
     // Opening takes a sync, the length and two reads, and the fifth call is the compaction's first.
-    a.fail_at(5);
-    let mut journal = opened(alloc, a, b)?;
+    let mut journal = reopened_failing_at(alloc, grown(alloc)?, 5)?;
     assert_eq!(rt; compacted(&mut journal, &[]), Err(JournalFault::Device));
     assert_eq!(rt; compacted(&mut journal, &[]), Err(JournalFault::Failed));
     assert_eq!(rt; added(&mut journal, b"y"), Err(JournalFault::Failed));
-    assert_eq!(rt; read(&mut journal).err(), Some(JournalFault::Failed));
+    assert_eq!(rt; read_fault(&mut journal), Some(JournalFault::Failed));
     let (a, b) = journal.into_disks();
     assert_eq!(rt; a.bytes().get(15), Some(&1));
     assert_eq!(rt; b.bytes().get(15), Some(&2));
-    let found = shown_of(alloc, &mut opened(alloc, a, b)?)?;
-    assert_eq!(rt; found.as_slice(), b"z|".as_slice());
+    assert_eq!(rt; shown_again(alloc, a, b)?.as_slice(), b"z|".as_slice());
     Ok(())
+}
+
+// A journal with one entry, made over a header and a closed gate.
+fn with_an_entry(alloc: Global) -> Result<Journal<MemoryDisk>, Fail> {
+    let a = MemoryDisk::with(alloc, &image(alloc, b"\0")?)?;
+    let mut journal = journal_on(alloc, a, MemoryDisk::new(alloc))?;
+    added(&mut journal, b"x")?;
+    Ok(journal)
 }
 
 // The calls of an append, behind the sync of its opening: what is behind the gate, a sync, the gate, a sync.
 #[test]
 fn an_append_is_two_writes_and_two_syncs(rt: HostRuntime) -> Result<(), Fail> {
     let alloc = rt.alloc();
-    let a = MemoryDisk::with(alloc, &image(alloc, b"\0")?)?;
-    let mut journal = opened(alloc, a, MemoryDisk::new(alloc))?;
-    added(&mut journal, b"x")?;
-    let (a, b) = journal.into_disks();
+    let (a, b) = with_an_entry(alloc)?.into_disks();
     let found = shown_calls(alloc, a.calls())?;
     assert_eq!(rt;
         found.as_slice(),

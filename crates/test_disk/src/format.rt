@@ -1,7 +1,11 @@
 //! The format, byte for byte.
-use crate::fixtures::{added, image, joined, new_journal, opened, read, records_of, shown_of};
+use crate::fixtures::{
+    added, image, joined, journal_on, new_journal, opened, read, records_of, shown_of,
+};
+use std::alloc::Global;
+use std::process::Abort;
 use std::test::Fail;
-use sv_journal::{JournalFault, MemoryDisk};
+use sv_journal::{Journal, JournalFault, MemoryDisk};
 
 // The worked example: an empty journal, and one with the first record that a node writes.
 const FIRST_RECORD: [u8; 10] = [2, 1, 0, 0, 0, 0, 0, 0, 0, 1];
@@ -22,7 +26,7 @@ fn a_new_journal_is_the_header_and_a_closed_gate(rt: HostRuntime) -> Result<(), 
 fn an_entry_is_a_gate_a_length_and_the_payload(rt: HostRuntime) -> Result<(), Fail> {
     let alloc = rt.alloc();
     let mut journal = new_journal(alloc)?;
-    added(&mut journal, &FIRST_RECORD)?;
+    assert_eq!(rt; added(&mut journal, &FIRST_RECORD), Ok(()));
     let found = shown_of(alloc, &mut journal)?;
     assert_eq!(rt; found.as_slice(), b"\x02\x01\0\0\0\0\0\0\0\x01|".as_slice());
     assert_eq!(rt; journal.len(), 32);
@@ -67,12 +71,18 @@ fn entries_end_at_a_gate_that_is_not_open(rt: HostRuntime) -> Result<(), Fail> {
     let alloc = rt.alloc();
     for (name, rest, wanted) in REST {
         let found = records_of(alloc, &image(alloc, rest)?, b"");
-        match wanted {
-            Some(entries) => assert_eq!(rt; found?.as_slice(), entries, "{name}"),
-            None => assert_eq!(rt; found.err(), Some(JournalFault::Damaged), "{name}"),
-        }
+        assert!(rt; is_found(&found, wanted), "{name}");
     }
     Ok(())
+}
+
+// These entries were found, or the disks are damaged.
+fn is_found(found: &Result<Vec<u8>, JournalFault>, wanted: Option<&[u8]>) -> bool {
+    match (found, wanted) {
+        (Ok(found), Some(entries)) => found.as_slice() == entries,
+        (Err(fault), None) => *fault == JournalFault::Damaged,
+        _ => false,
+    }
 }
 
 // A length of 524,288 is the longest; 524,289 is damage, whatever stands behind it.
@@ -140,34 +150,26 @@ const BLANK: [(&str, &[u8], &[u8], bool); 11] = [
 ];
 
 #[test]
-fn disks_that_are_not_open_are_blank_or_damaged(rt: HostRuntime) -> Result<(), Fail> {
+fn disks_that_are_not_open_are_blank_or_damaged(rt: HostRuntime) {
     let alloc = rt.alloc();
     for (name, a, b, is_damaged) in BLANK {
-        let found = records_of(alloc, a, b);
-        if is_damaged {
-            assert_eq!(rt; found.err(), Some(JournalFault::Damaged), "{name}");
-        } else {
-            assert!(rt; found?.is_empty(), "{name}");
-        }
+        let wanted: Option<&[u8]> = if is_damaged { None } else { Some(b"") };
+        assert!(rt; is_found(&records_of(alloc, a, b), wanted), "{name}");
+    }
+}
+
+// Adds 26 payloads of 100,000 bytes and 200 short ones.
+fn add_many(alloc: Global, journal: &mut Journal<MemoryDisk>) -> Result<(), Fail> {
+    for i in 0..26u8 {
+        added(journal, &Vec::from_elem(alloc, i, 100_000)?)?;
+    }
+    for i in 0..200u8 {
+        added(journal, &[i; 50])?;
     }
     Ok(())
 }
 
-// A disk is read in pieces of 1,048,576 bytes: 26 payloads of 100,000 bytes and 200 short ones lie across the ends of two.
-#[test]
-fn a_long_journal_is_read_in_pieces(rt: HostRuntime) -> Result<(), Fail> {
-    let alloc = rt.alloc();
-    let mut journal = new_journal(alloc)?;
-    for i in 0..26u8 {
-        added(&mut journal, &Vec::from_elem(alloc, i, 100_000)?)?;
-    }
-    for i in 0..200u8 {
-        added(&mut journal, &[i; 50])?;
-    }
-    // 16 + 26 * 100,005 + 200 * 55 + 1
-    assert_eq!(rt; journal.len(), 2_611_147);
-    let (a, b) = journal.into_disks();
-    let found = read(&mut opened(alloc, a, b)?)?;
+fn expect_many(rt: &impl Abort, found: &[Vec<u8>]) {
     assert_eq!(rt; found.len(), 226);
     for (i, payload) in found.iter().enumerate() {
         let (byte, len) = if i < 26 {
@@ -178,7 +180,29 @@ fn a_long_journal_is_read_in_pieces(rt: HostRuntime) -> Result<(), Fail> {
         let is_whole = payload.len() == len && payload.iter().all(|b| usize::from(*b) == byte);
         assert!(rt; is_whole, "{i}");
     }
+}
+
+// A disk is read in pieces of 1,048,576 bytes: 26 payloads of 100,000 bytes and 200 short ones lie across the ends of two.
+#[test]
+fn a_long_journal_is_read_in_pieces(rt: HostRuntime) -> Result<(), Fail> {
+    let alloc = rt.alloc();
+    let mut journal = new_journal(alloc)?;
+    add_many(alloc, &mut journal)?;
+    // 16 + 26 * 100,005 + 200 * 55 + 1
+    assert_eq!(rt; journal.len(), 2_611_147);
+    let (a, b) = journal.into_disks();
+    expect_many(&rt, &read(&mut journal_on(alloc, a, b)?)?);
     Ok(())
+}
+
+// What is said where two disks of two bytes are opened, if they are refused.
+fn text_of_refused(alloc: Global) -> Result<Option<String>, Fail> {
+    let a = MemoryDisk::with(alloc, b"\0\0")?;
+    let b = MemoryDisk::with(alloc, b"\0\0")?;
+    match opened(alloc, a, b) {
+        Ok(_) => Ok(None),
+        Err(refused) => Ok(Some(format!(in alloc; "{refused}")?)),
+    }
 }
 
 #[test]
@@ -187,16 +211,10 @@ fn a_fault_says_what_is_at_fault(rt: HostRuntime) -> Result<(), Fail> {
     let wanted = "the disks hold no journal that can be read";
     let text = format!(in alloc; "{}", JournalFault::Damaged)?;
     assert!(rt; text.as_str() == wanted);
-    let (a, b) = (
-        MemoryDisk::with(alloc, b"\0\0")?,
-        MemoryDisk::with(alloc, b"\0\0")?,
+    let text = text_of_refused(alloc)?;
+    assert!(rt;
+        text.is_some_and(|text| text.as_str() == wanted),
+        "two bytes on B"
     );
-    match opened(alloc, a, b) {
-        Ok(_) => assert!(rt; false, "two bytes on B"),
-        Err(refused) => {
-            let text = format!(in alloc; "{refused}")?;
-            assert!(rt; text.as_str() == wanted);
-        }
-    }
     Ok(())
 }
