@@ -1,7 +1,7 @@
 //! A call that is made once more where memory was refused to it.
 
 use std::alloc::AllocError;
-use sv_config::ConfigFault;
+use sv_config::{ConfigFault, NotRead};
 use sv_mapping::MappingFault;
 use sv_message::fault::ReadFault;
 use sv_model::EngineFault;
@@ -64,6 +64,12 @@ impl Fault for ConfigFault {
     }
 }
 
+impl Fault for NotRead {
+    fn is_memory(&self) -> bool {
+        matches!(self, NotRead::Memory)
+    }
+}
+
 impl Fault for RecordFault {
     fn is_memory(&self) -> bool {
         matches!(self, RecordFault::Memory)
@@ -110,25 +116,28 @@ pub fn done<T: Drop, F: Fault>(answer: Result<T, F>) -> Result<T, Unshown> {
     }
 }
 
-/// Memory was refused to a call.
-pub fn is_refused<T, F: Fault>(answer: &Result<T, F>) -> bool {
-    match answer {
-        Ok(_) => false,
-        Err(fault) => fault.is_memory(),
+/// What a call gives; none where memory was refused to it, which is counted.
+pub fn unless_refused<T: Drop, F: Fault>(
+    refusals: &mut Refusals,
+    answer: Result<T, F>,
+) -> Option<Result<T, Unshown>> {
+    match done(answer) {
+        Err(Unshown::Memory) => {
+            refusals.add();
+            None
+        }
+        answer => Some(answer),
     }
 }
 
-/// Makes a call, and once more where memory is refused to it.
-pub fn again<T: Drop, F: Fault, C: FnMut() -> Result<T, F>>(
-    refusals: &mut Refusals,
-    mut call: C,
-) -> Result<T, Unshown>
-    requires { C.IsAlwaysCallable call }
-{
-    let first = call();
-    if !is_refused(&first) {
-        return done(first);
-    }
-    refusals.add();
-    done(call())
+/// Makes a call, and once more where memory is refused to it. It writes the call twice, since a closure has three proofs of its own.
+macro_rules! again {
+    ($refusals:expr, $call:expr) => {
+        match $crate::again::unless_refused($refusals, $call) {
+            Some(answer) => answer,
+            None => $crate::again::done($call),
+        }
+    };
 }
+
+pub(crate) use again;

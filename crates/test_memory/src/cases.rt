@@ -3,6 +3,7 @@
 mod connections;
 mod containers;
 mod cores;
+mod descriptors;
 mod dispatches;
 mod journals;
 mod model;
@@ -18,7 +19,7 @@ use crate::again::{Refusals, Unshown};
 use std::alloc::Global;
 
 /// All of them, in the order of the floors.
-pub const NAMES: [&str; 88] = [
+pub const NAMES: [&str; 94] = [
     "text-copy",
     "bytes-copy",
     "field-copy",
@@ -55,6 +56,9 @@ pub const NAMES: [&str; 88] = [
     "filters-for",
     "from-toml",
     "context-paths",
+    "document-from-toml",
+    "document-faults",
+    "document-patterns",
     "edit-set",
     "edit-set-again",
     "edit-set-none",
@@ -104,6 +108,9 @@ pub const NAMES: [&str; 88] = [
     "answer",
     "refusal",
     "solo-step",
+    "look-at",
+    "look-at-no-document",
+    "look-at-faults",
     "planted-half-done",
     "planted-another-fault",
     "planted-what-was-there-lost",
@@ -223,6 +230,20 @@ fn of_session(alloc: Global, refusals: &mut Refusals, name: &str) -> Shown {
     }
 }
 
+fn of_descriptors(alloc: Global, refusals: &mut Refusals, name: &str) -> Shown {
+    match name {
+        "from-toml" => descriptors::deployment(alloc, refusals),
+        "context-paths" => descriptors::context_paths(alloc, refusals),
+        "document-from-toml" => descriptors::document(alloc, refusals),
+        "document-faults" => descriptors::faults(alloc, refusals),
+        "document-patterns" => descriptors::patterns(alloc, refusals),
+        "look-at" => descriptors::look(alloc, refusals),
+        "look-at-no-document" => descriptors::look_at_none(alloc, refusals),
+        "look-at-faults" => descriptors::look_at_faults(alloc, refusals),
+        _ => of_session(alloc, refusals, name),
+    }
+}
+
 fn of_web(alloc: Global, refusals: &mut Refusals, name: &str) -> Shown {
     match name {
         "reader-feed-next" => web::reader(alloc, refusals),
@@ -234,9 +255,7 @@ fn of_web(alloc: Global, refusals: &mut Refusals, name: &str) -> Shown {
         "pattern-read" => web::pattern(alloc, refusals),
         "mappings-add" => web::mappings(alloc, refusals),
         "filters-for" => web::filters(alloc, refusals),
-        "from-toml" => web::descriptor(alloc, refusals),
-        "context-paths" => web::context_paths(alloc, refusals),
-        _ => of_session(alloc, refusals, name),
+        _ => of_descriptors(alloc, refusals, name),
     }
 }
 

@@ -69,35 +69,52 @@ fn fields(alloc: Global) -> Result<Sequence<Field>, AllocError> {
     Ok(fields)
 }
 
-fn cookies(alloc: Global) -> Result<Sequence<Cookie>, AllocError> {
+fn cookie(alloc: Global) -> Result<Cookie, AllocError> {
     let name = bytes(alloc, b"colour")?;
     let value = bytes(alloc, b"green")?;
-    let mut cookies = Sequence::new(alloc);
-    cookies.push(Cookie { name, value })?;
-    Ok(cookies)
+    Ok(Cookie { name, value })
+}
+
+fn param(alloc: Global) -> Result<Param, AllocError> {
+    let name = text(alloc, "user")?;
+    let value = text(alloc, "ann")?;
+    Ok(Param { name, value })
 }
 
 pub fn params(alloc: Global) -> Result<Sequence<Param>, AllocError> {
-    let name = text(alloc, "user")?;
-    let value = text(alloc, "ann")?;
     let mut params = Sequence::new(alloc);
-    params.push(Param { name, value })?;
+    params.push(param(alloc)?)?;
     Ok(params)
 }
 
-/// A request for a path, with something in each of its lists.
-pub fn request(alloc: Global, path: &str) -> Result<Request, AllocError> {
+/// Puts something in each of a request's lists.
+fn fill(alloc: Global, request: &mut Request) -> Result<(), AllocError> {
+    request.fields.push(plain_type())?;
+    request.cookies.push(cookie(alloc)?)?;
+    request.params.push(param(alloc)?)?;
+    request.body.extend_from_slice(b"body")
+}
+
+/// A request for a path, with nothing in its lists.
+fn empty_request(alloc: Global, path: &str) -> Result<Request, AllocError> {
     Ok(Request {
         method: Method::GET,
         raw_path: text(alloc, path)?,
         path: text(alloc, path)?,
         query: Some(text(alloc, "user=ann")?),
-        fields: fields(alloc)?,
-        cookies: cookies(alloc)?,
-        params: params(alloc)?,
-        body: bytes(alloc, b"body")?,
+        fields: Sequence::new(alloc),
+        cookies: Sequence::new(alloc),
+        params: Sequence::new(alloc),
+        body: Sequence::new(alloc),
         close: false,
     })
+}
+
+/// A request for a path, with something in each of its lists.
+pub fn request(alloc: Global, path: &str) -> Result<Request, AllocError> {
+    let mut request = empty_request(alloc, path)?;
+    fill(alloc, &mut request)?;
+    Ok(request)
 }
 
 pub fn response(alloc: Global) -> Result<Response, AllocError> {

@@ -1,7 +1,7 @@
 //! A connection that serves, answers and refuses, over a node alone. What is written where memory is refused is written here by
 //! hand: four lines, or the page of a step's cause.
 
-use crate::again::{Refusals, Unshown, again};
+use crate::again::{Refusals, Unshown, again, done};
 use crate::{given, shown};
 use std::alloc::{AllocError, Global};
 use sv_connection::{Connection, Outcome, RequestFault, Solo, refusal};
@@ -61,7 +61,7 @@ fn is_refusal(outcome: Outcome, written: &[u8]) -> bool {
 
 fn told(alloc: Global, outcome: Outcome, written: &[u8]) -> Shown {
     let text = str::from_utf8(written).unwrap_or("?");
-    Ok(format!(in alloc; "{outcome:?} {text}")?)
+    done(format!(in alloc; "{outcome:?} {text}"))
 }
 
 pub fn serve_next(alloc: Global, refusals: &mut Refusals) -> Shown {
@@ -91,8 +91,8 @@ pub fn answer(alloc: Global, refusals: &mut Refusals) -> Shown {
 }
 
 pub fn refused(alloc: Global, refusals: &mut Refusals) -> Shown {
-    let response = again(refusals, || refusal(alloc, Cause::Deadline, false, true))?;
-    Ok(shown::response(alloc, &response)?)
+    let response = again!(refusals, refusal(alloc, Cause::Deadline, false, true))?;
+    done(shown::response(alloc, &response))
 }
 
 /// A step of a node alone; what it puts out.
@@ -110,5 +110,5 @@ fn step(alloc: Global, site: &mut Solo<Counter>) -> Result<String, AllocError> {
 
 pub fn solo_step(alloc: Global, refusals: &mut Refusals) -> Shown {
     let mut site = solo(alloc);
-    again(refusals, || step(alloc, &mut site))
+    again!(refusals, step(alloc, &mut site))
 }

@@ -72,10 +72,10 @@ fn listeners(alloc: Global) -> Result<Vec<Named<Tally>>, AllocError> {
 fn try_start(alloc: Global) -> Result<Option<Shop>, Unshown>
     ensures { IfOk result (λ found. IfSome found (λ c. ⟦<Shop as Engine>⟧.valid c)) }
 {
-    let deployment = done(Deployment::from_toml(alloc, DESCRIPTOR))?;
     let servlets = servlets(alloc)?;
     let filters = filters(alloc)?;
     let listeners = listeners(alloc)?;
+    let deployment = done(Deployment::from_toml(alloc, DESCRIPTOR))?;
     let back = match Container::start(alloc, deployment, servlets, filters, listeners) {
         Ok(container) => return Ok(Some(container)),
         Err(back) => back,
@@ -103,7 +103,7 @@ fn started(alloc: Global, refusals: &mut Refusals) -> Result<Shop, Unshown>
 
 pub fn start(alloc: Global, refusals: &mut Refusals) -> Shown {
     let stopped = started(alloc, refusals)?.shutdown();
-    Ok(format!(in alloc; "{stopped:?}")?)
+    done(format!(in alloc; "{stopped:?}"))
 }
 
 fn outcome_text(alloc: Global, outcome: Outcome) -> Result<String, AllocError> {
@@ -121,15 +121,22 @@ fn serve(alloc: Global, shop: &mut Shop, request: &Request) -> Result<Outcome, U
     done(shop.serve(request, Some((given::KEY, &session)), given::NOW, FRESH))
 }
 
-pub fn serve_again(alloc: Global, refusals: &mut Refusals) -> Shown {
-    let mut shop = started(alloc, refusals)?;
+/// The same, once more where memory is refused.
+fn serve_twice(alloc: Global, refusals: &mut Refusals, shop: &mut Shop) -> Result<Outcome, Unshown>
+    requires { ⟦<Shop as Engine>⟧.valid shop.old }
+{
     let request = given::request(alloc, "/shop/faulty")?;
-    let outcome = match serve(alloc, &mut shop, &request) {
+    match serve(alloc, shop, &request) {
         Err(Unshown::Memory) => {
             refusals.add();
-            serve(alloc, &mut shop, &request)?
+            serve(alloc, shop, &request)
         }
-        answer => answer?,
-    };
-    Ok(outcome_text(alloc, outcome)?)
+        answer => answer,
+    }
+}
+
+pub fn serve_again(alloc: Global, refusals: &mut Refusals) -> Shown {
+    let mut shop = started(alloc, refusals)?;
+    let outcome = serve_twice(alloc, refusals, &mut shop)?;
+    done(outcome_text(alloc, outcome))
 }

@@ -1,6 +1,6 @@
 //! The core of a node: each row of its step that takes memory, its records and its snapshot.
 
-use crate::again::{Refusals, Unshown};
+use crate::again::{Refusals, Unshown, done};
 use crate::given;
 use std::alloc::{AllocError, Global};
 use sv_core::{ApplyFault, Core};
@@ -162,7 +162,7 @@ pub fn decide_start(alloc: Global, refusals: &mut Refusals) -> Shown {
         refusals.add();
         start(&mut core)?;
     }
-    Ok(format!(in alloc; "{}", core.boot())?)
+    done(format!(in alloc; "{}", core.boot()))
 }
 
 fn state_of(alloc: Global, number: u8) -> Result<Record, AllocError> {
@@ -201,12 +201,12 @@ fn known(alloc: Global, core: &Core<Counter>) -> Result<String, AllocError> {
 pub fn recover(alloc: Global, refusals: &mut Refusals) -> Shown {
     let records = records(alloc)?;
     let refused = match Core::recover(alloc, engine(alloc), SETTING, &records) {
-        Ok(core) => return Ok(known(alloc, &core)?),
+        Ok(core) => return done(known(alloc, &core)),
         Err(refused) => refused,
     };
     refusals.add();
     match Core::recover(alloc, refused.engine, SETTING, &records) {
-        Ok(core) => Ok(known(alloc, &core)?),
+        Ok(core) => done(known(alloc, &core)),
         Err(_) => Err(Unshown::Other),
     }
 }
@@ -229,7 +229,7 @@ pub fn apply_again(alloc: Global, refusals: &mut Refusals) -> Shown {
             }
         }
     }
-    Ok(known(alloc, &core)?)
+    done(known(alloc, &core))
 }
 
 pub fn snapshot(alloc: Global, refusals: &mut Refusals) -> Shown {
@@ -245,5 +245,5 @@ pub fn snapshot(alloc: Global, refusals: &mut Refusals) -> Shown {
         }
     };
     let again = core_of(alloc, &snapshot)?;
-    Ok(known(alloc, &again)?)
+    done(known(alloc, &again))
 }

@@ -187,19 +187,23 @@ fn shown(alloc: Global, ended: Ended, reply: Reply) -> Result<String, AllocError
 fn dispatch_again<S: Servlet, F: Filter>(
     alloc: Global,
     refusals: &mut Refusals,
-    mut stage: Stage<S, F>,
-) -> Shown
-    requires { IsSound (table_of S.serves S.servlet_phase F.filtering F.filter_phase stage) }
+    stage: &mut Stage<S, F>,
+) -> Result<Ended, AllocError>
+    requires { IsSound (table_of S.serves S.servlet_phase F.filtering F.filter_phase stage.old) }
 {
     let params = params(alloc)?;
-    let ended = match dispatch(alloc, &mut stage, params.as_slice()) {
-        Ok(ended) => ended,
+    match dispatch(alloc, stage, params.as_slice()) {
+        Ok(ended) => Ok(ended),
         Err(AllocError) => {
             refusals.add();
-            dispatch(alloc, &mut stage, params.as_slice())?
+            dispatch(alloc, stage, params.as_slice())
         }
-    };
-    Ok(shown(alloc, ended, stage.reply)?)
+    }
+}
+
+/// A stage's reply; all else of it is dropped.
+fn reply_of<S: Servlet, F: Filter>(stage: Stage<S, F>) -> Reply {
+    stage.reply
 }
 
 /// The calls grow by the chains of filters, by those that have passed, by the text that is written, by the dispatch that waits for
@@ -207,5 +211,7 @@ fn dispatch_again<S: Servlet, F: Filter>(
 pub fn dispatched(alloc: Global, refusals: &mut Refusals) -> Shown {
     let servlet = ready(GenericServlet::new(Includer::new(alloc)))?;
     let filter = ready_filter(Stamp::new(alloc, "stamp-b")?)?;
-    dispatch_again(alloc, refusals, stage(alloc, servlet, filter)?)
+    let mut stage = stage(alloc, servlet, filter)?;
+    let ended = dispatch_again(alloc, refusals, &mut stage)?;
+    done(shown(alloc, ended, reply_of(stage)))
 }

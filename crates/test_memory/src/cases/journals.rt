@@ -1,7 +1,7 @@
 //! A disk in memory, and a journal on two of them. A growth that is refused to the disk itself is a failed call of the device;
 //! the journal is then opened anew, as its owner has to.
 
-use crate::again::{Refusals, Unshown, again};
+use crate::again::{Refusals, Unshown, again, done};
 use std::alloc::{AllocError, Global};
 use sv_journal::{Journal, JournalFault, MemoryDisk, PAYLOAD_LIMIT};
 
@@ -10,8 +10,8 @@ type Shown = Result<String, Unshown>;
 type Log = Journal<MemoryDisk>;
 
 pub fn disk(alloc: Global, refusals: &mut Refusals) -> Shown {
-    let disk = again(refusals, || MemoryDisk::with(alloc, b"bytes of a disk"))?;
-    Ok(format!(in alloc; "{:?}", disk.bytes())?)
+    let disk = again!(refusals, MemoryDisk::with(alloc, b"bytes of a disk"))?;
+    done(format!(in alloc; "{:?}", disk.bytes()))
 }
 
 /// A journal on these disks; where memory is refused, on those that are handed back.
@@ -72,7 +72,7 @@ fn shown(alloc: Global, refusals: &mut Refusals, journal: &mut Log) -> Shown {
         }
         Err(_) => return Err(Unshown::Other),
     };
-    Ok(format!(in alloc; "{entries:?}")?)
+    done(format!(in alloc; "{entries:?}"))
 }
 
 /// A journal with an entry; where its disk has failed, made anew.

@@ -2,7 +2,7 @@
 
 ghost use Rattle.std.specs.Prelude.{◌≡◌, [], OnErr};
 
-use crate::again::{Refusals, Unshown, again};
+use crate::again::{Refusals, Unshown, again, done};
 use crate::{given, shown};
 use http::StatusCode;
 use std::alloc::{AllocError, Global};
@@ -15,51 +15,51 @@ type Shown = Result<String, Unshown>;
 
 pub fn text(alloc: Global, refusals: &mut Refusals) -> Shown {
     let text = given::text(alloc, "a text")?;
-    let copy = again(refusals, || text.copy(alloc))?;
-    Ok(String::from_str(alloc, copy.as_str())?)
+    let copy = again!(refusals, text.copy(alloc))?;
+    done(String::from_str(alloc, copy.as_str()))
 }
 
 pub fn bytes(alloc: Global, refusals: &mut Refusals) -> Shown {
     let bytes = given::bytes(alloc, b"bytes")?;
-    let copy = again(refusals, || bytes.copy(alloc))?;
-    Ok(format!(in alloc; "{:?}", copy.as_slice())?)
+    let copy = again!(refusals, bytes.copy(alloc))?;
+    done(format!(in alloc; "{:?}", copy.as_slice()))
 }
 
 /// A copy of a field shares its bytes, so it takes no memory.
 pub fn field(alloc: Global, refusals: &mut Refusals) -> Shown {
     let field = given::field(alloc)?;
-    let copy = again(refusals, || field.copy(alloc))?;
-    Ok(shown::fields(alloc, &[copy])?)
+    let copy = again!(refusals, field.copy(alloc))?;
+    done(shown::fields(alloc, &[copy]))
 }
 
 pub fn request(alloc: Global, refusals: &mut Refusals) -> Shown {
     let request = given::request(alloc, "/a")?;
-    let copy = again(refusals, || request.copy(alloc))?;
-    Ok(shown::request(alloc, &copy)?)
+    let copy = again!(refusals, request.copy(alloc))?;
+    done(shown::request(alloc, &copy))
 }
 
 pub fn response(alloc: Global, refusals: &mut Refusals) -> Shown {
     let response = given::response(alloc)?;
-    let copy = again(refusals, || response.copy(alloc))?;
-    Ok(shown::response(alloc, &copy)?)
+    let copy = again!(refusals, response.copy(alloc))?;
+    done(shown::response(alloc, &copy))
 }
 
 pub fn attributes(alloc: Global, refusals: &mut Refusals) -> Shown {
     let attributes = given::attributes(alloc)?;
-    let copy = again(refusals, || attributes.copy(alloc))?;
-    Ok(shown::attributes(alloc, &copy)?)
+    let copy = again!(refusals, attributes.copy(alloc))?;
+    done(shown::attributes(alloc, &copy))
 }
 
 pub fn session(alloc: Global, refusals: &mut Refusals) -> Shown {
     let session = given::session(alloc)?;
-    let copy = again(refusals, || session.copy(alloc))?;
-    Ok(shown::session(alloc, &copy)?)
+    let copy = again!(refusals, session.copy(alloc))?;
+    done(shown::session(alloc, &copy))
 }
 
 /// What is handed on in a value of one of several kinds.
 fn session_in(alloc: Global, session: Option<&sv_model::Session>) -> Shown {
     match session {
-        Some(session) => Ok(shown::session(alloc, session)?),
+        Some(session) => done(shown::session(alloc, session)),
         None => Err(Unshown::Other),
     }
 }
@@ -70,7 +70,7 @@ pub fn state(alloc: Global, refusals: &mut Refusals) -> Shown {
         session: given::session(alloc)?,
         to: 1,
     };
-    let copy = again(refusals, || state.copy(alloc))?;
+    let copy = again!(refusals, state.copy(alloc))?;
     let session = match &copy {
         KeyState::Sent { session, .. } => Some(session),
         _ => None,
@@ -83,7 +83,7 @@ pub fn change(alloc: Global, refusals: &mut Refusals) -> Shown {
         key: given::KEY,
         session: given::session(alloc)?,
     };
-    let copy = again(refusals, || change.copy(alloc))?;
+    let copy = again!(refusals, change.copy(alloc))?;
     let session = match &copy {
         Change::Alive { session, .. } => Some(session),
         _ => None,
@@ -98,7 +98,7 @@ pub fn record(alloc: Global, refusals: &mut Refusals) -> Shown {
         to: 1,
         session: given::session(alloc)?,
     };
-    let copy = again(refusals, || record.copy(alloc))?;
+    let copy = again!(refusals, record.copy(alloc))?;
     let session = match &copy {
         Record::Sent { session, .. } => Some(session),
         _ => None,
@@ -126,7 +126,7 @@ fn granted(alloc: Global, packet: &Packet) -> Shown {
 
 pub fn packet(alloc: Global, refusals: &mut Refusals) -> Shown {
     let packet = grant(alloc)?;
-    let copy = again(refusals, || packet.copy(alloc))?;
+    let copy = again!(refusals, packet.copy(alloc))?;
     granted(alloc, &copy)
 }
 
@@ -143,14 +143,14 @@ fn replaced(alloc: Global) -> Result<Event, AllocError> {
 
 fn name_in(alloc: Global, event: &Event) -> Shown {
     match event {
-        Event::Replaced { name, .. } => Ok(String::from_str(alloc, name.as_str())?),
+        Event::Replaced { name, .. } => done(String::from_str(alloc, name.as_str())),
         _ => Err(Unshown::Other),
     }
 }
 
 pub fn event(alloc: Global, refusals: &mut Refusals) -> Shown {
     let event = replaced(alloc)?;
-    let copy = again(refusals, || event.copy(alloc))?;
+    let copy = again!(refusals, event.copy(alloc))?;
     name_in(alloc, &copy)
 }
 
@@ -159,7 +159,7 @@ pub fn told(alloc: Global, refusals: &mut Refusals) -> Shown {
         context: 3,
         event: replaced(alloc)?,
     };
-    let copy = again(refusals, || told.copy(alloc))?;
+    let copy = again!(refusals, told.copy(alloc))?;
     name_in(alloc, &copy.event)
 }
 
@@ -175,9 +175,9 @@ pub fn commit(alloc: Global, refusals: &mut Refusals) -> Shown {
         handed: true,
         fresh: (given::KEY, given::SECRET),
     };
-    let copy = again(refusals, || commit.copy(alloc))?;
+    let copy = again!(refusals, commit.copy(alloc))?;
     match &copy {
-        Commit::Served { request, .. } => Ok(shown::request(alloc, request)?),
+        Commit::Served { request, .. } => done(shown::request(alloc, request)),
         _ => Err(Unshown::Other),
     }
 }
@@ -187,16 +187,16 @@ pub fn input(alloc: Global, refusals: &mut Refusals) -> Shown {
         token: 1,
         request: given::request(alloc, "/a")?,
     };
-    let copy = again(refusals, || input.copy(alloc))?;
+    let copy = again!(refusals, input.copy(alloc))?;
     match &copy {
-        Input::Ask { request, .. } => Ok(shown::request(alloc, request)?),
+        Input::Ask { request, .. } => done(shown::request(alloc, request)),
         _ => Err(Unshown::Other),
     }
 }
 
 pub fn packet_in(alloc: Global, refusals: &mut Refusals) -> Shown {
     let input = Input::Packet(grant(alloc)?);
-    let copy = again(refusals, || input.copy(alloc))?;
+    let copy = again!(refusals, input.copy(alloc))?;
     match &copy {
         Input::Packet(packet) => granted(alloc, packet),
         _ => Err(Unshown::Other),
@@ -208,48 +208,42 @@ pub fn output(alloc: Global, refusals: &mut Refusals) -> Shown {
         token: 1,
         response: given::response(alloc)?,
     };
-    let copy = again(refusals, || output.copy(alloc))?;
+    let copy = again!(refusals, output.copy(alloc))?;
     match &copy {
-        Output::Answer { response, .. } => Ok(shown::response(alloc, response)?),
+        Output::Answer { response, .. } => done(shown::response(alloc, response)),
         _ => Err(Unshown::Other),
     }
 }
 
 pub fn push(alloc: Global, refusals: &mut Refusals) -> Shown {
     let mut items = given::bytes(alloc, b"12345678")?;
-    again(refusals, || items.push(9))?;
-    Ok(format!(in alloc; "{:?}", items.as_slice())?)
+    again!(refusals, items.push(9))?;
+    done(format!(in alloc; "{:?}", items.as_slice()))
 }
 
 pub fn extend(alloc: Global, refusals: &mut Refusals) -> Shown {
     let mut items = given::bytes(alloc, b"12345678")?;
-    again(refusals, || items.extend_from_slice(b"90"))?;
-    Ok(format!(in alloc; "{:?}", items.as_slice())?)
+    again!(refusals, items.extend_from_slice(b"90"))?;
+    done(format!(in alloc; "{:?}", items.as_slice()))
 }
 
 pub fn inserted(alloc: Global, refusals: &mut Refusals) -> Shown {
     let mut attributes = given::attributes(alloc)?;
-    again(
-        refusals,
-        || given::put(alloc, &mut attributes, "age", b"17"),
-    )?;
-    Ok(shown::attributes(alloc, &attributes)?)
+    again!(refusals, given::put(alloc, &mut attributes, "age", b"17"))?;
+    done(shown::attributes(alloc, &attributes))
 }
 
 pub fn inserted_again(alloc: Global, refusals: &mut Refusals) -> Shown {
     let mut attributes = given::attributes(alloc)?;
-    again(
-        refusals,
-        || given::put(alloc, &mut attributes, "user", b"bob"),
-    )?;
-    Ok(shown::attributes(alloc, &attributes)?)
+    again!(refusals, given::put(alloc, &mut attributes, "user", b"bob"))?;
+    done(shown::attributes(alloc, &attributes))
 }
 
 pub fn names(alloc: Global, refusals: &mut Refusals) -> Shown {
     let attributes = given::attributes(alloc)?;
-    let names = again(refusals, || attributes.names(alloc))?;
+    let names = again!(refusals, attributes.names(alloc))?;
     match names.as_slice() {
-        [name] => Ok(String::from_str(alloc, name.as_str())?),
+        [name] => done(String::from_str(alloc, name.as_str())),
         _ => Err(Unshown::Other),
     }
 }
@@ -274,16 +268,17 @@ pub fn pushed(alloc: Global, refusals: &mut Refusals) -> Shown {
         }
         push_first(alloc, &mut attributes)?;
     }
-    Ok(shown::attributes(alloc, &attributes)?)
+    done(shown::attributes(alloc, &attributes))
 }
 
 pub fn body(alloc: Global, refusals: &mut Refusals) -> Shown {
-    let body = again(refusals, || plain_body(alloc, StatusCode::NOT_FOUND))?;
-    Ok(format!(in alloc; "{:?}", body.as_slice())?)
+    let body = again!(refusals, plain_body(alloc, StatusCode::NOT_FOUND))?;
+    done(format!(in alloc; "{:?}", body.as_slice()))
 }
 
 pub fn page(alloc: Global, refusals: &mut Refusals) -> Shown {
-    let page = again(refusals, || {
+    let page = again!(
+        refusals,
         plain_page(
             alloc,
             StatusCode::NOT_FOUND,
@@ -291,6 +286,6 @@ pub fn page(alloc: Global, refusals: &mut Refusals) -> Shown {
             false,
             false,
         )
-    })?;
-    Ok(shown::response(alloc, &page)?)
+    )?;
+    done(shown::response(alloc, &page))
 }

@@ -3,7 +3,7 @@
 
 ghost use Rattle.std.specs.Prelude.{IfOk};
 
-use crate::again::{Refusals, Unshown};
+use crate::again::{Refusals, Unshown, done};
 use crate::given;
 use std::alloc::{AllocError, Global};
 use sv_journal::MemoryDisk;
@@ -74,7 +74,7 @@ fn reopened(alloc: Global, refusals: &mut Refusals, node: Running) -> Result<Run
 pub fn open(alloc: Global, refusals: &mut Refusals) -> Shown {
     let node = new(alloc, refusals)?;
     let node = reopened(alloc, refusals, node)?;
-    Ok(format!(in alloc; "{}", node.journal_len())?)
+    done(format!(in alloc; "{}", node.journal_len()))
 }
 
 /// The digit of the one answer that was put out.
@@ -149,7 +149,7 @@ pub fn step(alloc: Global, refusals: &mut Refusals) -> Shown {
         'D' => mended(alloc, refusals, node)?,
         digit => digit,
     };
-    Ok(format!(in alloc; "{found}")?)
+    done(format!(in alloc; "{found}"))
 }
 
 /// A compaction, whose refused memory changes nothing; one whose disk has failed is over with the node opened anew.
@@ -183,5 +183,5 @@ pub fn compact(alloc: Global, refusals: &mut Refusals) -> Shown {
         Ok(digit) => digit,
         Err(_) => return Err(Unshown::Memory),
     };
-    Ok(format!(in alloc; "{found}")?)
+    done(format!(in alloc; "{found}"))
 }

@@ -1,6 +1,6 @@
 //! Calls that make a mistake where memory is refused to them. Each is to be told as one, or the program finds none.
 
-use crate::again::{Refusals, Unshown, again};
+use crate::again::{Refusals, Unshown, again, done};
 use crate::given;
 use std::alloc::{AllocError, Global};
 use sv_model::Sequence;
@@ -9,7 +9,7 @@ use sv_session::SessionFault;
 type Shown = Result<String, Unshown>;
 
 fn shown(alloc: Global, items: &Sequence<u8>) -> Shown {
-    Ok(format!(in alloc; "{:?}", items.as_slice())?)
+    done(format!(in alloc; "{:?}", items.as_slice()))
 }
 
 /// Adds a text; where there is no memory for it, it takes away what was there, and says that all is well.
@@ -22,7 +22,7 @@ fn add_half(items: &mut Vec<u8>, text: &[u8]) -> Result<(), AllocError> {
 
 pub fn half_done(alloc: Global, refusals: &mut Refusals) -> Shown {
     let mut items = given::bytes(alloc, b"12345678")?.into_vec();
-    again(refusals, || add_half(&mut items, b"a longer text"))?;
+    again!(refusals, add_half(&mut items, b"a longer text"))?;
     shown(alloc, &Sequence::from_vec(items))
 }
 
@@ -36,7 +36,7 @@ fn add_otherwise(items: &mut Vec<u8>, text: &[u8]) -> Result<(), SessionFault> {
 
 pub fn another_fault(alloc: Global, refusals: &mut Refusals) -> Shown {
     let mut items = given::bytes(alloc, b"12345678")?.into_vec();
-    again(refusals, || add_otherwise(&mut items, b"a longer text"))?;
+    again!(refusals, add_otherwise(&mut items, b"a longer text"))?;
     shown(alloc, &Sequence::from_vec(items))
 }
 
@@ -53,6 +53,6 @@ fn add_and_lose(items: &mut Vec<u8>, text: &[u8]) -> Result<(), AllocError> {
 
 pub fn what_was_there_lost(alloc: Global, refusals: &mut Refusals) -> Shown {
     let mut items = given::bytes(alloc, b"12345678")?.into_vec();
-    again(refusals, || add_and_lose(&mut items, b"a longer text"))?;
+    again!(refusals, add_and_lose(&mut items, b"a longer text"))?;
     shown(alloc, &Sequence::from_vec(items))
 }

@@ -1,6 +1,6 @@
 //! Records, packets and frames, read and written.
 
-use crate::again::{Refusals, Unshown, again};
+use crate::again::{Refusals, Unshown, again, done};
 use std::alloc::{AllocError, Global};
 use sv_record::{
     RecordFault, read_frame, read_packet, read_record, write_frame, write_packet, write_record,
@@ -44,8 +44,8 @@ fn record_again(alloc: Global, bytes: &[u8], out: &mut Vec<u8>) -> Result<(), Re
 pub fn record(alloc: Global, refusals: &mut Refusals) -> Shown {
     let bytes = joined(alloc, &[COMMIT, SESSION])?;
     let mut out = joined(alloc, &[b"before"])?;
-    again(refusals, || record_again(alloc, &bytes, &mut out))?;
-    Ok(digits(alloc, &out)?)
+    again!(refusals, record_again(alloc, &bytes, &mut out))?;
+    done(digits(alloc, &out))
 }
 
 /// Reads a packet, and writes it behind what stands there.
@@ -58,8 +58,8 @@ fn packet_again(alloc: Global, bytes: &[u8], out: &mut Vec<u8>) -> Result<(), Re
 pub fn packet(alloc: Global, refusals: &mut Refusals) -> Shown {
     let bytes = joined(alloc, &[GRANT, SESSION])?;
     let mut out = joined(alloc, &[b"before"])?;
-    again(refusals, || packet_again(alloc, &bytes, &mut out))?;
-    Ok(digits(alloc, &out)?)
+    again!(refusals, packet_again(alloc, &bytes, &mut out))?;
+    done(digits(alloc, &out))
 }
 
 /// Reads a frame, and writes it behind what stands there.
@@ -73,6 +73,6 @@ fn frame_again(alloc: Global, bytes: &[u8], out: &mut Vec<u8>) -> Result<(), Rec
 pub fn frame(alloc: Global, refusals: &mut Refusals) -> Shown {
     let bytes = joined(alloc, &[FRAME, GRANT, SESSION])?;
     let mut out = joined(alloc, &[b"before"])?;
-    again(refusals, || frame_again(alloc, &bytes, &mut out))?;
-    Ok(digits(alloc, &out)?)
+    again!(refusals, frame_again(alloc, &bytes, &mut out))?;
+    done(digits(alloc, &out))
 }

@@ -3,7 +3,7 @@
 ghost use Rattle.std.specs.Prelude.{◌≡◌};
 ghost use Rattle.sv_servlet.specs.declared.servlet.Phase.TheVariants.{Ready, New};
 
-use crate::again::{Refusals, Unshown};
+use crate::again::{Refusals, Unshown, done};
 use crate::given;
 use http::Method;
 use std::alloc::{AllocError, Global};
@@ -140,7 +140,7 @@ fn filtered<F: Filter>(alloc: Global, refusals: &mut Refusals, mut object: F) ->
         Ok(text) => Ok(text),
         Err(AllocError) => {
             refusals.add();
-            Ok(filter(alloc, &mut object, &attributes)?)
+            done(filter(alloc, &mut object, &attributes))
         }
     }
 }

@@ -40,50 +40,50 @@ fn finished(alloc: Global, edit: SessionEdit) -> Result<String, AllocError> {
 
 pub fn set(alloc: Global, refusals: &mut Refusals) -> Shown {
     let mut edit = edit(alloc)?;
-    again(refusals, || edit.set("age", Some(b"17")))?;
-    Ok(finished(alloc, edit)?)
+    again!(refusals, edit.set("age", Some(b"17")))?;
+    done(finished(alloc, edit))
 }
 
 pub fn set_again(alloc: Global, refusals: &mut Refusals) -> Shown {
     let mut edit = edit(alloc)?;
-    again(refusals, || edit.set("user", Some(b"bob")))?;
-    Ok(finished(alloc, edit)?)
+    again!(refusals, edit.set("user", Some(b"bob")))?;
+    done(finished(alloc, edit))
 }
 
 pub fn set_none(alloc: Global, refusals: &mut Refusals) -> Shown {
     let mut edit = edit(alloc)?;
-    again(refusals, || edit.set("user", None))?;
-    Ok(finished(alloc, edit)?)
+    again!(refusals, edit.set("user", None))?;
+    done(finished(alloc, edit))
 }
 
 pub fn remove(alloc: Global, refusals: &mut Refusals) -> Shown {
     let mut edit = edit(alloc)?;
-    again(refusals, || edit.remove("user"))?;
-    Ok(finished(alloc, edit)?)
+    again!(refusals, edit.remove("user"))?;
+    done(finished(alloc, edit))
 }
 
 pub fn names(alloc: Global, refusals: &mut Refusals) -> Shown {
     let edit = edit(alloc)?;
-    let names = again(refusals, || edit.names())?;
-    Ok(format!(in alloc; "{}", names.len())?)
+    let names = again!(refusals, edit.names())?;
+    done(format!(in alloc; "{}", names.len()))
 }
 
 pub fn invalidate(alloc: Global, refusals: &mut Refusals) -> Shown {
     let mut edit = edit(alloc)?;
-    again(refusals, || edit.invalidate())?;
-    Ok(finished(alloc, edit)?)
+    again!(refusals, edit.invalidate())?;
+    done(finished(alloc, edit))
 }
 
 pub fn create(alloc: Global, refusals: &mut Refusals) -> Shown {
     let mut edit = SessionEdit::begin(alloc, None, 0, 600, given::NOW, FRESH);
-    again(refusals, || edit.create())?;
-    Ok(finished(alloc, edit)?)
+    again!(refusals, edit.create())?;
+    done(finished(alloc, edit))
 }
 
 pub fn change_id(alloc: Global, refusals: &mut Refusals) -> Shown {
     let mut edit = edit(alloc)?;
-    again(refusals, || edit.change_id())?;
-    Ok(finished(alloc, edit)?)
+    again!(refusals, edit.change_id())?;
+    done(finished(alloc, edit))
 }
 
 fn replied(alloc: Global, reply: Reply) -> Result<String, AllocError> {
@@ -106,17 +106,14 @@ fn reply(alloc: Global) -> Result<Reply, Unshown> {
 
 pub fn header(alloc: Global, refusals: &mut Refusals) -> Shown {
     let mut reply = reply(alloc)?;
-    again(
-        refusals,
-        || reply.header("x-own-name-of-a-field", "a value"),
-    )?;
-    Ok(replied(alloc, reply)?)
+    again!(refusals, reply.header("x-own-name-of-a-field", "a value"))?;
+    done(replied(alloc, reply))
 }
 
 pub fn header_again(alloc: Global, refusals: &mut Refusals) -> Shown {
     let mut reply = reply(alloc)?;
-    again(refusals, || reply.header("X-A", "another value"))?;
-    Ok(replied(alloc, reply)?)
+    again!(refusals, reply.header("X-A", "another value"))?;
+    done(replied(alloc, reply))
 }
 
 /// Sets a field that is made anew.
@@ -126,17 +123,17 @@ fn set_field(alloc: Global, reply: &mut Reply) -> Result<(), sv_servlet::ReplyFa
 
 pub fn field(alloc: Global, refusals: &mut Refusals) -> Shown {
     let mut reply = reply(alloc)?;
-    again(refusals, || set_field(alloc, &mut reply))?;
-    Ok(replied(alloc, reply)?)
+    again!(refusals, set_field(alloc, &mut reply))?;
+    done(replied(alloc, reply))
 }
 
 pub fn write(alloc: Global, refusals: &mut Refusals) -> Shown {
     let mut reply = reply(alloc)?;
-    again(
+    again!(
         refusals,
-        || reply.write(b"more of the body than there is room for"),
+        reply.write(b"more of the body than there is room for")
     )?;
-    Ok(replied(alloc, reply)?)
+    done(replied(alloc, reply))
 }
 
 fn listed(alloc: Global, attributes: &RequestAttributes) -> Result<String, AllocError> {
@@ -150,15 +147,15 @@ fn listed(alloc: Global, attributes: &RequestAttributes) -> Result<String, Alloc
 
 pub fn attribute(alloc: Global, refusals: &mut Refusals) -> Shown {
     let mut attributes = RequestAttributes::new(alloc);
-    again(refusals, || attributes.insert("a", "1"))?;
-    again(refusals, || attributes.insert("b", "2"))?;
-    again(refusals, || attributes.insert("a", "3"))?;
-    Ok(listed(alloc, &attributes)?)
+    again!(refusals, attributes.insert("a", "1"))?;
+    again!(refusals, attributes.insert("b", "2"))?;
+    again!(refusals, attributes.insert("a", "3"))?;
+    done(listed(alloc, &attributes))
 }
 
 pub fn attributes(alloc: Global, refusals: &mut Refusals) -> Shown {
     let mut attributes = RequestAttributes::new(alloc);
     attributes.insert("a", "1")?;
-    let copy = again(refusals, || attributes.copy())?;
-    Ok(listed(alloc, &copy)?)
+    let copy = again!(refusals, attributes.copy())?;
+    done(listed(alloc, &copy))
 }

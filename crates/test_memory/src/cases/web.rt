@@ -1,11 +1,10 @@
-//! Messages, targets, parameters, cookies, patterns and descriptors.
+//! Messages, targets, parameters, cookies and patterns.
 
 use crate::again::{Refusals, Unshown, again, done};
 use crate::{given, shown};
 use http::Method;
 use http_header::{HeaderName, HeaderValue};
 use std::alloc::{AllocError, Global};
-use sv_config::Deployment;
 use sv_mapping::{
     Dispatcher, Dispatchers, FilterMapping, FilterTarget, Mappings, Pattern, filters_for,
 };
@@ -36,8 +35,8 @@ pub fn reader(alloc: Global, refusals: &mut Refusals) -> Shown {
     let mut reader = RequestReader::new(alloc);
     let mut line = String::new(alloc);
     for piece in PIECES {
-        again(refusals, || reader.feed(piece.as_bytes()))?;
-        let raw = again(refusals, || reader.next())?;
+        again!(refusals, reader.feed(piece.as_bytes()))?;
+        let raw = again!(refusals, reader.next())?;
         add_body(&mut line, &raw)?;
     }
     Ok(line)
@@ -46,10 +45,11 @@ pub fn reader(alloc: Global, refusals: &mut Refusals) -> Shown {
 pub fn response(alloc: Global, refusals: &mut Refusals) -> Shown {
     let response = given::response(alloc)?;
     let mut out = Vec::from_slice(alloc, b"before ")?;
-    again(refusals, || {
+    again!(
+        refusals,
         write_response(alloc, &response, given::NOW, &mut out)
-    })?;
-    Ok(String::from_str(alloc, str::from_utf8(out.as_slice()).unwrap_or("?"))?)
+    )?;
+    done(String::from_str(alloc, str::from_utf8(out.as_slice()).unwrap_or("?")))
 }
 
 fn shown_target(alloc: Global, target: &Target) -> Result<String, AllocError> {
@@ -58,19 +58,20 @@ fn shown_target(alloc: Global, target: &Target) -> Result<String, AllocError> {
 }
 
 pub fn target(alloc: Global, refusals: &mut Refusals) -> Shown {
-    let target = again(refusals, || {
+    let target = again!(
+        refusals,
         Target::read(alloc, &Method::GET, "/a/./b%20c/../d;x=1?q=1")
-    })?;
-    Ok(shown_target(alloc, &target)?)
+    )?;
+    done(shown_target(alloc, &target))
 }
 
 pub fn target_within(alloc: Global, refusals: &mut Refusals) -> Shown {
-    let target = again(refusals, || Target::read_within(alloc, "/a/b%20c?q=1"))?;
-    Ok(shown_target(alloc, &target)?)
+    let target = again!(refusals, Target::read_within(alloc, "/a/b%20c?q=1"))?;
+    done(shown_target(alloc, &target))
 }
 
 pub fn parameters(alloc: Global, refusals: &mut Refusals) -> Shown {
-    let params = again(refusals, || params(alloc, b"a=1&b=x+y", b"c=%41"))?;
+    let params = again!(refusals, params(alloc, b"a=1&b=x+y", b"c=%41"))?;
     let mut line = String::new(alloc);
     for param in params.as_slice() {
         line.push_str(param.name.as_str())?;
@@ -94,7 +95,7 @@ fn cookie_field(alloc: Global) -> Result<Field, AllocError> {
 
 pub fn cookie_pairs(alloc: Global, refusals: &mut Refusals) -> Shown {
     let fields = [cookie_field(alloc)?];
-    let cookies = again(refusals, || cookies(alloc, &fields))?;
+    let cookies = again!(refusals, cookies(alloc, &fields))?;
     let mut line = String::new(alloc);
     for cookie in cookies.as_slice() {
         line.push_str(str::from_utf8(cookie.name.as_slice()).unwrap_or("?"))?;
@@ -104,8 +105,8 @@ pub fn cookie_pairs(alloc: Global, refusals: &mut Refusals) -> Shown {
 }
 
 pub fn pattern(alloc: Global, refusals: &mut Refusals) -> Shown {
-    let pattern = again(refusals, || Pattern::read(alloc, "/foo/bar/*"))?;
-    Ok(String::from_str(alloc, pattern.as_str())?)
+    let pattern = again!(refusals, Pattern::read(alloc, "/foo/bar/*"))?;
+    done(String::from_str(alloc, pattern.as_str()))
 }
 
 /// Maps a pattern to a servlet.
@@ -122,10 +123,10 @@ fn add(
 pub fn mappings(alloc: Global, refusals: &mut Refusals) -> Shown {
     let mut mappings = Mappings::new(alloc);
     for (servlet, pattern) in ["/foo/*", "*.bop", "/catalog"].iter().enumerate() {
-        again(refusals, || add(alloc, &mut mappings, pattern, servlet))?;
+        again!(refusals, add(alloc, &mut mappings, pattern, servlet))?;
     }
     let found = mappings.find("/catalog").map(|found| found.servlet);
-    Ok(format!(in alloc; "{} {}", mappings.len(), found.unwrap_or(9))?)
+    done(format!(in alloc; "{} {}", mappings.len(), found.unwrap_or(9)))
 }
 
 /// Maps a filter to all paths.
@@ -147,41 +148,9 @@ pub fn filters(alloc: Global, refusals: &mut Refusals) -> Shown {
     let mut all = Vec::new(alloc);
     done(add_filter(alloc, &mut all, 1))?;
     done(add_filter(alloc, &mut all, 0))?;
-    let filters = again(refusals, || {
+    let filters = again!(
+        refusals,
         filters_for(alloc, &all, "/a", None, Dispatcher::Request)
-    })?;
-    Ok(format!(in alloc; "{:?}", filters.as_slice())?)
-}
-
-/// Something of each table.
-const DESCRIPTOR: &str = r#"cluster = { ports = [18080, 18081], deadline = 7 }
-[[context]]
-path = "/shop"
-servlet = [{ name = "hello", patterns = ["/hello", "*.hi"] }]
-filter = [{ name = "gate" }]
-filter-mapping = [{ filter = "gate", pattern = "/*", dispatch = ["REQUEST", "ERROR"] }]
-listener = [{ name = "tally" }]
-error-page = [{ path = "/oops", fault = "x" }, { path = "/gone", status = 404 }]
-"#;
-
-pub fn descriptor(alloc: Global, refusals: &mut Refusals) -> Shown {
-    let deployment = again(refusals, || Deployment::from_toml(alloc, DESCRIPTOR))?;
-    Ok(format!(in alloc; "{deployment:?}")?)
-}
-
-/// The paths of a deployment's contexts.
-fn paths_of(alloc: Global, deployment: &Deployment) -> Result<String, AllocError> {
-    let paths = deployment.context_paths(alloc)?;
-    format!(in alloc; "{paths:?}")
-}
-
-pub fn context_paths(alloc: Global, refusals: &mut Refusals) -> Shown {
-    let deployment = done(Deployment::from_toml(alloc, DESCRIPTOR))?;
-    match paths_of(alloc, &deployment) {
-        Ok(paths) => Ok(paths),
-        Err(AllocError) => {
-            refusals.add();
-            Ok(paths_of(alloc, &deployment)?)
-        }
-    }
+    )?;
+    done(format!(in alloc; "{:?}", filters.as_slice()))
 }

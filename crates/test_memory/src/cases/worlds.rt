@@ -3,7 +3,7 @@
 ghost use Rattle.std.specs.Prelude.{◌≡◌, length, IfOk};
 ghost use Rattle.test_memory.specs.Staged.{IsStaged};
 
-use crate::again::{Refusals, Unshown, again};
+use crate::again::{Refusals, Unshown, again, done};
 use crate::given;
 use std::alloc::{AllocError, Global};
 use sv_model::{Input, Moment};
@@ -84,12 +84,12 @@ fn event(alloc: Global, act: Act) -> Result<WorldEvent, AllocError> {
 
 pub fn event_copy(alloc: Global, refusals: &mut Refusals) -> Shown {
     let event = torn(alloc)?;
-    let copy = again(refusals, || event.copy(alloc))?;
+    let copy = again!(refusals, event.copy(alloc))?;
     match &copy {
         WorldEvent::Torn {
             input: Input::Ask { request, .. },
             ..
-        } => Ok(format!(in alloc; "{:?}", request.body.as_slice())?),
+        } => done(format!(in alloc; "{:?}", request.body.as_slice())),
         _ => Err(Unshown::Other),
     }
 }
