@@ -6,8 +6,10 @@ use crate::launch::start;
 use crate::purpose::{Purpose, Running, Stream};
 use crate::words::{Words, read_words};
 use std::alloc::Global;
+use std::fs::File;
 use std::io::ErrorKind;
-use std::rt::{Env, Files};
+use std::net::{Net, TcpListener, TcpStream};
+use std::rt::{Clock, Env, Files};
 use std::{env, io};
 use sv_config::Deployment;
 use sv_host::{Machine, Persistence, Place};
@@ -94,13 +96,18 @@ fn run_in_cluster<A: Applications, M: Machine>(
 }
 
 /// Does what the words of a command line ask for: serves standard input, or runs a node. Other words are [`Fault::Arguments`].
-pub fn run<A: Applications, M: Machine + Input>(
-    applications: &A,
-    machine: &M,
-    words: &[String],
-) -> Result<(), Fault> {
+pub fn run<A, R>(applications: &A, rt: &R, words: &[String]) -> Result<(), Fault>
+where
+    A: Applications,
+    R: Net<Listener = TcpListener, Stream = TcpStream>
+        + Files<File = File>
+        + Clock
+        + Print
+        + Input
+        + AllocGlobal,
+{
     match read_words(words) {
-        Ok(Words::Once { config, now }) => serve_input(applications, machine, config, now),
+        Ok(Words::Once { config, now }) => serve_input(applications, rt, config, now),
         Ok(
             Words::Node {
                 persistence,
@@ -108,7 +115,7 @@ pub fn run<A: Applications, M: Machine + Input>(
                 journal,
                 number,
             },
-        ) => run_in_cluster(applications, machine, persistence, config, journal, number),
+        ) => run_in_cluster(applications, rt, persistence, config, journal, number),
         Err(_) => Err(Fault::Arguments),
     }
 }
