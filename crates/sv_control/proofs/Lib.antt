@@ -1,1 +1,2 @@
 pub mod MovingLemmas
+pub mod NamingLemmas

@@ -1,2 +1,6 @@
+pub mod Kept
 pub mod Lines
 pub mod Moving
+pub mod Naming
+pub mod Places
+pub mod Records

@@ -1,8 +1,14 @@
 //! What the records of a journal give.
 
-ghost use Rattle.std.specs.Prelude.{◌≡◌, IfOk};
+ghost use Rattle.std.specs.Prelude.{◌≡◌, ◌≢◌, ◌∷◌, [], ◌++◌, IfErr, IfOk, OnOk, Ok, map};
 ghost use Rattle.sv_core.specs.Snapshot.{snapshot_of};
+ghost use Rattle.sv_core.specs.declared.fault.ApplyFault.TheVariants.{BadRecord};
+ghost use Rattle.sv_journal.specs.Format.{payloads};
 ghost use Rattle.sv_model.specs.Replay.{blank, replayed};
+ghost use Rattle.sv_model.specs.declared.key.TheConstants.{NODE_LIMIT as NODES};
+ghost use Rattle.sv_record.specs.Record as spec;
+ghost use Rattle.sv_control.specs.Kept.{Fit, FitNowhere};
+ghost use Rattle.sv_control.specs.declared.images.FoundFault.TheVariants.{Memory, Unfit};
 
 use crate::images::FoundFault;
 use std::alloc::{AllocError, Global};
@@ -11,7 +17,9 @@ use sv_model::{NODE_LIMIT, Record, Setting};
 use sv_record::{RecordFault, read_record};
 
 /// The record that a payload is, the one at this place.
-fn record_of(alloc: Global, place: usize, payload: &[u8]) -> Result<Record, FoundFault> {
+fn record_of(alloc: Global, place: usize, payload: &[u8]) -> Result<Record, FoundFault>
+    ensures { IfOk result (λ found. spec.record_of payload.now ≡ Ok found) }
+{
     match read_record(alloc, payload) {
         Ok(record) => Ok(record),
         Err(RecordFault::Memory) => Err(FoundFault::Memory),
@@ -20,13 +28,17 @@ fn record_of(alloc: Global, place: usize, payload: &[u8]) -> Result<Record, Foun
 }
 
 /// One record more.
-fn add(records: &mut Vec<Record>, record: Record) -> Result<(), AllocError> {
-    records.push(record)?;
+fn add(records: &mut Vec<Record>, next: Record) -> Result<(), AllocError>
+    ensures { OnOk result (records.new.items ≡ records.old.items ++ next ∷ []) }
+{
+    records.push(next)?;
     Ok(())
 }
 
 /// The records that payloads are, the oldest first.
-pub fn records_of(alloc: Global, entries: &[Vec<u8>]) -> Result<Vec<Record>, FoundFault> {
+pub fn records_of(alloc: Global, entries: &[Vec<u8>]) -> Result<Vec<Record>, FoundFault>
+    ensures { IfOk result (λ records. map spec.record_of (payloads entries.now) ≡ map Ok records.items) }
+{
     let mut records = Vec::new(alloc);
     for (place, payload) in entries.iter().enumerate() {
         let record = record_of(alloc, place, payload)?;
@@ -37,7 +49,9 @@ pub fn records_of(alloc: Global, entries: &[Vec<u8>]) -> Result<Vec<Record>, Fou
 
 /// A snapshot of what the records give, at a node of this number.
 fn kept_at(alloc: Global, node: u8, records: &[Record]) -> Result<Vec<Record>, ApplyFault>
-    ensures { IfOk result (λ kept. kept.items ≡ snapshot_of (replayed blank records.now)) }
+    ensures kept { IfOk result (λ kept. kept.items ≡ snapshot_of (replayed blank records.now)) }
+    ensures fit { IfOk result (λ _. Fit node records.now) }
+    ensures bad { IfErr result (λ fault. fault ≡ BadRecord → ¬ (Fit node records.now)) }
 {
     let setting = Setting {
         node,
@@ -71,7 +85,11 @@ impl Drop for Replayed {
 
 /// What the records give, one behind the other.
 pub fn replay(alloc: Global, records: &[Record]) -> Result<Replayed, FoundFault>
-    ensures { IfOk result (λ found. found.kept.items ≡ snapshot_of (replayed blank records.now)) }
+    ensures kept { IfOk result (λ found. found.kept.items ≡ snapshot_of (replayed blank records.now)) }
+    ensures fit { IfOk result (λ found. Fit found.node records.now) }
+    ensures least { IfOk result (λ found. FitNowhere found.node records.now) }
+    // They don't fit at any node, unless memory is refused.
+    ensures unfit { IfErr result (λ fault. fault ≢ Memory → (fault ≡ Unfit) × FitNowhere NODES records.now) }
 {
     for node in 0..NODE_LIMIT {
         match kept_at(alloc, node, records) {

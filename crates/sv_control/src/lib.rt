@@ -2,8 +2,9 @@
 //! sessions and commands are named, and what a descriptor says or where it is at fault.
 //!
 //! Under the program `kegctl`, a `main` over it, which has the files and the sockets. [`entries_of`] reads a journal from images of
-//! its two files, in memory, so that nothing is ever written; [`replay`] gives what its records give. [`session_line`] and
-//! [`record_line`] are a line each; [`to_move`] says which sessions a drain moves; [`look_at`] tells of a descriptor.
+//! its two files, in memory, so that nothing is ever written; [`replay`] gives what its records give. [`session_line`] is
+//! what is shown of a session and [`ShownRecord`] of a record, and [`places_of`] says where each record stands; [`to_move`] says which
+//! sessions a drain moves; [`look_at`] tells of a descriptor.
 #![tactic(auto)]
 
 mod descriptor;
@@ -13,12 +14,14 @@ pub mod laws;
 mod lines;
 mod moving;
 mod naming;
+mod places;
+mod records;
 
 pub use descriptor::{Look, look_at};
 pub use images::{FoundFault, entries_of};
 pub use kept::{Replayed, records_of, replay};
-pub use lines::{
-    AttributeLine, SessionLine, SessionPlace, SessionTimes, Shown, record_line, session_line,
-};
+pub use lines::{AttributeLine, SessionLine, SessionPlace, SessionTimes, Shown, session_line};
 pub use moving::to_move;
-pub use naming::{key_text, shown_key};
+pub use naming::{ShownKey, key_text, shown_key};
+pub use places::{RecordPlace, places_of};
+pub use records::ShownRecord;

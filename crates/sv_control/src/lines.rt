@@ -1,13 +1,15 @@
-//! What is shown of a journal: a line for each session, and one for each record.
+//! What is shown of a journal: a line for each session.
 
-ghost use Rattle.std.specs.Prelude.{◌≡◌, IfOk, is_some};
-ghost use Rattle.sv_control.specs.Lines.{has_session};
+ghost use Rattle.std.specs.Prelude.{◌≡◌, ◌∷◌, [], ◌++◌, IfOk, OnOk, Some, map, string_bytes};
+ghost use Rattle.std.specs.Option.{option_map};
+ghost use Rattle.sv_control.specs.Lines as spec;
+ghost use Rattle.sv_control.specs.Lines.{attribute_text, attribute_to_see, byte_text, escaped_byte, place_text, seen_attribute, seen_place, seen_session, session_text, session_to_see, times_text, to_see, value_to_see};
 
 use crate::naming::key_text;
 use serde::Serialize;
 use std::alloc::{AllocError, Global};
 use std::fmt;
-use sv_model::{Attributes, Change, Key, KeyState, Record, Session};
+use sv_model::{Attributes, Key, KeyState, Session};
 
 /// Whether the values of attributes are shown, which may be anybody's secrets.
 #[derive(Clone, Copy, Debug, PartialEq, Eq)]
@@ -62,17 +64,32 @@ pub struct SessionLine {
     pub attributes: Vec<AttributeLine>,
 }
 
+/// Adds a byte as `\x` and two hexadecimal digits.
+fn add_escaped(alloc: Global, text: &mut String, byte: u8) -> Result<(), AllocError>
+    ensures { OnOk result (string_bytes text.new ≡ string_bytes text.old ++ escaped_byte byte) }
+{
+    let escaped = if byte < 16 {
+        format!(in alloc; "\\x0{byte:x}")?
+    } else {
+        format!(in alloc; "\\x{byte:x}")?
+    };
+    text.push_str(escaped.as_str())
+}
+
 /// Adds a byte of a value.
-fn add_byte(alloc: Global, text: &mut String, byte: u8) -> Result<(), AllocError> {
+fn add_byte(alloc: Global, text: &mut String, byte: u8) -> Result<(), AllocError>
+    ensures { OnOk result (string_bytes text.new ≡ string_bytes text.old ++ byte_text byte) }
+{
     match byte {
-        b'!'..=b'[' | b']'..=b'~' => text.push(char::from(byte))?,
-        _ => text.push_str(format!(in alloc; "\\x{byte:02x}")?.as_str())?,
+        b'!'..=b'[' | b']'..=b'~' => Ok(text.push(char::from(byte))?),
+        _ => add_escaped(alloc, text, byte),
     }
-    Ok(())
 }
 
 /// A value as it is shown.
-fn value_text(alloc: Global, value: &[u8]) -> Result<String, AllocError> {
+fn value_text(alloc: Global, value: &[u8]) -> Result<String, AllocError>
+    ensures { IfOk result (λ text. string_bytes text ≡ spec.value_text value.now) }
+{
     let mut text = String::new(alloc);
     for byte in value {
         add_byte(alloc, &mut text, *byte)?;
@@ -81,38 +98,67 @@ fn value_text(alloc: Global, value: &[u8]) -> Result<String, AllocError> {
 }
 
 /// The value of an attribute, where values are shown.
-fn value_shown(alloc: Global, value: &[u8], shown: Shown) -> Result<Option<String>, AllocError> {
+fn value_shown(alloc: Global, value: &[u8], shown: Shown) -> Result<Option<String>, AllocError>
+    ensures { IfOk result (λ text. option_map string_bytes text ≡ value_to_see shown value.now) }
+{
     match shown {
         Shown::Sizes => Ok(None),
         Shown::Values => Ok(Some(value_text(alloc, value)?)),
     }
 }
 
+/// What is shown of one attribute.
+fn attribute_line(
+    alloc: Global,
+    name: &str,
+    value: &[u8],
+    shown: Shown,
+) -> Result<AttributeLine, AllocError>
+    ensures { IfOk result (λ line. seen_attribute line ≡ attribute_to_see shown (name.now, value.now)) }
+{
+    Ok(AttributeLine {
+        name: String::from_str(alloc, name)?,
+        bytes: value.len(),
+        value: value_shown(alloc, value, shown)?,
+    })
+}
+
+/// A line more.
+fn add_line(lines: &mut Vec<AttributeLine>, line: AttributeLine) -> Result<(), AllocError>
+    ensures { OnOk result (lines.new.items ≡ lines.old.items ++ line ∷ []) }
+{
+    lines.push(line)?;
+    Ok(())
+}
+
 fn attribute_lines(
     alloc: Global,
     attributes: &Attributes,
     shown: Shown,
-) -> Result<Vec<AttributeLine>, AllocError> {
+) -> Result<Vec<AttributeLine>, AllocError>
+    ensures { IfOk result (λ lines. map seen_attribute lines.items ≡ map (attribute_to_see shown) attributes.now) }
+{
     let mut lines = Vec::new(alloc);
     for (name, value) in attributes.iter() {
-        lines.push(AttributeLine {
-            name: String::from_str(alloc, name)?,
-            bytes: value.len(),
-            value: value_shown(alloc, value, shown)?,
-        })?;
+        let line = attribute_line(alloc, name, value, shown)?;
+        add_line(&mut lines, line)?;
     }
     Ok(lines)
 }
 
 /// When a session expires if no request names it; an interval of 0 and less never passes.
-fn expiry(session: &Session) -> Option<u64> {
+fn expiry(session: &Session) -> Option<u64>
+    ensures { result ≡ spec.expiry session.now.last session.now.interval }
+{
     match u64::try_from(session.interval) {
         Ok(seconds) if seconds > 0 => session.last.checked_add(seconds),
         _ => None,
     }
 }
 
-fn times_of(session: &Session) -> SessionTimes {
+fn times_of(session: &Session) -> SessionTimes
+    ensures { result ≡ spec.times_of session.now }
+{
     SessionTimes {
         created: session.created,
         last: session.last,
@@ -126,7 +172,9 @@ fn line_of(
     place: SessionPlace,
     session: &Session,
     shown: Shown,
-) -> Result<SessionLine, AllocError> {
+) -> Result<SessionLine, AllocError>
+    ensures { IfOk result (λ line. seen_session line ≡ session_to_see shown key (seen_place place) session.now) }
+{
     let attributes = attribute_lines(alloc, &session.attributes, shown)?;
     Ok(SessionLine {
         key: key_text(alloc, key)?,
@@ -143,7 +191,7 @@ pub fn session_line(
     state: &KeyState,
     shown: Shown,
 ) -> Result<Option<SessionLine>, AllocError>
-    ensures { IfOk result (λ line. is_some line ≡ has_session state.now) }
+    ensures { IfOk result (λ line. option_map seen_session line ≡ to_see shown key state.now) }
 {
     let (place, session) = match state {
         KeyState::Active { epoch, session } => {
@@ -170,6 +218,8 @@ pub fn session_line(
 }
 
 impl fmt::Display for AttributeLine {
+    ghost output = { λ x. Some (attribute_text x) };
+
     fn fmt<W: fmt::Write>(&self, f: &mut fmt::Formatter<W>) -> fmt::Result {
         write!(f, "{}:{}", self.name, self.bytes)?;
         match &self.value {
@@ -180,6 +230,8 @@ impl fmt::Display for AttributeLine {
 }
 
 impl fmt::Display for SessionPlace {
+    ghost output = { λ x. Some (place_text x) };
+
     fn fmt<W: fmt::Write>(&self, f: &mut fmt::Formatter<W>) -> fmt::Result {
         f.write_str(self.state)?;
         if let Some(to) = self.to {
@@ -190,6 +242,8 @@ impl fmt::Display for SessionPlace {
 }
 
 impl fmt::Display for SessionTimes {
+    ghost output = { λ x. Some (times_text x) };
+
     fn fmt<W: fmt::Write>(&self, f: &mut fmt::Formatter<W>) -> fmt::Result {
         write!(f, "made {}, last {}, ", self.created, self.last)?;
         match self.expires {
@@ -200,69 +254,13 @@ impl fmt::Display for SessionTimes {
 }
 
 impl fmt::Display for SessionLine {
+    ghost output = { λ x. Some (session_text x) };
+
     fn fmt<W: fmt::Write>(&self, f: &mut fmt::Formatter<W>) -> fmt::Result {
         write!(f, "{} {}, {},", self.key, self.place, self.times)?;
         for attribute in &self.attributes {
             write!(f, " {attribute}")?;
         }
         Ok(())
-    }
-}
-
-/// What a request has made of one key.
-fn change_text(alloc: Global, verb: &str, change: &Change) -> Result<String, AllocError> {
-    match change {
-        Change::Absent => Ok(String::new(alloc)),
-        Change::Alive { key, .. } => format!(in alloc; " {verb} {}.{}", key.home, key.serial),
-        Change::Ended(key) => format!(in alloc; " ended {}.{}", key.home, key.serial),
-    }
-}
-
-fn commit_text(alloc: Global, named: &Change, born: &Change) -> Result<String, AllocError> {
-    let named = change_text(alloc, "kept", named)?;
-    let born = change_text(alloc, "made", born)?;
-    format!(in alloc; "served:{named}{born}")
-}
-
-/// What a snapshot has of a key.
-fn state_text(alloc: Global, key: Key, state: &KeyState) -> Result<String, AllocError> {
-    let key = key_text(alloc, key)?;
-    match state {
-        KeyState::Active { epoch, .. } => format!(in alloc; "{key} active, epoch {epoch}"),
-        KeyState::Sent { epoch, to, .. } => {
-            format!(in alloc; "{key} sent to {to}, epoch {epoch}")
-        }
-        KeyState::Gone { epoch } => format!(in alloc; "{key} gone, epoch {epoch}"),
-        KeyState::Ended { epoch } => format!(in alloc; "{key} ended, epoch {epoch}"),
-    }
-}
-
-/// What a record says.
-pub fn record_line(alloc: Global, record: &Record) -> Result<String, AllocError> {
-    match record {
-        Record::Boot(boot) => format!(in alloc; "start {boot}"),
-        Record::Commit { named, born } => commit_text(alloc, named, born),
-        Record::Expired(key) => format!(in alloc; "expired {}.{}", key.home, key.serial),
-        Record::Sent { key, epoch, to, .. } => {
-            format!(in alloc; "sent {}.{} to {to}, epoch {epoch}", key.home, key.serial)
-        }
-        Record::Taken {
-            key,
-            epoch,
-            from,
-            ..
-        } => {
-            format!(in alloc;
-                "taken {}.{} from {from}, epoch {epoch}",
-                key.home, key.serial
-            )
-        }
-        Record::Gone { key, epoch } => {
-            format!(in alloc; "gone {}.{}, epoch {epoch}", key.home, key.serial)
-        }
-        Record::State { key, state } => state_text(alloc, *key, state),
-        Record::Counters { boot, next } => {
-            format!(in alloc; "snapshot behind start {boot}, next serial {next}")
-        }
     }
 }

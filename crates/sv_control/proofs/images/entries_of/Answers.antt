@@ -1,5 +1,4 @@
-use Rattle.std.proofs.Common.{◌≡◌, ℕ, List}
-use Rattle.sv_journal.specs.Format.{Opens, payloads}
+use Rattle.sv_journal.specs.Format.{Opens}
 use Rattle.sv_journal.specs.MemoryDisk.{disk_bytes}
 use Rattle.sv_control.proofs.images.entries_of.Goals as goal
 

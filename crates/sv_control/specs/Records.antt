@@ -1,0 +1,48 @@
+-- What is shown of a record.
+use Rattle.std.specs.Prelude.{ℕ, List, [], ◌++◌, codes, decimal}
+use Rattle.sv_model.specs.declared.key.Key.{Key}
+use Rattle.sv_model.specs.declared.record.Change.{Change}
+use Rattle.sv_model.specs.declared.record.Change.TheVariants.{Absent, Alive, Ended as ChangeEnded}
+use Rattle.sv_model.specs.declared.record.Record.{Record}
+use Rattle.sv_model.specs.declared.record.Record.TheVariants.{Boot, Commit, Expired, Sent as SentRecord, Taken, Gone as GoneRecord, State, Counters}
+use Rattle.sv_model.specs.declared.state.KeyState.{KeyState}
+use Rattle.sv_model.specs.declared.state.KeyState.TheVariants.{Active, Sent, Gone, Ended}
+use Rattle.sv_control.specs.Naming.{key_text}
+
+-- what a request has made of one key; the verb says what, where the session is alive
+abbrev pub change_text : List ℕ → Change → List ℕ
+change_text verb Absent = []
+change_text verb (Alive k s) = codes " " ++ verb ++ codes " " ++ key_text k
+change_text verb (ChangeEnded k) = codes " ended " ++ key_text k
+
+-- where a session is
+abbrev pub place_part : KeyState → List ℕ
+place_part (Active e s) = codes " active"
+place_part (Sent e s to) = codes " sent to " ++ decimal to
+place_part (Gone e) = codes " gone"
+place_part (Ended e) = codes " ended"
+
+abbrev pub epoch_of : KeyState → ℕ
+epoch_of (Active e s) = e
+epoch_of (Sent e s to) = e
+epoch_of (Gone e) = e
+epoch_of (Ended e) = e
+
+-- what a snapshot has of a key
+abbrev pub state_text : Key → KeyState → List ℕ
+state_text k state = key_text k ++ place_part state ++ codes ", epoch " ++ decimal (epoch_of state)
+
+-- the counters of a snapshot
+abbrev pub counters_text : ℕ → ℕ → List ℕ
+counters_text boot next = codes "snapshot behind start " ++ decimal boot ++ codes ", next serial " ++ decimal next
+
+-- what a record says
+abbrev pub record_text : Record → List ℕ
+record_text (Boot boot) = codes "start " ++ decimal boot
+record_text (Commit named born) = codes "served:" ++ change_text (codes "kept") named ++ change_text (codes "made") born
+record_text (Expired k) = codes "expired " ++ key_text k
+record_text (SentRecord k e to s) = codes "sent " ++ key_text k ++ codes " to " ++ decimal to ++ codes ", epoch " ++ decimal e
+record_text (Taken k e from s) = codes "taken " ++ key_text k ++ codes " from " ++ decimal from ++ codes ", epoch " ++ decimal e
+record_text (GoneRecord k e) = codes "gone " ++ key_text k ++ codes ", epoch " ++ decimal e
+record_text (State k state) = state_text k state
+record_text (Counters boot next) = counters_text boot next

@@ -1,0 +1,109 @@
+//! What is shown of a journal: a text for each record.
+
+ghost use Rattle.std.specs.Prelude.{◌≡◌, ◌++◌, decimal};
+ghost use Rattle.std.specs.Fmt.{WritesOnOk};
+ghost use Rattle.sv_control.specs.Records as spec;
+ghost use Rattle.sv_control.specs.Records.{change_text, place_part, state_text};
+
+use crate::naming::ShownKey;
+use std::fmt;
+use sv_model::{Change, Key, KeyState, Record};
+
+/// Writes what a request has made of one key.
+fn write_change<W: fmt::Write>(
+    f: &mut fmt::Formatter<W>,
+    verb: &str,
+    change: &Change,
+) -> fmt::Result
+    ensures { WritesOnOk W.write_str_gives f.old result (change_text verb.now change.now) f.new }
+{
+    match change {
+        Change::Absent => Ok(()),
+        Change::Alive { key, .. } => write!(f, " {verb} {}", ShownKey(*key)),
+        Change::Ended(key) => write!(f, " ended {}", ShownKey(*key)),
+    }
+}
+
+/// Writes where a session is.
+fn write_place<W: fmt::Write>(f: &mut fmt::Formatter<W>, state: &KeyState) -> fmt::Result
+    ensures { WritesOnOk W.write_str_gives f.old result (place_part state.now) f.new }
+{
+    match state {
+        KeyState::Active { .. } => f.write_str(" active"),
+        KeyState::Sent { to, .. } => write!(f, " sent to {to}"),
+        KeyState::Gone { .. } => f.write_str(" gone"),
+        KeyState::Ended { .. } => f.write_str(" ended"),
+    }
+}
+
+fn epoch_of(state: &KeyState) -> u64
+    ensures { result ≡ spec.epoch_of state.now }
+{
+    match *state {
+        KeyState::Active { epoch, .. }
+        | KeyState::Sent { epoch, .. }
+        | KeyState::Gone { epoch }
+        | KeyState::Ended { epoch } => epoch,
+    }
+}
+
+/// Writes what a snapshot has of a key.
+fn write_state<W: fmt::Write>(f: &mut fmt::Formatter<W>, key: Key, state: &KeyState) -> fmt::Result
+    ensures { WritesOnOk W.write_str_gives f.old result (state_text key state.now) f.new }
+{
+    write!(f, "{}", ShownKey(key))?;
+    write_place(f, state)?;
+    write!(f, ", epoch {}", epoch_of(state))
+}
+
+/// Writes two numbers, each behind its text.
+fn write_two<W: fmt::Write>(
+    f: &mut fmt::Formatter<W>,
+    one: (&str, u64),
+    other: (&str, u64),
+) -> fmt::Result
+    ensures { WritesOnOk W.write_str_gives f.old result (one.entry.0.now ++ decimal one.entry.1 ++ other.entry.0.now ++ decimal other.entry.1) f.new }
+{
+    write!(f, "{}{}{}{}", one.0, one.1, other.0, other.1)
+}
+
+/// A record, which prints as what it says.
+#[derive(Clone, Copy)]
+pub struct ShownRecord<'a>(pub &'a Record);
+
+impl fmt::Display for ShownRecord<'_> {
+    ghost use Rattle.std.specs.Prelude.{Some};
+    ghost use Rattle.sv_control.specs.Records.{record_text};
+
+    ghost output = { λ r. Some (record_text r.0.now) };
+
+    fn fmt<W: fmt::Write>(&self, f: &mut fmt::Formatter<W>) -> fmt::Result {
+        match self.0 {
+            Record::Boot(boot) => write!(f, "start {boot}"),
+            Record::Commit { named, born } => {
+                f.write_str("served:")?;
+                write_change(f, "kept", named)?;
+                write_change(f, "made", born)
+            }
+            Record::Expired(key) => write!(f, "expired {}", ShownKey(*key)),
+            Record::Sent { key, epoch, to, .. } => {
+                write!(f, "sent {} to {to}, epoch {epoch}", ShownKey(*key))
+            }
+            Record::Taken {
+                key,
+                epoch,
+                from,
+                ..
+            } => { write!(f, "taken {} from {from}, epoch {epoch}", ShownKey(*key)) }
+            Record::Gone { key, epoch } => write!(f, "gone {}, epoch {epoch}", ShownKey(*key)),
+            Record::State { key, state } => write_state(f, *key, state),
+            Record::Counters { boot, next } => {
+                write_two(
+                    f,
+                    ("snapshot behind start ", *boot),
+                    (", next serial ", *next),
+                )
+            }
+        }
+    }
+}
