@@ -1,6 +1,6 @@
 //! The nodes of a descriptor.
 
-use crate::fault::Fault;
+use crate::fault::{DescriptorFault, Fault};
 use crate::words::node_of;
 use std::alloc::{AllocError, Global};
 use std::fs;
@@ -14,7 +14,7 @@ use sv_script::NodeNumber;
 pub fn config_fault(fault: ConfigFault) -> Fault {
     match fault {
         ConfigFault::Memory => Fault::Memory,
-        fault => Fault::Config(fault),
+        fault => Fault::Descriptor(DescriptorFault::Refused(fault)),
     }
 }
 
@@ -23,7 +23,7 @@ pub fn read_config<R: Files + AllocGlobal>(rt: &R, path: &str) -> Result<String,
     match fs::read_to_string(rt, path) {
         Ok(text) => Ok(text),
         Err(refused) if refused.kind() == ErrorKind::OutOfMemory => Err(Fault::Memory),
-        Err(_) => Err(Fault::NoConfig),
+        Err(_) => Err(Fault::Descriptor(DescriptorFault::Unreadable)),
     }
 }
 
@@ -36,7 +36,7 @@ pub fn read_cluster<R: Files + AllocGlobal>(rt: &R, path: &str) -> Result<Cluste
     };
     let cluster = deployment.cluster;
     if cluster.ports.is_empty() {
-        return Err(Fault::NoPorts);
+        return Err(Fault::Descriptor(DescriptorFault::NoPorts));
     }
     Ok(cluster)
 }

@@ -6,21 +6,29 @@ use sv_config::ConfigFault;
 use sv_control::FoundFault;
 use thiserror::Error;
 
+/// Why a descriptor isn't used.
+#[derive(Clone, Copy, Debug, PartialEq, Eq, Error)]
+pub enum DescriptorFault {
+    /// It is no file of UTF-8 text that can be read.
+    #[error("the CONFIG can't be read")]
+    Unreadable,
+    /// A node would refuse it.
+    #[error("the CONFIG: {0}")]
+    Refused(ConfigFault),
+    /// It has no nodes.
+    #[error("the CONFIG has no cluster.ports")]
+    NoPorts,
+}
+
 /// Why the program ends before its work is done.
 #[derive(Clone, Copy, Debug, PartialEq, Eq, Error)]
 pub enum Fault {
     /// Status 2: a word that is none of the command's. The text for the words themselves is clap's.
     #[error("{0}")]
     Arguments(&'static str),
-    /// Status 3: the CONFIG is no file of UTF-8 text that can be read.
-    #[error("the CONFIG can't be read")]
-    NoConfig,
-    /// Status 3: the descriptor is at fault.
-    #[error("the CONFIG: {0}")]
-    Config(ConfigFault),
-    /// Status 3: the descriptor has no nodes.
-    #[error("the CONFIG has no cluster.ports")]
-    NoPorts,
+    /// Status 3: the descriptor.
+    #[error("{0}")]
+    Descriptor(DescriptorFault),
     /// Status 4: a file of the journal can't be read.
     #[error("the journal can't be read")]
     Unreadable,
@@ -46,7 +54,7 @@ impl Fault {
     pub fn status(self) -> u8 {
         match self {
             Fault::Arguments(_) => 2,
-            Fault::NoConfig | Fault::Config(_) | Fault::NoPorts => 3,
+            Fault::Descriptor(_) => 3,
             Fault::Unreadable | Fault::Journal(_) => 4,
             Fault::Unanswered | Fault::Output | Fault::Memory => 5,
             Fault::NotDone => 6,

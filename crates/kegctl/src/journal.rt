@@ -27,7 +27,7 @@ fn other_of<R: Files + AllocGlobal>(rt: &R, journal: &str) -> Result<Vec<u8>, Fa
 }
 
 /// The payloads of a journal, the oldest first.
-fn entries<R: Files + AllocGlobal>(rt: &R, journal: &str) -> Result<Vec<Vec<u8>>, Fault> {
+pub fn entries<R: Files + AllocGlobal>(rt: &R, journal: &str) -> Result<Vec<Vec<u8>>, Fault> {
     let Some(a) = bytes_of(rt, journal)? else {
         return Err(Fault::Unreadable);
     };
@@ -38,10 +38,9 @@ fn entries<R: Files + AllocGlobal>(rt: &R, journal: &str) -> Result<Vec<Vec<u8>>
     }
 }
 
-/// The records of a journal, the oldest first.
-pub fn records<R: Files + AllocGlobal>(rt: &R, journal: &str) -> Result<Vec<Record>, Fault> {
-    let entries = entries(rt, journal)?;
-    match records_of(rt.alloc(), &entries) {
+/// The records that payloads are.
+pub fn records<R: AllocGlobal>(rt: &R, entries: &[Vec<u8>]) -> Result<Vec<Record>, Fault> {
+    match records_of(rt.alloc(), entries) {
         Ok(records) => Ok(records),
         Err(fault) => Err(fault.into()),
     }
@@ -49,7 +48,8 @@ pub fn records<R: Files + AllocGlobal>(rt: &R, journal: &str) -> Result<Vec<Reco
 
 /// What they give.
 pub fn kept<R: Files + AllocGlobal>(rt: &R, journal: &str) -> Result<Replayed, Fault> {
-    let records = records(rt, journal)?;
+    let entries = entries(rt, journal)?;
+    let records = records(rt, &entries)?;
     match replay(rt.alloc(), &records) {
         Ok(found) => Ok(found),
         Err(fault) => Err(fault.into()),

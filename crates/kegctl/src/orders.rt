@@ -7,11 +7,13 @@ use crate::cluster::{config_fault, read_cluster, read_config};
 use crate::commands::{halt, hand_over, tick, told};
 use crate::draining::take_out;
 use crate::fault::Fault;
-use crate::journal::{kept, records};
+use crate::journal::{entries, kept, records};
 use crate::machine::Machine;
 use crate::words::{Form, Order};
 use sv_client::session_named;
-use sv_control::{Look, SessionLine, Shown, look_at, record_line, session_line, shown_key};
+use sv_control::{
+    Look, RecordPlace, SessionLine, Shown, ShownRecord, look_at, places_of, session_line, shown_key,
+};
 use sv_model::{Key, Record};
 use sv_script::NodeNumber;
 
@@ -106,23 +108,31 @@ fn show_sessions<M: Machine>(
 }
 
 /// A line for a record, behind its place.
-fn show_record<M: Machine>(machine: &M, place: usize, record: &Record) -> Result<(), Fault> {
-    let alloc = machine.alloc();
-    let line = record_line(alloc, record)?;
-    match format!(in alloc; "{place} {line}") {
+fn show_record<M: Machine>(machine: &M, place: RecordPlace, record: &Record) -> Result<(), Fault> {
+    match format!(in machine.alloc(); "{place} {}", ShownRecord(record)) {
         Ok(text) => say(machine, text.as_str()),
         Err(_) => Err(Fault::Memory),
     }
 }
 
-fn show_records<M: Machine>(machine: &M, journal: &str) -> Result<(), Fault> {
-    let records = records(machine, journal)?;
-    for (place, record) in records.iter().enumerate() {
-        if let Err(fault) = show_record(machine, place, record) {
+fn show_placed<M: Machine>(
+    machine: &M,
+    places: &[RecordPlace],
+    records: &[Record],
+) -> Result<(), Fault> {
+    for (place, record) in places.iter().zip(records) {
+        if let Err(fault) = show_record(machine, *place, record) {
             return Err(fault);
         }
     }
     Ok(())
+}
+
+fn show_records<M: Machine>(machine: &M, journal: &str) -> Result<(), Fault> {
+    let entries = entries(machine, journal)?;
+    let records = records(machine, &entries)?;
+    let places = places_of(machine.alloc(), &entries)?;
+    show_placed(machine, &places, &records)
 }
 
 /// Says what a node's answer means.
