@@ -1,5 +1,5 @@
 -- Keys in their order, each with the place of what is known of it.
-use Rattle.std.proofs.Common.{◌≡◌, ◌≢◌, ℕ, zero, suc, ◌+◌, ◌<◌, ◌≤◌, Bool, true, false, cond, Option, Some, None, Result, Ok, Err, IfOk, IfErr, List, [], ◌∷◌, ◌++◌, length, get_or, take, drop, set, arith, refl, sym, ap, ◌∙◌, subst}
+use Rattle.std.proofs.Common.{◌≡◌, ◌≢◌, ℕ, zero, suc, ◌+◌, ◌<◌, ◌≤◌, Bool, true, false, cond, Option, Some, None, Result, Ok, Err, IfOk, IfErr, List, [], ◌∷◌, ◌++◌, ◌-◌, inl, inr, length, get_or, take, drop, set, arith, refl, sym, ap, ◌∙◌, subst}
 use Rattle.std.specs.Prelude.{T, ◌&&◌, ◌==◌, not, nat_lt, ⊤, IsOk, is_ok}
 use Rattle.std.specs.Option.{option_map, unwrap_or}
 use Rattle.std.specs.List.{AllWithin}
@@ -10,6 +10,7 @@ use Rattle.std.specs.Ordering.{is_lt, is_eq}
 use Rattle.std.specs.declared.cmp.Ordering.{Ordering}
 use Rattle.std.specs.declared.cmp.Ordering.TheVariants.{Less, Equal, Greater}
 use Rattle.std.proofs.lemmas.List.Sorted.{searchable_from_sorted}
+use Rattle.std.proofs.lemmas.Bool.{cases_eq}
 use Rattle.std.proofs.lemmas.Bool.Decides.{nat_tests}
 use Rattle.sv_model.specs.declared.key.Key.{Key}
 use Rattle.sv_model.specs.declared.state.KeyState.{KeyState}
@@ -78,6 +79,42 @@ gap_at k (p ∷ ps) (suc at) within below above =
       puts = λ place. ap (λ o. by_order o ((k, place) ∷ p ∷ ps) ((p.0, place) ∷ ps) (p ∷ put key_cmp k place ps)) is ∙ ap (λ l. p ∷ l) (rest.puts place);
       erased = ap (λ o. cond (is_eq o) ps (p ∷ erase k ps)) is ∙ ap (λ l. p ∷ l) rest.erased;
     }
+
+rises_between : (ps : List Place) (n m : ℕ) (d : Place) → Rises ps → n < m → m < length ps → key_cmp (get_or ps n d).0 (get_or ps m d).0 ≡ Less
+rises_between [] n m d rises less is = absurd (omega (arith, is))
+rises_between (p ∷ ps) n zero d rises less is = absurd (omega (arith, less))
+rises_between (p ∷ ps) zero (suc m) d rises less is = below_at p.0 ps m d (first _ _ rises) (omega (arith, is))
+rises_between (p ∷ ps) (suc n) (suc m) d rises less is = rises_between ps n m d (second _ _ rises) (omega (arith, less)) (omega (arith, is))
+
+behind_at : (k : Key) (ps : List Place) (m : ℕ) → Rises ps → m + 1 ≡ length ps → ((d : Place) → key_cmp (get_or ps m d).0 k ≡ Less) → IsGap k ps (length ps)
+behind_at k ps m rises last above =
+    gap_at k ps (length ps) (omega arith)
+    (λ n d from to.
+    elim (cases_eq n m) [
+      | inl same ↦ subst (λ i. key_cmp (get_or ps i d).0 k ≡ Less) (sym same) (above d)
+      | inr other ↦ keys_total.trans (get_or ps n d).0 (get_or ps m d).0 k (rises_between ps n m d rises (omega (arith, to, last, other)) (omega (arith, last))) (above d)
+    ])
+    (λ n d from to. absurd (omega (arith, from, to)))
+
+lt_less : (o : Ordering) → is_lt o ≡ true → o ≡ Less
+lt_less Less is = refl
+lt_less Equal is = absurd (cc)
+lt_less Greater is = absurd (cc)
+
+eq_equal : (o : Ordering) → is_eq o ≡ true → o ≡ Equal
+eq_equal Less is = absurd (cc)
+eq_equal Equal is = refl
+eq_equal Greater is = absurd (cc)
+
+-- a key above the last one stands behind all
+pub behind_last : (k : Key) (ps : List Place) (last : Place) → Rises ps → 0 < length ps → ((d : Place) → get_or ps (length ps - 1) d ≡ last) → is_lt (key_cmp last.0 k) ≡ true → IsGap k ps (length ps)
+behind_last k ps last rises some at above =
+    behind_at k ps (length ps - 1) rises (omega (arith, some)) (λ d. subst (λ (p : Place). key_cmp p.0 k ≡ Less) (sym (at d)) (lt_less _ above))
+
+-- it stands where it is met
+pub met_at : (k : Key) (ps : List Place) (at : ℕ) (place : Place) → Rises ps → at < length ps → ((d : Place) → get_or ps at d ≡ place) → is_eq (key_cmp place.0 k) ≡ true → IsFound k ps at
+met_at k ps at place rises within is equal =
+    found_at k ps at rises within (λ d. subst (λ (p : Place). key_cmp p.0 k ≡ Equal) (sym (is d)) (eq_equal _ equal))
 
 -- what a binary search answers
 pub record IsSearched (k : Key) (ps : List Place) (r : Result ℕ ℕ) : Type 0 where

@@ -1,7 +1,7 @@
 use Rattle.std.proofs.Common.{rules}
 use Rattle.std.proofs.lemmas.List.Sorted.{answers_always}
 use Rattle.sv_core.proofs.PlaceLemmas.{searched}
-use Rattle.sv_core.proofs.places.search.Goals as goal
+use Rattle.sv_core.proofs.places.searched.Goals as goal
 
 pub returns-clause-found : goal.returns-clause-found
 returns-clause-found c =
