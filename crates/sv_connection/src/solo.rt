@@ -1,6 +1,6 @@
 //! A site with one node and no disk.
 
-ghost use Rattle.std.specs.Prelude.{◌≡◌, ◌+◌, ◌≤◌, length, vec_items, Ok};
+ghost use Rattle.std.specs.Prelude.{◌≡◌, ◌+◌, ◌≤◌, ◌∷◌, [], length, vec_items, Ok};
 ghost use Rattle.sv_model.specs.Site.{with_list};
 ghost use Rattle.sv_model.specs.Serving.{no_birth};
 ghost use Rattle.sv_model.specs.declared.input.Input.TheVariants.{Ask, Tick};
@@ -83,6 +83,26 @@ impl<E> Solo<E> {
 impl<E: Engine> Solo<E> {
     ghost use Rattle.sv_connection.specs.Solo.{solo_steps};
 
+    /// Serves one request: what is put out for it, the answer or why there is none.
+    fn serve(&mut self, moment: Moment, token: u64, request: &Request) -> Result<Output, StepFault>
+        requires { E.valid self.old.engine }
+        ensures valid { E.valid self.new.engine }
+        ensures step { solo_steps E.meaning E.heard self.old moment (Ask token request.now) (with_list (λ o. o ∷ []) result) self.new }
+    {
+        let named = self.engine.names(request);
+        let place = named_place(self.sessions.as_slice(), named);
+        let fresh = fresh_of(self.sessions.as_slice(), moment);
+        let held = session_at(self.sessions.as_slice(), named, place);
+        let outcome = self.engine.serve(request, held, moment.now, fresh)?;
+        if let Some(cause) = no_birth(self.sessions.as_slice(), &outcome.birth) {
+            return Ok(Output::Refuse { token, cause });
+        }
+        make_room(&mut self.sessions, &outcome.birth)?;
+        let (response, events) = keep(&mut self.sessions, place, outcome);
+        self.engine.tell(events.as_slice());
+        Ok(Output::Answer { token, response })
+    }
+
     /// Serves one request.
     fn ask(
         &mut self,
@@ -95,19 +115,7 @@ impl<E: Engine> Solo<E> {
         ensures step { solo_steps E.meaning E.heard self.old moment (Ask token request.now) (with_list vec_items result) self.new }
     {
         let mut outputs = Vec::with_capacity(self.alloc, 1)?;
-        let named = self.engine.names(request);
-        let place = named_place(self.sessions.as_slice(), named);
-        let fresh = fresh_of(self.sessions.as_slice(), moment);
-        let held = session_at(self.sessions.as_slice(), named, place);
-        let outcome = self.engine.serve(request, held, moment.now, fresh)?;
-        if let Some(cause) = no_birth(self.sessions.as_slice(), &outcome.birth) {
-            outputs.push_reserved(Output::Refuse { token, cause });
-            return Ok(outputs);
-        }
-        make_room(&mut self.sessions, &outcome.birth)?;
-        let (response, events) = keep(&mut self.sessions, place, outcome);
-        self.engine.tell(events.as_slice());
-        outputs.push_reserved(Output::Answer { token, response });
+        outputs.push_reserved(self.serve(moment, token, request)?);
         Ok(outputs)
     }
 
