@@ -147,7 +147,7 @@ fn serve_reported<M: Machine, E: Engine, D: Disk>(
     Ok(())
 }
 
-/// Accepts one who stands at the door, and goes on with that one.
+/// Accepts one who stands at the door, and goes on with that one; false where nobody came.
 fn serve_new<M: Machine, E: Engine, D: Disk>(
     machine: &M,
     desk: &mut Desk,
@@ -155,19 +155,20 @@ fn serve_new<M: Machine, E: Engine, D: Disk>(
     porch: &mut Porch,
     piece: &mut [u8; PIECE],
     numbers: &mut u64,
-) -> Result<(), Stop>
+) -> Result<bool, Stop>
     requires valid { IsNode E.valid D.tells D.seen D.may_leave node.old }
     requires live { IsTrue (journal_of node.old).live }
     ensures valid { IsNode E.valid D.tells D.seen D.may_leave node.new }
     ensures gone { HasGone E.meaning E.heard D.tells D.may_leave numbers.old numbers.new node.old node.new result }
 {
     if !porch.may_accept() {
-        return Ok(());
+        return Ok(false);
     }
-    match admit(machine, desk, porch)? {
-        Some(place) => serve_one(machine, desk, node, place, piece, numbers),
-        None => Ok(()),
-    }
+    let Some(place) = admit(machine, desk, porch)? else {
+        return Ok(false);
+    };
+    serve_one(machine, desk, node, place, piece, numbers)?;
+    Ok(true)
 }
 
 /// Accepts somebody who stands at the door, and gives them a place; none where nobody stands there, or there is no memory. Where
@@ -193,7 +194,7 @@ fn admit<M: Machine>(
     }
 }
 
-/// Goes on with all who have been reported, and with one who has come.
+/// Goes on with all who have been reported, and with one who has come; false where there was nobody.
 fn serve_all<M: Machine, E: Engine, D: Disk>(
     machine: &M,
     desk: &mut Desk,
@@ -201,21 +202,24 @@ fn serve_all<M: Machine, E: Engine, D: Disk>(
     porch: &mut Porch,
     piece: &mut [u8; PIECE],
     numbers: &mut u64,
-) -> Result<(), Stop>
+) -> Result<bool, Stop>
     requires valid { IsNode E.valid D.tells D.seen D.may_leave node.old }
     requires live { IsTrue (journal_of node.old).live }
     ensures valid { IsNode E.valid D.tells D.seen D.may_leave node.new }
     ensures gone { HasGone E.meaning E.heard D.tells D.may_leave numbers.old numbers.new node.old node.new result }
 {
     serve_reported(machine, desk, node, porch, piece, numbers)?;
-    serve_new(machine, desk, node, porch, piece, numbers)
+    let has_come = serve_new(machine, desk, node, porch, piece, numbers)?;
+    Ok(has_come || !porch.reported().is_empty())
 }
 
 /// Waits until somebody is to be looked after, and looks who has taken too long.
 fn wait<M: Machine>(machine: &M, desk: &mut Desk, porch: &mut Porch) {
     porch.wait(&mut desk.hall);
-    desk.hall.look_at_clock(machine);
-    desk.hall.look_round();
+    if !desk.hall.is_empty() {
+        desk.hall.look_at_clock(machine);
+        desk.hall.look_round();
+    }
 }
 
 /// Waits until somebody is to be looked after, and goes on with all of them.
@@ -233,7 +237,10 @@ fn take_turn<M: Machine, E: Engine, D: Disk>(
     ensures gone { HasGone E.meaning E.heard D.tells D.may_leave numbers.old numbers.new node.old node.new result }
 {
     wait(machine, desk, porch);
-    serve_all(machine, desk, node, porch, piece, numbers)?;
+    if serve_all(machine, desk, node, porch, piece, numbers)? {
+        // what is done behind each connection has been done
+        return Ok(());
+    }
     look_after(machine, desk, node)
 }
 

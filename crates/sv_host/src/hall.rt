@@ -326,6 +326,7 @@ impl Hall {
         if let Some(frame) = spelled(self.alloc, packet)
             && let Ok(stream) = TcpStream::connect(machine, addr)
         {
+            self.look_at_clock(machine);
             self.call(Line::new(stream), frame);
         }
     }

@@ -98,12 +98,12 @@ impl Porch {
 
     /// Waits until somebody is to be looked after, a turn at most. While nobody is in the hall it doesn't wait here, but at the
     /// door: that needs no call of the poll.
+    ///
+    /// Else the door is gone to only where the poll says that somebody stands there, who then stays there until accepted, or
+    /// where nobody could be accepted before, which never waits: so `accept`, which would wait for a turn, doesn't, and the
+    /// listener needn't be switched to and fro.
     pub fn wait(&mut self, hall: &mut Hall) {
-        let waits = hall.is_empty();
-        if waits != self.waits && self.listener.set_nonblocking(!waits).is_ok() {
-            self.waits = waits;
-            self.watch_door();
-        }
+        self.waits = hall.is_empty();
         hall.hand_over(&mut self.reported);
         if self.waits {
             self.door = true;
