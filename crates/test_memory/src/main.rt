@@ -32,19 +32,27 @@ fn run_case(rt: &HostRuntime, name: &str) -> io::Result<()> {
     }
 }
 
+/// Runs a case with each growth refused, and tells what came of it.
+fn judge_case(rt: &HostRuntime, program: &str, name: &str) -> io::Result<()> {
+    let verdict = judge::judge(rt, program, name)?;
+    println!(rt; "{name}: {verdict}")
+}
+
+/// Runs these cases as processes of this program.
+fn judge_all(rt: &HostRuntime, program: &str, names: &[&str]) -> io::Result<()> {
+    for name in names {
+        judge_case(rt, program, name)?;
+    }
+    Ok(())
+}
+
 /// Runs all cases.
 fn run_all(rt: &HostRuntime) -> io::Result<()> {
     if !refusing::compile(rt)? {
-        println!(rt; "refuse.c is not compiled")?;
-        return Ok(());
+        return println!(rt; "refuse.c is not compiled");
     }
     let program = env::current_exe(rt)?;
-    let program = program.to_str().unwrap_or("");
-    for name in cases::NAMES {
-        let verdict = judge::judge(rt, program, name)?;
-        println!(rt; "{name}: {verdict}")?;
-    }
-    Ok(())
+    judge_all(rt, program.to_str().unwrap_or(""), &cases::NAMES)
 }
 
 fn main(rt: HostRuntime) -> io::Result<()> {

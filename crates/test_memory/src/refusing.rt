@@ -32,13 +32,18 @@ fn add_words(command: &mut Command, words: &[&str]) -> io::Result<()> {
     Ok(())
 }
 
-/// Makes the library; whether the compiler could.
-pub fn compile<M: Machine>(machine: &M) -> io::Result<bool> {
+fn compiler<M: Machine>(machine: &M) -> io::Result<Command> {
     let mut command = Command::new(machine.alloc(), "cc")?;
     add_words(
         &mut command,
         &["-O2", "-shared", "-fPIC", "-o", LIBRARY, "refuse.c"],
     )?;
+    Ok(command)
+}
+
+/// Makes the library; whether the compiler could.
+pub fn compile<M: Machine>(machine: &M) -> io::Result<bool> {
+    let mut command = compiler(machine)?;
     Ok(command.status(machine)?.success())
 }
 
@@ -47,6 +52,13 @@ fn prepare(command: &mut Command, name: &str, growth: &str) -> io::Result<()> {
     command.env("LD_PRELOAD", LIBRARY)?;
     command.env("REFUSE", growth)?;
     Ok(())
+}
+
+/// The run of a case with a growth refused.
+fn case<M: Machine>(machine: &M, program: &str, name: &str, growth: &str) -> io::Result<Command> {
+    let mut command = Command::new(machine.alloc(), program)?;
+    prepare(&mut command, name, growth)?;
+    Ok(command)
 }
 
 fn left_by(output: Output) -> Ran {
@@ -64,7 +76,6 @@ fn left_by(output: Output) -> Ran {
 /// Runs a case with a growth refused, counted from 1; 0 refuses none.
 pub fn run<M: Machine>(machine: &M, program: &str, name: &str, growth: u64) -> io::Result<Ran> {
     let growth = format!(in machine.alloc(); "{growth}")?;
-    let mut command = Command::new(machine.alloc(), program)?;
-    prepare(&mut command, name, growth.as_str())?;
+    let mut command = case(machine, program, name, growth.as_str())?;
     Ok(left_by(command.output(machine)?))
 }

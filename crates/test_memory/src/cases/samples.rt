@@ -35,6 +35,17 @@ fn call<'a>(
     }
 }
 
+/// The reply's body, and how many events there are.
+fn told(alloc: Global, edit: SessionEdit, reply: Reply) -> Result<String, AllocError> {
+    let events = edit.finish().events.len();
+    let replied = reply.finish();
+    format!(in alloc;
+        "{} {events} {:?}",
+        replied.status.as_u16(),
+        replied.body.as_slice()
+    )
+}
+
 /// A servlet serves a request of a session; the reply's body, and how many events there are.
 fn serve<S: Servlet>(
     alloc: Global,
@@ -51,13 +62,7 @@ fn serve<S: Servlet>(
     let mut reply = Reply::new(alloc);
     let method = Method::GET;
     servlet.service(&call(&method, params, attributes), &mut edit, &mut reply)?;
-    let events = edit.finish().events.len();
-    let replied = reply.finish();
-    format!(in alloc;
-        "{} {events} {:?}",
-        replied.status.as_u16(),
-        replied.body.as_slice()
-    )
+    told(alloc, edit, reply)
 }
 
 /// A servlet that was just made serves twice.

@@ -5,7 +5,7 @@ use crate::{given, shown};
 use std::alloc::{AllocError, Global};
 use sv_model::{Birth, Fate, Key, Secret};
 use sv_servlet::{Replied, Reply, RequestAttributes};
-use sv_session::{Edited, SessionEdit};
+use sv_session::SessionEdit;
 
 type Shown = Result<String, Unshown>;
 
@@ -17,25 +17,34 @@ fn edit(alloc: Global) -> Result<SessionEdit, AllocError> {
     Ok(SessionEdit::begin(alloc, held, 0, 600, given::NOW, FRESH))
 }
 
+/// What has become of the session that was handed in.
+fn handed(alloc: Global, fate: &Fate) -> Result<String, AllocError> {
+    match fate {
+        Fate::Kept(session) => shown::session(alloc, session),
+        Fate::Ended => String::from_str(alloc, "ended"),
+        Fate::Untouched => Ok(String::new(alloc)),
+    }
+}
+
+/// What has become of the session that was made.
+fn made(alloc: Global, birth: &Birth) -> Result<String, AllocError> {
+    match birth {
+        Birth::Alive(session) => shown::session(alloc, session),
+        Birth::Ended => String::from_str(alloc, "ended"),
+        Birth::Absent => Ok(String::new(alloc)),
+    }
+}
+
 /// What has become of both sessions, and how many events there are.
 fn finished(alloc: Global, edit: SessionEdit) -> Result<String, AllocError> {
-    let Edited {
-        fate,
-        birth,
-        id_changed,
-        events,
-    } = edit.finish();
-    let handed = match &fate {
-        Fate::Kept(session) => shown::session(alloc, session)?,
-        Fate::Ended => String::from_str(alloc, "ended")?,
-        Fate::Untouched => String::new(alloc),
-    };
-    let made = match &birth {
-        Birth::Alive(session) => shown::session(alloc, session)?,
-        Birth::Ended => String::from_str(alloc, "ended")?,
-        Birth::Absent => String::new(alloc),
-    };
-    format!(in alloc; "{handed} {made} {id_changed} {}", events.len())
+    let edited = edit.finish();
+    let handed = handed(alloc, &edited.fate)?;
+    let made = made(alloc, &edited.birth)?;
+    format!(in alloc;
+        "{handed} {made} {} {}",
+        edited.id_changed,
+        edited.events.len()
+    )
 }
 
 pub fn set(alloc: Global, refusals: &mut Refusals) -> Shown {

@@ -31,12 +31,21 @@ fn add_body(line: &mut String, raw: &Option<RawRequest>) -> Result<(), AllocErro
     Ok(())
 }
 
+/// What is whole once another piece has come.
+fn read_on(
+    refusals: &mut Refusals,
+    reader: &mut RequestReader,
+    piece: &str,
+) -> Result<Option<RawRequest>, Unshown> {
+    again!(refusals, reader.feed(piece.as_bytes()))?;
+    again!(refusals, reader.next())
+}
+
 pub fn reader(alloc: Global, refusals: &mut Refusals) -> Shown {
     let mut reader = RequestReader::new(alloc);
     let mut line = String::new(alloc);
     for piece in PIECES {
-        again!(refusals, reader.feed(piece.as_bytes()))?;
-        let raw = again!(refusals, reader.next())?;
+        let raw = read_on(refusals, &mut reader, piece)?;
         add_body(&mut line, &raw)?;
     }
     Ok(line)
