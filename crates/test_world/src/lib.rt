@@ -1,14 +1,23 @@
-//! Tests of a world of nodes, as its users call it: how it starts, lists of events in one run, and tokens.
+//! Tests of the core of a node, a few of them, with packets carried by hand; and of a world of nodes: how it starts, lists of events
+//! in one run, and tokens.
 //!
-//! The top of the world's floor: it stands on `sv_world` and proves nothing of its own. What is expected is written out by
-//! hand beside each event, from the table of the node's step. What worlds do event by event is told by `test_cluster_rows`, whose
-//! nodes serve by real applications.
+//! The top of the world's floor: it stands on `sv_core` and `sv_world` and proves nothing of its own. What is expected is written
+//! out by hand beside each step and event, from the table of the node's step. What worlds do event by event is told by
+//! `test_cluster_rows`, whose nodes serve by real applications.
 #![tactic(auto)]
 
 #[cfg(test)]
 mod act;
 #[cfg(test)]
+mod cluster;
+#[cfg(test)]
 mod faults;
+#[cfg(test)]
+mod limits;
+#[cfg(test)]
+mod member;
+#[cfg(test)]
+mod rows;
 #[cfg(test)]
 mod runs;
 #[cfg(test)]
@@ -17,3 +26,5 @@ mod said;
 mod stage;
 #[cfg(test)]
 mod starts;
+#[cfg(test)]
+mod step;
