@@ -147,7 +147,7 @@ fn serve_reported<M: Machine, E: Engine, D: Disk>(
     Ok(())
 }
 
-/// Accepts one who stands at the door, and goes on with that one; false where nobody came.
+/// Accepts one who stands at the door, and goes on with that one.
 fn serve_new<M: Machine, E: Engine, D: Disk>(
     machine: &M,
     desk: &mut Desk,
@@ -155,20 +155,19 @@ fn serve_new<M: Machine, E: Engine, D: Disk>(
     porch: &mut Porch,
     piece: &mut [u8; PIECE],
     numbers: &mut u64,
-) -> Result<bool, Stop>
+) -> Result<(), Stop>
     requires valid { IsNode E.valid D.tells D.seen D.may_leave node.old }
     requires live { IsTrue (journal_of node.old).live }
     ensures valid { IsNode E.valid D.tells D.seen D.may_leave node.new }
     ensures gone { HasGone E.meaning E.heard D.tells D.may_leave numbers.old numbers.new node.old node.new result }
 {
     if !porch.may_accept() {
-        return Ok(false);
+        return Ok(());
     }
-    let Some(place) = admit(machine, desk, porch)? else {
-        return Ok(false);
-    };
-    serve_one(machine, desk, node, place, piece, numbers)?;
-    Ok(true)
+    match admit(machine, desk, porch)? {
+        Some(place) => serve_one(machine, desk, node, place, piece, numbers),
+        None => Ok(()),
+    }
 }
 
 /// Accepts somebody who stands at the door, and gives them a place; none where nobody stands there, or there is no memory. Where
@@ -194,7 +193,7 @@ fn admit<M: Machine>(
     }
 }
 
-/// Goes on with all who have been reported, and with one who has come; false where there was nobody.
+/// Goes on with all who have been reported, and with one who has come.
 fn serve_all<M: Machine, E: Engine, D: Disk>(
     machine: &M,
     desk: &mut Desk,
@@ -202,24 +201,21 @@ fn serve_all<M: Machine, E: Engine, D: Disk>(
     porch: &mut Porch,
     piece: &mut [u8; PIECE],
     numbers: &mut u64,
-) -> Result<bool, Stop>
+) -> Result<(), Stop>
     requires valid { IsNode E.valid D.tells D.seen D.may_leave node.old }
     requires live { IsTrue (journal_of node.old).live }
     ensures valid { IsNode E.valid D.tells D.seen D.may_leave node.new }
     ensures gone { HasGone E.meaning E.heard D.tells D.may_leave numbers.old numbers.new node.old node.new result }
 {
     serve_reported(machine, desk, node, porch, piece, numbers)?;
-    let has_come = serve_new(machine, desk, node, porch, piece, numbers)?;
-    Ok(has_come || !porch.reported().is_empty())
+    serve_new(machine, desk, node, porch, piece, numbers)
 }
 
 /// Waits until somebody is to be looked after, and looks who has taken too long.
 fn wait<M: Machine>(machine: &M, desk: &mut Desk, porch: &mut Porch) {
     porch.wait(&mut desk.hall);
-    if !desk.hall.is_empty() {
-        desk.hall.look_at_clock(machine);
-        desk.hall.look_round();
-    }
+    desk.hall.look_at_clock(machine);
+    desk.hall.look_round();
 }
 
 /// Waits until somebody is to be looked after, and goes on with all of them.
@@ -237,10 +233,7 @@ fn take_turn<M: Machine, E: Engine, D: Disk>(
     ensures gone { HasGone E.meaning E.heard D.tells D.may_leave numbers.old numbers.new node.old node.new result }
 {
     wait(machine, desk, porch);
-    if serve_all(machine, desk, node, porch, piece, numbers)? {
-        // what is done behind each connection has been done
-        return Ok(());
-    }
+    serve_all(machine, desk, node, porch, piece, numbers)?;
     look_after(machine, desk, node)
 }
 

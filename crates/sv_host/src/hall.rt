@@ -326,7 +326,6 @@ impl Hall {
         if let Some(frame) = spelled(self.alloc, packet)
             && let Ok(stream) = TcpStream::connect(machine, addr)
         {
-            self.look_at_clock(machine);
             self.call(Line::new(stream), frame);
         }
     }
