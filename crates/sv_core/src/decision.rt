@@ -5,6 +5,7 @@ ghost use Rattle.sv_model.specs.declared.node.Setting.{Setting};
 ghost use Rattle.sv_model.specs.NodeState.{Node};
 ghost use Rattle.sv_model.specs.Step.{told};
 
+use crate::fault::Memory;
 use std::alloc::{AllocError, Global};
 use sv_model::{Commit, Key, Output, Record, Request, Sequence, Told};
 
@@ -140,7 +141,7 @@ impl Decision {
     }
 
     /// Nothing changes, and this is put out.
-    pub(crate) fn says(alloc: Global, output: Output) -> Result<Decision, AllocError>
+    pub(crate) fn says(alloc: Global, output: Output) -> Result<Decision, Memory>
         ensures { IfOk result (λ d. d ≡ put_out (output ∷ [])) }
     {
         Ok(Decision::put_out(alloc, one_output(alloc, output)?))
@@ -152,7 +153,7 @@ impl Decision {
         entry: Record,
         mark: Told,
         outputs: Vec<Output>,
-    ) -> Result<Decision, AllocError>
+    ) -> Result<Decision, Memory>
         ensures { IfOk result (λ d. d ≡ recorded entry (Some mark) outputs.items) }
     {
         let mut told = Sequence::new(alloc);

@@ -8,8 +8,8 @@ ghost use Rattle.sv_model.specs.declared.output.Output.TheVariants.{Moved, Send}
 ghost use Rattle.sv_model.specs.declared.packet.Packet.TheVariants.{Ack};
 
 use crate::decision::{Decision, one_output};
+use crate::fault::Memory;
 use crate::kept::Kept;
-use std::alloc::AllocError;
 use sv_model::{
     Event, KEY_LIMIT, Key, KeyState, MoveRefusal, Output, Packet, Record, Session, Told,
 };
@@ -26,7 +26,7 @@ impl Kept {
         session: &Session,
         to: u8,
         mut outputs: Vec<Output>,
-    ) -> Result<Decision, AllocError>
+    ) -> Result<Decision, Memory>
         requires { epoch < last_number }
         ensures { IfOk result (λ d. decision_of self.now.setting (node_of self.now) d ≡ hands_over self.now.setting (node_of self.now) key epoch session.now to outputs.items) }
     {
@@ -52,7 +52,7 @@ impl Kept {
         Decision::recorded(self.alloc, entry, mark, outputs)
     }
 
-    fn says_no(&self, from: u8, key: Key, boot: u64, want: u64) -> Result<Decision, AllocError>
+    fn says_no(&self, from: u8, key: Key, boot: u64, want: u64) -> Result<Decision, Memory>
         ensures { IfOk result (λ d. decision_of self.now.setting (node_of self.now) d ≡ says_no self.now.setting (node_of self.now) from key boot want) }
     {
         let no = Packet::No {
@@ -65,7 +65,7 @@ impl Kept {
         Decision::says(self.alloc, Output::Send(no))
     }
 
-    fn no_if_unmade(&self, from: u8, key: Key, boot: u64, want: u64) -> Result<Decision, AllocError>
+    fn no_if_unmade(&self, from: u8, key: Key, boot: u64, want: u64) -> Result<Decision, Memory>
         ensures { IfOk result (λ d. decision_of self.now.setting (node_of self.now) d ≡ no_if_unmade self.now.setting (node_of self.now) from key boot want) }
     {
         if self.is_unmade(key) {
@@ -83,7 +83,7 @@ impl Kept {
         boot: u64,
         want: u64,
         state: Option<&KeyState>,
-    ) -> Result<Decision, AllocError>
+    ) -> Result<Decision, Memory>
         ensures { IfOk result (λ d. decision_of self.now.setting (node_of self.now) d ≡ on_want self.now.setting (node_of self.now) from key boot want (option_copied state.entry)) }
     {
         match state {
@@ -117,7 +117,7 @@ impl Kept {
         key: Key,
         epoch: u64,
         session: Session,
-    ) -> Result<Decision, AllocError>
+    ) -> Result<Decision, Memory>
         ensures { IfOk result (λ d. decision_of self.now.setting (node_of self.now) d ≡ takes_over self.now.setting (node_of self.now) from key epoch session) }
     {
         let mark = Told {
@@ -153,7 +153,7 @@ impl Kept {
         epoch: u64,
         session: Session,
         state: Option<&KeyState>,
-    ) -> Result<Decision, AllocError>
+    ) -> Result<Decision, Memory>
         ensures { IfOk result (λ d. decision_of self.now.setting (node_of self.now) d ≡ on_grant self.now.setting (node_of self.now) from key epoch session (option_copied state.entry)) }
     {
         if self.is_unmade(key) {
@@ -169,12 +169,7 @@ impl Kept {
     }
 
     /// Another node has acknowledged a session.
-    pub fn on_ack(
-        &self,
-        key: Key,
-        epoch: u64,
-        state: Option<&KeyState>,
-    ) -> Result<Decision, AllocError>
+    pub fn on_ack(&self, key: Key, epoch: u64, state: Option<&KeyState>) -> Result<Decision, Memory>
         ensures { IfOk result (λ d. decision_of self.now.setting (node_of self.now) d ≡ on_ack (node_of self.now) key epoch (option_copied state.entry)) }
     {
         match state {
@@ -186,12 +181,9 @@ impl Kept {
     }
 
     /// A session is to be handed to another node.
-    pub fn on_move(
-        &self,
-        key: Key,
-        to: u8,
-        state: Option<&KeyState>,
-    ) -> Result<Decision, AllocError>
+    // Out of line, so that the step of a request doesn't clear the values of this one.
+    #[inline(never)]
+    pub fn on_move(&self, key: Key, to: u8, state: Option<&KeyState>) -> Result<Decision, Memory>
         ensures { IfOk result (λ d. decision_of self.now.setting (node_of self.now) d ≡ on_move self.now.setting (node_of self.now) key to (option_copied state.entry)) }
     {
         match state {
@@ -212,7 +204,7 @@ impl Kept {
         }
     }
 
-    fn refuse_move(&self, why: MoveRefusal) -> Result<Decision, AllocError>
+    fn refuse_move(&self, why: MoveRefusal) -> Result<Decision, Memory>
         ensures { IfOk result (λ d. decision_of self.now.setting (node_of self.now) d ≡ move_refused (node_of self.now) why) }
     {
         Decision::says(self.alloc, Output::MoveRefused(why))

@@ -73,7 +73,7 @@ fn ask_named<E: Engine>(
     if kept.is_settled(key) || kept.is_dead(key) {
         return serve(engine, kept, moment, token, &request, Some(named), None);
     }
-    Ok(kept.wait(moment, token, request, key)?)
+    kept.wait(moment, token, request, key)
 }
 
 /// A request.
@@ -127,6 +127,8 @@ fn serve_parked<E: Engine>(
 }
 
 /// A parked request may be served by now.
+// Out of line, so that the step of a request doesn't clear the values of this one.
+#[inline(never)]
 fn poke<E: Engine>(engine: &mut E, kept: &Kept, moment: Moment) -> Result<Decision, Memory>
     requires { E.valid engine.old }
     ensures valid { E.valid engine.new }
@@ -159,6 +161,8 @@ fn no<E: Engine>(
 }
 
 /// A packet from another node.
+// Out of line, so that the step of a request doesn't clear the values of this one.
+#[inline(never)]
 fn packet<E: Engine>(
     engine: &mut E,
     kept: &Kept,
@@ -181,20 +185,20 @@ fn packet<E: Engine>(
             key,
             boot,
             want,
-        } => Ok(kept.on_want(from, key, boot, want, kept.keys.get(key))?),
+        } => kept.on_want(from, key, boot, want, kept.keys.get(key)),
         Packet::Grant {
             from,
             to: _,
             key,
             epoch,
             session,
-        } => Ok(kept.on_grant(from, key, epoch, session, kept.keys.get(key))?),
+        } => kept.on_grant(from, key, epoch, session, kept.keys.get(key)),
         Packet::Ack {
             from: _,
             to: _,
             key,
             epoch,
-        } => Ok(kept.on_ack(key, epoch, kept.keys.get(key))?),
+        } => kept.on_ack(key, epoch, kept.keys.get(key)),
         Packet::No {
             from: _,
             to: _,
@@ -222,7 +226,7 @@ pub fn decide<E: Engine>(
         Input::Ask { token, request } => ask(engine, kept, moment, token, request),
         Input::Packet(packed) => packet(engine, kept, moment, packed),
         Input::Poke => poke(engine, kept, moment),
-        Input::Tick => Ok(kept.on_tick(moment.now)?),
-        Input::Move { key, to } => Ok(kept.on_move(key, to, kept.keys.get(key))?),
+        Input::Tick => kept.on_tick(moment.now),
+        Input::Move { key, to } => kept.on_move(key, to, kept.keys.get(key)),
     }
 }

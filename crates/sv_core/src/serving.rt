@@ -14,7 +14,6 @@ ghost use Rattle.sv_core.specs.Waiting.{parked_without, waiting_without};
 use crate::decision::{Decision, Waiting, one_output};
 use crate::fault::Memory;
 use crate::kept::Kept;
-use std::alloc::AllocError;
 use sv_model::{
     Birth, Cause, Change, Commit, Engine, Fate, KEY_LIMIT, Key, KeyState, Moment, Outcome, Output,
     Record, Request, Secret, Sequence, Session, Token,
@@ -134,12 +133,14 @@ impl Kept {
     }
 
     /// The request is refused; the one at this place leaves those that wait.
+    // Out of line, so that the step of a request doesn't clear the values of this one.
+    #[inline(never)]
     pub fn refuse(
         &self,
         token: u64,
         cause: Cause,
         leaving: Option<usize>,
-    ) -> Result<Decision, AllocError>
+    ) -> Result<Decision, Memory>
         ensures { IfOk result (λ d. decision_of self.now.setting (node_of self.now) d ≡ refused (node_of self.now) token cause (parked_without leaving self.now.parked.items)) }
     {
         let outputs = one_output(self.alloc, Output::Refuse { token, cause })?;
@@ -162,7 +163,7 @@ impl Kept {
         handed: bool,
         outcome: Outcome,
         leaving: Option<usize>,
-    ) -> Result<Decision, AllocError>
+    ) -> Result<Decision, Memory>
         ensures { (m : EngineMeaning) → named ≡ m.names request.now → handed ≡ is_some (held_in (keys_of self.now.keys) named) → IfOk result (λ d. decision_of self.now.setting (node_of self.now) d ≡ answered m self.now.setting (node_of self.now) moment token request.now outcome (parked_without leaving self.now.parked.items)) }
     {
         let fresh = self.fresh(moment);
@@ -207,7 +208,7 @@ pub fn serve<E: Engine>(
     let handed = held.is_some();
     let outcome = engine.serve(request, held, moment.now, kept.fresh(moment))?;
     if let Some(cause) = kept.no_birth(&outcome.birth) {
-        return Ok(kept.refuse(token, cause, leaving)?);
+        return kept.refuse(token, cause, leaving);
     }
-    Ok(kept.answer(moment, token, request, named, handed, outcome, leaving)?)
+    kept.answer(moment, token, request, named, handed, outcome, leaving)
 }

@@ -9,6 +9,7 @@ ghost use Rattle.sv_core.specs.Plain.{expiring, ticked};
 ghost use Rattle.sv_model.specs.Time.{is_late, deadlines, grant_again, first_over, on_tick};
 
 use crate::decision::{Decision, Waiting};
+use crate::fault::Memory;
 use crate::kept::Kept;
 use std::alloc::AllocError;
 use sv_model::{
@@ -118,7 +119,7 @@ impl Kept {
         now: u64,
         ended: Option<(Key, u8)>,
         outputs: Vec<Output>,
-    ) -> Result<Decision, AllocError>
+    ) -> Result<Decision, Memory>
         ensures { IfOk result (λ d. d ≡ ticked now ended outputs.items) }
     {
         let mut decision = Decision::put_out(self.alloc, outputs);
@@ -135,7 +136,9 @@ impl Kept {
     }
 
     /// Time has passed.
-    pub fn on_tick(&self, now: u64) -> Result<Decision, AllocError>
+    // Out of line, so that the step of a request doesn't clear the values of this one.
+    #[inline(never)]
+    pub fn on_tick(&self, now: u64) -> Result<Decision, Memory>
         ensures { IfOk result (λ d. decision_of self.now.setting (node_of self.now) d ≡ on_tick self.now.setting (node_of self.now) now) }
     {
         let mut outputs = Vec::new(self.alloc);

@@ -9,6 +9,7 @@ ghost use Rattle.sv_model.specs.declared.output.Output.TheVariants.{Send};
 ghost use Rattle.sv_model.specs.declared.packet.Packet.TheVariants.{Want};
 
 use crate::decision::{Arrival, Decision, Waiting};
+use crate::fault::Memory;
 use crate::kept::Kept;
 use crate::table::is_same;
 use crate::wants::search;
@@ -73,7 +74,7 @@ impl Kept {
         token: u64,
         request: Request,
         key: Key,
-    ) -> Result<Decision, AllocError>
+    ) -> Result<Decision, Memory>
         ensures { IfOk result (λ d. decision_of self.now.setting (node_of self.now) d ≡ parks self.now.setting (node_of self.now) moment token request key) }
     {
         let mut outputs = Vec::new(self.alloc);
@@ -94,13 +95,15 @@ impl Kept {
     }
 
     /// The request waits for its session, where it can.
+    // Out of line, so that the step of a request doesn't clear the values of this one.
+    #[inline(never)]
     pub fn wait(
         &self,
         moment: Moment,
         token: u64,
         request: Request,
         key: Key,
-    ) -> Result<Decision, AllocError>
+    ) -> Result<Decision, Memory>
         ensures { IfOk result (λ d. decision_of self.now.setting (node_of self.now) d ≡ waits self.now.setting (node_of self.now) moment token request key) }
     {
         if self.parked.len() >= PARK_LIMIT {

@@ -3,3 +3,4 @@ pub mod Place
 pub mod Secrets
 pub mod Host
 pub mod Ending
+pub mod Frames

@@ -10,8 +10,7 @@ use crate::fault::{HostFault, Stop};
 use crate::line::Line;
 use crate::machine::{Machine, seconds};
 use crate::porch::{Arrival, Porch};
-use crate::serve::{PIECE, serve};
-use crate::stage::Stage;
+use crate::serve::{PIECE, greet, serve};
 use sv_journal::{Disk, JournalFault};
 use sv_model::{Engine, Input, PARK_LIMIT};
 use sv_node::Node;
@@ -147,7 +146,8 @@ fn serve_reported<M: Machine, E: Engine, D: Disk>(
     Ok(())
 }
 
-/// Accepts one who stands at the door, and goes on with that one.
+/// Accepts one who stands at the door, and goes on with that one. What is done behind each connection is done also where nobody has
+/// come.
 fn serve_new<M: Machine, E: Engine, D: Disk>(
     machine: &M,
     desk: &mut Desk,
@@ -161,26 +161,48 @@ fn serve_new<M: Machine, E: Engine, D: Disk>(
     ensures valid { IsNode E.valid D.tells D.seen D.may_leave node.new }
     ensures gone { HasGone E.meaning E.heard D.tells D.may_leave numbers.old numbers.new node.old node.new result }
 {
-    if !porch.may_accept() {
-        return Ok(());
-    }
     match admit(machine, desk, porch)? {
-        Some(place) => serve_one(machine, desk, node, place, piece, numbers),
-        None => Ok(()),
+        Some((place, line)) => greet_one(machine, desk, node, place, line, piece, numbers),
+        None => look_after(machine, desk, node),
     }
 }
 
-/// Accepts somebody who stands at the door, and gives them a place; none where nobody stands there, or there is no memory. Where
-/// there is no room for them, one that is open gives way.
+/// Goes on with a connection that has just come, and does what is done behind that.
+fn greet_one<M: Machine, E: Engine, D: Disk>(
+    machine: &M,
+    desk: &mut Desk,
+    node: &mut Node<E, D>,
+    place: usize,
+    line: Line,
+    piece: &mut [u8; PIECE],
+    numbers: &mut u64,
+) -> Result<(), Stop>
+    requires valid { IsNode E.valid D.tells D.seen D.may_leave node.old }
+    requires live { IsTrue (journal_of node.old).live }
+    ensures valid { IsNode E.valid D.tells D.seen D.may_leave node.new }
+    ensures gone { HasGone E.meaning E.heard D.tells D.may_leave numbers.old numbers.new node.old node.new result }
+{
+    greet(machine, desk, node, place, line, piece, numbers)?;
+    look_after(machine, desk, node)
+}
+
+/// Accepts somebody who may stand at the door, and says at which place; none where nobody stands there, or there is no memory.
+/// Where there is no room for them, one that is open gives way.
 fn admit<M: Machine>(
     machine: &M,
     desk: &mut Desk,
     porch: &mut Porch,
-) -> Result<Option<usize>, Stop> {
+) -> Result<Option<(usize, Line)>, Stop> {
+    if !porch.may_accept() {
+        return Ok(None);
+    }
     match porch.accept() {
         Ok(Arrival::Somebody(stream)) => {
             desk.hall.look_at_clock(machine);
-            Ok(desk.hall.admit(Line::new(stream), Stage::New))
+            match desk.hall.make_place() {
+                Some(place) => Ok(Some((place, Line::new(stream)))),
+                None => Ok(None),
+            }
         }
         Ok(Arrival::Nobody) => Ok(None),
         Ok(Arrival::NoRoom) => {
@@ -193,29 +215,13 @@ fn admit<M: Machine>(
     }
 }
 
-/// Goes on with all who have been reported, and with one who has come.
-fn serve_all<M: Machine, E: Engine, D: Disk>(
-    machine: &M,
-    desk: &mut Desk,
-    node: &mut Node<E, D>,
-    porch: &mut Porch,
-    piece: &mut [u8; PIECE],
-    numbers: &mut u64,
-) -> Result<(), Stop>
-    requires valid { IsNode E.valid D.tells D.seen D.may_leave node.old }
-    requires live { IsTrue (journal_of node.old).live }
-    ensures valid { IsNode E.valid D.tells D.seen D.may_leave node.new }
-    ensures gone { HasGone E.meaning E.heard D.tells D.may_leave numbers.old numbers.new node.old node.new result }
-{
-    serve_reported(machine, desk, node, porch, piece, numbers)?;
-    serve_new(machine, desk, node, porch, piece, numbers)
-}
-
 /// Waits until somebody is to be looked after, and looks who has taken too long.
 fn wait<M: Machine>(machine: &M, desk: &mut Desk, porch: &mut Porch) {
     porch.wait(&mut desk.hall);
-    desk.hall.look_at_clock(machine);
-    desk.hall.look_round();
+    if !desk.hall.is_empty() {
+        desk.hall.look_at_clock(machine);
+        desk.hall.look_round();
+    }
 }
 
 /// Waits until somebody is to be looked after, and goes on with all of them.
@@ -233,8 +239,8 @@ fn take_turn<M: Machine, E: Engine, D: Disk>(
     ensures gone { HasGone E.meaning E.heard D.tells D.may_leave numbers.old numbers.new node.old node.new result }
 {
     wait(machine, desk, porch);
-    serve_all(machine, desk, node, porch, piece, numbers)?;
-    look_after(machine, desk, node)
+    serve_reported(machine, desk, node, porch, piece, numbers)?;
+    serve_new(machine, desk, node, porch, piece, numbers)
 }
 
 /// Serves whoever connects, until the node is to stop.

@@ -1,7 +1,9 @@
 //! Frames that come on a connection.
 
-ghost use Rattle.std.specs.Prelude.{◌≡◌, IfOk, IfSome};
+ghost use Rattle.std.specs.Prelude.{◌≡◌, ◌++◌, IfOk, OnOk, IfSome};
 ghost use Rattle.sv_record.specs.Frame.{IsFrame};
+ghost use Rattle.sv_record.specs.Reading.{Gives};
+ghost use Rattle.sv_host.specs.Frames.{first_frame};
 
 use std::alloc::Global;
 use sv_record::{Frame, RecordFault, read_frame};
@@ -12,7 +14,10 @@ pub fn take_in(
     bytes: &mut Vec<u8>,
     piece: &[u8],
 ) -> Result<Option<Frame>, RecordFault>
-    ensures { IfOk result (λ o. IfSome o (λ frame. IsFrame frame)) }
+    ensures bytes { OnOk result (bytes.new.items ≡ bytes.old.items ++ piece.now) }
+    // A fault is the first trouble, or memory was refused.
+    ensures frame { Gives (λ o. o) result (first_frame (bytes.old.items ++ piece.now)) }
+    ensures within { IfOk result (λ o. IfSome o (λ frame. IsFrame frame)) }
 {
     bytes.extend_from_slice(piece)?;
     match read_frame(alloc, bytes.as_slice())? {

@@ -92,6 +92,11 @@ impl Hall {
         self.count == 0
     }
 
+    /// The clock that never goes back, when it was last looked at.
+    pub fn clock(&self) -> Duration {
+        self.clock
+    }
+
     /// Looks at the clock.
     pub fn look_at_clock(&mut self, machine: &impl Machine) {
         if let Ok(now) = machine.monotonic() {
@@ -239,13 +244,19 @@ impl Hall {
         true
     }
 
-    /// Gives a connection a place. Where there is none, or no memory for it, the connection is closed.
-    pub fn admit(&mut self, line: Line, stage: Stage) -> Option<usize> {
+    /// A place for one more connection, which is kept for it; none where there is none, or no memory for it.
+    pub fn make_place(&mut self) -> Option<usize> {
         if self.count >= OPEN_LIMIT && !self.make_room() {
             return None;
         }
         let place = self.vacant()?;
         self.count = self.count.saturating_add(1);
+        Some(place)
+    }
+
+    /// Gives a connection a place. Where there is none, or no memory for it, the connection is closed.
+    fn admit(&mut self, line: Line, stage: Stage) -> Option<usize> {
+        let place = self.make_place()?;
         self.begin(place, line, stage);
         Some(place)
     }

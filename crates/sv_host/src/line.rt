@@ -72,6 +72,7 @@ impl Line {
             }
             match self.stream.write(text.as_slice()) {
                 Ok(0) => return Written::Broken,
+                Ok(count) if count == text.len() => text.clear(),
                 Ok(count) => {
                     text.drain(..count);
                 }

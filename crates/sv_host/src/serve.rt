@@ -1,6 +1,6 @@
 //! What comes on one connection.
 
-ghost use Rattle.std.specs.Prelude.{◌≡◌, ◌<◌, ℕ, false, IsTrue, OnOk};
+ghost use Rattle.std.specs.Prelude.{◌≡◌, ◌<◌, ◌+◌, ℕ, false, IsTrue, OnOk, OnErr};
 ghost use Rattle.sv_model.specs.Ranges.{IsInput, IsPacket};
 ghost use Rattle.sv_record.specs.Frame.{IsFrame};
 ghost use Rattle.sv_node.specs.History.{IsAbove, number_in, HasGone};
@@ -374,8 +374,8 @@ enum Missing {
 }
 
 /// Reads once what has come on a connection.
-fn look<'a>(open: &mut Open, piece: &'a mut [u8; PIECE]) -> Result<&'a [u8], Missing> {
-    match open.line.read(piece) {
+fn look<'a>(line: &mut Line, piece: &'a mut [u8; PIECE]) -> Result<&'a [u8], Missing> {
+    match line.read(piece) {
         Ok(0) => Err(Missing::ForEver),
         Ok(count) => Ok(&piece[..count]),
         Err(fault) if fault.kind() == ErrorKind::WouldBlock => Err(Missing::Yet),
@@ -407,7 +407,7 @@ fn listen_once<M: Machine, E: Engine, D: Disk>(
     ensures gone { (low : ℕ) → low < token → HasGone E.meaning E.heard D.tells D.may_leave low token node.old node.new result }
 {
     let mut open = open;
-    match look(&mut open, piece) {
+    match look(&mut open.line, piece) {
         Ok(come) => take(machine, desk, node, place, open, come, token),
         Err(missing) => {
             see_silent(desk, place, open, missing);
@@ -431,9 +431,59 @@ fn take<M: Machine, E: Engine, D: Disk>(
     ensures valid { IsNode E.valid D.tells D.seen D.may_leave node.new }
     ensures gone { (low : ℕ) → low < token → HasGone E.meaning E.heard D.tells D.may_leave low token node.old node.new result }
 {
-    let (mut line, stage, since) = begun(desk, open, piece);
+    let (line, stage, since) = begun(desk, open, piece);
+    take_at(machine, desk, node, place, line, stage, piece, since, token)
+}
+
+/// The same on a connection at a stage that began at a moment.
+fn take_at<M: Machine, E: Engine, D: Disk>(
+    machine: &M,
+    desk: &mut Desk,
+    node: &mut Node<E, D>,
+    place: usize,
+    line: Line,
+    stage: Stage,
+    piece: &[u8],
+    begun: Duration,
+    token: u64,
+) -> Result<bool, Stop>
+    requires valid { IsNode E.valid D.tells D.seen D.may_leave node.old }
+    requires live { IsTrue (journal_of node.old).live }
+    ensures valid { IsNode E.valid D.tells D.seen D.may_leave node.new }
+    ensures gone { (low : ℕ) → low < token → HasGone E.meaning E.heard D.tells D.may_leave low token node.old node.new result }
+{
+    let mut line = line;
     let heard = serve_stage(machine, desk, node, &mut line, stage, piece, token)?;
-    Ok(see_off(desk, place, line, heard, piece, since))
+    Ok(see_off(desk, place, line, heard, piece, begun))
+}
+
+/// Reads once what has come first on a connection, and does what it leads to; whether it is to be gone on with at once.
+fn listen_first<M: Machine, E: Engine, D: Disk>(
+    machine: &M,
+    desk: &mut Desk,
+    node: &mut Node<E, D>,
+    place: usize,
+    line: Line,
+    piece: &mut [u8; PIECE],
+    token: u64,
+) -> Result<bool, Stop>
+    requires valid { IsNode E.valid D.tells D.seen D.may_leave node.old }
+    requires live { IsTrue (journal_of node.old).live }
+    ensures valid { IsNode E.valid D.tells D.seen D.may_leave node.new }
+    ensures gone { (low : ℕ) → low < token → HasGone E.meaning E.heard D.tells D.may_leave low token node.old node.new result }
+{
+    let mut line = line;
+    let begun = desk.hall.clock();
+    match look(&mut line, piece) {
+        Ok(come) => {
+            let stage = stage_at(desk, Stage::New, come);
+            take_at(machine, desk, node, place, line, stage, come, begun, token)
+        }
+        Err(missing) => {
+            see_silent(desk, place, Open::new(line, begun), missing);
+            Ok(false)
+        }
+    }
 }
 
 /// Goes on with a connection that was taken, by one read or write; whether it is to be gone on with at once.
@@ -458,6 +508,18 @@ fn go_on_with<M: Machine, E: Engine, D: Disk>(
     }
 }
 
+/// Counts up to the number under which the node is asked next; behind the last there is none.
+fn count_up(numbers: &mut u64) -> Result<(), Stop>
+    ensures next { OnOk result (numbers.new ≡ numbers.old + 1) }
+    ensures spent { OnErr result (numbers.new ≡ numbers.old) }
+{
+    if *numbers == u64::MAX {
+        return Err(Stop::Done);
+    }
+    *numbers += 1;
+    Ok(())
+}
+
 /// Goes on with a connection by one read or write, under the next number; whether it is to be gone on with at once.
 fn go_on<M: Machine, E: Engine, D: Disk>(
     machine: &M,
@@ -472,10 +534,7 @@ fn go_on<M: Machine, E: Engine, D: Disk>(
     ensures valid { IsNode E.valid D.tells D.seen D.may_leave node.new }
     ensures gone { HasGone E.meaning E.heard D.tells D.may_leave numbers.old numbers.new node.old node.new result }
 {
-    if *numbers == u64::MAX {
-        return Err(Stop::Done);
-    }
-    *numbers += 1;
+    count_up(numbers)?;
     match desk.hall.take(place) {
         Some(open) => go_on_with(machine, desk, node, place, open, piece, *numbers),
         None => Ok(false),
@@ -504,4 +563,28 @@ pub fn serve<M: Machine, E: Engine, D: Disk>(
     }
     desk.hall.call_again(place);
     Ok(())
+}
+
+/// Goes on with a connection that has just come as far as it has come, as `serve` does with those that were here before. It is put
+/// to its place, which is kept for it, only where it stays.
+pub fn greet<M: Machine, E: Engine, D: Disk>(
+    machine: &M,
+    desk: &mut Desk,
+    node: &mut Node<E, D>,
+    place: usize,
+    line: Line,
+    piece: &mut [u8; PIECE],
+    numbers: &mut u64,
+) -> Result<(), Stop>
+    requires valid { IsNode E.valid D.tells D.seen D.may_leave node.old }
+    requires live { IsTrue (journal_of node.old).live }
+    ensures valid { IsNode E.valid D.tells D.seen D.may_leave node.new }
+    ensures gone { HasGone E.meaning E.heard D.tells D.may_leave numbers.old numbers.new node.old node.new result }
+{
+    count_up(numbers)?;
+    if listen_first(machine, desk, node, place, line, piece, *numbers)? {
+        serve(machine, desk, node, place, piece, numbers)
+    } else {
+        Ok(())
+    }
 }

@@ -197,6 +197,16 @@ impl Stage {
 }
 
 impl Open {
+    /// A connection on which nothing has come since a moment.
+    pub fn new(line: Line, begun: Duration) -> Open {
+        Open {
+            line,
+            stage: Stage::New,
+            begun,
+            heard: begun,
+        }
+    }
+
     /// Its line, its stage, when that began, and when something was last read.
     pub fn into_parts(self) -> (Line, Stage, Duration, Duration) {
         let Open {
