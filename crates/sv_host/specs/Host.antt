@@ -1,6 +1,16 @@
--- Where a host's node stands.
+-- Where a host's node stands, where those beside it listen, and how its clients are served.
+use Rattle.std.specs.Prelude.{ℕ, List}
 use Rattle.sv_host.specs.declared.host.Host.{Host}
+use Rattle.sv_host.specs.declared.persistence.Persistence.{Persistence}
 use Rattle.sv_model.specs.declared.node.Setting.{Setting}
 
 abbrev pub setting_of : Host → Setting
 setting_of h = h.setting
+
+-- the port of each node, by its number
+abbrev pub ports_of : Host → List ℕ
+ports_of h = h.desk.ports.items
+
+-- how many requests a client's connection brings
+abbrev pub persistence_of : Host → Persistence
+persistence_of h = h.desk.persistence

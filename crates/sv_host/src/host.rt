@@ -101,7 +101,7 @@ fn serve_all<M: Machine, E: Engine, D: Disk>(
 }
 
 impl Host {
-    ghost use Rattle.sv_host.specs.Host.{setting_of};
+    ghost use Rattle.sv_host.specs.Host.{setting_of, ports_of, persistence_of};
 
     /// Opens the file of secrets, and listens at the node's port. Faults are found in this order.
     pub fn at(
@@ -109,7 +109,9 @@ impl Host {
         place: Place,
         persistence: Persistence,
     ) -> Result<Host, HostFault>
-        ensures { IfOk result (λ h. setting_of h ≡ place.setting) }
+        ensures setting { IfOk result (λ h. setting_of h ≡ place.setting) }
+        ensures ports { IfOk result (λ h. ports_of h ≡ place.ports.items) }
+        ensures persistence { IfOk result (λ h. persistence_of h ≡ persistence) }
     {
         let (secrets, porch, registry) = open_both(machine, &place)?;
         let alloc: Global = machine.alloc();

@@ -312,6 +312,41 @@ fn with_care(heard: Heard, piece: &[u8]) -> Heard {
     }
 }
 
+/// Keeps a client for the answer to its request. Where there is no memory to keep it, its connection is closed.
+fn keep_waiting(
+    desk: &mut Desk,
+    place: usize,
+    line: Line,
+    client: Client,
+    head_only: bool,
+    token: u64,
+) {
+    if !desk.lobby.add(Guest { token, place }) {
+        desk.hall.leave(place);
+        return;
+    }
+    desk.hall.begin(
+        place,
+        line,
+        Stage::Waiting {
+            client,
+            head_only,
+            token,
+            silent: false,
+        },
+    );
+    desk.hall.call_again(place);
+}
+
+/// Tells whoever gave a command a byte, once the packet is sent or lost that the command has put out.
+fn tell_behind_packet(desk: &mut Desk, place: usize, line: Line, byte: u8) {
+    if desk.hall.hold(place) {
+        desk.hall.begin(place, line, Stage::Holding(byte));
+    } else {
+        desk.hall.tell(place, line, byte);
+    }
+}
+
 /// Does with a connection what is to be done; whether it is to be gone on with at once.
 fn see_off(
     desk: &mut Desk,
@@ -332,29 +367,11 @@ fn see_off(
             head_only,
             token,
         } => {
-            if desk.lobby.add(Guest { token, place }) {
-                desk.hall.begin(
-                    place,
-                    line,
-                    Stage::Waiting {
-                        client,
-                        head_only,
-                        token,
-                        silent: false,
-                    },
-                );
-                desk.hall.call_again(place);
-            } else {
-                desk.hall.leave(place);
-            }
+            keep_waiting(desk, place, line, client, head_only, token);
             false
         }
         Heard::Tell(byte) => {
-            if desk.hall.hold(place) {
-                desk.hall.begin(place, line, Stage::Holding(byte));
-            } else {
-                desk.hall.tell(place, line, byte);
-            }
+            tell_behind_packet(desk, place, line, byte);
             false
         }
         Heard::Nothing => {
