@@ -7,10 +7,10 @@ ghost use Rattle.sv_node.specs.Node.{IsNode, journal_of};
 
 use crate::desk::{Desk, Taken};
 use crate::fault::{HostFault, Stop};
-use crate::line::Line;
 use crate::machine::{Machine, seconds};
 use crate::porch::{Arrival, Porch};
 use crate::serve::{PIECE, greet, serve};
+use crate::stage::Open;
 use sv_journal::{Disk, JournalFault};
 use sv_model::{Engine, Input, PARK_LIMIT};
 use sv_node::Node;
@@ -146,8 +146,7 @@ fn serve_reported<M: Machine, E: Engine, D: Disk>(
     Ok(())
 }
 
-/// Accepts one who stands at the door, and goes on with that one. What is done behind each connection is done also where nobody has
-/// come.
+/// Accepts one who stands at the door, and goes on with that one; what is done behind each connection is done at the end of the turn.
 fn serve_new<M: Machine, E: Engine, D: Disk>(
     machine: &M,
     desk: &mut Desk,
@@ -161,29 +160,11 @@ fn serve_new<M: Machine, E: Engine, D: Disk>(
     ensures valid { IsNode E.valid D.tells D.seen D.may_leave node.new }
     ensures gone { HasGone E.meaning E.heard D.tells D.may_leave numbers.old numbers.new node.old node.new result }
 {
-    match admit(machine, desk, porch)? {
-        Some((place, line)) => greet_one(machine, desk, node, place, line, piece, numbers),
-        None => look_after(machine, desk, node),
+    match admit(machine, desk, porch) {
+        Ok(Some((place, open))) => greet(machine, desk, node, place, open, piece, numbers),
+        Ok(None) => Ok(()),
+        Err(stop) => Err(stop),
     }
-}
-
-/// Goes on with a connection that has just come, and does what is done behind that.
-fn greet_one<M: Machine, E: Engine, D: Disk>(
-    machine: &M,
-    desk: &mut Desk,
-    node: &mut Node<E, D>,
-    place: usize,
-    line: Line,
-    piece: &mut [u8; PIECE],
-    numbers: &mut u64,
-) -> Result<(), Stop>
-    requires valid { IsNode E.valid D.tells D.seen D.may_leave node.old }
-    requires live { IsTrue (journal_of node.old).live }
-    ensures valid { IsNode E.valid D.tells D.seen D.may_leave node.new }
-    ensures gone { HasGone E.meaning E.heard D.tells D.may_leave numbers.old numbers.new node.old node.new result }
-{
-    greet(machine, desk, node, place, line, piece, numbers)?;
-    look_after(machine, desk, node)
 }
 
 /// Accepts somebody who may stand at the door, and says at which place; none where nobody stands there, or there is no memory.
@@ -192,7 +173,7 @@ fn admit<M: Machine>(
     machine: &M,
     desk: &mut Desk,
     porch: &mut Porch,
-) -> Result<Option<(usize, Line)>, Stop> {
+) -> Result<Option<(usize, Open)>, Stop> {
     if !porch.may_accept() {
         return Ok(None);
     }
@@ -200,7 +181,7 @@ fn admit<M: Machine>(
         Ok(Arrival::Somebody(stream)) => {
             desk.hall.look_at_clock(machine);
             match desk.hall.make_place() {
-                Some(place) => Ok(Some((place, Line::new(stream)))),
+                Some(place) => Ok(Some((place, Open::new(stream, desk.hall.clock())))),
                 None => Ok(None),
             }
         }
@@ -213,6 +194,24 @@ fn admit<M: Machine>(
         }
         Err(fault) => Err(Stop::Fault(fault)),
     }
+}
+
+/// Goes on with all who have been reported, and with one who has come.
+fn serve_all<M: Machine, E: Engine, D: Disk>(
+    machine: &M,
+    desk: &mut Desk,
+    node: &mut Node<E, D>,
+    porch: &mut Porch,
+    piece: &mut [u8; PIECE],
+    numbers: &mut u64,
+) -> Result<(), Stop>
+    requires valid { IsNode E.valid D.tells D.seen D.may_leave node.old }
+    requires live { IsTrue (journal_of node.old).live }
+    ensures valid { IsNode E.valid D.tells D.seen D.may_leave node.new }
+    ensures gone { HasGone E.meaning E.heard D.tells D.may_leave numbers.old numbers.new node.old node.new result }
+{
+    serve_reported(machine, desk, node, porch, piece, numbers)?;
+    serve_new(machine, desk, node, porch, piece, numbers)
 }
 
 /// Waits until somebody is to be looked after, and looks who has taken too long.
@@ -239,8 +238,8 @@ fn take_turn<M: Machine, E: Engine, D: Disk>(
     ensures gone { HasGone E.meaning E.heard D.tells D.may_leave numbers.old numbers.new node.old node.new result }
 {
     wait(machine, desk, porch);
-    serve_reported(machine, desk, node, porch, piece, numbers)?;
-    serve_new(machine, desk, node, porch, piece, numbers)
+    serve_all(machine, desk, node, porch, piece, numbers)?;
+    look_after(machine, desk, node)
 }
 
 /// Serves whoever connects, until the node is to stop.

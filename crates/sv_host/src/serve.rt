@@ -448,59 +448,9 @@ fn take<M: Machine, E: Engine, D: Disk>(
     ensures valid { IsNode E.valid D.tells D.seen D.may_leave node.new }
     ensures gone { (low : ℕ) → low < token → HasGone E.meaning E.heard D.tells D.may_leave low token node.old node.new result }
 {
-    let (line, stage, since) = begun(desk, open, piece);
-    take_at(machine, desk, node, place, line, stage, piece, since, token)
-}
-
-/// The same on a connection at a stage that began at a moment.
-fn take_at<M: Machine, E: Engine, D: Disk>(
-    machine: &M,
-    desk: &mut Desk,
-    node: &mut Node<E, D>,
-    place: usize,
-    line: Line,
-    stage: Stage,
-    piece: &[u8],
-    begun: Duration,
-    token: u64,
-) -> Result<bool, Stop>
-    requires valid { IsNode E.valid D.tells D.seen D.may_leave node.old }
-    requires live { IsTrue (journal_of node.old).live }
-    ensures valid { IsNode E.valid D.tells D.seen D.may_leave node.new }
-    ensures gone { (low : ℕ) → low < token → HasGone E.meaning E.heard D.tells D.may_leave low token node.old node.new result }
-{
-    let mut line = line;
+    let (mut line, stage, since) = begun(desk, open, piece);
     let heard = serve_stage(machine, desk, node, &mut line, stage, piece, token)?;
-    Ok(see_off(desk, place, line, heard, piece, begun))
-}
-
-/// Reads once what has come first on a connection, and does what it leads to; whether it is to be gone on with at once.
-fn listen_first<M: Machine, E: Engine, D: Disk>(
-    machine: &M,
-    desk: &mut Desk,
-    node: &mut Node<E, D>,
-    place: usize,
-    line: Line,
-    piece: &mut [u8; PIECE],
-    token: u64,
-) -> Result<bool, Stop>
-    requires valid { IsNode E.valid D.tells D.seen D.may_leave node.old }
-    requires live { IsTrue (journal_of node.old).live }
-    ensures valid { IsNode E.valid D.tells D.seen D.may_leave node.new }
-    ensures gone { (low : ℕ) → low < token → HasGone E.meaning E.heard D.tells D.may_leave low token node.old node.new result }
-{
-    let mut line = line;
-    let begun = desk.hall.clock();
-    match look(&mut line, piece) {
-        Ok(come) => {
-            let stage = stage_at(desk, Stage::New, come);
-            take_at(machine, desk, node, place, line, stage, come, begun, token)
-        }
-        Err(missing) => {
-            see_silent(desk, place, Open::new(line, begun), missing);
-            Ok(false)
-        }
-    }
+    Ok(see_off(desk, place, line, heard, piece, since))
 }
 
 /// Goes on with a connection that was taken, by one read or write; whether it is to be gone on with at once.
@@ -582,6 +532,28 @@ pub fn serve<M: Machine, E: Engine, D: Disk>(
     Ok(())
 }
 
+/// Reads once what has come on a connection, under the next number, and does what it leads to; whether it is to be gone on with at
+/// once.
+fn listen_next<M: Machine, E: Engine, D: Disk>(
+    machine: &M,
+    desk: &mut Desk,
+    node: &mut Node<E, D>,
+    place: usize,
+    open: Open,
+    piece: &mut [u8; PIECE],
+    numbers: &mut u64,
+) -> Result<bool, Stop>
+    requires valid { IsNode E.valid D.tells D.seen D.may_leave node.old }
+    requires live { IsTrue (journal_of node.old).live }
+    ensures valid { IsNode E.valid D.tells D.seen D.may_leave node.new }
+    ensures gone { HasGone E.meaning E.heard D.tells D.may_leave numbers.old numbers.new node.old node.new result }
+{
+    match count_up(numbers) {
+        Ok(()) => listen_once(machine, desk, node, place, open, piece, *numbers),
+        Err(stop) => Err(stop),
+    }
+}
+
 /// Goes on with a connection that has just come as far as it has come, as `serve` does with those that were here before. It is put
 /// to its place, which is kept for it, only where it stays.
 pub fn greet<M: Machine, E: Engine, D: Disk>(
@@ -589,7 +561,7 @@ pub fn greet<M: Machine, E: Engine, D: Disk>(
     desk: &mut Desk,
     node: &mut Node<E, D>,
     place: usize,
-    line: Line,
+    open: Open,
     piece: &mut [u8; PIECE],
     numbers: &mut u64,
 ) -> Result<(), Stop>
@@ -598,8 +570,7 @@ pub fn greet<M: Machine, E: Engine, D: Disk>(
     ensures valid { IsNode E.valid D.tells D.seen D.may_leave node.new }
     ensures gone { HasGone E.meaning E.heard D.tells D.may_leave numbers.old numbers.new node.old node.new result }
 {
-    count_up(numbers)?;
-    if listen_first(machine, desk, node, place, line, piece, *numbers)? {
+    if listen_next(machine, desk, node, place, open, piece, numbers)? {
         serve(machine, desk, node, place, piece, numbers)
     } else {
         Ok(())

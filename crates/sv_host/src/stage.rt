@@ -4,6 +4,7 @@ use crate::client::Client;
 use crate::line::Line;
 use crate::persistence::Persistence;
 use mio::Interest;
+use mio::net::TcpStream;
 use std::alloc::Global;
 use std::time::Duration;
 use sv_record::{CONTROL, PEER};
@@ -197,10 +198,10 @@ impl Stage {
 }
 
 impl Open {
-    /// A connection on which nothing has come since a moment.
-    pub fn new(line: Line, begun: Duration) -> Open {
+    /// A connection that has come at a moment, and on which nothing has come yet.
+    pub fn new(stream: TcpStream, begun: Duration) -> Open {
         Open {
-            line,
+            line: Line::new(stream),
             stage: Stage::New,
             begun,
             heard: begun,

@@ -1,15 +1,17 @@
-use Rattle.std.proofs.Common.{arith}
-use Rattle.sv_node.proofs.HistoryLemmas.{goes_nowhere, gone_on}
+use Rattle.std.proofs.Common.{inl, arith}
+use Rattle.sv_node.proofs.HistoryLemmas.{goes_nowhere}
 use Rattle.sv_host.proofs.attend.serve_new.Goals as goal
 
-pub returns-in_err-place-clause-gone : goal.returns-in_err-place-clause-gone
-returns-in_err-place-clause-gone g c =
+pub returns-in-Ok-None-clause-gone : goal.returns-in-Ok-None-clause-gone
+returns-in-Ok-None-clause-gone g c =
     let e = g.E.Engine in
     let d = g.D.Disk in
     let n = c.args.numbers.now in
-    let node = c.args.node.now in
-    gone_on e.meaning e.heard d.tells d.may_leave d.moment d.left_since n n node node c.from_residual.result
-    (goes_nowhere e.meaning e.heard d.tells d.may_leave d.moment d.left_since n n node (omega arith) c.requires.live)
+    goes_nowhere e.meaning e.heard d.tells d.may_leave d.moment d.left_since n n c.args.node.now (omega arith) c.requires.live
 
-pub returns-in-None-clause-gone : goal.returns-in-None-clause-gone
-returns-in-None-clause-gone g c = c.look_after.ensures.gone c.args.numbers.now
+pub returns-in-Err-clause-gone : goal.returns-in-Err-clause-gone
+returns-in-Err-clause-gone g c =
+    let e = g.E.Engine in
+    let d = g.D.Disk in
+    let n = c.args.numbers.now in
+    inl (goes_nowhere e.meaning e.heard d.tells d.may_leave d.moment d.left_since n n c.args.node.now (omega arith) c.requires.live)
