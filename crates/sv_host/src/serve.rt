@@ -1,6 +1,7 @@
 //! What comes on one connection.
 
 ghost use Rattle.std.specs.Prelude.{◌≡◌, ◌<◌, ◌+◌, ℕ, false, IsTrue, OnOk, OnErr};
+ghost use Rattle.sv_model.specs.NodeState.{last_number};
 ghost use Rattle.sv_model.specs.Ranges.{IsInput, IsPacket};
 ghost use Rattle.sv_record.specs.Frame.{IsFrame};
 ghost use Rattle.sv_node.specs.History.{IsAbove, number_in, HasGone};
@@ -479,6 +480,7 @@ fn go_on_with<M: Machine, E: Engine, D: Disk>(
 fn count_up(numbers: &mut u64) -> Result<(), Stop>
     ensures next { OnOk result (numbers.new ≡ numbers.old + 1) }
     ensures spent { OnErr result (numbers.new ≡ numbers.old) }
+    ensures last { OnErr result (numbers.old ≡ last_number) }
 {
     if *numbers == u64::MAX {
         return Err(Stop::Done);
