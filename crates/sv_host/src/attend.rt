@@ -178,10 +178,10 @@ fn admit<M: Machine>(
         return Ok(None);
     }
     match porch.accept() {
-        Ok(Arrival::Somebody(stream)) => {
+        Ok(Arrival::Somebody(line)) => {
             desk.hall.look_at_clock(machine);
             match desk.hall.make_place() {
-                Some(place) => Ok(Some((place, Open::new(stream, desk.hall.clock())))),
+                Some(place) => Ok(Some((place, Open::new(line, desk.hall.clock())))),
                 None => Ok(None),
             }
         }

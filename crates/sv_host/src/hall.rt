@@ -3,13 +3,12 @@
 ghost use Rattle.sv_model.specs.Ranges.{IsPacket};
 
 use crate::client::Client;
-use crate::line::{Line, Sign, Written};
+use crate::line::{Line, Sign, Written, comes_later};
 use crate::machine::Machine;
 use crate::stage::{Next, Open, Stage};
 use mio::net::TcpStream;
 use mio::{Interest, Registry};
 use std::alloc::{AllocFailed, Global};
-use std::io::ErrorKind;
 use std::mem::{replace, swap};
 use std::net::SocketAddr;
 use std::time::Duration;
@@ -282,6 +281,7 @@ impl Hall {
     /// Says that nothing more is written, and reads on until the other end has closed too (RFC 9112, section 9.6). What came before
     /// may be unread.
     fn half_close(&mut self, place: usize, line: Line) {
+        let mut line = line;
         if line.end_writing().is_err() {
             self.leave(place);
             return;
@@ -337,7 +337,7 @@ impl Hall {
         if let Some(frame) = spelled(self.alloc, packet)
             && let Ok(stream) = TcpStream::connect(machine, addr)
         {
-            self.call(Line::new(stream), frame);
+            self.call(Line::from(stream), frame);
         }
     }
 
@@ -484,6 +484,7 @@ impl Hall {
     /// Looks whether a client whose request waits is still there. One whose connection has broken gives its place back; one that
     /// sends no more may have gone away or not, and is the first to give way.
     fn look_at_guest(&mut self, place: usize, open: Open) {
+        let mut open = open;
         match open.line.sign() {
             Sign::Open => self.keep(place, open),
             Sign::Ended => self.keep(place, open.silenced()),
@@ -496,7 +497,7 @@ impl Hall {
         let mut piece = [0u8; 4096];
         match line.read(&mut piece) {
             Ok(count) => Some(count),
-            Err(fault) if fault.kind() == ErrorKind::WouldBlock => None,
+            Err(fault) if comes_later(&fault) => None,
             Err(_) => Some(0),
         }
     }

@@ -3,13 +3,14 @@
 use crate::deadline::TURN;
 use crate::fault::HostFault;
 use crate::hall::Hall;
+use crate::line::Line;
 use crate::machine::Machine;
 use mio::unix::SourceFd;
-use mio::{Events, Interest, Poll, Registry, Token, net as quick};
+use mio::{Events, Interest, Poll, Registry, Token};
 use std::alloc::{AllocFailed, Global};
 use std::io;
 use std::io::ErrorKind;
-use std::net::{OpenListener, OpenStream, TcpListener};
+use std::net::{OpenListener, OpenStream, TcpListener, TcpStream};
 use std::os::fd::{AsRawFd, RawFd};
 use std::time::Duration;
 
@@ -25,7 +26,7 @@ const DOOR: usize = usize::MAX;
 /// Who has come.
 #[derive(Drop)]
 pub enum Arrival {
-    Somebody(quick::TcpStream),
+    Somebody(Line),
     Nobody,
     /// Somebody may stand at the door, and can't be accepted: the process has as many files open as it may have, or worse.
     NoRoom,
@@ -159,10 +160,7 @@ impl Porch {
                 if !self.waits {
                     self.watch_door();
                 }
-                match stream.set_nonblocking(true) {
-                    Ok(()) => Ok(Arrival::Somebody(quick::TcpStream::from_std(stream))),
-                    Err(_) => Ok(Arrival::Nobody),
-                }
+                Ok(self.introduce(stream))
             }
             Err(fault) => {
                 self.door = false;
@@ -171,6 +169,20 @@ impl Porch {
                     _ => self.fail(),
                 }
             }
+        }
+    }
+
+    /// Somebody who has come. While nobody else is here, what comes first of them is waited for a moment: that costs less than to
+    /// ask the poll for it, and most requests come at once.
+    fn introduce(&self, stream: TcpStream) -> Arrival {
+        let line = if self.waits {
+            Line::patient(stream)
+        } else {
+            Line::quick(stream)
+        };
+        match line {
+            Ok(line) => Arrival::Somebody(line),
+            Err(_) => Arrival::Nobody,
         }
     }
 

@@ -14,11 +14,10 @@ use crate::client::Client;
 use crate::desk::{Desk, Taken};
 use crate::fault::{HostFault, Stop};
 use crate::frames::take_in;
-use crate::line::Line;
+use crate::line::{Line, comes_later};
 use crate::lobby::Guest;
 use crate::machine::Machine;
 use crate::stage::{Next, Open, Stage, Turn};
-use std::io::ErrorKind;
 use std::time::Duration;
 use sv_connection::{Outcome, Served};
 use sv_journal::Disk;
@@ -396,7 +395,7 @@ fn look<'a>(line: &mut Line, piece: &'a mut [u8; PIECE]) -> Result<&'a [u8], Mis
     match line.read(piece) {
         Ok(0) => Err(Missing::ForEver),
         Ok(count) => Ok(&piece[..count]),
-        Err(fault) if fault.kind() == ErrorKind::WouldBlock => Err(Missing::Yet),
+        Err(fault) if comes_later(&fault) => Err(Missing::Yet),
         Err(_) => Err(Missing::ForEver),
     }
 }

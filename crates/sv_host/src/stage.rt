@@ -4,7 +4,6 @@ use crate::client::Client;
 use crate::line::Line;
 use crate::persistence::Persistence;
 use mio::Interest;
-use mio::net::TcpStream;
 use std::alloc::Global;
 use std::time::Duration;
 use sv_record::{CONTROL, PEER};
@@ -199,9 +198,9 @@ impl Stage {
 
 impl Open {
     /// A connection that has come at a moment, and on which nothing has come yet.
-    pub fn new(stream: TcpStream, begun: Duration) -> Open {
+    pub fn new(line: Line, begun: Duration) -> Open {
         Open {
-            line: Line::new(stream),
+            line,
             stage: Stage::New,
             begun,
             heard: begun,

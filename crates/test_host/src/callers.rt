@@ -2,7 +2,9 @@
 
 use crate::scene::{Said, play};
 use crate::town::{HALT, Town};
+use std::rt::Clock;
 use std::test::Fail;
+use std::time::Duration;
 use sv_host::Persistence;
 
 /// A session's first two requests, and one of its own for another client: no session has the key of these two bytes.
@@ -68,5 +70,21 @@ fn commands_are_answered_by_a_byte(rt: HostRuntime) -> Result<(), Fail> {
     ];
     let told = play(&rt, &Town::new(&rt)?, Persistence::Single, &all)?;
     assert_eq!(rt; told.as_slice(), b"|\0|\x01|||||1|\0|".as_slice());
+    Ok(())
+}
+
+/// Of somebody who says nothing where nobody else is, what comes first is waited for a moment. A connection that brings nothing is
+/// closed behind two seconds, so a node that waited for that would answer the next caller behind them.
+#[test]
+fn a_silent_caller_where_nobody_else_is_holds_up_the_next_for_a_moment(
+    rt: HostRuntime,
+) -> Result<(), Fail> {
+    let town = Town::new(&rt)?;
+    let all = [Said::Nothing, Said::Counts(&[[0, 9]]), Said::Frame(HALT)];
+    let begun = rt.monotonic()?;
+    let told = play(&rt, &town, Persistence::Single, &all)?;
+    let taken = rt.monotonic()?.saturating_sub(begun);
+    assert_eq!(rt; told.as_slice(), b"|1|\0|".as_slice());
+    assert!(rt; taken < Duration::from_millis(500));
     Ok(())
 }
