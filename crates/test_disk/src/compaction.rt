@@ -1,11 +1,12 @@
 //! Compactions: the bytes that they write, and which of two disks is read.
 use crate::fixtures::{
-    added, compacted, journal_on, listed, new_journal, read, records_of, shown_calls, with_gate,
+    Held, added, compacted, expect_bytes, expect_calls, journal_on, listed, new_journal, read,
+    records_of, with_gate,
 };
 use std::alloc::Global;
 use std::process::Abort;
 use std::test::Fail;
-use sv_journal::{Journal, JournalFault, MemoryDisk};
+use sv_journal::{JournalFault, MemoryDisk};
 
 // The worked example: what a node writes at its first start and behind its first answer, 10 and 65 bytes.
 const BOOT: &[u8] = b"\x02\x01\0\0\0\0\0\0\0\x01";
@@ -25,14 +26,14 @@ const COMPACTED: &[u8] = b"\xA5SVJRNL\x01\0\0\0\0\0\0\0\x02\
 \xA5\0\0\0\x48\x02\x07\0\0\0\0\0\0\0\0\x01\x01\0\0\0\0\0\0\0\x01\0\0\0\0\0\0\0\0\0\0\0\0\0\0\0\x01\0\0\0\0\0\0\0\x03\xE8\0\0\0\0\0\0\x03\xE8\0\0\x07\x08\x01\0\x01\0\x05count\0\0\0\x011\0";
 
 // Adds what a node writes first, and compacts that.
-fn add_and_compact(alloc: Global, journal: &mut Journal<MemoryDisk>) -> Result<(), Fail> {
+fn add_and_compact(alloc: Global, journal: &mut Held<MemoryDisk>) -> Result<(), Fail> {
     added(journal, BOOT)?;
     added(journal, COMMIT)?;
     Ok(compacted(journal, &listed(alloc, &[COUNTERS, STATE])?)?)
 }
 
 // The journal on disk A is compacted to disk B.
-fn compacted_journal(alloc: Global) -> Result<Journal<MemoryDisk>, Fail> {
+fn compacted_journal(alloc: Global) -> Result<Held<MemoryDisk>, Fail> {
     let mut journal = new_journal(alloc)?;
     add_and_compact(alloc, &mut journal)?;
     Ok(journal)
@@ -42,14 +43,13 @@ fn compacted_journal(alloc: Global) -> Result<Journal<MemoryDisk>, Fail> {
 fn a_compaction_writes_the_other_disk(rt: HostRuntime) -> Result<(), Fail> {
     let (a, b) = compacted_journal(rt.alloc())?.into_disks();
     assert_eq!(rt; a.bytes().len(), 102);
-    assert_eq!(rt; b.bytes().len(), 117);
-    assert_eq!(rt; b.bytes(), COMPACTED);
+    expect_bytes(&rt, "disk B", b.bytes(), COMPACTED);
     Ok(())
 }
 
 fn is_read(
     rt: &impl Abort,
-    journal: &mut Journal<MemoryDisk>,
+    journal: &mut Held<MemoryDisk>,
     len: u64,
     entries: &[&[u8]],
 ) -> Result<(), Fail> {
@@ -68,7 +68,7 @@ fn are_entries(found: &[Vec<u8>], entries: &[&[u8]]) -> bool {
 }
 
 // B is opened and grows, and is compacted to A.
-fn grows(rt: &impl Abort, alloc: Global, journal: &mut Journal<MemoryDisk>) -> Result<(), Fail> {
+fn grows(rt: &impl Abort, alloc: Global, journal: &mut Held<MemoryDisk>) -> Result<(), Fail> {
     is_read(rt, journal, 117, &[COUNTERS, STATE])?;
     added(journal, BOOT)?;
     is_read(rt, journal, 132, &[COUNTERS, STATE, BOOT])?;
@@ -76,7 +76,7 @@ fn grows(rt: &impl Abort, alloc: Global, journal: &mut Journal<MemoryDisk>) -> R
 }
 
 // The journal on B, opened once more.
-fn reopened(alloc: Global) -> Result<Journal<MemoryDisk>, Fail> {
+fn reopened(alloc: Global) -> Result<Held<MemoryDisk>, Fail> {
     let (a, b) = compacted_journal(alloc)?.into_disks();
     journal_on(alloc, a, b)
 }
@@ -88,15 +88,20 @@ fn the_greater_generation_is_read(rt: HostRuntime) -> Result<(), Fail> {
     let mut journal = reopened(alloc)?;
     grows(&rt, alloc, &mut journal)?;
     let (a, b) = journal.into_disks();
-    assert_eq!(rt; a.bytes().get(15), Some(&3));
-    assert_eq!(rt; b.bytes().get(15), Some(&2));
-    assert_eq!(rt; b.bytes().len(), 132);
+    expect_grown(&rt, a.bytes(), b.bytes());
     // 16 + 77 + 1
     is_read(&rt, &mut journal_on(alloc, a, b)?, 94, &[STATE])
 }
 
+// A has the third generation, and B the second, with what has been added to it.
+fn expect_grown(rt: &impl Abort, a: &[u8], b: &[u8]) {
+    assert_eq!(rt; a.get(15), Some(&3));
+    assert_eq!(rt; b.get(15), Some(&2));
+    assert_eq!(rt; b.len(), 132);
+}
+
 // The journal with the gate of disk B closed.
-fn with_b_closed(alloc: Global) -> Result<Journal<MemoryDisk>, Fail> {
+fn with_b_closed(alloc: Global) -> Result<Held<MemoryDisk>, Fail> {
     let (a, b) = compacted_journal(alloc)?.into_disks();
     let b = MemoryDisk::with(alloc, &with_gate(alloc, b.bytes(), 0)?)?;
     journal_on(alloc, a, b)
@@ -108,14 +113,33 @@ fn a_closed_disk_is_not_read(rt: HostRuntime) -> Result<(), Fail> {
     is_read(&rt, &mut with_b_closed(alloc)?, 102, &[BOOT, COMMIT])
 }
 
-// What is read with this gate on A.
-fn records_of_torn_a(alloc: Global, a: &[u8], b: &[u8], gate: u8) -> Result<Vec<u8>, JournalFault> {
-    records_of(alloc, &with_gate(alloc, a, gate)?, b)
+// Two disks hold the same entries as two others.
+fn expect_alike(
+    rt: &impl Abort,
+    alloc: Global,
+    what: &str,
+    torn: [&[u8]; 2],
+    whole: [&[u8]; 2],
+) -> Result<(), Fail> {
+    let found = records_of(alloc, torn[0], torn[1])?;
+    expect_bytes(rt, what, &found, &records_of(alloc, whole[0], whole[1])?);
+    Ok(())
 }
 
-// What is read with this gate on B.
-fn records_of_torn_b(alloc: Global, a: &[u8], b: &[u8], gate: u8) -> Result<Vec<u8>, JournalFault> {
-    records_of(alloc, a, &with_gate(alloc, b, gate)?)
+// With any gate on A, the journal on B is read.
+fn expect_torn_a(rt: &impl Abort, alloc: Global, a: &[u8], b: &[u8], gate: u8) -> Result<(), Fail> {
+    let torn = with_gate(alloc, a, gate)?;
+    expect_alike(rt, alloc, "a gate on A", [&torn, b], [b"", b])
+}
+
+// With this gate on B, the journal on B is read where that is open, and else the one on A.
+fn expect_torn_b(rt: &impl Abort, alloc: Global, a: &[u8], b: &[u8], gate: u8) -> Result<(), Fail> {
+    let torn = with_gate(alloc, b, gate)?;
+    if gate == 0xA5 {
+        expect_alike(rt, alloc, "an open gate on B", [a, &torn], [b"", b])
+    } else {
+        expect_alike(rt, alloc, "a closed gate on B", [a, &torn], [a, b""])
+    }
 }
 
 // Each byte in the place of either gate: what is read is the journal of the disk that is open, or of the newer one.
@@ -123,20 +147,15 @@ fn records_of_torn_b(alloc: Global, a: &[u8], b: &[u8], gate: u8) -> Result<Vec<
 fn each_torn_gate_of_a_compaction_opens(rt: HostRuntime) -> Result<(), Fail> {
     let alloc = rt.alloc();
     let (a, b) = compacted_journal(alloc)?.into_disks();
-    let old = records_of(alloc, a.bytes(), b"")?;
-    let new = records_of(alloc, b"", b.bytes())?;
     for gate in 0..=255u8 {
-        let found = records_of_torn_a(alloc, a.bytes(), b.bytes(), gate)?;
-        assert_eq!(rt; found.as_slice(), new.as_slice(), "A, {gate}");
-        let found = records_of_torn_b(alloc, a.bytes(), b.bytes(), gate)?;
-        let wanted = if gate == 0xA5 { &new } else { &old };
-        assert_eq!(rt; found.as_slice(), wanted.as_slice(), "B, {gate}");
+        expect_torn_a(&rt, alloc, a.bytes(), b.bytes(), gate)?;
+        expect_torn_b(&rt, alloc, a.bytes(), b.bytes(), gate)?;
     }
     Ok(())
 }
 
 // The journal, compacted to a disk A that has told no calls yet.
-fn compacted_to_a(alloc: Global) -> Result<Journal<MemoryDisk>, Fail> {
+fn compacted_to_a(alloc: Global) -> Result<Held<MemoryDisk>, Fail> {
     let (a, b) = compacted_journal(alloc)?.into_disks();
     let a = MemoryDisk::with(alloc, a.bytes())?;
     let mut journal = journal_on(alloc, a, b)?;
@@ -149,11 +168,9 @@ fn compacted_to_a(alloc: Global) -> Result<Journal<MemoryDisk>, Fail> {
 #[test]
 fn a_compaction_is_four_changes_and_four_syncs(rt: HostRuntime) -> Result<(), Fail> {
     let alloc = rt.alloc();
-    let journal = compacted_to_a(alloc)?;
+    let (a, _) = compacted_to_a(alloc)?.into_disks();
     let wanted = b"S|W\0\0|S|C\x01|S|W\x01SVJRNL\x01\0\0\0\0\0\0\0\x03\0|S|W\0\xA5|S|";
-    let found = shown_calls(alloc, journal.into_disks().0.calls())?;
-    assert_eq!(rt; found.as_slice(), wanted.as_slice());
-    Ok(())
+    expect_calls(&rt, alloc, a.calls(), wanted)
 }
 
 // The greatest generation there is, and the one before it.
@@ -161,7 +178,7 @@ const LAST: &[u8] = b"\xA5SVJRNL\x01\xFF\xFF\xFF\xFF\xFF\xFF\xFF\xFF\xA5\0\0\0\x
 
 const BEFORE: &[u8] = b"\xA5SVJRNL\x01\xFF\xFF\xFF\xFF\xFF\xFF\xFF\xFE\0";
 
-fn journal_of(alloc: Global, a: &[u8], b: &[u8]) -> Result<Journal<MemoryDisk>, Fail> {
+fn journal_of(alloc: Global, a: &[u8], b: &[u8]) -> Result<Held<MemoryDisk>, Fail> {
     let a = MemoryDisk::with(alloc, a)?;
     let b = MemoryDisk::with(alloc, b)?;
     journal_on(alloc, a, b)

@@ -1,12 +1,12 @@
 //! Scripts of appends and compactions in which each call of either disk fails in turn.
 use crate::fixtures::{
-    added, compacted, image, journal_on, new_journal, opened, read_fault, records_of, shown_again,
-    shown_calls,
+    Held, added, compacted, expect_bytes, expect_calls, image, journal_on, new_journal, opened,
+    read_fault, records_of, shown_again,
 };
 use std::alloc::Global;
 use std::process::Abort;
 use std::test::Fail;
-use sv_journal::{Disk, Journal, JournalFault, MemoryDisk};
+use sv_journal::{Disk, JournalFault, MemoryDisk};
 
 /// A step of the script.
 #[derive(Clone, Copy)]
@@ -47,7 +47,7 @@ const FOUND: [&[u8]; 11] = [
 
 fn take_step<D: Disk>(
     alloc: Global,
-    journal: &mut Journal<D>,
+    journal: &mut Held<D>,
     step: Step,
 ) -> Result<(), JournalFault> {
     match step {
@@ -72,7 +72,7 @@ struct Ended {
 }
 
 // Takes the steps up to the first fault: how many were acknowledged, and the fault.
-fn take_steps(alloc: Global, journal: &mut Journal<MemoryDisk>) -> (usize, Option<JournalFault>) {
+fn take_steps(alloc: Global, journal: &mut Held<MemoryDisk>) -> (usize, Option<JournalFault>) {
     let mut acknowledged: usize = 0;
     for next in SCRIPT {
         if let Err(fault) = take_step(alloc, journal, next) {
@@ -84,7 +84,7 @@ fn take_steps(alloc: Global, journal: &mut Journal<MemoryDisk>) -> (usize, Optio
 }
 
 // Takes the steps on a journal that is open.
-fn script_on(alloc: Global, journal: Journal<MemoryDisk>) -> Ended {
+fn script_on(alloc: Global, journal: Held<MemoryDisk>) -> Ended {
     let mut journal = journal;
     let (acknowledged, fault) = take_steps(alloc, &mut journal);
     let (a, b) = journal.into_disks();
@@ -238,7 +238,7 @@ fn each_call_of_a_script_fails_in_turn(rt: HostRuntime) -> Result<(), Fail> {
 }
 
 // A journal of which the k-th call of its first disk fails.
-fn new_journal_failing_at(alloc: Global, k: u64) -> Result<Journal<MemoryDisk>, Fail> {
+fn new_journal_failing_at(alloc: Global, k: u64) -> Result<Held<MemoryDisk>, Fail> {
     let mut a = MemoryDisk::new(alloc);
     a.fail_at(k);
     journal_on(alloc, a, MemoryDisk::new(alloc))
@@ -247,9 +247,9 @@ fn new_journal_failing_at(alloc: Global, k: u64) -> Result<Journal<MemoryDisk>, 
 // The journal, opened once more, with the k-th call of its first disk failing from there.
 fn reopened_failing_at(
     alloc: Global,
-    journal: Journal<MemoryDisk>,
+    journal: Held<MemoryDisk>,
     k: u64,
-) -> Result<Journal<MemoryDisk>, Fail> {
+) -> Result<Held<MemoryDisk>, Fail> {
     let (mut a, b) = journal.into_disks();
     a.fail_at(k);
     journal_on(alloc, a, b)
@@ -260,29 +260,50 @@ fn reopened_failing_at(
 fn a_journal_that_met_device_answers_failed(rt: HostRuntime) -> Result<(), Fail> {
     let alloc = rt.alloc();
     let mut journal = new_journal_failing_at(alloc, 9)?;
-    // The ninth call is the read of `records`: Device leaves the journal usable.
-    assert_eq!(rt; read_fault(&mut journal), Some(JournalFault::Device));
-    assert_eq!(rt; added(&mut journal, b"x"), Ok(()));
+    expect_usable(&rt, &mut journal);
     // Opening again takes a sync, the length and three reads, and the sixth call is the append's first write.
     let mut journal = reopened_failing_at(alloc, journal, 6)?;
     assert_eq!(rt; added(&mut journal, b"y"), Err(JournalFault::Device));
-    assert_eq!(rt; added(&mut journal, b"y"), Err(JournalFault::Failed));
-    assert_eq!(rt; read_fault(&mut journal), Some(JournalFault::Failed));
+    expect_failed(&rt, &mut journal);
     assert_eq!(rt; journal.len(), 23);
+    expect_disks(&rt, alloc, journal, [Some(&1), None], b"x|")
+}
+
+// The next call is the read of `records`: Device leaves the journal usable.
+fn expect_usable(rt: &impl Abort, journal: &mut Held<MemoryDisk>) {
+    assert_eq!(rt; read_fault(journal), Some(JournalFault::Device));
+    assert_eq!(rt; added(journal, b"x"), Ok(()));
+}
+
+// What comes behind Device is Failed.
+fn expect_failed(rt: &impl Abort, journal: &mut Held<MemoryDisk>) {
     assert!(rt; !journal.is_live());
+    assert_eq!(rt; added(journal, b"y"), Err(JournalFault::Failed));
+    assert_eq!(rt; read_fault(journal), Some(JournalFault::Failed));
+}
+
+// The disks of a journal end their headers in these bytes, and these entries are read where they are opened again.
+fn expect_disks(
+    rt: &impl Abort,
+    alloc: Global,
+    journal: Held<MemoryDisk>,
+    generations: [Option<&u8>; 2],
+    entries: &[u8],
+) -> Result<(), Fail> {
     let (a, b) = journal.into_disks();
-    assert_eq!(rt; shown_again(alloc, a, b)?.as_slice(), b"x|".as_slice());
+    assert_eq!(rt; [a.bytes().get(15), b.bytes().get(15)], generations);
+    expect_bytes(rt, "the entries", &shown_again(alloc, a, b)?, entries);
     Ok(())
 }
 
 // A journal on disk B, with an entry behind its compaction.
-fn grown(alloc: Global) -> Result<Journal<MemoryDisk>, Fail> {
+fn grown(alloc: Global) -> Result<Held<MemoryDisk>, Fail> {
     let mut journal = new_journal(alloc)?;
     grow(&mut journal)?;
     Ok(journal)
 }
 
-fn grow(journal: &mut Journal<MemoryDisk>) -> Result<(), JournalFault> {
+fn grow(journal: &mut Held<MemoryDisk>) -> Result<(), JournalFault> {
     compacted(journal, &[])?;
     added(journal, b"z")
 }
@@ -293,19 +314,19 @@ fn a_compaction_that_met_device_answers_failed(rt: HostRuntime) -> Result<(), Fa
     let alloc = rt.alloc();
     // Opening takes a sync, the length and two reads, and the fifth call is the compaction's first.
     let mut journal = reopened_failing_at(alloc, grown(alloc)?, 5)?;
-    assert_eq!(rt; compacted(&mut journal, &[]), Err(JournalFault::Device));
-    assert_eq!(rt; compacted(&mut journal, &[]), Err(JournalFault::Failed));
-    assert_eq!(rt; added(&mut journal, b"y"), Err(JournalFault::Failed));
-    assert_eq!(rt; read_fault(&mut journal), Some(JournalFault::Failed));
-    let (a, b) = journal.into_disks();
-    assert_eq!(rt; a.bytes().get(15), Some(&1));
-    assert_eq!(rt; b.bytes().get(15), Some(&2));
-    assert_eq!(rt; shown_again(alloc, a, b)?.as_slice(), b"z|".as_slice());
-    Ok(())
+    expect_not_compacted(&rt, &mut journal);
+    expect_failed(&rt, &mut journal);
+    expect_disks(&rt, alloc, journal, [Some(&1), Some(&2)], b"z|")
+}
+
+// The next compaction meets Device, and the one behind it is Failed.
+fn expect_not_compacted(rt: &impl Abort, journal: &mut Held<MemoryDisk>) {
+    assert_eq!(rt; compacted(journal, &[]), Err(JournalFault::Device));
+    assert_eq!(rt; compacted(journal, &[]), Err(JournalFault::Failed));
 }
 
 // A journal with one entry, made over a header and a closed gate.
-fn with_an_entry(alloc: Global) -> Result<Journal<MemoryDisk>, Fail> {
+fn with_an_entry(alloc: Global) -> Result<Held<MemoryDisk>, Fail> {
     let a = MemoryDisk::with(alloc, &image(alloc, b"\0")?)?;
     let mut journal = journal_on(alloc, a, MemoryDisk::new(alloc))?;
     added(&mut journal, b"x")?;
@@ -317,11 +338,11 @@ fn with_an_entry(alloc: Global) -> Result<Journal<MemoryDisk>, Fail> {
 fn an_append_is_two_writes_and_two_syncs(rt: HostRuntime) -> Result<(), Fail> {
     let alloc = rt.alloc();
     let (a, b) = with_an_entry(alloc)?.into_disks();
-    let found = shown_calls(alloc, a.calls())?;
-    assert_eq!(rt;
-        found.as_slice(),
-        b"S|W\x11\0\0\0\x01x\0|S|W\x10\xA5|S|".as_slice()
-    );
     assert_eq!(rt; b.calls().len(), 1);
-    Ok(())
+    expect_calls(
+        &rt,
+        alloc,
+        a.calls(),
+        b"S|W\x11\0\0\0\x01x\0|S|W\x10\xA5|S|",
+    )
 }

@@ -1,11 +1,11 @@
 //! The format, byte for byte.
 use crate::fixtures::{
-    added, image, joined, journal_on, new_journal, opened, read, records_of, shown_of,
+    Held, added, expect_bytes, image, journal_on, new_journal, opened, read, records_of, shown_of,
 };
-use std::alloc::Global;
+use std::alloc::{AllocError, Global};
 use std::process::Abort;
 use std::test::Fail;
-use sv_journal::{Journal, JournalFault, MemoryDisk};
+use sv_journal::{JournalFault, MemoryDisk};
 
 // The worked example: an empty journal, and one with the first record that a node writes.
 const FIRST_RECORD: [u8; 10] = [2, 1, 0, 0, 0, 0, 0, 0, 0, 1];
@@ -15,10 +15,21 @@ fn a_new_journal_is_the_header_and_a_closed_gate(rt: HostRuntime) -> Result<(), 
     let alloc = rt.alloc();
     let mut journal = new_journal(alloc)?;
     assert!(rt; read(&mut journal)?.is_empty());
-    assert_eq!(rt; journal.len(), 17);
+    expect_image(&rt, alloc, journal, 17, b"\0")
+}
+
+// A journal says that it is so long; its disk A holds the header and this, and disk B nothing.
+fn expect_image(
+    rt: &impl Abort,
+    alloc: Global,
+    journal: Held<MemoryDisk>,
+    len: u64,
+    rest: &[u8],
+) -> Result<(), Fail> {
+    assert_eq!(rt; journal.len(), len);
     let (a, b) = journal.into_disks();
-    assert_eq!(rt; a.bytes(), image(alloc, b"\0")?.as_slice());
-    assert_eq!(rt; b.bytes(), b"".as_slice());
+    expect_bytes(rt, "disk A", a.bytes(), &image(alloc, rest)?);
+    expect_bytes(rt, "disk B", b.bytes(), b"");
     Ok(())
 }
 
@@ -28,12 +39,9 @@ fn an_entry_is_a_gate_a_length_and_the_payload(rt: HostRuntime) -> Result<(), Fa
     let mut journal = new_journal(alloc)?;
     assert_eq!(rt; added(&mut journal, &FIRST_RECORD), Ok(()));
     let found = shown_of(alloc, &mut journal)?;
-    assert_eq!(rt; found.as_slice(), b"\x02\x01\0\0\0\0\0\0\0\x01|".as_slice());
-    assert_eq!(rt; journal.len(), 32);
-    let (a, _) = journal.into_disks();
-    let entry = image(alloc, b"\xA5\0\0\0\x0A\x02\x01\0\0\0\0\0\0\0\x01\0")?;
-    assert_eq!(rt; a.bytes(), entry.as_slice());
-    Ok(())
+    expect_bytes(&rt, "the entry", &found, b"\x02\x01\0\0\0\0\0\0\0\x01|");
+    let entry = b"\xA5\0\0\0\x0A\x02\x01\0\0\0\0\0\0\0\x01\0";
+    expect_image(&rt, alloc, journal, 32, entry)
 }
 
 // What stands behind a header of generation 1, and the entries that are read, each with a bar behind it, or none where
@@ -67,13 +75,15 @@ const REST: [(&str, &[u8], Option<&[u8]>); 9] = [
 ];
 
 #[test]
-fn entries_end_at_a_gate_that_is_not_open(rt: HostRuntime) -> Result<(), Fail> {
-    let alloc = rt.alloc();
-    for (name, rest, wanted) in REST {
-        let found = records_of(alloc, &image(alloc, rest)?, b"");
-        assert!(rt; is_found(&found, wanted), "{name}");
+fn entries_end_at_a_gate_that_is_not_open(rt: HostRuntime) {
+    for (name, rest, wanted) in &REST {
+        expect_found(&rt, name, found_behind(rt.alloc(), rest), *wanted);
     }
-    Ok(())
+}
+
+// What is read of a disk with this behind the header.
+fn found_behind(alloc: Global, rest: &[u8]) -> Result<Vec<u8>, JournalFault> {
+    records_of(alloc, &image(alloc, rest)?, b"")
 }
 
 // These entries were found, or the disks are damaged.
@@ -85,20 +95,33 @@ fn is_found(found: &Result<Vec<u8>, JournalFault>, wanted: Option<&[u8]>) -> boo
     }
 }
 
+fn expect_found(
+    rt: &impl Abort,
+    name: &str,
+    found: Result<Vec<u8>, JournalFault>,
+    wanted: Option<&[u8]>,
+) {
+    assert!(rt; is_found(&found, wanted), "{name}");
+}
+
 // A length of 524,288 is the longest; 524,289 is damage, whatever stands behind it.
 #[test]
 fn the_longest_payload_has_524288_bytes(rt: HostRuntime) -> Result<(), Fail> {
     let alloc = rt.alloc();
-    let most = Vec::from_elem(alloc, 7u8, 524_288)?;
-    let mut longest = joined(alloc, b"\xA5\0\x08\0\0", &most)?;
-    longest.push(0)?;
-    let found = records_of(alloc, &image(alloc, &longest)?, b"")?;
-    assert_eq!(rt; found.len(), 524_289);
-    let mut too_long = joined(alloc, b"\xA5\0\x08\0\x01", &most)?;
-    too_long.extend_from_slice(b"\x07\0")?;
-    let found = records_of(alloc, &image(alloc, &too_long)?, b"");
-    assert_eq!(rt; found.err(), Some(JournalFault::Damaged));
+    let longest = entry_of(alloc, b"\xA5\0\x08\0\0", 524_288)?;
+    assert_eq!(rt; records_of(alloc, &longest, b"")?.len(), 524_289);
+    let too_long = entry_of(alloc, b"\xA5\0\x08\0\x01", 524_289)?;
+    expect_found(&rt, "too long", records_of(alloc, &too_long, b""), None);
     Ok(())
+}
+
+// An image with an entry of this gate and length, with so many bytes behind it, and a closed gate.
+fn entry_of(alloc: Global, front: &[u8], count: usize) -> Result<Vec<u8>, AllocError> {
+    let payload = Vec::from_elem(alloc, 7u8, count)?;
+    let mut bytes = image(alloc, front)?;
+    bytes.extend_from_slice(&payload)?;
+    bytes.push(0)?;
+    Ok(bytes)
 }
 
 // Two disks that hold no entry, and whether they are damaged. Where neither is open, at most 17 bytes on A and at most 1
@@ -151,15 +174,14 @@ const BLANK: [(&str, &[u8], &[u8], bool); 11] = [
 
 #[test]
 fn disks_that_are_not_open_are_blank_or_damaged(rt: HostRuntime) {
-    let alloc = rt.alloc();
-    for (name, a, b, is_damaged) in BLANK {
-        let wanted: Option<&[u8]> = if is_damaged { None } else { Some(b"") };
-        assert!(rt; is_found(&records_of(alloc, a, b), wanted), "{name}");
+    for (name, a, b, is_damaged) in &BLANK {
+        let wanted: Option<&[u8]> = if *is_damaged { None } else { Some(b"") };
+        expect_found(&rt, name, records_of(rt.alloc(), a, b), wanted);
     }
 }
 
 // Adds 26 payloads of 100,000 bytes and 200 short ones.
-fn add_many(alloc: Global, journal: &mut Journal<MemoryDisk>) -> Result<(), Fail> {
+fn add_many(alloc: Global, journal: &mut Held<MemoryDisk>) -> Result<(), Fail> {
     for i in 0..26u8 {
         added(journal, &Vec::from_elem(alloc, i, 100_000)?)?;
     }
