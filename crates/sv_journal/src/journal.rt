@@ -1,21 +1,23 @@
 //! A journal on two disks.
-ghost use Rattle.std.specs.Prelude.{◌≡◌, ◌⊎◌, ◌<◌, ◌≤◌, ◌+◌, ◌-◌, ◌^◌, ◌++◌, [], ◌∷◌, List, ℕ, length, take, drop, max, not, true, false, IfOk, IfErr, OnOk, OnErr, IsErr, IfSome, IfNone, IsErrOf, IsTrue, ◌↔◌};
-ghost use Rattle.std.specs.Int.{w32, to_be_bytes};
+ghost use Rattle.std.specs.Prelude.{◌≡◌, ◌≢◌, ◌⊎◌, ◌<◌, ◌≤◌, ◌+◌, ◌-◌, ◌^◌, ◌++◌, [], ◌∷◌, List, ℕ, length, take, drop, max, not, true, false, IfOk, IfErr, OnOk, OnErr, IsErr, IfSome, IfNone, IsErrOf, IsTrue, ◌↔◌};
+ghost use Rattle.std.specs.Bool.{Decides};
 ghost use Rattle.std.specs.List.{flat_map, All};
+ghost use Rattle.sv_journal.specs.Batch.{IsBatch, Stages, size_of};
 ghost use Rattle.sv_journal.specs.Disk.{LeavesOnly, IsQuiet, TellsOn, HasRisen};
 ghost use Rattle.sv_journal.specs.Format.{entry, Opens, OpensEither, OpensReplaced, payloads};
 ghost use Rattle.sv_journal.specs.Journal.{Holds, IsSound, disk_a, disk_b, disks, OpensWithoutLoss};
 ghost use Rattle.sv_journal.specs.Opening.{journal_at};
 ghost use Rattle.sv_journal.specs.declared.limits.TheConstants.{FILE_LIMIT, PAYLOAD_LIMIT};
 
-use crate::commit::{CLOSED, commit};
+use crate::batch::Batch;
+use crate::commit::commit;
 use crate::entries::ENTRY_HEAD;
 use crate::opening::{Place, find_or_make};
 use crate::reading::read_entries;
 use crate::replacing::replace;
 use crate::snapshot::{behind_gate, snapshot_len};
 use crate::{Disk, FILE_LIMIT, JournalFault, NotOpened};
-use std::alloc::{AllocError, Global};
+use std::alloc::Global;
 use std::marker::Model;
 use std::mem::swap;
 
@@ -107,16 +109,69 @@ impl<D: Disk> Journal<D> {
         if !self.is_live {
             return Err(JournalFault::Failed);
         }
-        let Some(end) = end_behind(self.end, self.len, payload) else {
+        let size = payload.len() + ENTRY_HEAD as usize + 1;
+        if !self.has_room(size) {
             return Err(JournalFault::Full);
-        };
-        let bytes = staged(self.alloc, payload)?;
+        }
+        let mut batch = Batch::with_capacity(self.alloc, size)?;
+        batch.add(payload)?;
+        self.append_all(&batch)
+    }
+
+    /// Adds the entries of a batch behind the others, in order: two writes and two syncs however many they are, and no
+    /// call of a disk where there are none. A stop leaves all of them or none. After Device all calls but `len` and
+    /// `into_disks` answer Failed until the disks are opened again, and whether the entries are there shows then; after
+    /// the other faults the journal is as it was. Full where the file would be longer than 1,073,741,824 bytes. It takes
+    /// no memory.
+    pub fn append_all(&mut self, batch: &Batch) -> Result<(), JournalFault>
+        requires { IsBatch batch.now }
+        // Once it is Ok, a stop leaves the entries before with those of the batch behind them.
+        ensures added { OnOk result ((before entries : List (List ℕ)) → D.tells self.old.current → Holds D.seen D.may_leave self.old before → Stages batch.now entries
+            → Holds D.seen D.may_leave self.new (before ++ entries)) }
+        // A stop at any moment of the call leaves the entries before, or those with all of the batch's behind them.
+        ensures any_moment { (before entries : List (List ℕ)) → D.tells self.old.current → Holds D.seen D.may_leave self.old before → Stages batch.now entries
+            → LeavesOnly D.moment D.left_since self.old.current self.new.current (OpensEither (D.seen self.old.other) before (before ++ entries)) }
+        ensures none { size_of batch.now ≡ 1 → self.new ≡ self.old }
+        ensures tells { TellsOn D.tells self.old.current self.new.current }
+        ensures other { self.new.other ≡ self.old.other }
+        ensures on_a { self.new.on_a ≡ self.old.on_a }
+        ensures generation { self.new.generation ≡ self.old.generation }
+        ensures end { OnOk result (self.new.end + 1 ≡ self.old.end + size_of batch.now) }
+        ensures len { OnOk result (self.new.len ≡ max self.old.len (self.old.end + size_of batch.now)) }
+        ensures len_err { OnErr result (self.new.len ≡ self.old.len) }
+        ensures live { OnOk result (IsTrue self.new.live) }
+
+        ensures failed { IsErrOf result JournalFault.Failed ↔ (self.old.live ≡ false) }
+        ensures full { IsErrOf result JournalFault.Full ↔ (IsTrue self.old.live × (1 < size_of batch.now) × (FILE_LIMIT < max self.old.len (self.old.end + size_of batch.now))) }
+        ensures device { IsErrOf result JournalFault.Device → (self.new.live ≡ false) × HasRisen (D.failed self.old.current) (D.failed self.new.current) }
+        ensures unchanged { IsErr result → ¬ IsErrOf result JournalFault.Device → self.new ≡ self.old }
+        ensures damaged { ¬ IsErrOf result JournalFault.Damaged }
+        ensures memory { ¬ IsErrOf result JournalFault.Memory }
+    {
+        if !self.is_live {
+            return Err(JournalFault::Failed);
+        }
+        let bytes = batch.behind_gate();
+        if bytes.is_empty() {
+            return Ok(());
+        }
+        if !self.has_room(bytes.len() + 1) {
+            return Err(JournalFault::Full);
+        }
+        let end = self.end + bytes.len() as u64;
         self.is_live = false;
-        commit(&mut self.current, self.end, &bytes)?;
+        commit(&mut self.current, self.end, bytes)?;
         self.is_live = true;
         self.end = end;
         self.len = self.len.max(end + 1);
         Ok(())
+    }
+
+    /// Whether the file has room for a batch of this size.
+    pub fn has_room(&self, size: usize) -> bool
+        ensures { Decides result (max self.now.len (self.now.end + size) ≤ FILE_LIMIT) }
+    {
+        self.len <= FILE_LIMIT && size as u64 <= FILE_LIMIT - self.end
     }
 
     /// Puts these entries, each of at most 524,288 bytes, in the place of all others: they are written to the other
@@ -246,31 +301,4 @@ fn seated<D: Disk>(alloc: Global, a: D, b: D, place: Place) -> Journal<D>
         is_live: true,
         alloc,
     }
-}
-
-// Where the closing gate stands behind one entry more, in a file with these places of the gate and the end; none where
-// the file would be too long.
-fn end_behind(end: u64, len: u64, payload: &[u8]) -> Option<u64>
-    requires within { end < len }
-    requires small { length payload.now ≤ PAYLOAD_LIMIT }
-    ensures end { IfSome result (λ next. (next ≡ end + 5 + length payload.now) × (max len (next + 1) ≤ FILE_LIMIT)) }
-    ensures none { IfNone result (FILE_LIMIT < max len (end + 6 + length payload.now)) }
-{
-    if len > FILE_LIMIT {
-        return None;
-    }
-    let next = end + ENTRY_HEAD + payload.len() as u64;
-    if next < FILE_LIMIT { Some(next) } else { None }
-}
-
-// What is written behind the closed gate: the length, the payload and the next closed gate.
-fn staged(alloc: Global, payload: &[u8]) -> Result<Vec<u8>, AllocError>
-    requires { length payload.now ≤ PAYLOAD_LIMIT }
-    ensures { IfOk result (λ bytes. bytes.items ≡ to_be_bytes w32 (length payload.now) ++ payload.now ++ 0 ∷ []) }
-{
-    let mut bytes = Vec::with_capacity(alloc, payload.len() + ENTRY_HEAD as usize)?;
-    bytes.extend_from_slice(&(payload.len() as u32).to_be_bytes())?;
-    bytes.extend_from_slice(payload)?;
-    bytes.push(CLOSED)?;
-    Ok(bytes)
 }

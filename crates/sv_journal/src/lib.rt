@@ -9,6 +9,7 @@
 //! with the next generation, and the disk of the greater generation is the one that is read.
 #![tactic(auto)]
 
+mod batch;
 mod commit;
 mod current;
 mod disk;
@@ -29,6 +30,7 @@ mod snapshot;
 mod standing;
 mod walk;
 
+pub use batch::Batch;
 pub use disk::{Device, Disk};
 pub use file_disk::FileDisk;
 pub use journal::Journal;

@@ -20,4 +20,6 @@ mod memory_disk;
 #[cfg(test)]
 mod stopped_files;
 #[cfg(test)]
+mod together;
+#[cfg(test)]
 mod torn;

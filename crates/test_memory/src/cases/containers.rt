@@ -10,13 +10,13 @@ use sv_config::Deployment;
 use sv_container::{Container, Named, StartFault};
 use sv_model::{Engine, Key, Outcome, Request, Secret};
 use sv_samples::{Faulty, Stamp, Tally};
-use sv_servlet::{Filter, GenericServlet, Servlet};
+use sv_servlet::{Filter, GenericFilter, GenericServlet, Servlet};
 
 type Shown = Result<String, Unshown>;
 
 type Erring = GenericServlet<Faulty>;
 
-type Shop = Container<Erring, Stamp, Tally>;
+type Shop = Container<Erring, GenericFilter<Stamp>, Tally>;
 
 const FRESH: (Key, Secret) = (Key { home: 0, serial: 2 }, Secret([2; 16]));
 
@@ -43,8 +43,8 @@ fn servlets(alloc: Global) -> Result<Vec<Named<Erring>>, AllocError>
     Ok(all)
 }
 
-fn filters(alloc: Global) -> Result<Vec<Named<Stamp>>, AllocError>
-    ensures { IfOk result (λ all. AreNamedNew ⟦<Stamp as Filter>⟧.filter_phase all.items) }
+fn filters(alloc: Global) -> Result<Vec<Named<GenericFilter<Stamp>>>, AllocError>
+    ensures { IfOk result (λ all. AreNamedNew ⟦<GenericFilter<Stamp> as Filter>⟧.filter_phase all.items) }
 {
     let name = String::from_str(alloc, "stamp-b")?;
     let object = Stamp::new(alloc, "stamp-b")?;

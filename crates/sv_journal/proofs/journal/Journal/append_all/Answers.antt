@@ -1,0 +1,80 @@
+use Rattle.std.proofs.Common.{◌+◌, ◌<◌, ◌++◌, length, true, refl, sym, arith, rules}
+use Rattle.sv_journal.specs.Journal.{JournalView, Keeps, Holds}
+use Rattle.sv_journal.specs.Format.{front}
+use Rattle.sv_journal.proofs.Appending.{rests, gate_within, kept, grown, behind_gate, moments}
+use Rattle.sv_journal.proofs.journal.Journal.append_all.Goals as goal
+
+pub commit-requires-clause-within : goal.commit-requires-clause-within
+commit-requires-clause-within g c = λ told.
+    let d = g.D.Disk in
+    let i = c.self.inside in
+    let old : JournalView g.row.D.Denot = record { current = i.current; other = i.other; on_a = i.on_a; generation = i.generation; end = i.end; len = i.len; live = i.is_live } in
+    let some = c.self.invariant.keeps (search rules) told in
+    gate_within d.seen d.may_leave old some.0 some.1
+
+pub returns-in_err-commit-clause-any_moment : goal.returns-in_err-commit-clause-any_moment
+returns-in_err-commit-clause-any_moment g c = rw (← c.self.view_is) (λ before entries told holds stages.
+    let d = g.D.Disk in
+    let i = c.self.inside in
+    let old : JournalView g.row.D.Denot = record { current = i.current; other = i.other; on_a = i.on_a; generation = i.generation; end = i.end; len = i.len; live = i.is_live } in
+    let h : Holds d.seen d.may_leave old before = holds in
+    let k = h.keeps in
+    let bytes = c.behind_gate-bytes.result.now in
+    let some : 0 < length bytes = search (rules, arith) in
+    let staged = behind_gate c.args.batch.now entries bytes stages c.behind_gate-bytes.ensures.bytes some in
+    moments d.seen d.may_leave old before k entries stages.payloads bytes staged d.moment d.left_since (d.seen i.other) c.commit.new.disk h.older
+    (c.commit.ensures.any_moment (front i.generation before) k.image.rest k.image.gate told (rests d.seen d.may_leave old before k) (sym k.end_is)))
+
+pub returns-clause-any_moment : goal.returns-clause-any_moment
+returns-clause-any_moment g c = rw (← c.self.view_is) (λ before entries told holds stages.
+    let d = g.D.Disk in
+    let i = c.self.inside in
+    let old : JournalView g.row.D.Denot = record { current = i.current; other = i.other; on_a = i.on_a; generation = i.generation; end = i.end; len = i.len; live = i.is_live } in
+    let h : Holds d.seen d.may_leave old before = holds in
+    let k = h.keeps in
+    let bytes = c.behind_gate-bytes.result.now in
+    let some : 0 < length bytes = search (rules, arith) in
+    let staged = behind_gate c.args.batch.now entries bytes stages c.behind_gate-bytes.ensures.bytes some in
+    moments d.seen d.may_leave old before k entries stages.payloads bytes staged d.moment d.left_since (d.seen i.other) c.commit.new.disk h.older
+    (c.commit.ensures.any_moment (front i.generation before) k.image.rest k.image.gate told (rests d.seen d.may_leave old before k) (sym k.end_is)))
+
+pub returns-clause-added : goal.returns-clause-added
+returns-clause-added g c = rw (← c.self.view_is) (λ before entries told holds stages.
+    let d = g.D.Disk in
+    let i = c.self.inside in
+    let old : JournalView g.row.D.Denot = record { current = i.current; other = i.other; on_a = i.on_a; generation = i.generation; end = i.end; len = i.len; live = i.is_live } in
+    let next : JournalView g.row.D.Denot = record { current = c.commit.new.disk; other = i.other; on_a = i.on_a; generation = i.generation; end = i.end + length c.behind_gate-bytes.result.now; len = c.max-self-inside.result; live = true } in
+    let h : Holds d.seen d.may_leave old before = holds in
+    let k = h.keeps in
+    let bytes = c.behind_gate-bytes.result.now in
+    let some : 0 < length bytes = search (rules, arith) in
+    let staged = behind_gate c.args.batch.now entries bytes stages c.behind_gate-bytes.ensures.bytes some in
+    let settled = c.in_ok-commit.ensures.added (front i.generation before) k.image.rest k.image.gate told (rests d.seen d.may_leave old before k) (sym k.end_is) in
+    record {
+      keeps = kept d.seen d.may_leave old before k entries stages.payloads bytes staged next settled refl (grown entries bytes i.end next.end staged (search (rules, arith))) c.max-self-inside.ensures;
+      older = h.older;
+      other_durable = h.other_durable;
+    })
+
+pub invariant_of-self-2 : goal.invariant_of-self-2
+invariant_of-self-2 g c =
+    let d = g.D.Disk in
+    let i = c.self.inside in
+    let old : JournalView g.row.D.Denot = record { current = i.current; other = i.other; on_a = i.on_a; generation = i.generation; end = i.end; len = i.len; live = i.is_live } in
+    let next : JournalView g.row.D.Denot = record { current = c.commit.new.disk; other = i.other; on_a = i.on_a; generation = i.generation; end = i.end + length c.behind_gate-bytes.result.now; len = c.max-self-inside.result; live = true } in
+    record {
+      behind_header = omega arith;
+      within = omega (arith, c.max-self-inside.ensures);
+      keeps = λ live told.
+          let told_before = c.commit.ensures.tells.told_before told in
+          let some_entries = c.self.invariant.keeps (search rules) told_before in
+          let before = some_entries.0 in
+          let k : Keeps d.seen d.may_leave old before = some_entries.1 in
+          let entries = c.requires.0 in
+          let stages = c.requires.1 in
+          let bytes = c.behind_gate-bytes.result.now in
+          let some : 0 < length bytes = search (rules, arith) in
+          let staged = behind_gate c.args.batch.now entries bytes stages c.behind_gate-bytes.ensures.bytes some in
+          let settled = c.in_ok-commit.ensures.added (front i.generation before) k.image.rest k.image.gate told_before (rests d.seen d.may_leave old before k) (sym k.end_is) in
+          (before ++ entries, kept d.seen d.may_leave old before k entries stages.payloads bytes staged next settled refl (grown entries bytes i.end next.end staged (search (rules, arith))) c.max-self-inside.ensures);
+    }
