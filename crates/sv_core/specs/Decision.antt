@@ -12,6 +12,7 @@ use Rattle.sv_model.specs.Decision as model
 use Rattle.sv_model.specs.Replay.{applied_if}
 use Rattle.sv_model.specs.Time.{is_late}
 use Rattle.sv_core.specs.declared.decision.Decision.{Decision}
+use Rattle.sv_core.specs.declared.decision.Held.{Held}
 use Rattle.sv_core.specs.declared.decision.Arrival.{Arrival}
 use Rattle.sv_core.specs.declared.decision.Waiting.{Waiting}
 use Rattle.sv_core.specs.declared.decision.Waiting.TheVariants.{Stays, Joins, Leaves, Late}
@@ -86,3 +87,11 @@ told_in d = d.told
 
 abbrev pub outputs_in : Decision → List Output
 outputs_in d = d.outputs
+
+-- what listeners are still to be told
+abbrev pub told_held : Held → List Told
+told_held h = h.told
+
+-- what is still to be put out
+abbrev pub outputs_held : Held → List Output
+outputs_held h = h.outputs

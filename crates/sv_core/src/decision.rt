@@ -55,6 +55,33 @@ impl Drop for Decision {
     }
 }
 
+/// What is still to be done of a decision that was taken: listeners are told, and outputs are put out.
+pub struct Held {
+    pub(crate) told: Sequence<Told>,
+    pub(crate) outputs: Sequence<Output>,
+}
+
+/// By hand, as that of a decision.
+impl Drop for Held {
+    fn drop(self) {
+        let Held {
+            told: _,
+            outputs: _,
+        } = self;
+    }
+}
+
+impl Held {
+    /// What listeners are told, and what is put out.
+    pub(crate) fn into_parts(self) -> (Sequence<Told>, Sequence<Output>)
+        ensures told { result.0 ≡ self.told }
+        ensures outputs { result.1 ≡ self.outputs }
+    {
+        let Held { told, outputs } = self;
+        (told, outputs)
+    }
+}
+
 /// What others may read of it.
 impl Decision {
     ghost use Rattle.sv_core.specs.Decision.{decision_of, entry_in, commit_in, told_in, outputs_in};
@@ -90,12 +117,12 @@ impl Decision {
         self.outputs.as_slice()
     }
 
-    /// The record, what listeners are told, what is put out, and what becomes of the requests that wait.
-    pub(crate) fn into_parts(self) -> (Option<Record>, Sequence<Told>, Sequence<Output>, Waiting)
+    /// The record, what becomes of the requests that wait, and what is held until the record is durable.
+    pub(crate) fn into_parts(self) -> (Option<Record>, Waiting, Held)
         ensures entry { result.0 ≡ self.entry }
-        ensures told { result.1 ≡ self.told }
-        ensures outputs { result.2 ≡ self.outputs }
-        ensures waiting { result.3 ≡ self.waiting }
+        ensures waiting { result.1 ≡ self.waiting }
+        ensures told { result.2.told ≡ self.told }
+        ensures outputs { result.2.outputs ≡ self.outputs }
     {
         let Decision {
             entry,
@@ -104,7 +131,7 @@ impl Decision {
             outputs,
             waiting,
         } = self;
-        (entry, told, outputs, waiting)
+        (entry, waiting, Held { told, outputs })
     }
 }
 

@@ -12,10 +12,10 @@ ghost use Rattle.sv_model.specs.Node.{decided};
 ghost use Rattle.sv_model.specs.declared.node.Stage.TheVariants.{Blank};
 ghost use Rattle.sv_core.specs.declared.fault.ApplyFault.TheVariants.{BadRecord};
 ghost use Rattle.sv_model.specs.Step.{left, told};
-ghost use Rattle.sv_core.specs.Decision.{outputs_in, entry_in};
+ghost use Rattle.sv_core.specs.Decision.{outputs_in, entry_in, told_held, outputs_held};
 ghost use Rattle.sv_core.specs.Snapshot.{snapshot_of};
 
-use crate::decision::Decision;
+use crate::decision::{Decision, Held};
 use crate::fault::{ApplyFault, Memory};
 use crate::kept::Kept;
 use crate::row;
@@ -194,8 +194,38 @@ impl<E: Engine> Core<E> {
         ensures stage { stage_of self.new ≡ stage_behind_if (entry_in decision) (stage_of self.old) }
         ensures setting { setting_of self.new ≡ setting_of self.old }
     {
-        let (entry, told, outputs, waiting) = decision.into_parts();
+        let held = self.take(decision);
+        self.tell(held)
+    }
+
+    /// Keeps what was decided, before its record is durable: further decisions are made behind it. Nobody is told, and
+    /// nothing is put out. It takes no memory.
+    pub fn take(&mut self, decision: Decision) -> Held
+        requires { WasDecided E.meaning self.old decision }
+        ensures engine { engine_of self.new ≡ engine_of self.old }
+        ensures node { node_at self.new ≡ left (decision_at self.old decision) }
+        ensures told { told_held result ≡ told (decision_at self.old decision) }
+        ensures outputs { outputs_held result ≡ outputs_in decision }
+        ensures stage { stage_of self.new ≡ stage_behind_if (entry_in decision) (stage_of self.old) }
+        ensures setting { setting_of self.new ≡ setting_of self.old }
+    {
+        let (entry, waiting, held) = decision.into_parts();
         self.kept.follow(entry, waiting);
+        held
+    }
+
+    /// Does what is held of a decision that was taken, once its record is durable. It takes no memory.
+    pub fn tell(&mut self, held: Held) -> Vec<Output>
+        requires { E.valid (engine_of self.old) }
+        ensures valid { E.valid (engine_of self.new) }
+        ensures meaning { E.meaning (engine_of self.new) ≡ E.meaning (engine_of self.old) }
+        ensures heard { E.heard (engine_of self.new) ≡ heard_all (E.meaning (engine_of self.old)) (E.heard (engine_of self.old)) (told_held held) }
+        ensures outputs { result.items ≡ outputs_held held }
+        ensures node { node_at self.new ≡ node_at self.old }
+        ensures stage { stage_of self.new ≡ stage_of self.old }
+        ensures setting { setting_of self.new ≡ setting_of self.old }
+    {
+        let (told, outputs) = held.into_parts();
         self.engine.tell(told.as_slice());
         outputs.into_vec()
     }
