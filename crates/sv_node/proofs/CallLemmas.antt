@@ -28,16 +28,16 @@ lives false answer fault failed other = absurd (other (failed refl))
 -- ---- what hasn't changed
 
 module _ {E D : Type 0} (meaning : E → EngineMeaning) (heard : E → List (List ℕ)) (old new : Node E D) where
-  same_heard : view_of meaning heard new ≡ view_of meaning heard old → heard (engine_of new) ≡ heard (engine_of old)
+  pub same_heard : view_of meaning heard new ≡ view_of meaning heard old → heard (engine_of new) ≡ heard (engine_of old)
   same_heard view = ap (λ (v : View). v.heard) view
 
-  same_meaning : view_of meaning heard new ≡ view_of meaning heard old → meaning (engine_of new) ≡ meaning (engine_of old)
+  pub same_meaning : view_of meaning heard new ≡ view_of meaning heard old → meaning (engine_of new) ≡ meaning (engine_of old)
   same_meaning view = ap (λ (v : View). v.meaning) view
 
   pub same_state : view_of meaning heard new ≡ view_of meaning heard old → state_of new ≡ state_of old
   same_state view = ap (λ (v : View). v.node) view
 
-  same_live : journal_of new ≡ journal_of old → (journal_of new).live ≡ (journal_of old).live
+  pub same_live : journal_of new ≡ journal_of old → (journal_of new).live ≡ (journal_of old).live
   same_live same = ap (λ (j : JournalView D). j.live) same
 
 -- ---- an opening

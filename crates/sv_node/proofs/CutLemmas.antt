@@ -1,5 +1,5 @@
 -- A stop inside a call, a failed disk and a refused opening leave a state that such a call leaves.
-use Rattle.std.proofs.Common.{◌≡◌, ◌≢◌, ◌⊎◌, ⊎_elim, ℕ, true, false, List, inl, inr, refl}
+use Rattle.std.proofs.Common.{◌⊎◌, ℕ, true, false, List, inl, inr, refl}
 use Rattle.sv_model.specs.declared.input.Input.{Input}
 use Rattle.sv_model.specs.declared.key.Moment.{Moment}
 use Rattle.sv_model.specs.declared.node.Setting.{Setting}
@@ -7,10 +7,10 @@ use Rattle.sv_model.specs.declared.site.StepFault.TheVariants as step
 use Rattle.sv_model.specs.Engine.{EngineMeaning}
 use Rattle.sv_model.specs.Node.{decided}
 use Rattle.sv_model.specs.NodeState.{Durable, Node}
-use Rattle.sv_node.specs.Call.{Open, Step, Refused, Cut, Does, StopsStart, quiet, kept}
+use Rattle.sv_node.specs.Call.{Open, Step, Refused, Cut, StopsStart, quiet, kept}
 use Rattle.sv_node.specs.Cuts.{GivesCall, GivesCallOn, LeaveThis, IsRefusedOpening}
 use Rattle.sv_node.specs.Opened.{GivesStart}
-use Rattle.sv_node.specs.Stops.{RestoresOn, Restores, RestoresEither}
+use Rattle.sv_node.specs.Stops.{Restores, RestoresEither}
 use Rattle.sv_node.specs.declared.fault.OpenFault.{OpenFault}
 use Rattle.sv_node.specs.declared.fault.OpenFault.TheVariants.{Device, Damaged, Full, Memory}
 use Rattle.sv_node.proofs.BootLemmas.{found}

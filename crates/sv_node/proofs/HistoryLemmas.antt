@@ -16,10 +16,10 @@ use Rattle.sv_model.specs.declared.site.StepFault.TheVariants as step
 use Rattle.sv_model.specs.Decision.{Decision}
 use Rattle.sv_model.specs.Engine.{EngineMeaning, heard_all}
 use Rattle.sv_model.specs.NodeState.{Durable, Node as State, last_number}
-use Rattle.sv_node.specs.Call.{Call, Open, Step, Compact, Stop, Done, Refused, Cut, ending_of, After, quiet, kept, carried_out, Does}
+use Rattle.sv_node.specs.Call.{Call, Open, Step, Unsaid, Compact, Stop, Done, Refused, Cut, Given, ending_of, After, quiet, kept, carried_out, Does}
 use Rattle.sv_node.specs.Calls.{IsAfterStep, IsStepCall, IsAfterCompaction, IsCompactionCall}
 use Rattle.sv_node.specs.Compaction.{IsCompaction}
-use Rattle.sv_node.specs.History.{Turn, Stand, halted, behind, behind_all, AreTurns, IsAbove, number_in, RisesAt, lowest_behind, Rise, Leads, stand_of, GoesOn, Fails, HasGone, HasEnded, IsLife}
+use Rattle.sv_node.specs.History.{Turn, Stand, halted, behind, behind_all, AreTurns, IsAbove, number_in, RiseIn, numbers_in, RisesAt, lowest_behind, Rise, Leads, stand_of, GoesOn, Fails, HasGone, HasEnded, IsLife}
 use Rattle.sv_node.specs.Node.{engine_of, setting_of, state_of, durable_of, journal_of, decided_at, IsNodeStep, IsStarted}
 use Rattle.sv_node.specs.Opened.{restarted}
 use Rattle.sv_node.specs.Stops.{TellsBoth, Stores, Restores, LeavesEither}
@@ -58,9 +58,18 @@ lower_number low mid input.Poke le = le
 lower_number low mid input.Tick le = le
 lower_number low mid (input.Move k to) le = le
 
+pub lower_all : (low mid : ℕ) (gs : List Given) → low ≤ mid → RiseIn mid gs → RiseIn low gs
+lower_all low mid [] le rises = tt
+lower_all low mid (g ∷ gs) le rises = (lower_input low mid g.input le rises.0, lower_all (number_in low g.input) (number_in mid g.input) gs (lower_number low mid g.input le) rises.1)
+
+pub lower_numbers : (low mid : ℕ) (gs : List Given) → low ≤ mid → numbers_in low gs ≤ numbers_in mid gs
+lower_numbers low mid [] le = le
+lower_numbers low mid (g ∷ gs) le = lower_numbers (number_in low g.input) (number_in mid g.input) gs (lower_number low mid g.input le)
+
 lower_call : (low mid : ℕ) (c : Call) → low ≤ mid → RisesAt mid c → RisesAt low c
 lower_call low mid (Open ending) le rises = tt
 lower_call low mid (Step at i ending) le rises = lower_input low mid i le rises
+lower_call low mid (Unsaid gs) le rises = lower_all low mid gs le rises
 lower_call low mid (Compact ending) le rises = tt
 lower_call low mid Stop le rises = tt
 
@@ -69,6 +78,7 @@ lower_behind low mid (Open Done) le = omega arith
 lower_behind low mid (Open (Refused fault)) le = le
 lower_behind low mid (Open Cut) le = le
 lower_behind low mid (Step at i ending) le = lower_number low mid i le
+lower_behind low mid (Unsaid gs) le = lower_numbers low mid gs le
 lower_behind low mid (Compact ending) le = le
 lower_behind low mid Stop le = le
 

@@ -14,7 +14,7 @@ use Rattle.sv_node.specs.Stops.{Stores, RestoresOn, Restores, RestoresEither, Le
 use Rattle.sv_node.proofs.RecordLemmas.{replays_more}
 
 -- either side, with its records
-restored : (set : Setting) (other : List ℕ) (entries more : List (List ℕ)) (d e : Durable) → Replays set entries d → Replays set more e
+pub restored : (set : Setting) (other : List ℕ) (entries more : List (List ℕ)) (d e : Durable) → Replays set entries d → Replays set more e
     → (c : List ℕ) → OpensEither other entries more c → RestoresEither set other d e c
 restored set other entries more d e before after c (inl opens) = inl (record { entries = entries; opens = opens; replays = before })
 restored set other entries more d e before after c (inr opens) = inr (record { entries = more; opens = opens; replays = after })

@@ -1,6 +1,6 @@
 -- A call of a running node, seen from outside: what the node keeps behind it, what it puts out, and what its listeners are
 -- told. No disk stands here: what a stop leaves of one is the state on one side of a call or on the other.
-use Rattle.std.specs.Prelude.{◌≡◌, ◌≢◌, ◌⊎◌, Bool, true, false, cond, Result, Ok, Err, List, []}
+use Rattle.std.specs.Prelude.{◌≡◌, ◌≢◌, ◌⊎◌, Bool, true, false, cond, Result, Ok, Err, List, [], ◌∷◌}
 use Rattle.sv_journal.specs.declared.journal_fault.JournalFault.{JournalFault}
 use Rattle.sv_journal.specs.declared.journal_fault.JournalFault.TheVariants as journal
 use Rattle.sv_model.specs.declared.event.Told.{Told}
@@ -27,9 +27,16 @@ pub data Ending (Fault : Type 0) : Type 0 where
   Refused : Fault → Ending Fault
   Cut : Ending Fault
 
+-- what a step is given, and when
+pub record Given : Type 0 where
+  pub at : Moment
+  pub input : Input
+
 pub data Call : Type 0 where
   Open : Ending OpenFault → Call
   Step : Moment → Input → Ending StepFault → Call
+  -- steps that become durable at once: a stop falls, or a disk fails, behind their records, and before anything of them has left
+  Unsaid : List Given → Call
   Compact : Ending JournalFault → Call
   -- the node is stopped, or its process ends between two calls
   Stop : Call
@@ -55,6 +62,11 @@ kept d = record { durable = d; parked = []; next_want = 1 }
 
 abbrev pub carried_out : Decision → After
 carried_out d = record { node = left d; outputs = d.outputs; told = told d }
+
+-- a node behind all of these steps, one behind the other
+abbrev pub node_behind : EngineMeaning → Setting → Node → List Given → Node
+node_behind m set n [] = n
+node_behind m set n (g ∷ gs) = node_behind m set (left (decided m set n g.at g.input)) gs
 
 -- ---- what a call does
 
@@ -83,6 +95,8 @@ Does m set up n (Step at input (Refused step.Full)) a = a ≡ quiet n
 Does m set up n (Step at input (Refused step.Memory)) a = a ≡ quiet n
 Does m set up n (Step at input (Refused step.Device)) a = (up ≡ true) × StopsStep n.durable (decided m set n at input) a
 Does m set up n (Step at input Cut) a = (up ≡ true) × StopsStep n.durable (decided m set n at input) a
+-- of steps that become durable at once all are kept; where none is, the call is a stop
+Does m set up n (Unsaid givens) a = (up ≡ true) × (a ≡ quiet (kept (node_behind m set n givens).durable))
 -- a compaction changes nothing that a node keeps, and never answers Damaged
 Does m set up n (Compact Done) a = a ≡ quiet n
 Does m set up n (Compact (Refused journal.Damaged)) a = ⊥
@@ -121,5 +135,6 @@ runs_behind up (Open Done) = true
 runs_behind up (Open (Refused fault)) = false
 runs_behind up (Open Cut) = false
 runs_behind up (Step at input ending) = goes_on step_ends up ending
+runs_behind up (Unsaid givens) = false
 runs_behind up (Compact ending) = goes_on compaction_ends up ending
 runs_behind up Stop = false

@@ -7,7 +7,7 @@ use Rattle.sv_model.specs.declared.input.Input.TheVariants as input
 use Rattle.sv_model.specs.declared.node.Setting.{Setting}
 use Rattle.sv_model.specs.Engine.{EngineMeaning, heard_all}
 use Rattle.sv_model.specs.NodeState.{Durable, Node as State}
-use Rattle.sv_node.specs.Call.{Call, Open, Step, Compact, Stop, Done, Refused, Cut, After, kept, Does, runs_behind}
+use Rattle.sv_node.specs.Call.{Call, Open, Step, Unsaid, Compact, Stop, Done, Refused, Cut, Given, After, kept, Does, runs_behind}
 use Rattle.sv_node.specs.Node.{engine_of, setting_of, state_of, journal_of}
 use Rattle.sv_node.specs.Stops.{TellsBoth, LeavesEither, Restores}
 use Rattle.sv_node.specs.declared.node.Node.{Node}
@@ -61,9 +61,19 @@ number_in low input.Poke = low
 number_in low input.Tick = low
 number_in low (input.Move k to) = low
 
+-- the same of several, one behind the other
+abbrev pub RiseIn : ℕ → List Given → Type 0
+RiseIn low [] = ⊤
+RiseIn low (g ∷ gs) = IsAbove low g.input × RiseIn (number_in low g.input) gs
+
+abbrev pub numbers_in : ℕ → List Given → ℕ
+numbers_in low [] = low
+numbers_in low (g ∷ gs) = numbers_in (number_in low g.input) gs
+
 abbrev pub RisesAt : ℕ → Call → Type 0
 RisesAt low (Open ending) = ⊤
 RisesAt low (Step at input ending) = IsAbove low input
+RisesAt low (Unsaid givens) = RiseIn low givens
 RisesAt low (Compact ending) = ⊤
 RisesAt low Stop = ⊤
 
@@ -73,6 +83,7 @@ lowest_behind low (Open Done) = 0
 lowest_behind low (Open (Refused fault)) = low
 lowest_behind low (Open Cut) = low
 lowest_behind low (Step at input ending) = number_in low input
+lowest_behind low (Unsaid givens) = numbers_in low givens
 lowest_behind low (Compact ending) = low
 lowest_behind low Stop = low
 

@@ -59,10 +59,14 @@ pub record IsUntouched {E D : Type 0} (meaning : E → EngineMeaning) (heard : E
   pub view : view_of meaning heard new ≡ view_of meaning heard old
   pub journal : journal_of new ≡ journal_of old
 
+-- where the entries of a file of this length end here, it would be too long with this record, if there is one
+abbrev pub IsTooLongAt : (len end : ℕ) → Option Record → Type 0
+IsTooLongAt len end None = ⊥
+IsTooLongAt len end (Some r) = FILE_LIMIT < max len (end + 6 + length (spelling r))
+
 -- with this record, if there is one, the file of the journal would be too long
 abbrev pub IsTooLong : {D : Type 0} → JournalView D → Option Record → Type 0
-IsTooLong journal None = ⊥
-IsTooLong journal (Some r) = FILE_LIMIT < max journal.len (journal.end + 6 + length (spelling r))
+IsTooLong journal entry = IsTooLongAt journal.len journal.end entry
 
 -- where the entries of a journal end behind a record, if there is one: it is one entry more, and the only one
 abbrev pub end_behind : {D : Type 0} → JournalView D → Option Record → ℕ

@@ -1,6 +1,6 @@
 //! What holds of every call of a node.
 
-ghost use Rattle.std.specs.Prelude.{◌≡◌, ◌≢◌, ℕ, true, false, IsTrue, List, Result, Err};
+ghost use Rattle.std.specs.Prelude.{◌≡◌, ◌≢◌, ℕ, true, false, IsTrue, List, Result, Ok, Err};
 ghost use Rattle.sv_journal.specs.Journal.{disk_a, disk_b};
 ghost use Rattle.sv_journal.specs.declared.journal_fault.JournalFault.{JournalFault};
 ghost use Rattle.sv_model.specs.declared.input.Input.{Input};
@@ -15,6 +15,9 @@ ghost use Rattle.sv_node.specs.Call.{quiet, kept, StopsStart, Open, Step, Refuse
 ghost use Rattle.sv_node.specs.Calls.{IsStepCall, IsCompactionCall, IsOpenCall};
 ghost use Rattle.sv_node.specs.Compaction.{IsCompaction, RestoresBeside, written};
 ghost use Rattle.sv_node.specs.Cuts.{GivesCall, GivesCallOn, IsRefusedOpening, LeaveThis};
+ghost use Rattle.sv_node.specs.Group.{Answer, IsGroup};
+ghost use Rattle.sv_node.specs.GroupCalls.{IsTurns, GivesGroup, GivesGroupOn, all_given, done_in};
+ghost use Rattle.sv_node.specs.History.{HasGone, RiseIn, numbers_in};
 ghost use Rattle.sv_node.specs.Node.{NodeSteps, IsStarted, durable_of, engine_of, journal_of, setting_of, state_of};
 ghost use Rattle.sv_node.specs.Opened.{GivesStart, restarted};
 ghost use Rattle.sv_node.specs.Stops.{Restores, TellsBoth};
@@ -56,4 +59,30 @@ pub fn cuts<E: Engine, D: Disk>()
     ensures opening { (m : EngineMeaning) (fault : OpenFault) (set : Setting) (d : Durable) (a b new_a new_b : D) → LeaveThis D.may_leave set d a b
         → IsRefusedOpening D.may_leave fault set d a b new_a new_b → (x y : List ℕ) → D.may_leave new_a x → D.may_leave new_b y
         → GivesCall m set false (kept d) (Open (Refused fault)) x y }
+{}
+
+/// A group of steps that is done is their calls, one behind the other. Where a disk has failed under it, whatever a stop leaves
+/// of the disks gives what a stop before it leaves, or what the steps leave that are durable together and of which nothing has
+/// left the node; a stop at any moment inside it gives the same. By all of it the history of the node goes on.
+pub fn groups<E: Engine, D: Disk>()
+    ensures done { (old new : Node E D) (inputs : List (Moment × Input)) (answers : List Answer)
+        → IsGroup E.meaning E.heard D.tells D.seen D.may_leave D.moment D.left_since D.failed old inputs (Ok answers) new → IsTrue (journal_of old).live
+        → IsTurns E.meaning E.heard old inputs answers new }
+    ensures device { (old new : Node E D) (inputs : List (Moment × Input))
+        → IsGroup E.meaning E.heard D.tells D.seen D.may_leave D.moment D.left_since D.failed old inputs (Err Device) new
+        → IsTrue (journal_of old).live → TellsBoth D.tells (journal_of old)
+        → (answers : List Answer) × ((a b : List ℕ) → D.may_leave (disk_a (journal_of new)) a → D.may_leave (disk_b (journal_of new)) b
+        → GivesGroup (E.meaning (engine_of old)) (setting_of old) (state_of old) (done_in inputs answers) a b) }
+    ensures cut { (old new : Node E D) (inputs : List (Moment × Input)) (answers : List Answer)
+        → IsGroup E.meaning E.heard D.tells D.seen D.may_leave D.moment D.left_since D.failed old inputs (Ok answers) new
+        → IsTrue (journal_of old).live → TellsBoth D.tells (journal_of old) → (image : List ℕ) → D.left_since (journal_of new).current (D.moment (journal_of old).current) image
+        → GivesGroupOn (E.meaning (engine_of old)) (setting_of old) (state_of old) (done_in inputs answers) image (D.seen (journal_of old).other) }
+    ensures cut_device { (old new : Node E D) (inputs : List (Moment × Input))
+        → IsGroup E.meaning E.heard D.tells D.seen D.may_leave D.moment D.left_since D.failed old inputs (Err Device) new
+        → IsTrue (journal_of old).live → TellsBoth D.tells (journal_of old)
+        → (answers : List Answer) × ((image : List ℕ) → D.left_since (journal_of new).current (D.moment (journal_of old).current) image
+        → GivesGroupOn (E.meaning (engine_of old)) (setting_of old) (state_of old) (done_in inputs answers) image (D.seen (journal_of old).other)) }
+    ensures gone { (old new : Node E D) (inputs : List (Moment × Input)) (answer : Result (List Answer) StepFault) (low : ℕ)
+        → IsGroup E.meaning E.heard D.tells D.seen D.may_leave D.moment D.left_since D.failed old inputs answer new
+        → IsTrue (journal_of old).live → RiseIn low (all_given inputs) → HasGone E.meaning E.heard D.tells D.may_leave low (numbers_in low (all_given inputs)) old new answer }
 {}

@@ -9,6 +9,7 @@
 
 mod compaction;
 mod fault;
+mod group;
 pub mod laws;
 mod ledger;
 mod node;

@@ -22,9 +22,9 @@ use sv_model::{Engine, Input, Moment, Output, Setting, Site, StepFault};
 /// A node that runs: a core, and the journal in which its records stand.
 #[derive(Drop)]
 pub struct Node<E, D: Disk> {
-    core: Core<E>,
-    journal: Journal<D>,
-    alloc: Global,
+    pub(crate) core: Core<E>,
+    pub(crate) journal: Journal<D>,
+    pub(crate) alloc: Global,
 }
 
 impl<E: Engine, D: Disk> Node<E, D> {
