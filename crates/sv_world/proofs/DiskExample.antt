@@ -22,11 +22,11 @@ use Rattle.sv_model.specs.Keys.{key_cmp}
 use Rattle.sv_model.specs.Node.{decided}
 use Rattle.sv_model.specs.NodeState.{Node, last_number}
 use Rattle.sv_model.specs.Replay.{blank}
-use Rattle.sv_node.specs.Call.{Open, Step, Done, Refused, After, quiet, kept, carried_out}
+use Rattle.sv_node.specs.Call.{Open, Step, Unsaid, Done, Refused, Given, After, quiet, kept, carried_out, node_behind}
 use Rattle.sv_node.specs.Opened.{restarted}
 use Rattle.sv_node.specs.History.{AreTurns, Rise, halted}
 use Rattle.sv_world.specs.declared.event.WorldEvent.{WorldEvent}
-use Rattle.sv_world.specs.declared.event.WorldEvent.TheVariants.{Ask, Restart, Torn}
+use Rattle.sv_world.specs.declared.event.WorldEvent.TheVariants.{Ask, Crash, Restart, Silent, Torn}
 use Rattle.sv_world.specs.Disks.{NodeCall, AreCalls, AreOfAll, behind_all, nothing_called}
 use Rattle.sv_world.specs.Processes.{turns_at, AreOfProcesses}
 use Rattle.sv_world.specs.World.{setting_of}
@@ -108,3 +108,28 @@ module _ (s : Session) (r : Request) (moment : Moment) where
   not_of_another : (other : Request) → other ≢ r → (stands : Bool)
       → ¬ AreOfAll nothing_called list (Restart 0 ∷ Ask 0 moment 7 other ∷ Torn 0 moment moves stands ∷ [])
   not_of_another other differs stands are = differs (let same = (own_events _ are).1 in cc)
+
+  -- ---- both steps become durable at once, and a stop falls before anything of them has left
+
+  abbrev both : List Given
+  both = record { at = moment; input = input.Ask 7 r } ∷ record { at = moment; input = moves } ∷ []
+
+  abbrev torn_away : List NodeCall
+  torn_away =
+      record { node = 0; call = Open Done; after = quiet opened }
+      ∷ record { node = 0; call = Unsaid both; after = quiet (kept (node_behind m (setting_of two 0) opened both).durable) }
+      ∷ []
+
+  torn_calls : AreCalls m two nothing_called (λ _. []) torn_away
+  torn_calls = (
+    record { inside = omega arith; comes = tt; does = (refl, low 0 (omega arith), refl) },
+    (record { inside = omega arith; comes = ((tt, λ i. absurd i), ((tt, tt), tt)); does = (refl, refl) }, tt),
+  )
+
+  -- the node keeps what it keeps behind the same steps one by one
+  same_kept : (kept (node_behind m (setting_of two 0) opened both).durable) ≡ handed_over
+  same_kept = refl
+
+  -- and their events are these
+  torn_events : (events : List WorldEvent) → AreOfAll nothing_called torn_away events → events ≡ Restart 0 ∷ Silent 0 moment (input.Ask 7 r) ∷ Silent 0 moment moves ∷ Crash 0 ∷ []
+  torn_events events (first, rest, e, is_first, (second, rest_2, e_2, is_second, e_3)) = rw (e, is_first, e_2, is_second, e_3) refl

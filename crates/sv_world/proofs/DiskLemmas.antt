@@ -1,6 +1,6 @@
 -- A list of calls of nodes over their disks is a world: for each call an event or none.
-use Rattle.std.proofs.Common.{◌≡◌, ◌≢◌, ◌⊎◌, ⊎_elim, ℕ, ◌<◌, ◌==◌, ◌&&◌, ◌||◌, Bool, true, false, cond, Option, Some, None, List, [], ◌∷◌, ◌++◌, refl, sym, ap, ◌∙◌, subst, eq-eqb, append-nil}
-use Rattle.std.specs.Prelude.{zero, suc, nat_lt, is_some, not, slice_get}
+use Rattle.std.proofs.Common.{◌≡◌, ◌≢◌, ◌⊎◌, ⊎_elim, ℕ, ◌<◌, ◌==◌, ◌&&◌, ◌||◌, Bool, true, false, cond, Option, Some, None, List, [], ◌∷◌, ◌++◌, refl, sym, ap, ◌∙◌, subst, eq-eqb, append_assoc, append-nil}
+use Rattle.std.specs.Prelude.{zero, suc, nat_lt, is_some, not, map, slice_get}
 use Rattle.std.specs.List.{list_any, flat_map}
 use Rattle.std.specs.Option.{option_map, option_to_list}
 use Rattle.std.proofs.lemmas.Bool.{cases_eq, ne_eqb, eqb-true, lt-ltb, cond-true, cond-false}
@@ -24,10 +24,11 @@ use Rattle.sv_model.specs.NodeState.{Durable, last_number}
 use Rattle.sv_model.specs.Outputs.{sends_in}
 use Rattle.sv_model.specs.Replay.{applied_if}
 use Rattle.sv_model.specs.Serving.{token_of}
+use Rattle.sv_model.specs.Step.{left}
 use Rattle.sv_model.specs.Trace.{Item, asked_of, asked_by, times}
 use Rattle.sv_model.proofs.JournalLemmas.{journaled}
 use Rattle.sv_node.specs.declared.fault.OpenFault.TheVariants as opening
-use Rattle.sv_node.specs.Call.{Call, Open, Step, Compact, Stop, Done as Finished, Refused, Cut, After, quiet, kept, carried_out, Does, runs_behind}
+use Rattle.sv_node.specs.Call.{Call, Open, Step, Unsaid, Compact, Stop, Done as Finished, Refused, Cut, Given, After, quiet, kept, carried_out, node_behind, Does, runs_behind}
 use Rattle.sv_node.specs.Opened.{restarted}
 use Rattle.sv_world.specs.declared.call.Call.{Call as Asked}
 use Rattle.sv_world.specs.declared.event.WorldEvent.{WorldEvent}
@@ -35,16 +36,17 @@ use Rattle.sv_world.specs.declared.event.WorldEvent.TheVariants.{Ask, Deliver, P
 use Rattle.sv_world.specs.declared.line.Line.{Line}
 use Rattle.sv_world.specs.declared.task.Task.TheVariants as task
 use Rattle.sv_world.specs.Deed.{Done, deed, line_of, heading_by, heading_at, halted, booted, quiet_at, start_by}
-use Rattle.sv_world.specs.Disks.{NodeCall, Seen, WasSent, IsNew, MayCome, IsCall, AreCalls, AreOfInput, AreOfStop, AreOf, AreOfAll, shown_at, is_own, all_numbers, behind, behind_all, seen_as, shown_by, nothing_called, AreWorld}
+use Rattle.sv_world.specs.Disks.{NodeCall, Seen, WasSent, IsNew, AllCome, MayCome, with_number, silent_event, IsCall, AreCalls, AreOfInput, AreOfStop, AreOf, AreOfAll, shown_at, is_own, all_numbers, behind, behind_all, seen_as, shown_by, nothing_called, AreWorld}
 use Rattle.sv_world.specs.Faults.{step_fault, start_fault, stop_fault, call_fault, fault_of}
-use Rattle.sv_world.specs.Order.{whole_order, torn_order, order_of}
+use Rattle.sv_world.specs.Order.{whole_order, torn_order, silent_order, order_of}
 use Rattle.sv_world.specs.Sent.{may_come, same_packet}
 use Rattle.sv_world.specs.World.{Cluster, Place, World, setting_of, set_place, stopped, started, items, item_at, is_there, is_unused, call_of, happens, run, nothing_happened}
-use Rattle.sv_world.proofs.DiskOrder.{asked_at, IsDown, IsFresh, Orderly, stays_orderly, comes_new}
+use Rattle.sv_world.proofs.DiskOrder.{asked_in, asked_at, IsDown, IsFresh, Orderly, step_fresh, stays_orderly, comes_new}
 use Rattle.sv_world.proofs.HeadlineLemmas.{headline}
 use Rattle.sv_world.proofs.OrderLemmas.{done_by, goes}
 use Rattle.sv_world.proofs.RanLemmas.{run_more}
 use Rattle.sv_world.proofs.SentLemmas.{packet_decides}
+use Rattle.sv_world.proofs.Thrift.{decide_thrifty}
 
 -- ---- what is seen of equal effects
 
@@ -167,6 +169,83 @@ module _ (m : EngineMeaning) (c : Cluster) (w : World) (n : ℕ) (call : Call) (
     });
     asked = ap (λ (v : World). asked_of (items v.trace)) happened ∙ asked_more w.trace (line_of e d.effect) ∙ ap (λ ts. asked_of (items w.trace) ++ ts) asks;
   }
+
+-- ---- steps of which nothing leaves their node
+
+twice : {A : Type 0} (b : Bool) (x y z : A) → cond b x (cond b y z) ≡ cond b x z
+twice true x y z = refl
+twice false x y z = refl
+
+module _ (m : EngineMeaning) (c : Cluster) (n : ℕ) (inside : n < c.nodes) where
+  abbrev of_node : Setting
+  of_node = setting_of c n
+
+  -- a request that comes is new
+  new_by : (w : World) (numbers : List ℕ) → IsFresh (asked_of (items w.trace)) n (w.places n) numbers → (w.places n).up ≡ true → (i : Input) → IsNew numbers i
+      → (o : Option Token) → asked_by (token_of of_node (w.places n).node.durable) i ≡ o → is_unused (asked_of (items w.trace)) o ≡ true
+  new_by w numbers fresh up i new None is = refl
+  new_by w numbers fresh up i new (Some t) is = eq-eqb (times t (asked_of (items w.trace))) 0 (comes_new c (asked_of (items w.trace)) n (w.places n) numbers fresh up i new t is)
+
+  -- what one of them does
+  abbrev silent_at : World → Given → Done
+  silent_at w g = deed m of_node (w.places n) (task.Silent g.at g.input)
+
+  abbrev one_silent : World → Given → World
+  one_silent w g = done_by w (silent_event n g) n (silent_at w g)
+
+  silent_is : (w : World) (numbers : List ℕ) (g : Given) → (w.places n).up ≡ true → IsFresh (asked_of (items w.trace)) n (w.places n) numbers → WasSent w.packets g.input → IsNew numbers g.input → happens m c w (silent_event n g) ≡ one_silent w g
+  silent_is w numbers g up fresh sent new =
+      let call : Asked = record { node = n; moment = g.at; input = g.input } in
+      (goes c w (silent_order call) (silent_event n g)
+      (no_step_fault (is_there c n) (w.places n).up (may_come w.packets g.input) (is_unused (asked_of (items w.trace)) (asked_by (token_of of_node (w.places n).node.durable) g.input))
+      (lt-ltb n c.nodes inside) up (comes w.packets g.input sent) (new_by w numbers fresh up g.input new _ refl)) refl).happens m
+
+  -- what all of them make of a world
+  pub record Silenced (w v : World) (gs : List Given) : Type 0 where
+    pub places : (x : ℕ) → v.places x ≡ set_place w.places n (record { up = true; node = node_behind m of_node (w.places n).node gs }) x
+    pub packets : v.packets ≡ w.packets
+    pub shown : flat_map shown_by v.trace ≡ flat_map shown_by w.trace
+    pub asked : asked_of (items v.trace) ≡ asked_of (items w.trace) ++ asked_in n (w.places n).node.durable.boot gs
+
+  at_own : (places : ℕ → Place) (p : Place) → set_place places n p n ≡ p
+  at_own places p = cond-true (n == n) p (places n) (eq-eqb n n refl)
+
+  silenced : (w : World) (numbers : List ℕ) (gs : List Given) → (w.places n).up ≡ true → IsFresh (asked_of (items w.trace)) n (w.places n) numbers → AllCome w.packets numbers gs → Silenced w (run m c w (map (silent_event n) gs)) gs
+  silenced w numbers [] up fresh all = record {
+    places = λ x. ⊎_elim
+        (λ (e : x ≡ n). ap w.places e ∙ (λ j. record { up = up j; node = (w.places n).node }) ∙ sym (cond-true (x == n) (record { up = true; node = (w.places n).node }) (w.places x) (eq-eqb x n e)))
+        (λ (e : x ≢ n). sym (cond-false (x == n) (record { up = true; node = (w.places n).node }) (w.places x) (ne_eqb x n e)))
+        (cases_eq x n);
+    packets = refl;
+    shown = refl;
+    asked = sym (append-nil (asked_of (items w.trace)));
+  }
+  silenced w numbers (g ∷ gs) up fresh all =
+      let node = (w.places n).node in
+      let d = decided m of_node node g.at g.input in
+      let p : Place = record { up = true; node = left d } in
+      let v = one_silent w g in
+      let l = line_of (silent_event n g) (silent_at w g).effect in
+      let es = map (silent_event n) gs in
+      let is : happens m c w (silent_event n g) ≡ v = silent_is w numbers g up fresh all.0.0 all.0.1 in
+      let here : v.places n ≡ p = at_own w.places p in
+      let asked_v : asked_of (items v.trace) ≡ asked_of (items w.trace) ++ option_to_list (asked_by (token_of of_node node.durable) g.input) = asked_more w.trace l in
+      let fresh_v : IsFresh (asked_of (items v.trace)) n (v.places n) (with_number g.input numbers) =
+      subst (λ (ts : List Token). IsFresh ts n (v.places n) (with_number g.input numbers)) (sym asked_v)
+      (subst (λ (q : Place). IsFresh (asked_of (items w.trace) ++ option_to_list (asked_by (token_of of_node node.durable) g.input)) n q (with_number g.input numbers)) (sym here)
+      (λ _. step_fresh m c n (w.places n) (carried_out d) (asked_of (items w.trace)) numbers g.at g.input (up, refl) fresh)) in
+      let all_v : AllCome v.packets (with_number g.input numbers) gs = subst (λ ps. AllCome ps (with_number g.input numbers) gs) (sym (append-nil w.packets)) all.1 in
+      let rest = silenced v (with_number g.input numbers) gs (ap (λ (q : Place). q.up) here) fresh_v all_v in
+      let boot : (v.places n).node.durable.boot ≡ node.durable.boot = ap (λ (q : Place). q.node.durable.boot) here ∙ (decide_thrifty m c n node g.at g.input).boot in
+      record {
+        places = λ x. ap (λ u. (run m c u es).places x) is ∙ rest.places x
+            ∙ ap (λ (q : Place). set_place v.places n (record { up = true; node = node_behind m of_node q.node gs }) x) here
+            ∙ twice (x == n) (record { up = true; node = node_behind m of_node (left d) gs }) p (w.places x);
+        packets = ap (λ u. (run m c u es).packets) is ∙ rest.packets ∙ append-nil w.packets;
+        shown = ap (λ u. flat_map shown_by (run m c u es).trace) is ∙ rest.shown ∙ shown_more w.trace l ∙ append-nil (flat_map shown_by w.trace);
+        asked = ap (λ u. asked_of (items (run m c u es).trace)) is ∙ rest.asked ∙ (λ j. asked_v j ++ asked_in n (boot j) gs)
+            ∙ append_assoc (asked_of (items w.trace)) (option_to_list (asked_by (token_of of_node node.durable) g.input)) (asked_in n node.durable.boot gs);
+      }
 
 -- ---- a step
 
@@ -350,6 +429,32 @@ module _ (m : EngineMeaning) (touches : TouchesOnlyHanded m) (c : Cluster) (w : 
   stop_events : (b : Bool) → at_node.up ≡ b → AreOfStop at_node.up n (cond b (Crash n ∷ []) [])
   stop_events b is = λ j. cond (sym is j) (Crash n ∷ []) []
 
+  -- ---- steps that were made durable at once, and of which nothing has left
+
+  unsaid : (numbers : List ℕ) → IsFresh (asked_of (items w.trace)) n at_node numbers → (gs : List Given) (a : After) → at_node.up ≡ true → AllCome w.packets numbers gs → a ≡ quiet (kept (node_behind m set at_node.node gs).durable) → Simulated m c w n (Unsaid gs) a
+  unsaid numbers fresh gs a up all d =
+      let es = map (silent_event n) gs in
+      let v = run m c w es in
+      let s = silenced m c n inside w numbers gs up fresh all in
+      let behind_them = node_behind m set at_node.node gs in
+      let q : Place = record { up = true; node = behind_them } in
+      let here : v.places n ≡ q = s.places n ∙ at_own m c n inside w.places q in
+      let down : Done = halted (heading_at set (v.places n).node.durable None) (v.places n).node.durable in
+      let l = line_of (Crash n) down.effect in
+      let crash : run m c w (es ++ Crash n ∷ []) ≡ done_by v (Crash n) n down =
+      sym (run_more m c w es (Crash n ∷ [])) ∙ (goes c v (record { node = n; task = task.Stop }) (Crash n) (no_stop_fault (is_there c n) (v.places n).up there (ap (λ (p : Place). p.up) here)) refl).happens m in
+      record {
+        events = es ++ Crash n ∷ [];
+        own = refl;
+        seen = ap seen_as crash ∙ (λ j. record {
+          places = λ x. (ap (λ (p : Place). cond (x == n) (stopped p.node.durable) (v.places x)) here ∙ ap (cond (x == n) (stopped behind_them.durable)) (s.places x)
+              ∙ twice (x == n) (stopped behind_them.durable) q (w.places x) ∙ (λ k. cond (x == n) (record { up = false; node = sym (node_in d) k }) (w.places x))) j;
+          packets = (append-nil v.packets ∙ s.packets ∙ sym (append-nil w.packets) ∙ ap (λ os. w.packets ++ sends_in os) (sym (puts_in d))) j;
+          shown = (shown_more v.trace l ∙ append-nil (flat_map shown_by v.trace) ∙ s.shown ∙ sym (append-nil (flat_map shown_by w.trace))) j;
+        });
+        asked = ap (λ (u : World). asked_of (items u.trace)) crash ∙ asked_more v.trace l ∙ append-nil (asked_of (items v.trace)) ∙ s.asked;
+      }
+
   -- ---- each call
 
   unused_by : (numbers : List ℕ) → IsFresh (asked_of (items w.trace)) n at_node numbers → at_node.up ≡ true → (i : Input) → IsNew numbers i → (o : Option Token) → asked_with i ≡ o → is_unused (asked_of (items w.trace)) o ≡ true
@@ -372,6 +477,7 @@ module _ (m : EngineMeaning) (touches : TouchesOnlyHanded m) (c : Cluster) (w : 
   simulated numbers fresh (Step at i (Refused step.Memory)) a was comes d = nothing_by (Step at i (Refused step.Memory)) a refl refl refl refl d
   simulated numbers fresh (Step at i (Refused step.Device)) a was comes d = torn at i a d.0 comes.0 (unused_at numbers fresh d.0 i comes.1) (Step at i (Refused step.Device)) (λ kept_too. (kept_too, refl)) refl refl refl d.1
   simulated numbers fresh (Step at i Cut) a was comes d = torn at i a d.0 comes.0 (unused_at numbers fresh d.0 i comes.1) (Step at i Cut) (λ kept_too. (kept_too, refl)) refl refl refl d.1
+  simulated numbers fresh (Unsaid gs) a was comes d = unsaid numbers fresh gs a d.0 comes d.1
   simulated numbers fresh (Compact Finished) a was comes d = nothing_by (Compact Finished) a refl refl refl refl d
   simulated numbers fresh (Compact (Refused journal.Damaged)) a was comes d = absurd d
   simulated numbers fresh (Compact (Refused journal.Failed)) a was comes d = nothing_by (Compact (Refused journal.Failed)) a refl refl refl refl d

@@ -1,11 +1,13 @@
 -- What holds between the calls of nodes over their disks: what a node that doesn't run keeps, and that a request that is new
 -- to a node comes under a token that none had.
-use Rattle.std.proofs.Common.{◌≡◌, ◌≢◌, inl, inr, ⊎_elim, ℕ, ◌<◌, ◌≤◌, ◌==◌, ◌&&◌, Bool, true, false, cond, Some, None, List, [], ◌++◌, arith, refl, sym, ap, ◌∙◌, subst, eq-eqb}
+use Rattle.std.proofs.Common.{◌≡◌, ◌≢◌, inl, inr, ⊎_elim, ℕ, ◌<◌, ◌≤◌, ◌==◌, ◌&&◌, Bool, true, false, cond, Some, None, List, [], ◌∷◌, ◌++◌, arith, refl, sym, ap, ◌∙◌, subst, eq-eqb}
+use Rattle.std.specs.List.{flat_map}
 use Rattle.std.specs.Option.{option_to_list}
 use Rattle.std.proofs.lemmas.Bool.{cases_eq, ne_eqb}
 use Rattle.sv_journal.specs.declared.journal_fault.JournalFault.TheVariants as journal
 use Rattle.sv_model.specs.declared.input.Input.{Input}
 use Rattle.sv_model.specs.declared.input.Input.TheVariants as input
+use Rattle.sv_model.specs.declared.key.Moment.{Moment}
 use Rattle.sv_model.specs.declared.key.Token.{Token}
 use Rattle.sv_model.specs.declared.node.Setting.{Setting}
 use Rattle.sv_model.specs.declared.site.StepFault.TheVariants as step
@@ -14,9 +16,10 @@ use Rattle.sv_model.specs.Membership.{In}
 use Rattle.sv_model.specs.Node.{decided}
 use Rattle.sv_model.specs.NodeState.{Durable, Node}
 use Rattle.sv_model.specs.Serving.{token_of}
+use Rattle.sv_model.specs.Step.{left}
 use Rattle.sv_model.specs.Trace.{asked_by, same_token, times}
 use Rattle.sv_node.specs.declared.fault.OpenFault.TheVariants as opening
-use Rattle.sv_node.specs.Call.{Call, Open, Step, Compact, Stop, Done, Refused, Cut, After, quiet, kept, Does, step_ends, runs_behind}
+use Rattle.sv_node.specs.Call.{Call, Open, Step, Unsaid, Compact, Stop, Done, Refused, Cut, Given, After, quiet, kept, node_behind, Does, step_ends, runs_behind}
 use Rattle.sv_node.specs.Opened.{restarted}
 use Rattle.sv_world.specs.Disks.{IsNew, with_number, numbers_behind}
 use Rattle.sv_world.specs.Waits.{tok, boot_of}
@@ -24,12 +27,17 @@ use Rattle.sv_world.specs.World.{Cluster, Place, setting_of, set_place}
 use Rattle.sv_world.proofs.Arrivals.{one_if, times_more}
 use Rattle.sv_world.proofs.Thrift.{apart, decide_thrifty}
 
+-- the tokens of the requests that came with several steps
+abbrev pub asked_in : ℕ → ℕ → List Given → List Token
+asked_in n boot gs = flat_map (λ g. option_to_list (asked_by (tok n boot) g.input)) gs
+
 -- the tokens of the request that came with a call, where a world hears of it
 abbrev pub asked_at : Cluster → ℕ → Durable → Call → List Token
 asked_at c n d (Open ending) = []
 asked_at c n d (Step at i Done) = option_to_list (asked_by (token_of (setting_of c n) d) i)
 asked_at c n d (Step at i (Refused fault)) = cond (step_ends fault) (option_to_list (asked_by (token_of (setting_of c n) d) i)) []
 asked_at c n d (Step at i Cut) = option_to_list (asked_by (token_of (setting_of c n) d) i)
+asked_at c n d (Unsaid gs) = asked_in n d.boot gs
 asked_at c n d (Compact ending) = []
 asked_at c n d Stop = []
 
@@ -85,6 +93,10 @@ module _ (c : Cluster) (t : Token) (n : ℕ) (d : Durable) where
   none_came input.Tick h = refl
   none_came (input.Move k to) h = refl
 
+  none_in : ((i : Input) → Differs t n d.boot i) → (gs : List Given) → times t (asked_in n d.boot gs) ≡ 0
+  none_in h [] = refl
+  none_in h (g ∷ gs) = omega (arith, times_more t (option_to_list (asked_by (tok n d.boot) g.input)) (asked_in n d.boot gs), none_came g.input (h g.input), none_in h gs)
+
   none_asked : ((i : Input) → Differs t n d.boot i) → (call : Call) → times t (asked_at c n d call) ≡ 0
   none_asked h (Open ending) = refl
   none_asked h (Step at i Done) = none_came i (h i)
@@ -93,6 +105,7 @@ module _ (c : Cluster) (t : Token) (n : ℕ) (d : Durable) where
   none_asked h (Step at i (Refused step.Memory)) = refl
   none_asked h (Step at i (Refused step.Device)) = none_came i (h i)
   none_asked h (Step at i Cut) = none_came i (h i)
+  none_asked h (Unsaid gs) = none_in h gs
   none_asked h (Compact ending) = refl
   none_asked h Stop = refl
 
@@ -125,6 +138,11 @@ module _ (m : EngineMeaning) (c : Cluster) (n : ℕ) (p : Place) (a : After) whe
   step_boot : (call : Call) (at : _) (i : Input) → (decided m set p.node at i).durable.boot ≡ boot
   step_boot call at i = (decide_thrifty m c n p.node at i).boot
 
+  -- so do several
+  behind_boot : (node : Node) (gs : List Given) → (node_behind m set node gs).durable.boot ≡ node.durable.boot
+  behind_boot node [] = refl
+  behind_boot node (g ∷ gs) = behind_boot (left (decided m set node g.at g.input)) gs ∙ (decide_thrifty m c n node g.at g.input).boot
+
   kept_down : (d : Durable) → a ≡ quiet (kept d) → a.node ≡ kept a.node.durable
   kept_down d l = ap (λ (b : After). b.node) l ∙ ap kept (sym (durable_is (kept d) l))
 
@@ -144,6 +162,7 @@ module _ (m : EngineMeaning) (c : Cluster) (n : ℕ) (p : Place) (a : After) whe
   stays_down (Step at i (Refused step.Memory)) d was off = same_down was d off
   stays_down (Step at i (Refused step.Device)) d was off = ⊎_elim (kept_down p.node.durable) (kept_down (decided m set p.node at i).durable) d.1
   stays_down (Step at i Cut) d was off = ⊎_elim (kept_down p.node.durable) (kept_down (decided m set p.node at i).durable) d.1
+  stays_down (Unsaid gs) d was off = kept_down (node_behind m set p.node gs).durable d.1
   stays_down (Compact Done) d was off = same_down was d off
   stays_down (Compact (Refused journal.Damaged)) d was off = absurd d
   stays_down (Compact (Refused journal.Failed)) d was off = same_down was d off
@@ -179,6 +198,7 @@ module _ (m : EngineMeaning) (c : Cluster) (n : ℕ) (p : Place) (a : After) whe
   rises (Step at i (Refused step.Memory)) d = same_boot d
   rises (Step at i (Refused step.Device)) d = ⊎_elim kept_boot (decided_boot at i) d.1
   rises (Step at i Cut) d = ⊎_elim kept_boot (decided_boot at i) d.1
+  rises (Unsaid gs) d = omega (arith, boot_is (kept (node_behind m set p.node gs).durable) d.1, behind_boot p.node gs)
   rises (Compact Done) d = same_boot d
   rises (Compact (Refused journal.Damaged)) d = absurd d
   rises (Compact (Refused journal.Failed)) d = same_boot d
@@ -221,21 +241,26 @@ module _ (m : EngineMeaning) (c : Cluster) (n : ℕ) (p : Place) (a : After) whe
     abbrev Stays : Call → Type 0
     Stays call = IsFresh (asked ++ asked_at c n p.node.durable call) n (place call) (numbers_behind call numbers)
 
+    -- behind a whole step
+    pub step_fresh : (at : Moment) (i : Input) → Did (Step at i Done) → IsFresh asked n p numbers → (number : ℕ) → (¬ In number (with_number i numbers)) → times (tok n new_boot number) (asked ++ option_to_list (asked_by (token_of set p.node.durable) i)) ≡ 0
+    step_fresh at i d fresh number new =
+        let same : new_boot ≡ boot = ap (λ (b : After). b.node.durable.boot) d.1 ∙ step_boot Stop at i in
+        still_none (tok n new_boot number) asked (option_to_list (asked_by (token_of set p.node.durable) i))
+        (subst (λ b. times (tok n b number) asked ≡ 0) (sym same) (fresh d.0 number (not_before i number new)))
+        (none_came c (tok n new_boot number) n p.node.durable i (not_that i number new))
+
     pub stays_fresh : (call : Call) → Did call → IsFresh asked n p numbers → IsPastOf asked n p → Stays call
     stays_fresh (Open Done) d fresh past up number new =
         still_none (tok n new_boot number) asked [] (past new_boot number (omega (arith, boot_is (kept (restarted p.node.durable)) d.2))) refl
     stays_fresh (Open (Refused fault)) d fresh past up number new = absurd (cc)
     stays_fresh (Open Cut) d fresh past up number new = absurd (cc)
-    stays_fresh (Step at i Done) d fresh past up number new =
-        let same : new_boot ≡ boot = ap (λ (b : After). b.node.durable.boot) d.1 ∙ step_boot Stop at i in
-        still_none (tok n new_boot number) asked (option_to_list (asked_by (token_of set p.node.durable) i))
-        (subst (λ b. times (tok n b number) asked ≡ 0) (sym same) (fresh d.0 number (not_before i number new)))
-        (none_came c (tok n new_boot number) n p.node.durable i (not_that i number new))
+    stays_fresh (Step at i Done) d fresh past up number new = step_fresh at i d fresh number new
     stays_fresh (Step at i (Refused step.Failed)) d fresh past up number new = runs_on d.1 fresh up number new
     stays_fresh (Step at i (Refused step.Full)) d fresh past up number new = runs_on d fresh up number new
     stays_fresh (Step at i (Refused step.Memory)) d fresh past up number new = runs_on d fresh up number new
     stays_fresh (Step at i (Refused step.Device)) d fresh past up number new = absurd (cc)
     stays_fresh (Step at i Cut) d fresh past up number new = absurd (cc)
+    stays_fresh (Unsaid gs) d fresh past up number new = absurd (cc)
     stays_fresh (Compact Done) d fresh past up number new = runs_on d fresh up number new
     stays_fresh (Compact (Refused journal.Damaged)) d fresh past up number new = absurd d
     stays_fresh (Compact (Refused journal.Failed)) d fresh past up number new = runs_on d fresh up number new

@@ -12,10 +12,10 @@ use Rattle.sv_model.specs.Membership.{In}
 use Rattle.sv_model.specs.Replay.{applied}
 use Rattle.sv_model.specs.Trace.{asked_of}
 use Rattle.sv_world.specs.declared.event.WorldEvent.{WorldEvent}
-use Rattle.sv_world.specs.declared.event.WorldEvent.TheVariants.{Ask, Deliver, Poke, Tick, Move, Crash, Torn, Restart, TornRestart}
+use Rattle.sv_world.specs.declared.event.WorldEvent.TheVariants.{Ask, Deliver, Poke, Tick, Move, Crash, Torn, Silent, Restart, TornRestart}
 use Rattle.sv_world.specs.Sent.{may_come}
 use Rattle.sv_world.specs.declared.call.Call.{Call}
-use Rattle.sv_world.specs.World.{Cluster, Place, World, durable_at, stopped, started, items, call_of, decision, token_of_call, is_unused, is_there, is_ready, whole, cut, becomes, halt, boot_record, boots, is_spent, steps, tears, starts, happens, run}
+use Rattle.sv_world.specs.World.{Cluster, Place, World, durable_at, stopped, started, items, call_of, decision, token_of_call, is_unused, is_there, is_ready, whole, cut, silent, becomes, halt, boot_record, boots, is_spent, steps, tears, hushes, starts, happens, run}
 use Rattle.sv_world.proofs.SentLemmas.{sent_in}
 
 -- a packet that is given was sent
@@ -55,6 +55,7 @@ pub record Behind (m : EngineMeaning) (c : Cluster) (w : World) (e : WorldEvent)
   pub still : P w
   pub whole_by : (call : Call) → call_of w.packets e ≡ Some call → IsReady c w call → P (whole c w e call (decision m c w call))
   pub cut_by : (call : Call) → call_of w.packets e ≡ Some call → IsReady c w call → P (cut c w e call (decision m c w call))
+  pub silent_by : (call : Call) → call_of w.packets e ≡ Some call → IsReady c w call → P (silent c w e call (decision m c w call))
   pub halt_by : (n : ℕ) (asked : Option Token) → is_unused (asked_of (items w.trace)) asked ≡ true → P (halt w e n asked)
   pub boots_by : (n : ℕ) (p : Place) → p.node.parked ≡ [] → p.node.durable ≡ applied (boot_record w n) (durable_at w n) → P (becomes w e n p (Some (boot_record w n)) None)
 
@@ -73,6 +74,10 @@ module _ (m : EngineMeaning) (c : Cluster) (w : World) (P : World → Type 0) wh
       (λ t. let r = readies c w call t in cond_both (kept && is_some d.entry) cuts halts P (λ _. h.cut_by call is r) (λ _. h.halt_by call.node (token_of_call c w call) r.unused))
       (λ _. h.still)
 
+  hushed : (e : WorldEvent) (call : Option Call) → call_of w.packets e ≡ call → Behind m c w e P → P (hushes m c w e call)
+  hushed e None is h = h.still
+  hushed e (Some call) is h = cond_both (is_ready c w call) (silent c w e call (decision m c w call)) w P (λ t. h.silent_by call is (readies c w call t)) (λ _. h.still)
+
   start : (e : WorldEvent) (n : ℕ) (kept : Bool) (place : Durable → Place) → ((d : Durable) → (place d).node.parked ≡ []) → ((d : Durable) → (place d).node.durable ≡ d) → Behind m c w e P → P (starts c w e n kept place)
   start e n kept place none same h =
       cond_both (is_there c n && not (w.places n).up) (cond (kept && not (is_spent w n)) (boots w e n place) (halt w e n None)) w P
@@ -86,6 +91,7 @@ module _ (m : EngineMeaning) (c : Cluster) (w : World) (P : World → Type 0) wh
   behind (Tick n moment) h = stepped (Tick n moment) (call_of w.packets (Tick n moment)) refl h
   behind (Move n moment k to) h = stepped (Move n moment k to) (call_of w.packets (Move n moment k to)) refl h
   behind (Torn n moment given kept) h = torn (Torn n moment given kept) kept (call_of w.packets (Torn n moment given kept)) refl h
+  behind (Silent n moment given) h = hushed (Silent n moment given) (call_of w.packets (Silent n moment given)) refl h
   behind (Crash n) h = cond_both (is_there c n && (w.places n).up) (halt w (Crash n) n None) w P (λ _. h.halt_by n None refl) (λ _. h.still)
   behind (Restart n) h = start (Restart n) n true started (λ d. refl) (λ d. refl) h
   behind (TornRestart n kept) h = start (TornRestart n kept) n kept stopped (λ d. refl) (λ d. refl) h

@@ -1,4 +1,4 @@
--- A run that does something: a node starts and answers a request.
+-- Runs that do something: a node starts and answers a request, hands a session over, and is stopped.
 use Rattle.std.proofs.Common.{◌≡◌, true, None, [], ◌∷◌, refl}
 use Rattle.sv_model.specs.declared.key.Moment.{Moment}
 use Rattle.sv_model.specs.declared.request.Request.{Request}
@@ -14,10 +14,10 @@ use Rattle.sv_model.proofs.KeyLemmas.{keys_total}
 use Rattle.sv_model.specs.declared.state.KeyState.{KeyState}
 use Rattle.sv_model.specs.declared.state.KeyState.TheVariants.{Active}
 use Rattle.sv_model.specs.Engine.{EngineMeaning}
-use Rattle.sv_model.specs.Trace.{replies_of}
+use Rattle.sv_model.specs.Trace.{replies_of, served_of}
 use Rattle.sv_model.specs.declared.input.Input.TheVariants as input
-use Rattle.sv_world.specs.declared.event.WorldEvent.TheVariants.{Ask, Torn, Restart}
-use Rattle.sv_world.specs.World.{Cluster, World, nothing_happened, run, items, records_at}
+use Rattle.sv_world.specs.declared.event.WorldEvent.TheVariants.{Ask, Crash, Torn, Silent, Restart}
+use Rattle.sv_world.specs.World.{Cluster, World, nothing_happened, run, items, commits_in, records_at}
 
 -- it makes a session for each request
 abbrev pub makes : Response → Session → EngineMeaning
@@ -42,3 +42,20 @@ module _ (response : Response) (s : Session) (r : Request) (moment : Moment) whe
 
   sent : records_at 0 moved.trace ≡ Boot 1 ∷ CommitRecord Unchanged (ChangeAlive (record { home = 0; serial = 1 }) s) ∷ SentRecord (record { home = 0; serial = 1 }) 2 1 s ∷ []
   sent = rw (len-empty key_cmp KeyState, get-insert keys_total empty (record { home = 0; serial = 1 }) (Active 1 s) (record { home = 0; serial = 1 })) refl
+
+  -- both steps become durable together, and a stop falls before anything of them has left
+  abbrev torn_away : World
+  torn_away = run (makes response s) two nothing_happened (Restart 0 ∷ Restart 1 ∷ Silent 0 moment (input.Ask 7 r) ∷ Silent 0 moment (input.Move (record { home = 0; serial = 1 }) 1) ∷ Crash 0 ∷ [])
+
+  same_records : records_at 0 torn_away.trace ≡ records_at 0 moved.trace
+  same_records = rw (len-empty key_cmp KeyState, get-insert keys_total empty (record { home = 0; serial = 1 }) (Active 1 s) (record { home = 0; serial = 1 })) refl
+
+  -- who asked has no answer, and stands in the list
+  no_replies : replies_of (items torn_away.trace) ≡ []
+  no_replies = refl
+
+  served : served_of (commits_in torn_away) ≡ record { number = 7; node = 0; boot = 1 } ∷ []
+  served = rw (len-empty key_cmp KeyState, get-insert keys_total empty (record { home = 0; serial = 1 }) (Active 1 s) (record { home = 0; serial = 1 })) refl
+
+  no_packets : torn_away.packets ≡ []
+  no_packets = refl

@@ -15,7 +15,7 @@ use Rattle.sv_model.specs.NodeState.{last_number}
 use Rattle.sv_model.specs.Outputs.{sends_in}
 use Rattle.sv_model.specs.Node.{decided}
 use Rattle.sv_world.specs.declared.event.WorldEvent.{WorldEvent}
-use Rattle.sv_world.specs.declared.event.WorldEvent.TheVariants.{Ask, Deliver, Poke, Tick, Move, Crash, Torn, Restart, TornRestart}
+use Rattle.sv_world.specs.declared.event.WorldEvent.TheVariants.{Ask, Deliver, Poke, Tick, Move, Crash, Torn, Silent, Restart, TornRestart}
 use Rattle.sv_world.specs.declared.line.Effect.{Effect}
 use Rattle.sv_world.specs.declared.order.Order.{Order}
 use Rattle.sv_world.specs.declared.seat.Seat.{Seat}
@@ -42,6 +42,7 @@ deed_node m set p (task.Torn moment input kept) =
     let d = decided m set p.node moment input in
     let h = heading_by set p.node.durable input in
     node_by (kept && is_some d.entry) (record { place = stopped d.durable; effect = quiet_at h d.entry d.commit }) (halted h p.node.durable) set.node refl refl
+deed_node m set p (task.Silent moment input) = refl
 deed_node m set p task.Stop = refl
 deed_node m set p task.Start = node_by (true && not (p.node.durable.boot == last_number)) (booted (heading_at set p.node.durable None) p.node.durable started) (halted (heading_at set p.node.durable None) p.node.durable) set.node refl refl
 deed_node m set p (task.TornStart kept) = node_by (kept && not (p.node.durable.boot == last_number)) (booted (heading_at set p.node.durable None) p.node.durable stopped) (halted (heading_at set p.node.durable None) p.node.durable) set.node refl refl
@@ -169,6 +170,7 @@ start_task sent (Tick n moment) o h is = absurd (let no : false ≡ true = h in 
 start_task sent (Move n moment k to) o h is = absurd (let no : false ≡ true = h in cc)
 start_task sent (Crash n) o h is = absurd (let no : false ≡ true = h in cc)
 start_task sent (Torn n moment given kept) o h is = absurd (let no : false ≡ true = h in cc)
+start_task sent (Silent n moment given) o h is = absurd (let no : false ≡ true = h in cc)
 start_task sent (Restart n) o h is = ap (λ (x : Order). x.task) (sym (same_Some (record { node = n; task = task.Start }) o is))
 start_task sent (TornRestart n kept) o h is = absurd (let no : false ≡ true = h in cc)
 

@@ -12,16 +12,16 @@ use Rattle.sv_model.specs.Outputs.{sends_in}
 use Rattle.sv_model.specs.Trace.{asked_of}
 use Rattle.sv_world.specs.declared.call.Call.{Call}
 use Rattle.sv_world.specs.declared.event.WorldEvent.{WorldEvent}
-use Rattle.sv_world.specs.declared.event.WorldEvent.TheVariants.{Ask, Deliver, Poke, Tick, Move, Crash, Torn, Restart, TornRestart}
+use Rattle.sv_world.specs.declared.event.WorldEvent.TheVariants.{Ask, Deliver, Poke, Tick, Move, Crash, Torn, Silent, Restart, TornRestart}
 use Rattle.sv_world.specs.declared.fault.WorldFault.TheVariants.{NoPacket}
 use Rattle.sv_world.specs.declared.order.Order.{Order}
 use Rattle.sv_world.specs.declared.task.Task.{Task}
 use Rattle.sv_world.specs.declared.task.Task.TheVariants as task
 use Rattle.sv_world.specs.Deed.{Done, deed, wants_up, line_of, quiet_at, heading_at, heading_by, halted, booted, start_by}
 use Rattle.sv_world.specs.Faults.{call_fault, start_fault, fault_of}
-use Rattle.sv_world.specs.Order.{whole_order, torn_order, order_of}
+use Rattle.sv_world.specs.Order.{whole_order, torn_order, silent_order, order_of}
 use Rattle.sv_world.specs.Sent.{may_come}
-use Rattle.sv_world.specs.World.{Cluster, Place, World, set_place, setting_of, durable_at, stopped, started, items, call_of, decision, token_of_call, is_unused, is_there, is_ready, is_spent, whole, cut, becomes, halt, boots, steps, tears, starts, happens}
+use Rattle.sv_world.specs.World.{Cluster, Place, World, set_place, setting_of, durable_at, stopped, started, items, call_of, decision, token_of_call, is_unused, is_there, is_ready, is_spent, whole, cut, silent, becomes, halt, boots, steps, tears, hushes, starts, happens}
 use Rattle.sv_world.proofs.FaultLemmas.{step_goes, start_goes, stop_goes}
 
 -- a world in which this was done at a node
@@ -68,6 +68,11 @@ module _ (c : Cluster) (w : World) (e : WorldEvent) where
       ∙ split call.node (kept && is_some d.entry) (cut c w e call d) (halt w e call.node (token_of_call c w call)) (record { place = stopped d.durable; effect = quiet_at heading d.entry d.commit }) (halted heading (durable_at w call.node))
       (λ i. record (cut c w e call d) { packets = sym (append-nil w.packets) i }) (quiet call.node (stopped (durable_at w call.node)) None (token_of_call c w call))
 
+  hushes_go : (m : EngineMeaning) (call : Call) → call_fault c w (Some call) ≡ None → hushes m c w e (Some call) ≡ done_at m c w e (silent_order call)
+  hushes_go m call h =
+      let d = decision m c w call in
+      cond-true (is_ready c w call) (silent c w e call d) w (ready call h) ∙ (λ i. record (silent c w e call d) { packets = sym (append-nil w.packets) i })
+
   starts_go : (n : ℕ) (kept : Bool) (place : Durable → Place) → start_fault (is_there c n) (w.places n).up ≡ None → starts c w e n kept place ≡ done_by w e n (start_by (setting_of c n) (durable_at w n) kept place)
   starts_go n kept place h =
       let heading = heading_at (setting_of c n) (durable_at w n) None in
@@ -83,6 +88,10 @@ module _ (c : Cluster) (w : World) (e : WorldEvent) where
   torn_goes o kept None is fault order = absurd (let no : Some NoPacket ≡ None = fault in cc)
   torn_goes o kept (Some call) is fault order = subst (Goes c w e) (same_Some (torn_order kept call) o order) (record { happens = λ m. is m ∙ tears_go m kept call fault; there = (there_up call fault).0; up = (there_up call fault).1 })
 
+  silent_goes : (o : Order) (call : Option Call) → ((m : EngineMeaning) → happens m c w e ≡ hushes m c w e call) → call_fault c w call ≡ None → option_map silent_order call ≡ Some o → Goes c w e o
+  silent_goes o None is fault order = absurd (let no : Some NoPacket ≡ None = fault in cc)
+  silent_goes o (Some call) is fault order = subst (Goes c w e) (same_Some (silent_order call) o order) (record { happens = λ m. is m ∙ hushes_go m call fault; there = (there_up call fault).0; up = (there_up call fault).1 })
+
   start_goes_by : (n : ℕ) (kept : Bool) (place : Durable → Place) (t : Task) → wants_up t ≡ false → ((m : EngineMeaning) → happens m c w e ≡ starts c w e n kept place)
       → ((m : EngineMeaning) → start_by (setting_of c n) (durable_at w n) kept place ≡ deed m (setting_of c n) (w.places n) t) → start_fault (is_there c n) (w.places n).up ≡ None → Goes c w e (record { node = n; task = t })
   start_goes_by n kept place t down is same fault =
@@ -97,6 +106,7 @@ module _ (c : Cluster) (w : World) (o : Order) where
   goes (Tick n moment) f h = whole_goes c w (Tick n moment) o (call_of w.packets (Tick n moment)) (λ m. refl) f h
   goes (Move n moment k to) f h = whole_goes c w (Move n moment k to) o (call_of w.packets (Move n moment k to)) (λ m. refl) f h
   goes (Torn n moment given kept) f h = torn_goes c w (Torn n moment given kept) o kept (call_of w.packets (Torn n moment given kept)) (λ m. refl) f h
+  goes (Silent n moment given) f h = silent_goes c w (Silent n moment given) o (call_of w.packets (Silent n moment given)) (λ m. refl) f h
   goes (Crash n) f h =
       let both = stop_goes (is_there c n) (w.places n).up f in
       let a = and_parts (is_there c n) (w.places n).up both in
@@ -125,6 +135,7 @@ module _ (c : Cluster) (w : World) where
   asks (Tick n moment) h = refl
   asks (Move n moment k to) h = refl
   asks (Torn n moment given kept) h = refl
+  asks (Silent n moment given) h = refl
   asks (Crash n) h = refl
   asks (Restart n) h = refl
   asks (TornRestart n kept) h = refl

@@ -23,11 +23,11 @@ use Rattle.sv_world.specs.declared.event.WorldEvent.TheVariants as event
 use Rattle.sv_world.specs.Headline.{request_in, request_of, WasAsked, AllServed}
 use Rattle.sv_world.specs.declared.line.Line.{Line}
 use Rattle.sv_world.specs.declared.call.Call.{Call}
-use Rattle.sv_world.specs.World.{Cluster, Place, World, set_place, durable_at, stopped, nothing_happened, items, commits_in, whole, cut, call_of, is_unused, decision, happens, run, item_at, token_of_call}
+use Rattle.sv_world.specs.World.{Cluster, Place, World, set_place, durable_at, stopped, nothing_happened, items, commits_in, whole, cut, silent, call_of, is_unused, decision, happens, run, item_at, token_of_call}
 use Rattle.sv_world.specs.Waits.{Waits}
 use Rattle.sv_world.proofs.Keys.{in_left, in_right}
 use Rattle.sv_world.proofs.Arrivals.{one_if, token_self, asked_snoc, arrival_snoc, arrival_new, items_snoc}
-use Rattle.sv_world.proofs.Waiting.{Patient, waits_still, whole_waits, stop_waits, boot_waits}
+use Rattle.sv_world.proofs.Waiting.{Patient, waits_still, whole_waits, silent_waits, stop_waits, boot_waits}
 use Rattle.sv_world.proofs.Patience.{HasCome, decide_patient}
 use Rattle.sv_model.specs.Serving.{token_of}
 use Rattle.sv_model.specs.NodeState.{Durable}
@@ -74,6 +74,7 @@ brought ps (event.Poke n moment) call is = ap (λ (x : Call). request_in x.input
 brought ps (event.Tick n moment) call is = ap (λ (x : Call). request_in x.input) (same_Some (record { node = n; moment = moment; input = Tick }) call is)
 brought ps (event.Move n moment k to) call is = ap (λ (x : Call). request_in x.input) (same_Some (record { node = n; moment = moment; input = Move k to }) call is)
 brought ps (event.Torn n moment given kept) call is = ap (λ (x : Call). request_in x.input) (same_Some (record { node = n; moment = moment; input = given }) call is)
+brought ps (event.Silent n moment given) call is = ap (λ (x : Call). request_in x.input) (same_Some (record { node = n; moment = moment; input = given }) call is)
 brought ps (event.Crash n) call is = absurd (cc)
 brought ps (event.Restart n) call is = absurd (cc)
 brought ps (event.TornRestart n kept) call is = absurd (cc)
@@ -112,11 +113,18 @@ module _ (m : EngineMeaning) (c : Cluster) where
       lined m (set_place w.places call.node (stopped d.durable)) w.packets w.trace _
       (stop_waits m w.places w.packets (commits_in w) _ _ (grows m w _ j) call.node d.durable d.commit p.boot p.commit p.served)
 
+  silent_waiting : (w : World) (e : WorldEvent) (call : Call) → call_of w.packets e ≡ Some call → IsReady c w call → Inv m c w → Waiting m w → Waiting m (silent c w e call (decision m c w call))
+  silent_waiting w e call is r inv j =
+      let d = decision m c w call in
+      lined m (set_place w.places call.node (record { up = true; node = left d })) w.packets w.trace _
+      (silent_waits m w.places w.packets (commits_in w) _ _ (grows m w _ j) call.node d r.up (patient_at w call _ (brought w.packets e call is) refl r inv j))
+
   pub happens_waits : (w : World) (e : WorldEvent) → Inv m c w → Waiting m w → Waiting m (happens m c w e)
   happens_waits w e inv j = behind m c w (Waiting m) e (record {
     still = j;
     whole_by = λ call is r. whole_waiting w e call is r inv j;
     cut_by = λ call is r. cut_waiting w e call is r inv j;
+    silent_by = λ call is r. silent_waiting w e call is r inv j;
     halt_by = λ n asked _. lined m (set_place w.places n (stopped (durable_at w n))) w.packets w.trace _ (stop_waits m w.places w.packets (commits_in w) _ _ (grows m w _ j) n (durable_at w n) None refl tt tt);
     boots_by = λ n p none same. lined m (set_place w.places n p) w.packets w.trace _ (boot_waits m w.places w.packets (commits_in w) _ _ (grows m w _ j) n p none (ap (λ (d : Durable). d.boot) same));
   })

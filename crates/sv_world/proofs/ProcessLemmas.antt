@@ -8,10 +8,10 @@ use Rattle.sv_model.specs.declared.node.Setting.{Setting}
 use Rattle.sv_model.specs.declared.packet.Packet.{Packet}
 use Rattle.sv_model.specs.Engine.{EngineMeaning}
 use Rattle.sv_model.specs.Membership.{In}
-use Rattle.sv_node.specs.Call.{Call, Open, Step, Compact, Stop, Done, Refused, Cut, runs_behind}
-use Rattle.sv_node.specs.History.{Turn, Stand, AreTurns, IsAbove, number_in, RisesAt, lowest_behind, Rise}
-use Rattle.sv_world.specs.Disks.{NodeCall, Seen, IsNew, MayCome, IsCall, AreCalls, with_number, numbers_behind, all_numbers, behind, nothing_called}
-use Rattle.sv_world.specs.Processes.{turn_of, turns_at, BringsSent, BringSent, AreOfProcesses}
+use Rattle.sv_node.specs.Call.{Call, Open, Step, Unsaid, Compact, Stop, Given, Done, Refused, Cut, runs_behind}
+use Rattle.sv_node.specs.History.{Turn, Stand, AreTurns, IsAbove, number_in, RiseIn, numbers_in, RisesAt, lowest_behind, Rise}
+use Rattle.sv_world.specs.Disks.{NodeCall, Seen, IsNew, AllCome, MayCome, IsCall, AreCalls, with_number, numbers_behind, all_numbers, behind, nothing_called}
+use Rattle.sv_world.specs.Processes.{turn_of, turns_at, BringAll, BringsSent, BringSent, AreOfProcesses}
 use Rattle.sv_world.specs.World.{Cluster, Place, setting_of}
 
 -- ---- numbers
@@ -47,6 +47,10 @@ upto_with low numbers input.Poke upto above = upto
 upto_with low numbers input.Tick upto above = upto
 upto_with low numbers (input.Move k to) upto above = upto
 
+upto_all : (low : ℕ) (numbers : List ℕ) (gs : List Given) → UpTo low numbers → RiseIn low gs → UpTo (numbers_in low gs) numbers
+upto_all low numbers [] upto rises = upto
+upto_all low numbers (g ∷ gs) upto rises = upto_all (number_in low g.input) numbers gs (upto_input low numbers g.input upto rises.0) rises.1
+
 upto_behind : (low : ℕ) (numbers : List ℕ) (c : Call) → UpTo low numbers → RisesAt low c → UpTo (lowest_behind low c) (numbers_behind c numbers)
 upto_behind low numbers (Open Done) upto rises = no_number
 upto_behind low numbers (Open (Refused fault)) upto rises = upto
@@ -54,12 +58,19 @@ upto_behind low numbers (Open Cut) upto rises = upto
 upto_behind low numbers (Step at i Done) upto rises = upto_with low numbers i upto rises
 upto_behind low numbers (Step at i (Refused fault)) upto rises = upto_input low numbers i upto rises
 upto_behind low numbers (Step at i Cut) upto rises = upto_input low numbers i upto rises
+upto_behind low numbers (Unsaid gs) upto rises = upto_all low numbers gs upto rises
 upto_behind low numbers (Compact ending) upto rises = upto
 upto_behind low numbers Stop upto rises = upto
+
+all_come : (packets : List Packet) (low : ℕ) (numbers : List ℕ) (gs : List Given) → UpTo low numbers → RiseIn low gs → BringAll packets gs → AllCome packets numbers gs
+all_come packets low numbers [] upto rises sent = tt
+all_come packets low numbers (g ∷ gs) upto rises sent =
+    ((sent.0, is_new low numbers g.input upto rises.0), all_come packets (number_in low g.input) (with_number g.input numbers) gs (upto_with low numbers g.input upto rises.0) rises.1 sent.1)
 
 may_come : (packets : List Packet) (low : ℕ) (numbers : List ℕ) (c : Call) → UpTo low numbers → RisesAt low c → BringsSent packets c → MayCome packets numbers c
 may_come packets low numbers (Open ending) upto rises sent = tt
 may_come packets low numbers (Step at i ending) upto rises sent = (sent, is_new low numbers i upto rises)
+may_come packets low numbers (Unsaid gs) upto rises sent = all_come packets low numbers gs upto rises sent
 may_come packets low numbers (Compact ending) upto rises sent = tt
 may_come packets low numbers Stop upto rises sent = tt
 

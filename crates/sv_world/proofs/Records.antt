@@ -70,6 +70,7 @@ module _ (m : EngineMeaning) (touches : TouchesOnlyHanded m) (c : Cluster) where
     still = j;
     whole_by = λ call is r. grows c w call.node (record { up = true; node = left (decision m c w call) }) _ _ refl (sound_at m touches c w call inv r).applies (fits_at w call) j;
     cut_by = λ call is r. grows c w call.node (stopped (decision m c w call).durable) _ w.packets refl (sound_at m touches c w call inv r).applies (fits_at w call) j;
+    silent_by = λ call is r. grows c w call.node (record { up = true; node = left (decision m c w call) }) _ w.packets refl (sound_at m touches c w call inv r).applies (fits_at w call) j;
     halt_by = λ n asked _. grows c w n (stopped (durable_at w n)) _ w.packets refl refl (λ stage. tt) j;
     boots_by = λ n p none same. grows c w n p _ w.packets refl same (λ stage. refl) j;
   })

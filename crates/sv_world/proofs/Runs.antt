@@ -24,11 +24,12 @@ use Rattle.sv_model.specs.Trace.{Item, commits_of}
 use Rattle.sv_model.specs.Membership.{with_last}
 use Rattle.sv_model.specs.Outputs.{sends_in}
 use Rattle.sv_model.specs.Opening.{opening_of}
+use Rattle.sv_model.specs.Replay.{applied_if}
 use Rattle.sv_world.specs.Life.{Life, Unborn}
 use Rattle.sv_world.specs.declared.event.WorldEvent.{WorldEvent}
 use Rattle.sv_world.specs.declared.line.Line.{Line}
 use Rattle.sv_world.specs.declared.call.Call.{Call}
-use Rattle.sv_world.specs.World.{Cluster, Place, World, set_place, durable_at, stopped, nothing_happened, items, commits_in, openings_of, whole, cut, becomes, decision, happens, run, item_at, boot_record}
+use Rattle.sv_world.specs.World.{Cluster, Place, World, set_place, durable_at, stopped, nothing_happened, items, commits_in, openings_of, whole, cut, silent, becomes, decision, happens, run, item_at, boot_record, quiet_line, commit_with, token_of_call}
 use Rattle.sv_world.specs.Sane.{Sane, acked, store_of}
 use Rattle.sv_world.specs.Headline.{states, IsLiveAt, IsOpening, IsLive, granted, opened}
 use Rattle.sv_model.specs.Node.{decided}
@@ -97,6 +98,20 @@ alike_keeps m c w e n p entry asked none keys next inv =
       lawful = j.lawful;
     }))
 
+-- a step of which nothing leaves its node: what it made durable, and nothing where it has no record
+silent_by : (m : EngineMeaning) (c : Cluster) (w : World) (e : WorldEvent) (call : Call) (d : Decision) → SoundAt m c w call.node d → Inv m c w → (o : Option Record) → d.entry ≡ o
+    → Inv m c (record { places = set_place w.places call.node (record { up = true; node = left d }); packets = w.packets; trace = w.trace ++ quiet_line w e call.node (token_of_call c w call) o (commit_with o d.commit) ∷ [] })
+silent_by m c w e call d s inv None is =
+    let same : d.durable ≡ durable_at w call.node = s.applies ∙ ap (λ o. applied_if o (durable_at w call.node)) is in
+    alike_keeps m c w e call.node (record { up = true; node = left d }) None (token_of_call c w call) refl (ap (λ (x : Durable). x.keys) same) (ap (λ (x : Durable). x.next) same) inv
+silent_by m c w e call d s inv (Some r) is =
+    let p : Place = record { up = true; node = left d } in
+    let new = disks_of (set_place w.places call.node p) in
+    inv_by m c (set_place w.places call.node p) w.packets w.trace _ (subst (λ o. Sane m c new w.packets (with_last (openings_of w.trace) (opening_of o)) (with_last (commits_in w) d.commit)) is (s.durable _ (redisk w.places call.node p)))
+
+silent_keeps : (m : EngineMeaning) (c : Cluster) (w : World) (e : WorldEvent) (call : Call) (d : Decision) → SoundAt m c w call.node d → Inv m c w → Inv m c (silent c w e call d)
+silent_keeps m c w e call d s inv = silent_by m c w e call d s inv d.entry refl
+
 -- ---- an event
 
 module _ (m : EngineMeaning) (touches : TouchesOnlyHanded m) (c : Cluster) where
@@ -115,6 +130,7 @@ module _ (m : EngineMeaning) (touches : TouchesOnlyHanded m) (c : Cluster) where
     still = j;
     whole_by = λ call is r. whole_keeps m c w e call (decision m c w call) (sound_at w call j r);
     cut_by = λ call is r. cut_keeps m c w e call (decision m c w call) (sound_at w call j r);
+    silent_by = λ call is r. silent_keeps m c w e call (decision m c w call) (sound_at w call j r) j;
     halt_by = λ n asked _. alike_keeps m c w e n (stopped (durable_at w n)) None asked refl refl refl j;
     boots_by = λ n p none same. alike_keeps m c w e n p (Some (boot_record w n)) None refl (ap (λ (d : Durable). d.keys) same) (ap (λ (d : Durable). d.next) same) j;
   })

@@ -21,11 +21,11 @@ use Rattle.sv_world.specs.declared.line.Effect.{Effect}
 use Rattle.sv_world.specs.declared.line.Heading.{Heading}
 use Rattle.sv_world.specs.declared.cutting.Rest.{Rest}
 use Rattle.sv_world.specs.declared.seat.Seat.{Seat}
-use Rattle.sv_world.specs.declared.task.Task.TheVariants.{Step, Torn}
-use Rattle.sv_world.specs.Acting.{row_at, rest_of, IsCarriedOut, MayFollow, halted_with}
+use Rattle.sv_world.specs.declared.task.Task.TheVariants.{Step, Torn, Silent}
+use Rattle.sv_world.specs.Acting.{row_at, rest_of, IsCarriedOut, IsSilenced, MayFollow, halted_with}
 use Rattle.sv_world.specs.Deed.{Done, deed, told_by, heading_by, torn_by, halted, quiet_at, whole_at}
 use Rattle.sv_world.specs.Seat.{IsSeat, HasDone, RunsOver, place_by, place_of, durable_of, engine_by, engine_in, meaning_in}
-use Rattle.sv_world.specs.World.{Place, stopped}
+use Rattle.sv_world.specs.World.{Place, stopped, commit_with}
 use Rattle.sv_world.proofs.ActingLemmas.{fits_more, replayed_more}
 
 pub ok_both : {A B J : Type 0} {P Q : A → Type 0} (r : Result A B) → ((x : A) → P x → J → Q x) → IfOk r P → OnOk r J → IfOk r Q
@@ -64,6 +64,17 @@ module _ {E : Type 0} (meaning : E → EngineMeaning) (noted : E → List (List 
         place = runs_at new b now ∙ ap (λ (n : Node). record { up = true; node = n }) (a.node ∙ ap left row);
         effect = a.effect ∙ (λ i. whole_at (h_is i) (row i));
         heard = ap (option_map noted) (engine_at new b now) ∙ ap Some (a.heard ∙ (λ i. heard_all (means_now i) (noted (core.engine_of c)) (ap told_by (sym a.effect) i))) ∙ ap (λ o. option_map (λ x. heard_all m x (told_by f)) (option_map noted o)) (sym (engine_at old c is));
+      }
+
+  pub hush_done : (new : Seat E) (b : Core E) → new.core ≡ Some b → (moment : Moment) (input : Input) (h : Heading) (f : Effect) → h ≡ heading_by old.setting (place_of old).node.durable input → noted (core.engine_of b) ≡ noted (core.engine_of c)
+      → IsSilenced (row_at (meaning (core.engine_of c)) (core.setting_of c) (core.node_at c) moment input) h (core.node_at b) f
+      → (m : EngineMeaning) → meaning_in meaning old ≡ Some m → HasDone noted m old new (Silent moment input) f
+  hush_done new b now moment input h f h_is still a m means =
+      let row : row_at (meaning (core.engine_of c)) (core.setting_of c) (core.node_at c) moment input ≡ decided m old.setting (place_of old).node moment input = row_is m means moment input in
+      record {
+        place = runs_at new b now ∙ ap (λ (n : Node). record { up = true; node = n }) (a.node ∙ ap left row);
+        effect = a.effect ∙ (λ i. quiet_at (h_is i) (row i).entry (commit_with (row i).entry (row i).commit));
+        heard = ap (option_map noted) (engine_at new b now) ∙ ap Some (still ∙ ap (heard_all m (noted (core.engine_of c))) (ap told_by (sym a.effect))) ∙ ap (λ o. option_map (λ x. heard_all m x (told_by f)) (option_map noted o)) (sym (engine_at old c is));
       }
 
 -- ---- a step that a stop cuts

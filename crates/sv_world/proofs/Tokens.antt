@@ -17,7 +17,7 @@ use Rattle.sv_model.specs.Membership.{with_last}
 use Rattle.sv_world.specs.declared.event.WorldEvent.{WorldEvent}
 use Rattle.sv_world.specs.declared.line.Line.{Line}
 use Rattle.sv_world.specs.declared.call.Call.{Call}
-use Rattle.sv_world.specs.World.{Cluster, Place, World, set_place, durable_at, stopped, nothing_happened, items, commits_in, whole, cut, becomes, is_unused, decision, happens, run, item_at, token_of_call, boot_record}
+use Rattle.sv_world.specs.World.{Cluster, Place, World, set_place, durable_at, stopped, nothing_happened, items, commits_in, whole, cut, silent, becomes, commit_with, is_unused, decision, happens, run, item_at, token_of_call, boot_record}
 use Rattle.sv_world.specs.Waits.{boot_of}
 use Rattle.sv_world.proofs.Arrivals.{one_if, token_same, times_more, times_one, asked_snoc, items_snoc}
 use Rattle.sv_world.proofs.Waiting.{by_node}
@@ -39,6 +39,11 @@ refused_snoc t is i = omega (arith, ap (times t) (flat_map-append (λ (x : Item)
 pub record Spent (w : World) : Type 0 where
   pub count : (t : Token) → times t (served_of (commits_in w)) + times t (refused_of (items w.trace)) + waiting t t.node (boot_of (w.places t.node)) (w.places t.node).node.parked ≤ times t (asked_of (items w.trace))
   pub once : (t : Token) → times t (asked_of (items w.trace)) ≤ 1
+
+-- a commit that is kept with its record alone serves no more
+fewer_with : (t : Token) (o : Option Record) (c : Option Commit) → times t (served_of (option_to_list (commit_with o c))) ≤ times t (served_of (option_to_list c))
+fewer_with t None c = omega arith
+fewer_with t (Some r) c = omega arith
 
 -- a token that is new
 once_more : (t : Token) (asked : List Token) (o : Option Token) → is_unused asked o ≡ true → times t asked ≤ 1 → times t asked + one_if (is_of t o) ≤ 1
@@ -100,6 +105,15 @@ module _ (m : EngineMeaning) (c : Cluster) where
       (λ t here. omega (arith, h.count t, times_one t (token_of_call c w call)))
       (λ t ne. omega (arith, outside w call t ne)) _ j
 
+  silent_spent : (w : World) (e : WorldEvent) (call : Call) → is_unused (asked_of (items w.trace)) (token_of_call c w call) ≡ true → Spent w → Spent (silent c w e call (decision m c w call))
+  silent_spent w e call unused j =
+      let d = decision m c w call in
+      let n = call.node in
+      let h = thrifty_at w call in
+      grows w n (record { up = true; node = left d }) _ unused
+      (λ t here. omega (arith, h.count t, fewer_with t d.entry d.commit, ap (λ b. waiting t n b d.parked) h.boot, times_one t (token_of_call c w call)))
+      (λ t ne. omega (arith, outside w call t ne, fewer_with t d.entry d.commit)) _ j
+
   becomes_spent : (w : World) (e : WorldEvent) (n : ℕ) (p : Place) (entry : Option Record) (asked : Option Token) → p.node.parked ≡ [] → is_unused (asked_of (items w.trace)) asked ≡ true → Spent w → Spent (becomes w e n p entry asked)
   becomes_spent w e n p entry asked none unused j = grows w n p _ unused (λ t here. omega (arith, ap (waiting t n (boot_of p)) none)) (λ t ne. omega arith) _ j
 
@@ -108,6 +122,7 @@ module _ (m : EngineMeaning) (c : Cluster) where
     still = j;
     whole_by = λ call is r. whole_spent w e call r.unused j;
     cut_by = λ call is r. cut_spent w e call r.unused j;
+    silent_by = λ call is r. silent_spent w e call r.unused j;
     halt_by = λ n asked unused. becomes_spent w e n (stopped (durable_at w n)) None asked refl unused j;
     boots_by = λ n p none same. becomes_spent w e n p (Some (boot_record w n)) None none refl j;
   })

@@ -14,6 +14,7 @@ use Rattle.sv_model.specs.declared.state.KeyState.TheVariants.{Active, Sent, End
 use Rattle.sv_model.specs.declared.packet.Packet.{Packet}
 use Rattle.sv_model.specs.declared.packet.Packet.TheVariants.{Want, Grant, Ack, No}
 use Rattle.sv_model.specs.declared.commit.Commit.{Commit}
+use Rattle.sv_model.specs.declared.record.Record.{Record}
 use Rattle.sv_model.specs.declared.commit.Commit.TheVariants.{Served, Expired}
 use Rattle.sv_model.specs.Engine.{EngineMeaning}
 use Rattle.sv_model.specs.Container.{IsExcused, MayStand, AllMayStand}
@@ -24,7 +25,7 @@ use Rattle.sv_model.specs.Step.{left}
 use Rattle.sv_model.specs.Membership.{In, with_last}
 use Rattle.sv_model.specs.Outputs.{sends_in}
 use Rattle.sv_world.specs.Life.{Phase, Unborn, Here, Away, Over, Stands, IsBelow, IsBehind, session_of}
-use Rattle.sv_world.specs.World.{Place, set_place, stopped}
+use Rattle.sv_world.specs.World.{Place, set_place, stopped, commit_with}
 use Rattle.sv_world.specs.Headline.{AllServed}
 use Rattle.sv_world.specs.Sane.{store_of}
 use Rattle.sv_world.specs.Waits.{tok, boot_of, IsPast, IsParked, Waits}
@@ -80,6 +81,15 @@ served_snoc asked (Expired k now ∷ cs) c h s = served_snoc asked cs c h s
 served_with : (asked : Token → Request → Type 0) (cs : List Commit) (c : Option Commit) → AllServed asked cs → AreServed asked c → AllServed asked (with_last cs c)
 served_with asked cs None h s = h
 served_with asked cs (Some c) h s = served_snoc asked cs c h s
+
+-- a commit that is kept with its record alone
+may_with : (m : EngineMeaning) (arr : Token → ℕ) (cs : List Commit) (o : Option Record) (c : Option Commit) → MayAdd m arr cs c → MayAdd m arr cs (commit_with o c)
+may_with m arr cs None c h = tt
+may_with m arr cs (Some r) c h = h
+
+served_if : (asked : Token → Request → Type 0) (o : Option Record) (c : Option Commit) → AreServed asked c → AreServed asked (commit_with o c)
+served_if asked None c h = tt
+served_if asked (Some r) c h = h
 
 -- ---- the arrivals that are known stay
 
@@ -137,6 +147,10 @@ pub record Patient (m : EngineMeaning) (places : ℕ → Place) (ps : List Packe
   pub sends : AllFit (store_of m cs).map ps n (boot_of (places n)) d.next_want (sends_in d.outputs)
   pub commit : MayAdd m arr cs d.commit
   pub served : AreServed asked d.commit
+
+-- a step of which nothing leaves its node
+abbrev hushed : Decision → Decision
+hushed d = record d { commit = commit_with d.entry d.commit; events = []; mark = None; outputs = [] }
 
 at_set : (places : ℕ → Place) (n : ℕ) (x : Place) → set_place places n x n ≡ x
 at_set places n x = cond-true (n == n) x (places n) (eq-eqb n n refl)
@@ -208,6 +222,19 @@ module _ (m : EngineMeaning) (places : ℕ → Place) (ps : List Packet) (cs : L
         excused = stand_with m arr cs d.commit j.excused s.commit;
         served = served_with asked cs d.commit j.served s.served;
       }
+
+  -- nothing leaves the node
+  pub silent_waits : (d : Decision) → (places n).up ≡ true → Patient m places ps cs arr asked n d → Waits m (set_place places n (record { up = true; node = left d })) ps (with_last cs (commit_with d.entry d.commit)) arr asked
+  silent_waits d up s =
+      subst (λ xs. Waits m (set_place places n (record { up = true; node = left d })) xs (with_last cs (commit_with d.entry d.commit)) arr asked) (append-nil ps)
+      (whole_waits (hushed d) up (record {
+        parked = s.parked;
+        next_want = s.next_want;
+        boot = s.boot;
+        sends = tt;
+        commit = may_with m arr cs d.entry d.commit s.commit;
+        served = served_if asked d.entry d.commit s.served;
+      }))
 
   -- a node stops or starts, with nothing parked
   pub empty_waits : (x : Place) (o : Option Commit) → x.node.parked ≡ [] → ((b k : ℕ) → IsPast (places n) b k → IsPast x b k) → MayAdd m arr cs o → AreServed asked o → Waits m (set_place places n x) ps (with_last cs o) arr asked

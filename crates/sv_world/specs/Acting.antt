@@ -24,7 +24,7 @@ use Rattle.sv_world.specs.declared.begin.BootPlan.{BootPlan}
 use Rattle.sv_world.specs.declared.plan.Plan.{Plan}
 use Rattle.sv_world.specs.declared.cutting.Rest.{Rest}
 use Rattle.sv_world.specs.Deed.{Done, traced_of, whole_at, quiet_at, start_by}
-use Rattle.sv_world.specs.World.{stopped, started}
+use Rattle.sv_world.specs.World.{stopped, started, commit_with}
 use Rattle.sv_world.specs.Traced.{traced_in}
 
 -- a row of the table of a node's steps
@@ -53,6 +53,11 @@ pub record IsCarriedOut (m : EngineMeaning) (d : model.Decision) (h : Heading) (
   pub node : n ≡ left d
   pub heard : has ≡ heard_all m had (told d)
   pub effect : f ≡ whole_at h d
+
+-- a decision was carried out at the node, and nothing of it has left
+pub record IsSilenced (d : model.Decision) (h : Heading) (n : Node) (f : Effect) : Type 0 where
+  pub node : n ≡ left d
+  pub effect : f ≡ quiet_at h d.entry (commit_with d.entry d.commit)
 
 -- what a stop leaves of a step, as its plan says
 abbrev pub rest_in : Bool → Plan → Rest

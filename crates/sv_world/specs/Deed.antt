@@ -22,8 +22,8 @@ use Rattle.sv_world.specs.declared.line.Effect.{Effect}
 use Rattle.sv_world.specs.declared.line.Heading.{Heading}
 use Rattle.sv_world.specs.declared.traced.Traced.{Traced}
 use Rattle.sv_world.specs.declared.task.Task.{Task}
-use Rattle.sv_world.specs.declared.task.Task.TheVariants.{Step, Torn, Stop, Start, TornStart}
-use Rattle.sv_world.specs.World.{Place, stopped, started}
+use Rattle.sv_world.specs.declared.task.Task.TheVariants.{Step, Torn, Silent, Stop, Start, TornStart}
+use Rattle.sv_world.specs.World.{Place, stopped, started, commit_with}
 
 -- nothing is put out and nothing is told
 abbrev pub quiet_at : Heading → Option Record → Option Commit → Effect
@@ -83,6 +83,10 @@ abbrev pub torn_by : Heading → Durable → Bool → Decision → Done
 torn_by h old kept d =
     cond (kept && is_some d.entry) (record { place = stopped d.durable; effect = quiet_at h d.entry d.commit }) (halted h old)
 
+-- a step of which nothing leaves its node
+abbrev pub silenced : Heading → Decision → Done
+silenced h d = record { place = record { up = true; node = left d }; effect = quiet_at h d.entry (commit_with d.entry d.commit) }
+
 -- a start by its record
 abbrev pub booted : Heading → Durable → (Durable → Place) → Done
 booted h d place = record { place = place (applied (Boot (d.boot + 1)) d); effect = quiet_at h (Some (Boot (d.boot + 1))) None }
@@ -96,6 +100,7 @@ start_by set d kept place =
 abbrev pub deed : EngineMeaning → Setting → Place → Task → Done
 deed m set p (Step moment input) = stepped (heading_by set p.node.durable input) (decided m set p.node moment input)
 deed m set p (Torn moment input kept) = torn_by (heading_by set p.node.durable input) p.node.durable kept (decided m set p.node moment input)
+deed m set p (Silent moment input) = silenced (heading_by set p.node.durable input) (decided m set p.node moment input)
 deed m set p Stop = halted (heading_at set p.node.durable None) p.node.durable
 deed m set p Start = start_by set p.node.durable true started
 deed m set p (TornStart kept) = start_by set p.node.durable kept stopped
@@ -104,6 +109,7 @@ deed m set p (TornStart kept) = start_by set p.node.durable kept stopped
 abbrev pub wants_up : Task → Bool
 wants_up (Step moment input) = true
 wants_up (Torn moment input kept) = true
+wants_up (Silent moment input) = true
 wants_up Stop = true
 wants_up Start = false
 wants_up (TornStart kept) = false

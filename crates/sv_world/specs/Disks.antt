@@ -3,7 +3,7 @@
 -- A call is what sv_node's `Call.antt` says of it, and no disk stands here: what a stop leaves of one is the state before a
 -- call or the state behind it. So this file says of a whole cluster what can be said of it from outside: which calls came
 -- at which node, what was kept behind each, what was put out, and what listeners were told.
-use Rattle.std.specs.Prelude.{◌≡◌, ◌<◌, ◌==◌, ℕ, Bool, true, false, cond, Some, List, [], ◌∷◌, ◌++◌, slice_get, ⊤}
+use Rattle.std.specs.Prelude.{◌≡◌, ◌<◌, ◌==◌, ℕ, Bool, true, false, cond, Some, List, [], ◌∷◌, ◌++◌, map, slice_get, ⊤}
 use Rattle.std.specs.List.{flat_map}
 use Rattle.sv_journal.specs.declared.journal_fault.JournalFault.TheVariants as journal
 use Rattle.sv_model.specs.declared.event.Told.{Told}
@@ -21,9 +21,9 @@ use Rattle.sv_model.specs.Outputs.{sends_in}
 use Rattle.sv_model.specs.Replay.{blank}
 use Rattle.sv_model.specs.Step.{with_mark}
 use Rattle.sv_node.specs.declared.fault.OpenFault.TheVariants as opening
-use Rattle.sv_node.specs.Call.{Call, Open, Step, Compact, Stop, Done, Refused, Cut, After, Does, runs_behind}
+use Rattle.sv_node.specs.Call.{Call, Open, Step, Unsaid, Compact, Stop, Done, Refused, Cut, Given, After, Does, runs_behind}
 use Rattle.sv_world.specs.declared.event.WorldEvent.{WorldEvent}
-use Rattle.sv_world.specs.declared.event.WorldEvent.TheVariants.{Ask, Deliver, Poke, Tick, Move, Crash, Torn, Restart, TornRestart}
+use Rattle.sv_world.specs.declared.event.WorldEvent.TheVariants.{Ask, Deliver, Poke, Tick, Move, Crash, Torn, Silent, Restart, TornRestart}
 use Rattle.sv_world.specs.declared.line.Line.{Line}
 use Rattle.sv_world.specs.World.{Cluster, Place, World, setting_of, set_place, stopped, nothing_happened, run}
 use Rattle.sv_world.specs.Headline.{IsHeadline}
@@ -70,10 +70,23 @@ IsNew numbers input.Poke = ⊤
 IsNew numbers input.Tick = ⊤
 IsNew numbers (input.Move k to) = ⊤
 
+abbrev pub with_number : Input → List ℕ → List ℕ
+with_number (input.Ask number r) numbers = number ∷ numbers
+with_number (input.Packet p) numbers = numbers
+with_number input.Poke numbers = numbers
+with_number input.Tick numbers = numbers
+with_number (input.Move k to) numbers = numbers
+
+-- the same of several steps, one behind the other
+abbrev pub AllCome : List Packet → List ℕ → List Given → Type 0
+AllCome packets numbers [] = ⊤
+AllCome packets numbers (g ∷ gs) = (WasSent packets g.input × IsNew numbers g.input) × AllCome packets (with_number g.input numbers) gs
+
 -- the numbers are those of the requests that came to the node since it was opened
 abbrev pub MayCome : List Packet → List ℕ → Call → Type 0
 MayCome packets numbers (Open ending) = ⊤
 MayCome packets numbers (Step at input ending) = WasSent packets input × IsNew numbers input
+MayCome packets numbers (Unsaid givens) = AllCome packets numbers givens
 MayCome packets numbers (Compact ending) = ⊤
 MayCome packets numbers Stop = ⊤
 
@@ -99,6 +112,7 @@ shown_at n d (Open ending) a = []
 shown_at n d (Step at input Done) a = cond (is_own n input) (record { node = n; boot = d.boot; outputs = a.outputs; told = a.told } ∷ []) []
 shown_at n d (Step at input (Refused fault)) a = []
 shown_at n d (Step at input Cut) a = []
+shown_at n d (Unsaid givens) a = []
 shown_at n d (Compact ending) a = []
 shown_at n d Stop a = []
 
@@ -115,13 +129,6 @@ abbrev pub behind_all : Seen → List NodeCall → Seen
 behind_all s [] = s
 behind_all s (l ∷ ls) = behind_all (behind s l) ls
 
-abbrev pub with_number : Input → List ℕ → List ℕ
-with_number (input.Ask number r) numbers = number ∷ numbers
-with_number (input.Packet p) numbers = numbers
-with_number input.Poke numbers = numbers
-with_number input.Tick numbers = numbers
-with_number (input.Move k to) numbers = numbers
-
 -- an opening that was done begins anew; a request that was refused may come again under its number
 abbrev pub numbers_behind : Call → List ℕ → List ℕ
 numbers_behind (Open Done) numbers = []
@@ -130,6 +137,7 @@ numbers_behind (Open Cut) numbers = numbers
 numbers_behind (Step at input Done) numbers = with_number input numbers
 numbers_behind (Step at input (Refused fault)) numbers = numbers
 numbers_behind (Step at input Cut) numbers = numbers
+numbers_behind (Unsaid givens) numbers = numbers
 numbers_behind (Compact ending) numbers = numbers
 numbers_behind Stop numbers = numbers
 
@@ -161,11 +169,16 @@ AreOfCutStart n events = (kept : Bool) × (events ≡ TornRestart n kept ∷ [])
 abbrev pub AreOfCutStep : ℕ → Moment → Input → List WorldEvent → Type 0
 AreOfCutStep n at input events = (kept : Bool) × (events ≡ Torn n at input kept ∷ [])
 
+-- a step of which nothing leaves its node
+abbrev pub silent_event : ℕ → Given → WorldEvent
+silent_event n g = Silent n g.at g.input
+
 -- the node stops, if it runs
 abbrev pub AreOfStop : (up : Bool) → ℕ → List WorldEvent → Type 0
 AreOfStop up n events = events ≡ cond up (Crash n ∷ []) []
 
--- the events of a call at a node that runs (`up`), or doesn't: one, or none where nothing has changed
+-- the events of a call at a node that runs (`up`), or doesn't: one, or none where nothing has changed; of steps that were made
+-- durable at once and of which nothing has left one for each, and the stop
 abbrev pub AreOfCall : List Packet → (up : Bool) → ℕ → Call → List WorldEvent → Type 0
 AreOfCall packets up n (Open Done) events = events ≡ Restart n ∷ []
 AreOfCall packets up n (Open (Refused opening.Damaged)) events = events ≡ Restart n ∷ []
@@ -179,6 +192,7 @@ AreOfCall packets up n (Step at input (Refused step.Full)) events = events ≡ [
 AreOfCall packets up n (Step at input (Refused step.Memory)) events = events ≡ []
 AreOfCall packets up n (Step at input (Refused step.Device)) events = AreOfCutStep n at input events
 AreOfCall packets up n (Step at input Cut) events = AreOfCutStep n at input events
+AreOfCall packets up n (Unsaid givens) events = events ≡ map (silent_event n) givens ++ Crash n ∷ []
 AreOfCall packets up n (Compact Done) events = events ≡ []
 AreOfCall packets up n (Compact (Refused journal.Damaged)) events = ⊥
 AreOfCall packets up n (Compact (Refused journal.Failed)) events = events ≡ []

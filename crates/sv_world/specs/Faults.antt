@@ -3,7 +3,7 @@ use Rattle.std.specs.Prelude.{Bool, cond, Option, Some, None, ◌≡◌, [], ◌
 use Rattle.sv_model.specs.Engine.{EngineMeaning}
 use Rattle.sv_model.specs.Trace.{asked_of}
 use Rattle.sv_world.specs.declared.event.WorldEvent.{WorldEvent}
-use Rattle.sv_world.specs.declared.event.WorldEvent.TheVariants.{Ask, Deliver, Poke, Tick, Move, Crash, Torn, Restart, TornRestart}
+use Rattle.sv_world.specs.declared.event.WorldEvent.TheVariants.{Ask, Deliver, Poke, Tick, Move, Crash, Torn, Silent, Restart, TornRestart}
 use Rattle.sv_world.specs.declared.fault.WorldFault.{WorldFault}
 use Rattle.sv_world.specs.declared.fault.WorldFault.TheVariants.{NoNode, Running, NotRunning, NoPacket, TokenUsed}
 use Rattle.sv_world.specs.declared.line.Line.{Line}
@@ -36,6 +36,7 @@ fault_of c w (Poke n moment) = call_fault c w (call_of w.packets (Poke n moment)
 fault_of c w (Tick n moment) = call_fault c w (call_of w.packets (Tick n moment))
 fault_of c w (Move n moment k to) = call_fault c w (call_of w.packets (Move n moment k to))
 fault_of c w (Torn n moment given kept) = call_fault c w (call_of w.packets (Torn n moment given kept))
+fault_of c w (Silent n moment given) = call_fault c w (call_of w.packets (Silent n moment given))
 fault_of c w (Crash n) = stop_fault (is_there c n) (w.places n).up
 fault_of c w (Restart n) = start_fault (is_there c n) (w.places n).up
 fault_of c w (TornRestart n kept) = start_fault (is_there c n) (w.places n).up

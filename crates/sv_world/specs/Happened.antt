@@ -7,7 +7,7 @@ use Rattle.sv_model.specs.Engine.{EngineMeaning, heard_all}
 use Rattle.sv_model.specs.Outputs.{sends_in}
 use Rattle.sv_model.specs.Step.{with_mark}
 use Rattle.sv_world.specs.declared.event.WorldEvent.{WorldEvent}
-use Rattle.sv_world.specs.declared.event.WorldEvent.TheVariants.{Ask, Deliver, Poke, Tick, Move, Crash, Torn, Restart, TornRestart}
+use Rattle.sv_world.specs.declared.event.WorldEvent.TheVariants.{Ask, Deliver, Poke, Tick, Move, Crash, Torn, Silent, Restart, TornRestart}
 use Rattle.sv_world.specs.declared.fault.WorldFault.{WorldFault}
 use Rattle.sv_world.specs.declared.fault.WorldFault.TheVariants.{Memory}
 use Rattle.sv_world.specs.declared.line.Effect.{Effect}
@@ -129,5 +129,6 @@ is_start (Tick n moment) = false
 is_start (Move n moment k to) = false
 is_start (Crash n) = false
 is_start (Torn n moment given kept) = false
+is_start (Silent n moment given) = false
 is_start (Restart n) = true
 is_start (TornRestart n kept) = false

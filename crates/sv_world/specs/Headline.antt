@@ -3,7 +3,7 @@
 -- How to read it. Three files of definitions have to be believed, some 600 lines with sv_model's:
 --     sv_model  `Container.antt`   one container without nodes: a map of sessions, and a list of commits that leads to it
 --     sv_model  `Node.antt`        a node's step as a table of cases, with `Serving`, `Waiting`, `Migration`, `Time`
---     here      `World.antt`       all nodes, all packets ever sent, and the nine events with what they do
+--     here      `World.antt`       all nodes, all packets ever sent, and the ten events with what they do
 -- Then, of every list of events from a world in which nothing has happened, `IsHeadline` below says five things of the world
 -- behind them, and one more of its journals:
 --     1  `AtMostOne`       a session lives at one node at most
@@ -16,8 +16,8 @@
 -- invariant by which it is proved; nobody has to believe them.
 --
 -- What no statement refuses is only read: that `World.antt` says what a stop can leave and what a start does; and that a step
--- which a stop has cut before its record leaves no commit, so that a request that is served without a record, and cut, has
--- changed nothing and stands nowhere.
+-- which a stop has cut before its record leaves no commit, nor one without a record of which nothing has left its node, so that a
+-- request that is served without a record, and not answered, has changed nothing and stands nowhere.
 use Rattle.std.specs.Prelude.{◌≡◌, ◌⊎◌, ℕ, ◌+◌, ◌<◌, ◌≤◌, cond, Option, Some, None, List, [], ◌∷◌, ◌++◌, length, ⊤}
 use Rattle.std.specs.List.{filter}
 use Rattle.std.specs.FinMap.{get}
@@ -45,7 +45,7 @@ use Rattle.sv_model.specs.NodeState.{epoch_in}
 use Rattle.sv_model.specs.Membership.{In}
 use Rattle.sv_model.specs.Opening.{Opening, mark_of}
 use Rattle.sv_world.specs.declared.event.WorldEvent.{WorldEvent}
-use Rattle.sv_world.specs.declared.event.WorldEvent.TheVariants.{Ask, Deliver, Poke, Tick, Move, Crash, Torn, Restart, TornRestart}
+use Rattle.sv_world.specs.declared.event.WorldEvent.TheVariants.{Ask, Deliver, Poke, Tick, Move, Crash, Torn, Silent, Restart, TornRestart}
 use Rattle.sv_world.specs.declared.line.Line.{Line}
 use Rattle.sv_world.specs.World.{Cluster, setting_of, World, durable_at, items, item_at, commits_in, records_at, openings_of}
 
@@ -109,7 +109,7 @@ request_in input.Poke = None
 request_in input.Tick = None
 request_in (input.Move k to) = None
 
--- the request that came with an event: with a step, whole or cut
+-- the request that came with an event: with a step, whole, cut or silent
 abbrev pub request_of : WorldEvent → Option Request
 request_of (Ask n moment number r) = Some r
 request_of (Deliver moment place) = None
@@ -118,6 +118,7 @@ request_of (Tick n moment) = None
 request_of (Move n moment k to) = None
 request_of (Crash n) = None
 request_of (Torn n moment given kept) = request_in given
+request_of (Silent n moment given) = request_in given
 request_of (Restart n) = None
 request_of (TornRestart n kept) = None
 
@@ -136,7 +137,7 @@ abbrev pub AreLines : (Store → Line → Type 0) → EngineMeaning → Store �
 AreLines P m store [] = ⊤
 AreLines P m store (l ∷ ls) = P store l × AreLines P m (store_with m store l.commit) ls
 
--- a step that a stop has cut answers and refuses nobody
+-- a step that a stop has cut, or of which nothing leaves its node, answers and refuses nobody
 pub record IsUnanswered (l : Line) : Type 0 where
   pub replies : (item_at l).replies ≡ []
   pub refused : (item_at l).refused ≡ []
@@ -145,7 +146,7 @@ pub record IsUnanswered (l : Line) : Type 0 where
 abbrev pub IsAnswered : EngineMeaning → Store → Line → Type 0
 IsAnswered m store l = cond l.whole ((item_at l).replies ≡ replies_with m store l.commit) (IsUnanswered l)
 
--- the steps that no stop has cut
+-- the whole steps
 abbrev pub wholes : List Line → List Item
 wholes trace = items (filter (λ l. l.whole) trace)
 
@@ -176,7 +177,7 @@ pub record IsAcknowledged (m : EngineMeaning) (w : World) : Type 0 where
 
 -- ---- 5. listeners
 
--- a step that a stop has cut tells nothing
+-- a step that a stop has cut, or of which nothing leaves its node, tells nothing
 pub record IsUnheard (l : Line) : Type 0 where
   pub events : l.events ≡ []
   pub mark : l.mark ≡ None

@@ -4,7 +4,7 @@ use Rattle.std.specs.Prelude.{Bool, Option, Some, List}
 use Rattle.sv_model.specs.declared.packet.Packet.{Packet}
 use Rattle.sv_world.specs.declared.call.Call.{Call}
 use Rattle.sv_world.specs.declared.event.WorldEvent.{WorldEvent}
-use Rattle.sv_world.specs.declared.event.WorldEvent.TheVariants.{Ask, Deliver, Poke, Tick, Move, Crash, Torn, Restart, TornRestart}
+use Rattle.sv_world.specs.declared.event.WorldEvent.TheVariants.{Ask, Deliver, Poke, Tick, Move, Crash, Torn, Silent, Restart, TornRestart}
 use Rattle.sv_world.specs.declared.order.Order.{Order}
 use Rattle.sv_world.specs.declared.task.Task.TheVariants as task
 use Rattle.sv_world.specs.World.{call_of}
@@ -17,6 +17,10 @@ whole_order call = record { node = call.node; task = task.Step call.moment call.
 abbrev pub torn_order : Bool → Call → Order
 torn_order kept call = record { node = call.node; task = task.Torn call.moment call.input kept }
 
+-- a step of which nothing leaves its node
+abbrev pub silent_order : Call → Order
+silent_order call = record { node = call.node; task = task.Silent call.moment call.input }
+
 -- none where a packet is delivered that was never sent
 abbrev pub order_of : List Packet → WorldEvent → Option Order
 order_of sent (Ask n moment token r) = option_map whole_order (call_of sent (Ask n moment token r))
@@ -25,6 +29,7 @@ order_of sent (Poke n moment) = option_map whole_order (call_of sent (Poke n mom
 order_of sent (Tick n moment) = option_map whole_order (call_of sent (Tick n moment))
 order_of sent (Move n moment k to) = option_map whole_order (call_of sent (Move n moment k to))
 order_of sent (Torn n moment given kept) = option_map (torn_order kept) (call_of sent (Torn n moment given kept))
+order_of sent (Silent n moment given) = option_map silent_order (call_of sent (Silent n moment given))
 order_of sent (Crash n) = Some (record { node = n; task = task.Stop })
 order_of sent (Restart n) = Some (record { node = n; task = task.Start })
 order_of sent (TornRestart n kept) = Some (record { node = n; task = task.TornStart kept })

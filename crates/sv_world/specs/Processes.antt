@@ -5,7 +5,7 @@ use Rattle.sv_model.specs.declared.packet.Packet.{Packet}
 use Rattle.sv_model.specs.Engine.{EngineMeaning}
 use Rattle.sv_model.specs.Outputs.{sends_in}
 use Rattle.sv_model.specs.Replay.{blank}
-use Rattle.sv_node.specs.Call.{Call, Open, Step, Compact, Stop}
+use Rattle.sv_node.specs.Call.{Call, Open, Step, Unsaid, Compact, Stop, Given}
 use Rattle.sv_node.specs.History.{Turn, AreTurns, Rise, halted}
 use Rattle.sv_world.specs.Disks.{NodeCall, WasSent}
 use Rattle.sv_world.specs.World.{Cluster, setting_of}
@@ -18,10 +18,16 @@ abbrev pub turns_at : ℕ → List NodeCall → List Turn
 turns_at n [] = []
 turns_at n (l ∷ ls) = cond (n == l.node) (turn_of l ∷ turns_at n ls) (turns_at n ls)
 
+-- each packet that comes is one of these
+abbrev pub BringAll : List Packet → List Given → Type 0
+BringAll packets [] = ⊤
+BringAll packets (g ∷ gs) = WasSent packets g.input × BringAll packets gs
+
 -- a packet that comes is one of these
 abbrev pub BringsSent : List Packet → Call → Type 0
 BringsSent packets (Open ending) = ⊤
 BringsSent packets (Step at input ending) = WasSent packets input
+BringsSent packets (Unsaid givens) = BringAll packets givens
 BringsSent packets (Compact ending) = ⊤
 BringsSent packets Stop = ⊤
 

@@ -1,9 +1,11 @@
 -- All nodes, all packets that were ever sent, and all that has happened; and what an event makes of them.
 --
 -- A world is a value, and no code stands in it. A node's own step is the table of sv_model's `Node.antt`; here stands what a
--- stop leaves of a step, what a start does, and that a packet is one that was sent. Each clause is a sentence or two:
+-- stop leaves of a step, what a step does of which nothing leaves its node, what a start does, and that a packet is one that
+-- was sent. Each clause is a sentence or two:
 --     a step           its record is durable, listeners are told, its packets are sent        `whole`
 --     a torn step      cut behind its record, or before it; the node stops                    `cut`, `halt`
+--     a silent step    its record is durable, nobody is told, nothing is sent; it runs on     `silent`
 --     a stop           what isn't durable is gone                                             `halt`
 --     a start          one record, Boot, under the next boot number                           `boots`
 -- Read this file with care: what isn't true of real nodes here, no law makes true.
@@ -29,7 +31,7 @@ use Rattle.sv_model.specs.Outputs.{sends_in}
 use Rattle.sv_model.specs.Step.{left}
 use Rattle.sv_model.specs.Trace.{Item, asked_by, reply_in, refusal_in, commits_of, asked_of, times}
 use Rattle.sv_world.specs.declared.event.WorldEvent.{WorldEvent}
-use Rattle.sv_world.specs.declared.event.WorldEvent.TheVariants.{Ask, Deliver, Poke, Tick, Move, Crash, Torn, Restart, TornRestart}
+use Rattle.sv_world.specs.declared.event.WorldEvent.TheVariants.{Ask, Deliver, Poke, Tick, Move, Crash, Torn, Silent, Restart, TornRestart}
 use Rattle.sv_world.specs.declared.line.Line.{Line}
 use Rattle.sv_world.specs.declared.call.Call.{Call}
 use Rattle.sv_world.specs.Sent.{may_come}
@@ -116,6 +118,7 @@ call_of sent (Poke n moment) = Some (record { node = n; moment = moment; input =
 call_of sent (Tick n moment) = Some (record { node = n; moment = moment; input = input.Tick })
 call_of sent (Move n moment k to) = Some (record { node = n; moment = moment; input = input.Move k to })
 call_of sent (Torn n moment given kept) = Some (record { node = n; moment = moment; input = given })
+call_of sent (Silent n moment given) = Some (record { node = n; moment = moment; input = given })
 call_of sent (Crash n) = None
 call_of sent (Restart n) = None
 call_of sent (TornRestart n kept) = None
@@ -194,6 +197,20 @@ cut c w e call d =
       trace = w.trace ++ quiet_line w e call.node (token_of_call c w call) d.entry d.commit ∷ [];
     }
 
+-- a commit that is kept with its record alone: what a step does without one leaves nothing where its answer doesn't leave
+abbrev pub commit_with : Option Record → Option Commit → Option Commit
+commit_with None commit = None
+commit_with (Some entry) commit = commit
+
+-- a step of which nothing leaves its node
+abbrev pub silent : Cluster → World → WorldEvent → Call → Decision → World
+silent c w e call d =
+    record {
+      places = set_place w.places call.node (record { up = true; node = left d });
+      packets = w.packets;
+      trace = w.trace ++ quiet_line w e call.node (token_of_call c w call) d.entry (commit_with d.entry d.commit) ∷ [];
+    }
+
 -- a node becomes another, by a record that isn't of a step or by none
 abbrev pub becomes : World → WorldEvent → ℕ → Place → Option Record → Option Token → World
 becomes w e n p entry asked =
@@ -229,6 +246,12 @@ tears m c w e kept (Some call) =
     let d = decision m c w call in
     cond (is_ready c w call) (cond (kept && is_some d.entry) (cut c w e call d) (halt w e call.node (token_of_call c w call))) w
 
+-- a step of which nothing leaves its node; the node runs on. So several steps that are made durable at once, behind which a
+-- stop falls before anything of them has left, are as many silent steps and a stop.
+abbrev pub hushes : EngineMeaning → Cluster → World → WorldEvent → Option Call → World
+hushes m c w e None = w
+hushes m c w e (Some call) = cond (is_ready c w call) (silent c w e call (decision m c w call)) w
+
 -- a start, that leaves the node running (`started`) or stopped, with its record or without
 abbrev pub starts : Cluster → World → WorldEvent → ℕ → Bool → (Durable → Place) → World
 starts c w e n kept place =
@@ -242,6 +265,7 @@ happens m c w (Poke n moment) = steps m c w (Poke n moment) (call_of w.packets (
 happens m c w (Tick n moment) = steps m c w (Tick n moment) (call_of w.packets (Tick n moment))
 happens m c w (Move n moment k to) = steps m c w (Move n moment k to) (call_of w.packets (Move n moment k to))
 happens m c w (Torn n moment given kept) = tears m c w (Torn n moment given kept) kept (call_of w.packets (Torn n moment given kept))
+happens m c w (Silent n moment given) = hushes m c w (Silent n moment given) (call_of w.packets (Silent n moment given))
 happens m c w (Crash n) = cond (is_there c n && (w.places n).up) (halt w (Crash n) n None) w
 happens m c w (Restart n) = starts c w (Restart n) n true started
 happens m c w (TornRestart n kept) = starts c w (TornRestart n kept) n kept stopped

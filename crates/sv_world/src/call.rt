@@ -106,6 +106,11 @@ pub fn call_of(
             moment,
             ref input,
             ..
+        }
+        | WorldEvent::Silent {
+            node,
+            moment,
+            ref input,
         } => Call {
             node,
             moment,

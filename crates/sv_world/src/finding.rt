@@ -3,6 +3,7 @@
 ghost use Rattle.std.specs.Prelude.{◌≡◌, ℕ, length, slice_get};
 ghost use Rattle.sv_world.specs.Faults.{fault_of};
 ghost use Rattle.sv_world.specs.Finding.{boot_in, start_in, stop_by, number_in, token_by, step_by, delivery_by};
+ghost use Rattle.sv_world.specs.Sent.{may_come};
 ghost use Rattle.sv_world.specs.Worlds.{state_by, cluster_by};
 
 use crate::call::addressee;
@@ -114,6 +115,25 @@ fn delivery_fault<E>(
     }
 }
 
+/// Why a node can't take a step at an input that an event names.
+fn given_fault<E>(
+    seats: &[Seat<E>],
+    packets: &[Packet],
+    trace: &[Line],
+    node: u8,
+    input: &Input,
+) -> Option<WorldFault>
+    ensures { result ≡ step_by trace.now node (may_come packets.now input.now) (number_in input.now) (boot_in (slice_get seats.now node)) }
+{
+    step_fault(
+        seats,
+        trace,
+        node,
+        may_come(packets, input),
+        number_in(input),
+    )
+}
+
 /// The first fault of an event, in the order of their numbers.
 pub fn fault_of<E>(
     seats: &[Seat<E>],
@@ -133,13 +153,12 @@ pub fn fault_of<E>(
             node,
             ref input,
             ..
-        } => step_fault(
-            seats,
-            trace,
+        } => given_fault(seats, packets, trace, node, input),
+        WorldEvent::Silent {
             node,
-            may_come(packets, input),
-            number_in(input),
-        ),
+            ref input,
+            ..
+        } => given_fault(seats, packets, trace, node, input),
         WorldEvent::Crash(node) => stop_fault(seats, node),
         WorldEvent::Restart(node) | WorldEvent::TornRestart { node, .. } => {
             start_fault(seats, node)

@@ -2,7 +2,7 @@
 
 ghost use Rattle.std.specs.Prelude.{◌≡◌, Some, IsSome, IfOk};
 ghost use Rattle.std.specs.Option.{option_map};
-ghost use Rattle.sv_world.specs.Order.{whole_order, torn_order, order_of};
+ghost use Rattle.sv_world.specs.Order.{whole_order, torn_order, silent_order, order_of};
 
 use crate::call::{Call, call_of};
 use crate::event::WorldEvent;
@@ -51,6 +51,21 @@ fn torn(call: Call, kept: bool) -> Order
     }
 }
 
+/// A step of which nothing leaves the node.
+fn silent(call: Call) -> Order
+    ensures { result ≡ silent_order call }
+{
+    let Call {
+        node,
+        moment,
+        input,
+    } = call;
+    Order {
+        node,
+        task: Task::Silent { moment, input },
+    }
+}
+
 /// The whole step that is asked for, where there is one.
 fn stepped(call: Option<Call>) -> Option<Order>
     ensures { result ≡ option_map whole_order call }
@@ -71,6 +86,16 @@ fn cut(call: Option<Call>, kept: bool) -> Option<Order>
     }
 }
 
+/// The step that is asked for and of which nothing leaves the node, where there is one.
+fn hushed(call: Option<Call>) -> Option<Order>
+    ensures { result ≡ option_map silent_order call }
+{
+    match call {
+        Some(call) => Some(silent(call)),
+        None => None,
+    }
+}
+
 /// What an event asks for, where these packets were sent.
 fn order_of(
     alloc: Global,
@@ -86,6 +111,7 @@ fn order_of(
         | WorldEvent::Tick { .. }
         | WorldEvent::Move { .. } => Ok(stepped(call_of(alloc, packets, event)?)),
         WorldEvent::Torn { kept, .. } => Ok(cut(call_of(alloc, packets, event)?, kept)),
+        WorldEvent::Silent { .. } => Ok(hushed(call_of(alloc, packets, event)?)),
         WorldEvent::Crash(node) => Ok(Some(Order {
             node,
             task: Task::Stop,

@@ -54,6 +54,7 @@ impl<E: Engine + Drop> Seat<E> {
                 input,
                 kept,
             } => self.tear(alloc, moment, input, kept),
+            Task::Silent { moment, input } => self.hush(alloc, moment, input),
             Task::Stop => Ok(self.halt(alloc)),
             Task::Start => self.start(alloc, true, true),
             Task::TornStart { kept } => self.start(alloc, kept, false),

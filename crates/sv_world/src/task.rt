@@ -16,6 +16,11 @@ pub enum Task {
         input: Input,
         kept: bool,
     },
+    /// A step of which nothing leaves the node.
+    Silent {
+        moment: Moment,
+        input: Input,
+    },
     /// To stop.
     Stop,
     /// To start.

@@ -37,6 +37,8 @@ pub enum Act {
     Restart(u8),
     /// The node stops inside a move.
     TornMove(u8, KeyName, u8, bool),
+    /// A node is asked for a session that is named, and nothing of its step leaves it.
+    SilentAgain(u8, KeyName),
     /// The node stops inside its start.
     TornRestart(u8, bool),
 }
@@ -81,6 +83,23 @@ pub fn torn(node: u8, input: Input, kept: bool) -> WorldEvent {
     }
 }
 
+/// A step of which nothing leaves its node, at a request that names a session.
+fn silent_again(
+    alloc: Global,
+    token: u64,
+    node: u8,
+    named: KeyName,
+) -> Result<WorldEvent, AllocError> {
+    Ok(WorldEvent::Silent {
+        node,
+        moment: at(NOW),
+        input: Input::Ask {
+            token,
+            request: request(alloc, &[named.0, named.1])?,
+        },
+    })
+}
+
 fn torn_move(node: u8, named: KeyName, to: u8, kept: bool) -> WorldEvent {
     let key = key(named);
     torn(node, Input::Move { key, to }, kept)
@@ -112,6 +131,7 @@ pub fn event(alloc: Global, token: u64, act: Act) -> Result<WorldEvent, AllocErr
         Act::Crash(node) => Ok(WorldEvent::Crash(node)),
         Act::Restart(node) => Ok(WorldEvent::Restart(node)),
         Act::TornMove(node, named, to, kept) => Ok(torn_move(node, named, to, kept)),
+        Act::SilentAgain(node, named) => silent_again(alloc, token, node, named),
         Act::TornRestart(node, kept) => Ok(WorldEvent::TornRestart { node, kept }),
     }
 }

@@ -8,9 +8,10 @@ use std::test::Fail;
 use sv_world::{World, WorldEvent, WorldFault};
 use test_engine::Counter;
 
-/// Each of the nine kinds of event. A session goes from node 0 to node 1, whose next move is cut behind its record, so that
-/// its Grant is sent when time passes; then from node 2 back to node 0, in whose table it was last sent with epoch 2.
-pub const EVERY_KIND: [Row; 14] = [
+/// Each of the ten kinds of event. A session goes from node 0 to node 1, whose next move is cut behind its record, so that
+/// its Grant is sent when time passes; then from node 2 back to node 0, in whose table it was last sent with epoch 2. There a
+/// request is served whose answer never leaves.
+pub const EVERY_KIND: [Row; 15] = [
     (Act::First(0), "Commit makes 0.1, served, answer 1"),
     (Act::Again(1, K1), "p0 Want 1 to 0, p1 Want 1 to 2"),
     (
@@ -39,7 +40,8 @@ pub const EVERY_KIND: [Row; 14] = [
         Act::Deliver(6),
         "Taken 4 from 2, activate, p7 Ack 0 to 2 epoch 4",
     ),
-    (Act::Again(0, K1), "Commit keeps 0.1, served, answer 3"),
+    (Act::SilentAgain(0, K1), "Commit keeps 0.1, served"),
+    (Act::Again(0, K1), "Commit keeps 0.1, served, answer 4"),
 ];
 
 /// The events of these rows. A request's token is its place.
