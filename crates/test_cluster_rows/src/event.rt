@@ -1,6 +1,6 @@
 //! What happens to a world: `deliver PLACE`, the packet that was sent as this one, from 0; or a node's number and behind it `crash`,
-//! `restart`, `torn-restart KEPT`, `torn KEPT INPUT` or an input. KEPT is `kept` where a stop comes behind the record of the step that
-//! it cuts, else `lost`.
+//! `restart`, `torn-restart KEPT`, `torn KEPT INPUT`, `silent INPUT` or an input. KEPT is `kept` where a stop comes behind the record of
+//! the step that it cuts, else `lost`. Of a silent step nothing leaves its node but its record, and the node runs on.
 
 use crate::fault::RowFault;
 use crate::input::input;
@@ -64,6 +64,11 @@ fn at_node(
             kept: is_kept(kept)?,
         }),
         ("torn", rest) => torn(alloc, node, moment, token, rest),
+        ("silent", rest) => Ok(WorldEvent::Silent {
+            node,
+            moment,
+            input: input(alloc, token, rest)?,
+        }),
         _ => whole(node, moment, input(alloc, token, words)?),
     }
 }

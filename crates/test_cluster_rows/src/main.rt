@@ -21,6 +21,7 @@ mod disks;
 mod event;
 mod failing;
 mod fault;
+mod group;
 mod input;
 mod nodes;
 mod outputs;

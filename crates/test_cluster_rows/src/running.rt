@@ -1,4 +1,5 @@
-//! One node of three, over two disks: its number is 0. A line is an input (`input`) behind that number, or one of these.
+//! One node of three, over two disks: its number is 0. A line is an input (`input`) behind that number, several with ` & ` between them,
+//! which are made durable together (`group`), or one of these.
 //!
 //! - `at SECOND SECRET`, as for a world.
 //! - `compact`, and the length of the journal behind it.
@@ -11,6 +12,7 @@ ghost use Rattle.std.specs.Prelude.{IfOk};
 
 use crate::disks::{both, closed};
 use crate::fault::RowFault;
+use crate::group::{is_group, stepped_together};
 use crate::input::input;
 use crate::outputs::push_output;
 use crate::said::next_part;
@@ -43,7 +45,7 @@ pub fn open<E: Engine + Drop>(
 }
 
 /// What was put out.
-fn put_out(alloc: Global, outputs: &[Output]) -> Result<String, AllocError> {
+pub fn put_out(alloc: Global, outputs: &[Output]) -> Result<String, AllocError> {
     let mut text = String::new(alloc);
     for output in outputs {
         next_part(&mut text)?;
@@ -103,6 +105,7 @@ pub fn acted<E: Engine + Drop>(
     ensures { ⟦<Node<E, MemoryDisk> as Site>⟧.site_valid node.new }
 {
     match word(line) {
+        ("0", words) if is_group(words) => stepped_together(alloc, node, moment, token, words),
         ("0", words) => stepped(alloc, node, moment, token, words),
         ("compact", _) => compacted(alloc, node),
         _ => Err(RowFault::Kind),

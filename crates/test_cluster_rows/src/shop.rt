@@ -12,13 +12,13 @@ use sv_model::Engine;
 use sv_samples::{
     Count, Faulty, Forwarder, Gate, Hello, Includer, Login, Renew, Sample, Snoop, Tally,
 };
-use sv_servlet::{GenericServlet, Servlet};
+use sv_servlet::{GenericFilter, GenericServlet, Servlet};
 
 /// A servlet of the samples.
 type Served = GenericServlet<Sample>;
 
 /// The applications, started.
-pub type Shop = Container<Served, Gate, Tally>;
+pub type Shop = Container<Served, GenericFilter<Gate>, Tally>;
 
 const HEAD: &str = r#"[[context]]
 path = "/shop"

@@ -1,0 +1,7 @@
+use Rattle.std.specs.List.{AllByRecursion}
+use Rattle.sv_model.specs.Ranges.{IsInput}
+use Rattle.test_cluster_rows.proofs.group.add.Given as goal
+
+-- each so far is one that a node may be given
+abbrev pub invariant-loop : goal.invariant-loop
+invariant-loop l = AllByRecursion (λ i. IsInput i.1) l.inputs.items
