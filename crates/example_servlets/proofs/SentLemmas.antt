@@ -6,7 +6,8 @@ use Rattle.sv_servlet.specs.Reply.{field_result, status_result, write_result}
 use Rattle.sv_servlet.specs.ReplyState.{ReplyState}
 use Rattle.sv_servlet.specs.Servlet.{KeepsReply}
 use Rattle.sv_servlet.specs.declared.reply.ReplyFault.{ReplyFault}
-use Rattle.example_servlets.specs.Sent.{behind, cart_location, html_type, sent, sent_on, with, written}
+use Rattle.example_servlets.specs.declared.sent.Way.{Way}
+use Rattle.example_servlets.specs.Sent.{behind, html_type, location, sent, sent_back, sent_on, with, written}
 
 behind_keeps : (r : ReplyState) (x : Result ReplyState ReplyFault) → IfOk x (KeepsReply r) → KeepsReply r (behind r x)
 behind_keeps r (Ok s) keeps = keeps
@@ -26,8 +27,14 @@ pub sent_keeps : (page : List ℕ) (r : ReplyState) → KeepsReply r (sent page 
 unfolding sent
 sent_keeps page r = both_keep r html_type page
 
-pub sent_on_keeps : (r : ReplyState) → KeepsReply r (sent_on r)
+pub sent_back_keeps : (page : List ℕ) (r : ReplyState) → KeepsReply r (sent_back page r)
+unfolding sent_back
+sent_back_keeps page r =
+    let status = behind r (status_result r 400) in
+    KeepsReply-trans r status (sent page status) (behind_keeps r (status_result r 400) (status_keeps r 400)) (sent_keeps page status)
+
+pub sent_on_keeps : (way : Way) (r : ReplyState) → KeepsReply r (sent_on way r)
 unfolding sent_on
-sent_on_keeps r =
+sent_on_keeps way r =
     let status = behind r (status_result r 303) in
-    KeepsReply-trans r status (with status cart_location) (behind_keeps r (status_result r 303) (status_keeps r 303)) (with_keeps status cart_location)
+    KeepsReply-trans r status (with status (location way)) (behind_keeps r (status_result r 303) (status_keeps r 303)) (with_keeps status (location way))

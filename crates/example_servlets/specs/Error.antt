@@ -1,25 +1,38 @@
 -- The page of an error (Jakarta Servlet 6.0, section 10.9.1).
-use Rattle.std.specs.Prelude.{ℕ, List, Option, codes, unwrap_or}
+use Rattle.std.specs.Prelude.{ℕ, ◌==◌, List, Option, bytes_eq, codes, length, unwrap_or, if◌then◌else◌}
 use Rattle.sv_model.specs.Attributes.{value_of}
 use Rattle.sv_session.specs.Edit.{Edit}
 use Rattle.sv_servlet.specs.Call.{Asked}
 use Rattle.sv_servlet.specs.Servlet.{Answer, Lent, answer, lent}
 use Rattle.sv_servlet.specs.declared.servlet.Next.TheVariants.{Done}
 use Rattle.example_cart.specs.Pages.{error_page}
-use Rattle.example_servlets.specs.Kept.{seen}
 use Rattle.example_servlets.specs.Sent.{sent}
+use Rattle.example_servlets.specs.Visits.{around}
 
 -- the text, or another where there is none
 abbrev pub or_text : Option (List ℕ) → List ℕ → List ℕ
 or_text text other = unwrap_or text other
 
--- the page of a code and a text
-unfoldable pub page_of : List ℕ → Edit → List ℕ → List ℕ → List ℕ
-page_of base e code message = error_page base (seen e (codes "name")) code message
+-- what a status means to a shopper
+abbrev pub title_of : List ℕ → List ℕ
+title_of code =
+    if bytes_eq code (codes "400") then codes "The shop can't take that"
+    else if bytes_eq code (codes "403") then codes "That form was not sent from here"
+    else if bytes_eq code (codes "404") then codes "There is no such page"
+    else if bytes_eq code (codes "405") then codes "That page takes a form alone"
+    else codes "Something went wrong"
+
+-- what is said of an error; or where to go, where nothing is
+abbrev pub message_of : List ℕ → List ℕ
+message_of message = if length message == 0 then codes "You may go on from here:" else message
+
+-- the page of a status and a text
+unfoldable pub page_of : List ℕ → ℕ → Edit → List ℕ → List ℕ → List ℕ
+page_of base node e code message = error_page (around base node e) (title_of code) (message_of message) code
 
 -- the status of the error, and what is said of it
-abbrev pub error : Asked → Lent → Answer
-error call l =
-    let code = or_text (value_of call.attributes (codes "jakarta.servlet.error.status_code")) (codes "Error") in
+abbrev pub error : ℕ → Asked → Lent → Answer
+error node call l =
+    let code = or_text (value_of call.attributes (codes "jakarta.servlet.error.status_code")) (codes "500") in
     let message = or_text (value_of call.attributes (codes "jakarta.servlet.error.message")) (codes "") in
-    answer (lent l.edit (sent (page_of call.context_path l.edit code message) l.reply)) Done
+    answer (lent l.edit (sent (page_of call.context_path node l.edit code message) l.reply)) Done

@@ -12,12 +12,13 @@ use Rattle.sv_servlet.specs.declared.filter.Before.TheVariants.{Pass, SendError}
 use Rattle.example_servlets.specs.Kept.{has_session}
 use Rattle.example_servlets.specs.Sent.{with}
 use Rattle.example_servlets.specs.Told.{is_post}
+use Rattle.example_servlets.specs.Visits.{arrived}
 
 abbrev pub policy : Field
 policy =
     record {
       name = codes "content-security-policy";
-      value = plain_value (codes "default-src 'none'; style-src 'self'; form-action 'self'; base-uri 'self'; frame-ancestors 'none'");
+      value = plain_value (codes "default-src 'none'; style-src 'self'; img-src 'self'; form-action 'self'; base-uri 'self'; frame-ancestors 'none'");
     }
 
 abbrev pub no_sniffing : Field
@@ -71,5 +72,6 @@ admitted call =
 abbrev pub stored : Lent → Lent
 stored l = if has_session l.edit then lent l.edit (with l.reply no_store) else l
 
-abbrev pub guarding : Filters
-guarding = record { before = λ call l. verdict (lent l.edit (guarded l.reply)) (admitted call); after = λ call l. stored l }
+-- each request of a session counts as a page that it is shown, by this node
+abbrev pub guarding : ℕ → Filters
+guarding node = record { before = λ call l. verdict (lent (arrived node l.edit) (guarded l.reply)) (admitted call); after = λ call l. stored l }

@@ -5,8 +5,10 @@ pub mod Error
 pub mod Guard
 pub mod Kept
 pub mod Login
+pub mod Logout
 pub mod Orders
 pub mod Sent
 pub mod Shop
-pub mod Style
+pub mod Still
 pub mod Told
+pub mod Visits

@@ -1,9 +1,9 @@
 -- What the shop is told by a request.
-use Rattle.std.specs.Prelude.{ℕ, ◌&&◌, Bool, List, bytes_eq, codes, length, nat_le, nat_lt, Option, Some, None, option_and_then, option_map, if◌then◌else◌}
-use Rattle.std.specs.List.{find}
+use Rattle.std.specs.Prelude.{ℕ, ◌&&◌, not, Bool, List, bytes_eq, codes, length, nat_le, Option, Some, None, option_and_then, option_map, unwrap_or, if◌then◌else◌}
+use Rattle.std.specs.List.{find, list_all}
 use Rattle.sv_model.specs.declared.request.Param.{Param}
-use Rattle.example_cart.specs.Form.{number_in, post_in}
-use Rattle.example_cart.specs.declared.post.Post.{Post}
+use Rattle.example_cart.specs.Form.{number_between, sent_in}
+use Rattle.example_cart.specs.declared.form.Sent.{Sent}
 
 -- a form is sent (RFC 9110, section 9.3.3)
 abbrev pub is_post : List ℕ → Bool
@@ -16,19 +16,25 @@ has_name name p = bytes_eq p.name name
 abbrev pub parameter : List Param → List ℕ → Option (List ℕ)
 parameter params name = option_map (λ p. p.value) (find (has_name name) params)
 
--- the number that it is
-abbrev pub number : List Param → List ℕ → Option ℕ
-number params name = option_and_then number_in (parameter params name)
+-- or an empty text
+abbrev pub text : List Param → List ℕ → List ℕ
+text params name = unwrap_or (parameter params name) (codes "")
 
--- the form of an article: all of the first three fields, and a quantity where one is needed
-abbrev pub post_of : List Param → Option Post
-post_of params =
-    option_and_then (λ article. option_and_then (λ form. option_and_then (λ change. post_in article form change (number params (codes "quantity")))
-    (parameter params (codes "do"))) (parameter params (codes "form"))) (parameter params (codes "article"))
+-- the form of an article
+abbrev pub sent_of : List Param → Sent
+sent_of params = sent_in (text params (codes "article")) (text params (codes "visit")) (text params (codes "page")) (text params (codes "do")) (text params (codes "quantity"))
 
-abbrev pub short : List ℕ → Option (List ℕ)
-short name = if nat_lt 0 (length name) && nat_le (length name) 64 then Some name else None
+-- the number of an order's form
+abbrev pub order_form : List Param → Option ℕ
+order_form params = number_between 0 65535 (text params (codes "form"))
 
--- a name that is not empty, and of 64 bytes at most
+-- blanks alone, and control characters
+abbrev pub is_blank : List ℕ → Bool
+is_blank name = list_all (λ c. nat_le c 32) name
+
+abbrev pub fit : List ℕ → Option (List ℕ)
+fit name = if not (is_blank name) && nat_le (length name) 192 then Some name else None
+
+-- a name that is not blank, and of 192 bytes at most: 64 letters of a browser's have no more
 abbrev pub name_of : List Param → Option (List ℕ)
-name_of params = option_and_then short (parameter params (codes "name"))
+name_of params = option_and_then fit (parameter params (codes "name"))

@@ -2,90 +2,203 @@
 
 ghost use Rattle.std.specs.Prelude.{◌≡◌, IfOk, OnOk};
 ghost use Rattle.sv_servlet.specs.Servlet.{answer, lent};
+ghost use Rattle.example_cart.specs.Pages.{wrong_of};
 ghost use Rattle.example_servlets.specs.Basket as spec;
 
-use crate::kept::{CART, NAME, ORDER, create, keep, seen};
-use crate::sent::{send, send_to_cart};
-use crate::told::{is_post, post_of};
-use example_cart::{Article, Frame, Page, Post, cart_page, kept_cart, read_cart, read_order};
-use std::alloc::{AllocError, Global};
-use sv_model::{Param, Text};
+use crate::catalogue::offers_of;
+use crate::kept::{CART, FORMS, NOTICE, ORDER, forget, has_session, keep, seen, session_number};
+use crate::sent::{Way, send, send_back, send_to};
+use crate::store::Store;
+use crate::told::{is_post, sent_of, text};
+use crate::visits::{begin, frame_of};
+use example_cart::{
+    Beside, Cart, Forms, Listing, Notice, Page, Post, Sent, Wrong, cart_page, kept_forms,
+    read_cart, read_forms, read_order, take_post,
+};
+use std::alloc::AllocError;
+use sv_model::Text;
 use sv_servlet::{Answers, Call, Next, Reply};
 use sv_session::SessionEdit;
 
-/// Shows the cart; a POST changes it by the form of an article, and sends the browser on to the page.
+/// Shows the cart; a POST changes it by the form of an article, and sends the browser on to the page, which says what happened.
 #[derive(Drop)]
 pub struct Basket {
-    pub alloc: Global,
-    pub articles: &'static [Article],
+    pub store: Store,
 }
 
-/// The page, for a session as it is.
-#[tactic(auto, unfolding(crate::specs::Basket::page_of))]
-fn page_of<'a>(
-    alloc: Global,
-    articles: &[Article],
-    base: &'a str,
-    edit: &'a SessionEdit,
-) -> Result<Page, AllocError>
-    ensures { IfOk result (λ page. page ≡ spec.page_of articles.now base.now edit.entry.now) }
-{
-    let cart = read_cart(alloc, seen(edit, CART))?;
-    let order = read_order(alloc, seen(edit, ORDER))?;
-    let name = seen(edit, NAME);
-    cart_page(alloc, Frame { base, name }, articles, &cart, order.number)
+/// A cart after a form, the forms that have counted, and what is said of this one.
+#[derive(Drop)]
+struct Taken {
+    cart: Cart,
+    forms: Forms,
+    notice: Notice,
 }
 
-/// The bytes of the cart behind a form.
-#[tactic(auto, unfolding(crate::specs::Basket::cart_behind))]
-fn cart_behind(alloc: Global, edit: &SessionEdit, post: Post) -> Result<Vec<u8>, AllocError>
-    ensures { IfOk result (λ bytes. bytes.items ≡ spec.cart_behind post edit.entry.now) }
+/// The cart of a session after a form.
+#[tactic(auto, unfolding(crate::specs::Basket::basket_after, crate::specs::Basket::notice_of))]
+fn basket_after(
+    store: Store,
+    edit: &SessionEdit,
+    post: Post,
+    is_new: bool,
+) -> Result<Taken, AllocError>
+    ensures basket { IfOk result (λ t. record { cart = t.cart; forms = t.forms } ≡ spec.basket_after post edit.entry.now) }
+    ensures notice { IfOk result (λ t. t.notice ≡ spec.notice_of post is_new edit.entry.now) }
 {
-    let mut cart = read_cart(alloc, seen(edit, CART))?;
-    cart.post(post);
-    kept_cart(alloc, &cart)
+    let mut cart = read_cart(store.alloc, seen(edit, CART))?;
+    let mut forms = read_forms(store.alloc, seen(edit, FORMS))?;
+    let before = cart.quantity(post.article);
+    let standing = take_post(&mut cart, &mut forms, session_number(edit), post)?;
+    Ok(Taken {
+        cart,
+        forms,
+        notice: Notice::of_post(standing, before, post, is_new),
+    })
+}
+
+/// Keeps a cart, its forms and what is said in the session.
+#[tactic(auto, unfolding(crate::specs::Basket::with_basket))]
+fn keep_taken(store: Store, edit: &mut SessionEdit, taken: &Taken) -> Result<(), AllocError>
+    ensures { OnOk result (edit.new ≡ spec.with_basket (record { cart = taken.now.cart; forms = taken.now.forms }) taken.now.notice edit.old) }
+{
+    let forms = kept_forms(store.alloc, &taken.forms)?;
+    keep(edit, CART, taken.cart.as_slice())?;
+    keep(edit, FORMS, forms.as_slice())?;
+    keep(edit, NOTICE, &taken.notice.kept())?;
+    Ok(())
 }
 
 /// Changes the cart by a form, in a session that is made where there is none.
 #[tactic(auto, unfolding(crate::specs::Basket::changed))]
-fn change(alloc: Global, edit: &mut SessionEdit, post: Post) -> Result<(), AllocError>
-    ensures { OnOk result (edit.new ≡ spec.changed post edit.old) }
+fn change(store: Store, edit: &mut SessionEdit, post: Post) -> Result<(), AllocError>
+    ensures { OnOk result (edit.new ≡ spec.changed store.node post edit.old) }
 {
-    create(edit)?;
-    let cart = cart_behind(alloc, edit, post)?;
-    keep(edit, CART, cart.as_slice())?;
-    Ok(())
+    let is_new = !has_session(edit);
+    begin(edit, store.node)?;
+    let taken = basket_after(store, edit, post, is_new)?;
+    keep_taken(store, edit, &taken)
+}
+
+/// The page of the cart, for a session as it is, with what was typed that is no quantity.
+#[tactic(auto, unfolding(crate::specs::Basket::page_of))]
+fn page_of<'a>(
+    store: Store,
+    base: &'a str,
+    edit: &'a SessionEdit,
+    wrong: Option<Wrong<'_>>,
+) -> Result<Page, AllocError>
+    ensures { IfOk result (λ page. page ≡ spec.page_of store.articles.now base.now store.node (wrong_of wrong.entry) edit.entry.now) }
+{
+    let cart = read_cart(store.alloc, seen(edit, CART))?;
+    let order = read_order(store.alloc, seen(edit, ORDER))?;
+    let beside = Beside {
+        notice: Notice::read(seen(edit, NOTICE)),
+        wrong,
+        form: order.number,
+    };
+    let frame = frame_of(base, store.node, edit, &cart);
+    cart_page(store.alloc, frame, store.articles, &cart, beside)
+}
+
+/// The form of an article stands in the cart while there is something of it there.
+fn is_line(
+    store: Store,
+    listing: Listing,
+    article: u8,
+    edit: &SessionEdit,
+) -> Result<bool, AllocError>
+    ensures { IfOk result (λ is. is ≡ spec.is_line listing article edit.entry.now) }
+{
+    let cart = read_cart(store.alloc, seen(edit, CART))?;
+    match listing {
+        Listing::Lines => Ok(cart.quantity(article) > 0),
+        Listing::Offers | Listing::Ordered => Ok(false),
+    }
+}
+
+/// The page of a form again, with what was typed in it.
+fn wrong_page<'a>(
+    store: Store,
+    base: &'a str,
+    edit: &'a SessionEdit,
+    listing: Listing,
+    article: u8,
+    typed: &'a str,
+) -> Result<Page, AllocError>
+    ensures { IfOk result (λ page. page ≡ spec.wrong_page store.articles.now base.now store.node listing article typed.now edit.entry.now) }
+{
+    let wrong = Some(Wrong {
+        article: usize::from(article),
+        typed,
+    });
+    if is_line(store, listing, article, edit)? {
+        return page_of(store, base, edit, wrong);
+    }
+    offers_of(store, base, edit, wrong)
+}
+
+/// Shows the page of a form again, where what was typed is no quantity.
+fn show_again(
+    store: Store,
+    call: &Call<'_>,
+    edit: &mut SessionEdit,
+    reply: &mut Reply,
+    listing: Listing,
+    article: u8,
+) -> Result<Next, AllocError>
+    ensures { IfOk result (λ next. answer (lent edit.new reply.new) next ≡ spec.shown_again store.articles.now call.now.context_path store.node listing article (spec.typed call.now) (lent edit.old reply.old)) }
+{
+    begin(edit, store.node)?;
+    let typed = text(call.params, "quantity");
+    let page = wrong_page(store, call.context_path, edit, listing, article, typed)?;
+    send_back(reply, &page)?;
+    Ok(Next::Done)
+}
+
+/// Refuses what is no form.
+pub fn refuse(store: Store) -> Result<Next, AllocError>
+    ensures { IfOk result (λ next. next ≡ spec.refusal) }
+{
+    let text = Text::from_str(
+        store.alloc,
+        "This form is not one of the shop's, or it has lost a field.",
+    )?;
+    Ok(Next::SendError { code: 400, text })
 }
 
 /// Answers a form that was sent.
 fn take(
-    alloc: Global,
-    params: &[Param],
+    store: Store,
+    call: &Call<'_>,
     edit: &mut SessionEdit,
     reply: &mut Reply,
 ) -> Result<Next, AllocError>
-    ensures { IfOk result (λ next. answer (lent edit.new reply.new) next ≡ spec.taken params.now (lent edit.old reply.old)) }
+    ensures { IfOk result (λ next. answer (lent edit.new reply.new) next ≡ spec.taken store.articles.now store.node call.now (lent edit.old reply.old)) }
 {
-    let Some(post) = post_of(params) else {
-        let text = Text::from_str(alloc, "This form is not one of the shop's.")?;
-        return Ok(Next::SendError { code: 400, text });
-    };
-    change(alloc, edit, post)?;
-    send_to_cart(reply)?;
-    Ok(Next::Done)
+    match sent_of(call.params) {
+        Sent::Asks(post) => {
+            change(store, edit, post)?;
+            send_to(reply, Way::Cart)?;
+            Ok(Next::Done)
+        }
+        Sent::Wrong { listing, article } => {
+            show_again(store, call, edit, reply, listing, article)
+        }
+        Sent::NotOurs => refuse(store),
+    }
 }
 
-/// Shows the cart.
+/// Shows the cart, and forgets the notice that is on the page.
 fn show(
-    alloc: Global,
-    articles: &[Article],
+    store: Store,
     base: &str,
-    edit: &SessionEdit,
+    edit: &mut SessionEdit,
     reply: &mut Reply,
 ) -> Result<Next, AllocError>
-    ensures { IfOk result (λ next. answer (lent edit.entry.now reply.new) next ≡ spec.shown articles.now base.now (lent edit.entry.now reply.old)) }
+    ensures { IfOk result (λ next. answer (lent edit.new reply.new) next ≡ spec.shown store.articles.now base.now store.node (lent edit.old reply.old)) }
 {
-    let page = page_of(alloc, articles, base, edit)?;
+    let page = page_of(store, base, edit, None)?;
+    forget(edit, NOTICE)?;
     send(reply, &page)?;
     Ok(Next::Done)
 }
@@ -93,7 +206,7 @@ fn show(
 impl Answers for Basket {
     ghost use Rattle.example_servlets.specs.Basket.{basket};
 
-    ghost answers = { λ s. basket s.articles.now };
+    ghost answers = { λ s. basket s.store.articles.now s.store.node };
 
     fn answer(
         &mut self,
@@ -102,9 +215,9 @@ impl Answers for Basket {
         reply: &mut Reply,
     ) -> Result<Next, AllocError> {
         if is_post(call.method) {
-            return take(self.alloc, call.params, edit, reply);
+            return take(self.store, call, edit, reply);
         }
-        show(self.alloc, self.articles, call.context_path, edit, reply)
+        show(self.store, call.context_path, edit, reply)
     }
 
     fn goes_on(&self) {}

@@ -1,41 +1,43 @@
 //! The catalogue.
 
 ghost use Rattle.std.specs.Prelude.{◌≡◌, IfOk};
-ghost use Rattle.example_servlets.specs.Catalogue as spec;
+ghost use Rattle.example_cart.specs.Pages.{wrong_of};
+ghost use Rattle.example_servlets.specs.Basket as spec;
 
-use crate::kept::{CART, NAME, seen};
+use crate::kept::{CART, seen};
 use crate::sent::send;
-use example_cart::{Article, Frame, Page, catalogue_page, read_cart};
-use std::alloc::{AllocError, Global};
+use crate::store::Store;
+use crate::visits::{begin, frame_of};
+use example_cart::{Page, Wrong, catalogue_page, read_cart};
+use std::alloc::AllocError;
 use sv_servlet::{Answers, Call, Next, Reply};
 use sv_session::SessionEdit;
 
-/// Shows the catalogue, with a form for each article.
+/// Shows the catalogue, with a form for each article, in a session that is made where there is none.
 #[derive(Drop)]
 pub struct Catalogue {
-    pub alloc: Global,
-    pub articles: &'static [Article],
+    pub store: Store,
 }
 
-/// The page, for a session as it is.
-#[tactic(auto, unfolding(crate::specs::Catalogue::page_of))]
-fn page_of<'a>(
-    alloc: Global,
-    articles: &[Article],
+/// The page, for a session as it is, with what was typed that is no quantity.
+#[tactic(auto, unfolding(crate::specs::Basket::offers_of))]
+pub fn offers_of<'a>(
+    store: Store,
     base: &'a str,
     edit: &'a SessionEdit,
+    wrong: Option<Wrong<'_>>,
 ) -> Result<Page, AllocError>
-    ensures { IfOk result (λ page. page ≡ spec.page_of articles.now base.now edit.entry.now) }
+    ensures { IfOk result (λ page. page ≡ spec.offers_of store.articles.now base.now store.node (wrong_of wrong.entry) edit.entry.now) }
 {
-    let cart = read_cart(alloc, seen(edit, CART))?;
-    let name = seen(edit, NAME);
-    catalogue_page(alloc, Frame { base, name }, articles, &cart)
+    let cart = read_cart(store.alloc, seen(edit, CART))?;
+    let frame = frame_of(base, store.node, edit, &cart);
+    catalogue_page(store.alloc, frame, store.articles, &cart, wrong)
 }
 
 impl Answers for Catalogue {
     ghost use Rattle.example_servlets.specs.Catalogue.{catalogue};
 
-    ghost answers = { λ s. catalogue s.articles.now };
+    ghost answers = { λ s. catalogue s.store.articles.now s.store.node };
 
     fn answer(
         &mut self,
@@ -43,7 +45,8 @@ impl Answers for Catalogue {
         edit: &mut SessionEdit,
         reply: &mut Reply,
     ) -> Result<Next, AllocError> {
-        let page = page_of(self.alloc, self.articles, call.context_path, edit)?;
+        begin(edit, self.store.node)?;
+        let page = offers_of(self.store, call.context_path, edit, None)?;
         send(reply, &page)?;
         Ok(Next::Done)
     }

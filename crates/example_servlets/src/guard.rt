@@ -9,6 +9,7 @@ ghost use Rattle.example_servlets.specs.Guard.{guarding};
 use crate::kept::has_session;
 use crate::sent::put;
 use crate::told::is_post;
+use crate::visits::arrive;
 use http_header::{HeaderName, HeaderValue};
 use std::alloc::{AllocError, Global};
 use sv_model::{Field, Text};
@@ -19,10 +20,13 @@ use sv_session::SessionEdit;
 ///
 /// What a browser says of where a form comes from is believed: by `Sec-Fetch-Site` where it is there, else by `Origin` against
 /// `Host`. A request with neither comes from no page.
+///
+/// A request of a session is counted as a page that the session is shown, by this node.
 #[derive(Drop)]
 pub struct Guard {
     phase: Phase,
     alloc: Global,
+    node: u8,
 }
 
 /// Only what the shop itself serves is loaded, and its forms lead to nowhere else (Content Security Policy, level 3).
@@ -32,7 +36,7 @@ fn policy() -> Field
     Field {
         name: HeaderName::from_static("content-security-policy"),
         value: HeaderValue::from_static(
-            "default-src 'none'; style-src 'self'; form-action 'self'; base-uri 'self'; frame-ancestors 'none'",
+            "default-src 'none'; style-src 'self'; img-src 'self'; form-action 'self'; base-uri 'self'; frame-ancestors 'none'",
         ),
     }
 }
@@ -130,13 +134,14 @@ fn admit(alloc: Global, call: &Call<'_>) -> Result<Before, AllocError>
 
 impl Guard {
     /// A filter that has not been initialised.
-    pub fn new(alloc: Global) -> Guard
+    pub fn new(alloc: Global, node: u8) -> Guard
         ensures phase { ⟦<Guard as Filter>⟧.filter_phase result ≡ New }
-        ensures meaning { ⟦<Guard as Filter>⟧.filtering result ≡ guarding }
+        ensures meaning { ⟦<Guard as Filter>⟧.filtering result ≡ guarding node }
     {
         Guard {
             phase: Phase::New,
             alloc,
+            node,
         }
     }
 }
@@ -144,7 +149,7 @@ impl Guard {
 impl Filter for Guard {
     ghost use Rattle.example_servlets.specs.Guard.{guarding};
 
-    ghost filtering = { λ _. guarding };
+    ghost filtering = { λ f. guarding f.node };
 
     ghost filter_phase = { λ f. f.phase };
 
@@ -156,9 +161,10 @@ impl Filter for Guard {
     fn before(
         &mut self,
         call: &Call<'_>,
-        _edit: &mut SessionEdit,
+        edit: &mut SessionEdit,
         reply: &mut Reply,
     ) -> Result<Before, AllocError> {
+        arrive(edit, self.node)?;
         set_guards(reply)?;
         admit(self.alloc, call)
     }

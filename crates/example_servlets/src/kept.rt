@@ -1,20 +1,29 @@
 //! What the shop keeps in a session.
 
 ghost use Rattle.std.specs.Prelude.{◌≡◌, OnOk, option_copied};
-ghost use Rattle.sv_session.specs.Calls.{after, change_id_result, create_result, value_result};
-ghost use Rattle.example_servlets.specs.Kept.{has_session, seen};
+ghost use Rattle.sv_session.specs.Calls.{after, change_id_result, create_result, invalidate_result, remove_result, value_result};
+ghost use Rattle.example_servlets.specs.Kept.{has_session, seen, session_number};
 
 use std::alloc::AllocError;
-use sv_session::SessionEdit;
+use sv_session::{SessionEdit, SessionFault};
 
 /// The attribute that holds the cart.
 pub const CART: &str = "cart";
+
+/// The attribute that holds the last forms that have counted.
+pub const FORMS: &str = "forms";
+
+/// The attribute that holds what is to be said of the last form.
+pub const NOTICE: &str = "notice";
 
 /// The attribute that holds the last order.
 pub const ORDER: &str = "order";
 
 /// The attribute that holds the name of whoever has logged in.
 pub const NAME: &str = "name";
+
+/// The attribute that holds the number of the last page, its node, and the moves of the session.
+pub const VISIT: &str = "visit";
 
 /// What an attribute holds; none where there is no such attribute, or no session.
 pub fn seen<'a>(edit: &'a SessionEdit, name: &str) -> Option<&'a [u8]>
@@ -31,6 +40,16 @@ pub fn has_session(edit: &SessionEdit) -> bool
     ensures { result ≡ has_session edit.entry.now }
 {
     edit.key().is_ok()
+}
+
+/// The number of the session, which no other has while a node makes fewer than 2^56; 0 where there is none.
+pub fn session_number(edit: &SessionEdit) -> u64
+    ensures { result ≡ session_number edit.entry.now }
+{
+    match edit.key() {
+        Ok(key) => key.serial % 0x0100_0000_0000_0000 * 256 + u64::from(key.home),
+        Err(_) => 0,
+    }
 }
 
 /// Makes a session where there is none.
@@ -59,6 +78,26 @@ pub fn keep(edit: &mut SessionEdit, name: &str, value: &[u8]) -> Result<(), Allo
 {
     match edit.set(name, Some(value)) {
         Ok(()) => Ok(()),
+        Err(_) => Err(AllocError),
+    }
+}
+
+/// Forgets what is kept under a name, if there is a session.
+pub fn forget(edit: &mut SessionEdit, name: &str) -> Result<(), AllocError>
+    ensures { OnOk result (edit.new ≡ after edit.old (remove_result edit.old name.now)) }
+{
+    match edit.remove(name) {
+        Ok(()) | Err(SessionFault::NoSession) => Ok(()),
+        Err(_) => Err(AllocError),
+    }
+}
+
+/// Ends the session, if there is one.
+pub fn end(edit: &mut SessionEdit) -> Result<(), AllocError>
+    ensures { OnOk result (edit.new ≡ after edit.old (invalidate_result edit.old)) }
+{
+    match edit.invalidate() {
+        Ok(()) | Err(SessionFault::NoSession) => Ok(()),
         Err(_) => Err(AllocError),
     }
 }

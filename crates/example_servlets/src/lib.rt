@@ -1,8 +1,8 @@
 //! The servlets of a small web shop, with a filter and a listener, as their author writes them.
 //!
-//! Stands on the cart and its pages, and on what servlets are lent. Of a session they keep three attributes: the cart, the last
-//! order, and the name of whoever has logged in. Where the edit or the reply refuses a call, the request ends as one for which
-//! memory is refused.
+//! Stands on the cart and its pages, and on what servlets are lent. Of a session they keep six attributes: the cart, the forms that
+//! have counted, what is to be said of the last one, the last order, the name of whoever has logged in, and the pages that were
+//! shown. Where the edit or the reply refuses a call, the request ends as one for which memory is refused.
 #![tactic(auto)]
 
 mod basket;
@@ -13,11 +13,14 @@ mod guard;
 mod kept;
 pub mod laws;
 mod login;
+mod logout;
 mod orders;
 mod sent;
 mod shop;
-mod style;
+mod still;
+mod store;
 mod told;
+mod visits;
 
 pub use basket::Basket;
 pub use catalogue::Catalogue;
@@ -25,6 +28,8 @@ pub use checkout::Checkout;
 pub use error::ErrorPage;
 pub use guard::Guard;
 pub use login::Login;
+pub use logout::Logout;
 pub use orders::Orders;
 pub use shop::ShopServlet;
-pub use style::Style;
+pub use still::{Kind, Still};
+pub use store::Store;

@@ -5,7 +5,7 @@ ghost use Rattle.sv_servlet.specs.Servlet.{answer, lent};
 ghost use Rattle.example_servlets.specs.Login as spec;
 
 use crate::kept::{NAME, change_id, create, has_session, keep};
-use crate::sent::send_to_cart;
+use crate::sent::{Way, send_to};
 use crate::told::{is_post, name_of};
 use std::alloc::{AllocError, Global};
 use sv_model::{Param, Text};
@@ -40,12 +40,15 @@ fn take(
     ensures { IfOk result (λ next. answer (lent edit.new reply.new) next ≡ spec.taken params.now (lent edit.old reply.old)) }
 {
     let Some(name) = name_of(params) else {
-        let text = Text::from_str(alloc, "A name has 1 to 64 bytes.")?;
+        let text = Text::from_str(
+            alloc,
+            "A name has 1 to 64 letters, and not blanks alone. Please log in above.",
+        )?;
         return Ok(Next::SendError { code: 400, text });
     };
     enter(edit)?;
     keep(edit, NAME, name.as_bytes())?;
-    send_to_cart(reply)?;
+    send_to(reply, Way::Cart)?;
     Ok(Next::Done)
 }
 
@@ -53,7 +56,7 @@ fn take(
 fn refuse(alloc: Global) -> Result<Next, AllocError>
     ensures { IfOk result (λ next. next ≡ spec.refusal) }
 {
-    let text = Text::from_str(alloc, "Log in by the form.")?;
+    let text = Text::from_str(alloc, "Please log in above.")?;
     Ok(Next::SendError { code: 405, text })
 }
 

@@ -21,13 +21,34 @@ fn html_type() -> Field
     }
 }
 
-/// `location: cart`, which leads to the cart from every page of the shop.
-fn cart_location() -> Field
-    ensures { result ≡ spec.cart_location }
+/// A page that a browser is sent on to.
+#[derive(Clone, Copy)]
+pub enum Way {
+    Catalogue,
+    Cart,
+    Order,
+    Goodbye,
+}
+
+/// The path of a page, as a field's value. It leads there from every page of the shop.
+fn path_of(way: Way) -> HeaderValue
+    ensures { result ≡ spec.path_of way }
+{
+    match way {
+        Way::Catalogue => HeaderValue::from_static("catalogue"),
+        Way::Cart => HeaderValue::from_static("cart"),
+        Way::Order => HeaderValue::from_static("checkout"),
+        Way::Goodbye => HeaderValue::from_static("logout"),
+    }
+}
+
+/// `location: cart`, for example.
+fn location(way: Way) -> Field
+    ensures { result ≡ spec.location way }
 {
     Field {
         name: HeaderName::from_static("location"),
-        value: HeaderValue::from_static("cart"),
+        value: path_of(way),
     }
 }
 
@@ -71,12 +92,22 @@ pub fn send(reply: &mut Reply, page: &Page) -> Result<(), AllocError>
     Ok(())
 }
 
-/// Sends whoever asked on to the cart (RFC 9110, section 15.4.4).
+/// Sends a page that says what was wrong with a form (RFC 9110, section 15.5.1).
+#[tactic(auto, unfolding(crate::specs::Sent::sent_back))]
+pub fn send_back(reply: &mut Reply, page: &Page) -> Result<(), AllocError>
+    ensures { OnOk result (reply.new ≡ spec.sent_back page.now reply.old) }
+{
+    set_status(reply, 400)?;
+    send(reply, page)?;
+    Ok(())
+}
+
+/// Sends whoever asked on to another page (RFC 9110, section 15.4.4).
 #[tactic(auto, unfolding(crate::specs::Sent::sent_on))]
-pub fn send_to_cart(reply: &mut Reply) -> Result<(), AllocError>
-    ensures { OnOk result (reply.new ≡ spec.sent_on reply.old) }
+pub fn send_to(reply: &mut Reply, way: Way) -> Result<(), AllocError>
+    ensures { OnOk result (reply.new ≡ spec.sent_on way reply.old) }
 {
     set_status(reply, 303)?;
-    put(reply, cart_location())?;
+    put(reply, location(way))?;
     Ok(())
 }

@@ -7,7 +7,8 @@ use crate::catalogue::Catalogue;
 use crate::checkout::Checkout;
 use crate::error::ErrorPage;
 use crate::login::Login;
-use crate::style::Style;
+use crate::logout::Logout;
+use crate::still::Still;
 use std::alloc::AllocError;
 use sv_servlet::{Answers, Call, Next, Reply};
 use sv_session::SessionEdit;
@@ -18,8 +19,9 @@ pub enum ShopServlet {
     Catalogue(Catalogue),
     Basket(Basket),
     Login(Login),
+    Logout(Logout),
     Checkout(Checkout),
-    Style(Style),
+    Still(Still),
     Error(ErrorPage),
 }
 
@@ -38,8 +40,9 @@ impl Answers for ShopServlet {
             ShopServlet::Catalogue(servlet) => servlet.answer(call, edit, reply),
             ShopServlet::Basket(servlet) => servlet.answer(call, edit, reply),
             ShopServlet::Login(servlet) => servlet.answer(call, edit, reply),
+            ShopServlet::Logout(servlet) => servlet.answer(call, edit, reply),
             ShopServlet::Checkout(servlet) => servlet.answer(call, edit, reply),
-            ShopServlet::Style(servlet) => servlet.answer(call, edit, reply),
+            ShopServlet::Still(servlet) => servlet.answer(call, edit, reply),
             ShopServlet::Error(servlet) => servlet.answer(call, edit, reply),
         }
     }

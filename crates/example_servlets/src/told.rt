@@ -3,9 +3,9 @@
 ghost use Rattle.std.specs.Prelude.{◌≡◌, option_copied};
 ghost use Rattle.std.specs.List.{find};
 ghost use Rattle.example_servlets.specs.Told as spec;
-ghost use Rattle.example_servlets.specs.Told.{number, parameter};
+ghost use Rattle.example_servlets.specs.Told.{parameter, text};
 
-use example_cart::{Post, read_number, read_post};
+use example_cart::{Sent, read_between, read_sent};
 use http::Method;
 use sv_model::Param;
 
@@ -33,38 +33,55 @@ pub fn parameter<'a>(params: &'a [Param], name: &str) -> Option<&'a str>
     }
 }
 
-/// The number that the first parameter of a name is.
-pub fn number(params: &[Param], name: &str) -> Option<u16>
-    ensures { result ≡ number params.now name.now }
+/// The value of the first parameter of a name, or an empty text.
+pub fn text<'a>(params: &'a [Param], name: &str) -> &'a str
+    ensures { result.now ≡ text params.now name.now }
 {
     match parameter(params, name) {
-        Some(text) => read_number(text),
-        None => None,
+        Some(text) => text,
+        None => "",
     }
 }
 
 /// The form of an article.
-pub fn post_of(params: &[Param]) -> Option<Post>
-    ensures { result ≡ spec.post_of params.now }
+pub fn sent_of(params: &[Param]) -> Sent
+    ensures { result ≡ spec.sent_of params.now }
 {
-    match (
-        parameter(params, "article"),
-        parameter(params, "form"),
-        parameter(params, "do"),
-    ) {
-        (Some(article), Some(form), Some(change)) => {
-            read_post(article, form, change, number(params, "quantity"))
-        }
-        _ => None,
+    let article = text(params, "article");
+    let visit = text(params, "visit");
+    let page = text(params, "page");
+    read_sent(
+        article,
+        visit,
+        page,
+        text(params, "do"),
+        text(params, "quantity"),
+    )
+}
+
+/// The number of an order's form.
+pub fn order_form(params: &[Param]) -> Option<u16>
+    ensures { result ≡ spec.order_form params.now }
+{
+    match read_between(text(params, "form"), 0, 65_535) {
+        Some(form) => Some(form as u16),
+        None => None,
     }
 }
 
-/// The name that a form has: not empty, and of 64 bytes at most.
+/// Blanks alone, and control characters.
+fn is_blank(name: &str) -> bool
+    ensures { result ≡ spec.is_blank name.now }
+{
+    name.as_bytes().iter().all(|byte| *byte <= 32)
+}
+
+/// The name that a form has: not blank, and of 192 bytes at most. The 64 letters that a browser lets somebody type have no more.
 pub fn name_of(params: &[Param]) -> Option<&str>
     ensures { option_copied result ≡ spec.name_of params.now }
 {
     match parameter(params, "name") {
-        Some(name) if !name.is_empty() && name.len() <= 64 => Some(name),
+        Some(name) if !is_blank(name) && name.len() <= 192 => Some(name),
         _ => None,
     }
 }

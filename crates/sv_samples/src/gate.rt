@@ -5,17 +5,15 @@ ghost use Rattle.sv_samples.specs.Gate as spec;
 ghost use Rattle.sv_servlet.specs.declared.servlet.Phase.TheVariants.{New};
 ghost use Rattle.sv_samples.specs.Gate.{gate_filters};
 
-use crate::life::Life;
 use crate::parameter::value_of;
 use std::alloc::{AllocError, Global};
 use sv_model::Text;
-use sv_servlet::{Before, Call, Filter, InitFault, Reply};
+use sv_servlet::{Before, Call, Filter, GenericFilter, Reply, Surrounds};
 use sv_session::SessionEdit;
 
 /// Lets a request through whose first parameter `key` is `open`, and sends the error 403 for any other.
 #[derive(Drop)]
 pub struct Gate {
-    life: Life,
     alloc: Global,
 }
 
@@ -40,28 +38,18 @@ fn admit(alloc: Global, call: &Call<'_>) -> Result<Before, AllocError>
 
 impl Gate {
     /// A filter that has not been initialised.
-    pub fn new(alloc: Global) -> Gate
-        ensures phase { ⟦<Gate as Filter>⟧.filter_phase result ≡ New }
-        ensures meaning { ⟦<Gate as Filter>⟧.filtering result ≡ gate_filters }
+    pub fn new(alloc: Global) -> GenericFilter<Gate>
+        ensures phase { ⟦<GenericFilter<Gate> as Filter>⟧.filter_phase result ≡ New }
+        ensures meaning { ⟦<GenericFilter<Gate> as Filter>⟧.filtering result ≡ gate_filters }
     {
-        Gate {
-            life: Life::new(),
-            alloc,
-        }
+        GenericFilter::new(Gate { alloc })
     }
 }
 
-impl Filter for Gate {
+impl Surrounds for Gate {
     ghost use Rattle.sv_samples.specs.Gate.{gate_filters};
 
-    ghost filtering = { λ f. gate_filters };
-
-    ghost filter_phase = { λ f. f.life.phase };
-
-    fn init(&mut self) -> Result<(), InitFault> {
-        self.life.begin();
-        Ok(())
-    }
+    ghost surrounds = { λ _. gate_filters };
 
     fn before(
         &mut self,
@@ -69,7 +57,6 @@ impl Filter for Gate {
         _edit: &mut SessionEdit,
         _reply: &mut Reply,
     ) -> Result<Before, AllocError> {
-        self.life.count();
         admit(self.alloc, call)
     }
 
@@ -79,11 +66,8 @@ impl Filter for Gate {
         _edit: &mut SessionEdit,
         _reply: &mut Reply,
     ) -> Result<(), AllocError> {
-        self.life.count();
         Ok(())
     }
 
-    fn destroy(&mut self) {
-        self.life.end();
-    }
+    fn goes_on(&self) {}
 }

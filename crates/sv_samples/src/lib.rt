@@ -2,8 +2,8 @@
 //!
 //! Stands on servlets, filters and listeners alone. What a sample means is a definition of the file of its name in
 //! `specs/`, and each call is that meaning whatever the object has lived through. A servlet of a sample is a
-//! [`sv_servlet::GenericServlet`] of it, which counts its calls as the filters here do, in a number that no answer shows.
-//! Nothing here knows contexts, mappings or which names a descriptor gives. The reading of decimal numbers is here for
+//! [`sv_servlet::GenericServlet`] of it, and a filter a [`sv_servlet::GenericFilter`], which count their calls in a number that no
+//! answer shows. Nothing here knows contexts, mappings or which names a descriptor gives. The reading of decimal numbers is here for
 //! others too.
 #![tactic(auto)]
 
@@ -13,7 +13,6 @@ mod forwarder;
 mod gate;
 mod hello;
 mod includer;
-mod life;
 mod login;
 mod numeral;
 mod parameter;

@@ -8,11 +8,10 @@ ghost use Rattle.sv_samples.specs.Stamp as spec;
 ghost use Rattle.sv_servlet.specs.declared.servlet.Phase.TheVariants.{New};
 ghost use Rattle.sv_samples.specs.Stamp.{stamp_filters};
 
-use crate::life::Life;
 use crate::refusal::{Refusal, before_after};
 use std::alloc::{AllocError, Global};
 use sv_model::Text;
-use sv_servlet::{Before, Call, Filter, InitFault, Reply, ReplyFault};
+use sv_servlet::{Before, Call, Filter, GenericFilter, Reply, ReplyFault, Surrounds};
 use sv_session::SessionEdit;
 
 /// Writes `<` and its mark before a servlet, and its mark and `>` behind it.
@@ -22,7 +21,6 @@ use sv_session::SessionEdit;
 #[derive(Drop)]
 pub struct Stamp {
     mark: Text,
-    life: Life,
     alloc: Global,
 }
 
@@ -60,29 +58,19 @@ fn close(alloc: Global, mark: &Text, reply: &mut Reply) -> Result<(), AllocError
 
 impl Stamp {
     /// A filter of this name that has not been initialised.
-    pub fn new(alloc: Global, name: &str) -> Result<Stamp, AllocError>
-        ensures phase { IfOk result (λ f. ⟦<Stamp as Filter>⟧.filter_phase f ≡ New) }
-        ensures meaning { IfOk result (λ f. ⟦<Stamp as Filter>⟧.filtering f ≡ stamp_filters (spec.mark_of name.now)) }
+    pub fn new(alloc: Global, name: &str) -> Result<GenericFilter<Stamp>, AllocError>
+        ensures phase { IfOk result (λ f. ⟦<GenericFilter<Stamp> as Filter>⟧.filter_phase f ≡ New) }
+        ensures meaning { IfOk result (λ f. ⟦<GenericFilter<Stamp> as Filter>⟧.filtering f ≡ stamp_filters (spec.mark_of name.now)) }
     {
-        Ok(Stamp {
-            mark: Text::from_str(alloc, mark_of(name))?,
-            life: Life::new(),
-            alloc,
-        })
+        let mark = Text::from_str(alloc, mark_of(name))?;
+        Ok(GenericFilter::new(Stamp { mark, alloc }))
     }
 }
 
-impl Filter for Stamp {
+impl Surrounds for Stamp {
     ghost use Rattle.sv_samples.specs.Stamp.{stamp_filters};
 
-    ghost filtering = { λ f. stamp_filters f.mark };
-
-    ghost filter_phase = { λ f. f.life.phase };
-
-    fn init(&mut self) -> Result<(), InitFault> {
-        self.life.begin();
-        Ok(())
-    }
+    ghost surrounds = { λ s. stamp_filters s.mark };
 
     fn before(
         &mut self,
@@ -90,7 +78,6 @@ impl Filter for Stamp {
         _edit: &mut SessionEdit,
         reply: &mut Reply,
     ) -> Result<Before, AllocError> {
-        self.life.count();
         let ended = open(self.alloc, &self.mark, reply);
         before_after(self.alloc, ended)
     }
@@ -101,11 +88,8 @@ impl Filter for Stamp {
         _edit: &mut SessionEdit,
         reply: &mut Reply,
     ) -> Result<(), AllocError> {
-        self.life.count();
         close(self.alloc, &self.mark, reply)
     }
 
-    fn destroy(&mut self) {
-        self.life.end();
-    }
+    fn goes_on(&self) {}
 }

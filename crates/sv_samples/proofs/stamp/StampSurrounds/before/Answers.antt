@@ -1,7 +1,7 @@
 use Rattle.std.proofs.lemmas.Result.{IfOk-weaker}
 use Rattle.sv_servlet.specs.Servlet.{lent}
 use Rattle.sv_samples.proofs.RefusalLemmas.{verdict_with}
-use Rattle.sv_samples.proofs.stamp.StampFilter.before.Goals as goal
+use Rattle.sv_samples.proofs.stamp.StampSurrounds.before.Goals as goal
 
 pub returns-clause-answer : goal.returns-clause-answer
 returns-clause-answer c =
