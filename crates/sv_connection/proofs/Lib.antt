@@ -7,3 +7,4 @@ mod SoloLemmas
 mod FollowLemmas
 pub mod TraceLemmas
 mod RequestLemmas
+mod ReceiveLemmas

@@ -4,5 +4,6 @@ pub mod Request
 pub mod Reply
 pub mod Arrive
 pub mod Serve
+pub mod Receive
 pub mod Connection
 pub mod Manner

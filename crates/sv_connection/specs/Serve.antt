@@ -132,6 +132,10 @@ status_of_target Connect = Some 501
 status_of_target BadTarget = Some 400
 status_of_target TargetMemory = None
 
+abbrev pub status_of : RequestFault → Option ℕ
+status_of (Read fault) = status_of_read fault
+status_of (Target fault) = status_of_target fault
+
 -- the plain page of a fault was written, and the connection closes; without one that memory was refused
 abbrev pub IsPage : Option ℕ → Bool → ℕ → RequestFault → Option (List ℕ) → Option (List ℕ) → Bool → Outcome → Type 0
 IsPage (Some status) head_only now fault wo wn closed outcome = IsSaid (plain_page status [] head_only true) now (Refused fault) wo wn closed outcome
@@ -203,22 +207,3 @@ pub record IsTaken {S : Type 0} (steps : S → Moment → Input → Result (List
 -- one call: no request was taken, or one was
 abbrev pub IsServed : {S : Type 0} → (S → Moment → Input → Result (List Output) StepFault → S → Type 0) → How → Sight S → Sight S → Served → Type 0
 IsServed steps how old new served = IsIdle how old new served ⊎ IsTaken steps how old new served
-
--- the bytes that have come are no whole message yet, and more can make them one: they are kept, and nothing else was done
-pub record IsHeld {S : Type 0} (old new : Sight S) : Type 0 where
-  pub unfinished : IfSome old.unread HasNoMessage
-  pub unread : new.unread ≡ old.unread
-  pub written : new.written ≡ old.written
-  pub site : new.site ≡ old.site
-  pub was_open : old.closed ≡ false
-  pub still_open : new.closed ≡ false
-
--- one call with bytes that have come: there was no whole message yet, or it did what a call does
-abbrev pub IsFed : {S : Type 0} → (S → Moment → Input → Result (List Output) StepFault → S → Type 0) → How → Sight S → Sight S → Option Served → Type 0
-IsFed steps how old new None = IsHeld old new
-IsFed steps how old new (Some served) = IsServed steps how old new served
-
--- the site will answer later
-abbrev pub parks : Option Served → Bool
-parks None = false
-parks (Some served) = is_parked served.outcome

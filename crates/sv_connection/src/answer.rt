@@ -31,12 +31,12 @@ pub struct Manner {
 }
 
 /// How the response to a request is to be, at `now` in whole seconds.
-pub fn manner_of(raw: &RawRequest, single: bool, now: u64) -> Manner
-    ensures { result ≡ manner_of single raw.now now }
+pub fn manner_of(request: &Request, now: u64) -> Manner
+    ensures { result ≡ manner_of request.now now }
 {
     Manner {
-        head_only: is_head(&raw.method),
-        close: raw.close || single,
+        head_only: is_head(&request.method),
+        close: request.close,
         now,
     }
 }

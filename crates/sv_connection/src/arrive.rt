@@ -1,13 +1,17 @@
 //! Reads until a message is there.
 
-ghost use Rattle.std.specs.Prelude.{◌≡◌, false};
-ghost use Rattle.std.specs.Io.KnownBytes.{prepend_known};
-ghost use Rattle.sv_connection.specs.Arrive.{Feeds, Arrives, Brings};
+ghost use Rattle.std.specs.Prelude.{◌≡◌, ◌++◌, false, List, ℕ};
+ghost use Rattle.sv_message.specs.declared.request.RawRequest.{RawRequest as Raw};
+ghost use Rattle.sv_message.specs.Message.{IsMessage};
+ghost use Rattle.sv_message.specs.Reader.{Gives};
+ghost use Rattle.sv_connection.specs.Arrive.{Feeds, Brings};
 
+use crate::outcome::RequestFault;
 use std::io::Read;
 use sv_message::fault::ReadFault;
 use sv_message::reader::RequestReader;
 use sv_message::request::RawRequest;
+use sv_model::Request;
 
 /// The bytes that a read asks for.
 pub const READ_SIZE: usize = 4_096;
@@ -30,8 +34,11 @@ pub enum Fed {
 /// What the reads of one call brought.
 #[derive(Drop)]
 pub enum Arrived {
-    Request(RawRequest),
-    Fault(ReadFault),
+    Request(Request),
+    Refused {
+        fault: RequestFault,
+        head_only: bool,
+    },
     /// The input has ended with no whole message.
     End,
     /// The reader failed, or the call has made all its reads.
@@ -39,7 +46,7 @@ pub enum Arrived {
 }
 
 /// Reads once.
-fn feed_once<R: Read>(requests: &mut RequestReader, reader: &mut R) -> Fed
+pub fn feed_once<R: Read>(requests: &mut RequestReader, reader: &mut R) -> Fed
     ensures { Feeds requests.old (R.remaining reader.old) requests.new (R.remaining reader.new) result }
 {
     let mut piece = [0u8; READ_SIZE];
@@ -53,31 +60,11 @@ fn feed_once<R: Read>(requests: &mut RequestReader, reader: &mut R) -> Fed
     }
 }
 
-/// Reads until a message or a fault stands at the front, or the input ends.
-pub fn arrive<R: Read>(requests: &mut RequestReader, reader: &mut R) -> Arrived
-    requires { requests.old.closed ≡ false }
-    ensures { Arrives (prepend_known requests.old.rest (R.remaining reader.old)) (prepend_known requests.new.rest (R.remaining reader.new)) requests.new result }
-{
-    for _ in 0..READ_LIMIT {
-        match requests.next() {
-            Ok(Some(raw)) => return Arrived::Request(raw),
-            Ok(None) => {}
-            Err(fault) => return Arrived::Fault(fault),
-        }
-        match feed_once(requests, reader) {
-            Fed::More => {}
-            Fed::End => return Arrived::End,
-            Fed::Broken => return Arrived::Broken,
-            Fed::Starved => return Arrived::Fault(ReadFault::Memory),
-        }
-    }
-    Arrived::Broken
-}
-
 /// Puts bytes behind those that were read, and takes the message that then stands at the front; none where it isn't whole yet.
 pub fn take_in(requests: &mut RequestReader, piece: &[u8]) -> Result<Option<RawRequest>, ReadFault>
     requires { requests.old.closed ≡ false }
-    ensures { Brings requests.old piece.now result requests.new }
+    ensures brings { Brings requests.old piece.now result requests.new }
+    ensures found { (raw : Raw) (text rest : List ℕ) → IsMessage text raw → requests.old.rest ++ piece.now ≡ text ++ rest → Gives raw result }
 {
     match requests.feed(piece) {
         Ok(()) => requests.next(),

@@ -1,18 +1,19 @@
 //! Serves requests from a reader to a writer, over a site.
 
 ghost use Rattle.std.specs.Prelude.{◌≡◌, true, []};
-ghost use Rattle.sv_connection.specs.Serve.{parks};
 
 use crate::answer::{manner_of, outputs_of, request_of, say_step};
-use crate::arrive::{Arrived, arrive, take_in};
-use crate::outcome::{Outcome, Served};
-use crate::request::{ReadRequest, read_request};
-use crate::speak::{say, say_read_fault, say_target_fault};
+use crate::arrive::{Arrived, Fed, READ_LIMIT, feed_once, take_in};
+use crate::outcome::{Outcome, RequestFault, Served};
+use crate::received::Received;
+use crate::request::read_request;
+use crate::speak::{say, say_fault};
 use std::alloc::Global;
 use std::io::{Read, Write};
+use sv_message::fault::ReadFault;
 use sv_message::reader::RequestReader;
 use sv_message::request::RawRequest;
-use sv_model::{Input, Moment, Response, Site, is_head};
+use sv_model::{Input, Moment, Request, Response, Site, is_head};
 
 /// One connection of a client (RFC 9112, section 9), with the bytes that were read and not yet served.
 pub struct Connection {
@@ -55,22 +56,17 @@ fn unserved(alloc: Global, outcome: Outcome) -> Served
     }
 }
 
-/// The site will answer later.
-fn parks(served: &Option<Served>) -> bool
-    ensures { result ≡ parks served.now }
-{
-    match served {
-        Some(served) => served.outcome.is_parked(),
-        None => false,
-    }
-}
-
 impl Connection {
-    ghost use Rattle.std.specs.Prelude.{◌≡◌, true, false, [], Some};
-    ghost use Rattle.sv_target.specs.Cookies.{cookies_of};
-    ghost use Rattle.sv_connection.specs.Request.{params_in};
-    ghost use Rattle.sv_connection.specs.Serve.{how, is_parked, IsAnswered, IsDirected, IsFed, IsLateAnswer, IsServed, parks};
-    ghost use Rattle.sv_connection.specs.Connection.{IsFresh, held_by, is_closed, is_leaving, is_single, is_waiting, sight_of};
+    ghost use Rattle.std.specs.Prelude.{◌≡◌, ◌++◌, ℕ, List, true, false, [], Some, IfSome};
+    ghost use Rattle.std.specs.Io.KnownBytes.{prepend_known};
+    ghost use Rattle.sv_message.specs.declared.request.RawRequest.{RawRequest as Raw};
+    ghost use Rattle.sv_target.specs.declared.target.Target.{Target as TargetValue};
+    ghost use Rattle.sv_connection.specs.Arrive.{Arrives};
+    ghost use Rattle.sv_connection.specs.Receive.{Ends, IsDirected, IsFound, Receives, is_request};
+    ghost use Rattle.sv_message.specs.Message.{IsMessage};
+    ghost use Rattle.sv_connection.specs.Request.{request_of};
+    ghost use Rattle.sv_connection.specs.Serve.{how, is_parked, IsAnswered, IsLateAnswer, IsPage, IsServed, status_of};
+    ghost use Rattle.sv_connection.specs.Connection.{IsFresh, held_by, is_closed, is_leaving, is_single, is_waiting, sight_of, stand_of};
     ghost use Rattle.sv_connection.specs.declared.outcome.Outcome.TheVariants.{Closed};
 
     /// A connection that has read nothing; `single` has it close behind its first answer.
@@ -95,20 +91,17 @@ impl Connection {
         site: &mut S,
         moment: Moment,
         token: u64,
-        raw: RawRequest,
-        read: ReadRequest,
+        request: Request,
     ) -> Served
         requires valid { S.site_valid site.old }
         requires not_spent { self.old.requests.closed ≡ false }
-        requires cookies { read.cookies ≡ cookies_of raw.fields }
-        requires params { read.params ≡ params_in raw read.target }
         ensures valid { S.site_valid site.new }
         ensures requests { self.new.requests ≡ self.old.requests }
         ensures single { self.new.single ≡ self.old.single }
-        ensures answered { IsAnswered S.steps (how moment token self.old.single) raw read.target site.old site.new (W.contents writer.old) (W.contents writer.new) self.new.closed result }
+        ensures answered { (raw : Raw) (target : TargetValue) → request ≡ request_of self.old.single raw target
+            → IsAnswered S.steps (how moment token self.old.single) raw target site.old site.new (W.contents writer.old) (W.contents writer.new) self.new.closed result }
     {
-        let manner = manner_of(&raw, self.single, moment.now);
-        let request = request_of(raw, read, self.single);
+        let manner = manner_of(&request, moment.now);
         let step = site.step(moment, Input::Ask { token, request });
         let said = say_step(self.alloc, &mut self.buffer, writer, token, &step, manner);
         self.closed = said.closed;
@@ -116,6 +109,111 @@ impl Connection {
             outcome: said.outcome,
             outputs: outputs_of(self.alloc, step),
         }
+    }
+
+    /// Reads the target and the cookies of a request that was taken.
+    fn direct(&mut self, raw: RawRequest) -> Received
+        requires not_spent { self.old.requests.closed ≡ false }
+        requires was_open { self.old.closed ≡ false }
+        ensures requests { self.new.requests ≡ self.old.requests }
+        ensures single { self.new.single ≡ self.old.single }
+        ensures directed { IsDirected self.old.single raw self.new.closed result }
+    {
+        self.leaving = raw.close;
+        match read_request(self.alloc, &raw) {
+            Ok(read) => Received::Request(request_of(raw, read, self.single)),
+            Err(fault) => {
+                self.closed = true;
+                Received::Refused {
+                    fault: RequestFault::Target(fault),
+                    head_only: is_head(&raw.method),
+                }
+            }
+        }
+    }
+
+    /// What stands at the front, with this behind what has come, but for what waits behind it.
+    fn look(&mut self, piece: &[u8]) -> Received
+        ensures single { is_single self.new ≡ is_single self.old }
+        ensures once_closed { is_closed self.old ≡ true → held_by self.new ≡ held_by self.old }
+        ensures received { Receives (is_single self.old) (stand_of self.old (Some piece.now)) (stand_of self.new (Some [])) result }
+        ensures found { (raw : Raw) (text rest : List ℕ) → is_closed self.old ≡ false → IsMessage text raw → held_by self.old ++ piece.now ≡ text ++ rest
+            → IsFound (is_single self.old) raw result }
+    {
+        if self.closed {
+            return Received::Closed;
+        }
+        match take_in(&mut self.requests, piece) {
+            Ok(None) => Received::More,
+            Ok(Some(raw)) => self.direct(raw),
+            Err(fault) => {
+                self.closed = true;
+                Received::Refused {
+                    fault: RequestFault::Read(fault),
+                    head_only: false,
+                }
+            }
+        }
+    }
+
+    /// Puts bytes that have come behind those that it holds, and takes the request that then stands at the front; where a fault
+    /// stands there, the connection closes, and where there is less than a request, all is kept. It never waits, and asks and
+    /// writes nothing: a request is to be asked, and answered by `answer`, and the page of a fault is written by `refuse`. Not
+    /// called while an earlier request waits.
+    ///
+    /// Where bytes behind a request came along, a call with no bytes takes the next.
+    pub fn receive(&mut self, piece: &[u8]) -> Received
+        requires answered { is_waiting self.old ≡ false }
+        ensures single { is_single self.new ≡ is_single self.old }
+        ensures waiting { is_waiting self.new ≡ is_request result }
+        ensures once_closed { is_closed self.old ≡ true → held_by self.new ≡ held_by self.old }
+        ensures received { Receives (is_single self.old) (stand_of self.old (Some piece.now)) (stand_of self.new (Some [])) result }
+        ensures found { (raw : Raw) (text rest : List ℕ) → is_closed self.old ≡ false → IsMessage text raw → held_by self.old ++ piece.now ≡ text ++ rest
+            → IsFound (is_single self.old) raw result }
+    {
+        let received = self.look(piece);
+        self.waiting = received.is_request();
+        received
+    }
+
+    /// Takes what stands at the front, where nothing more comes: the connection closes where that is less than a request.
+    pub fn end(&mut self) -> Received
+        requires answered { is_waiting self.old ≡ false }
+        ensures single { is_single self.new ≡ is_single self.old }
+        ensures waiting { is_waiting self.new ≡ is_request result }
+        ensures ended { Ends (is_single self.old) (stand_of self.old (Some [])) (stand_of self.new (Some [])) result }
+    {
+        match self.receive(&[]) {
+            Received::More => {
+                self.closed = true;
+                Received::Closed
+            }
+            Received::Closed => Received::Closed,
+            Received::Request(request) => Received::Request(request),
+            Received::Refused { fault, head_only } => Received::Refused { fault, head_only },
+        }
+    }
+
+    /// Writes the page of a fault, without its body where that is not wanted; `now` is in whole seconds since 1970. The
+    /// connection is closed.
+    ///
+    /// Where memory was refused, the lines that say so are written in its place.
+    pub fn refuse<W: Write>(
+        &mut self,
+        writer: &mut W,
+        fault: RequestFault,
+        head_only: bool,
+        now: u64,
+    ) -> Outcome
+        ensures single { is_single self.new ≡ is_single self.old }
+        ensures waiting { is_waiting self.new ≡ is_waiting self.old }
+        ensures held { held_by self.new ≡ held_by self.old }
+        ensures closed { is_closed self.new ≡ true }
+        ensures page { IsPage (status_of fault) head_only now fault (W.contents writer.old) (W.contents writer.new) true result }
+    {
+        let page = say_fault(self.alloc, &mut self.buffer, writer, fault, head_only, now);
+        self.closed = true;
+        page.outcome
     }
 
     /// Reads one request, steps the site by it as an Ask with the token, and writes what the step says to the
@@ -141,30 +239,6 @@ impl Connection {
     {
         let served = self.serve(reader, writer, site, moment, token);
         self.waiting = served.outcome.is_parked();
-        served
-    }
-
-    /// Takes bytes that have come, and serves the request that then is whole, as `serve_next` does; none where it isn't whole
-    /// yet, and the bytes are kept. It never waits. Not called while an earlier request waits.
-    ///
-    /// Where bytes behind a request came along, a call with no bytes serves the next.
-    pub fn feed<W: Write, S: Site>(
-        &mut self,
-        piece: &[u8],
-        writer: &mut W,
-        site: &mut S,
-        moment: Moment,
-        token: u64,
-    ) -> Option<Served>
-        requires valid { S.site_valid site.old }
-        requires answered { is_waiting self.old ≡ false }
-        ensures valid { S.site_valid site.new }
-        ensures single { is_single self.new ≡ is_single self.old }
-        ensures waiting { is_waiting self.new ≡ parks result }
-        ensures fed { IsFed S.steps (how moment token (is_single self.old)) (sight_of self.old (Some piece.now) (W.contents writer.old) site.old) (sight_of self.new (Some []) (W.contents writer.new) site.new) result }
-    {
-        let served = self.hear(piece, writer, site, moment, token);
-        self.waiting = parks(&served);
         served
     }
 
@@ -223,6 +297,45 @@ impl Connection {
         said.outcome
     }
 
+    /// Reads until a request or a fault stands at the front, or the input ends; but for a request the connection closes.
+    fn arrive<R: Read>(&mut self, reader: &mut R) -> Arrived
+        requires answered { is_waiting self.old ≡ false }
+        requires was_open { is_closed self.old ≡ false }
+        ensures single { is_single self.new ≡ is_single self.old }
+        ensures arrived { Arrives (is_single self.old) (prepend_known (held_by self.old) (R.remaining reader.old)) (prepend_known (held_by self.new) (R.remaining reader.new)) (is_closed self.new) result }
+    {
+        for _ in 0..READ_LIMIT {
+            match self.receive(&[]) {
+                Received::Request(request) => return Arrived::Request(request),
+                Received::Refused { fault, head_only } => {
+                    return Arrived::Refused { fault, head_only };
+                }
+                Received::More => {}
+                Received::Closed => return Arrived::End,
+            }
+            match feed_once(&mut self.requests, reader) {
+                Fed::More => {}
+                Fed::End => {
+                    self.closed = true;
+                    return Arrived::End;
+                }
+                Fed::Broken => {
+                    self.closed = true;
+                    return Arrived::Broken;
+                }
+                Fed::Starved => {
+                    self.closed = true;
+                    return Arrived::Refused {
+                        fault: RequestFault::Read(ReadFault::Memory),
+                        head_only: false,
+                    };
+                }
+            }
+        }
+        self.closed = true;
+        Arrived::Broken
+    }
+
     /// One call of `serve_next`, but for what waits behind it.
     fn serve<R: Read, W: Write, S: Site>(
         &mut self,
@@ -232,7 +345,8 @@ impl Connection {
         moment: Moment,
         token: u64,
     ) -> Served
-        requires { S.site_valid site.old }
+        requires valid { S.site_valid site.old }
+        requires answered { is_waiting self.old ≡ false }
         ensures valid { S.site_valid site.new }
         ensures single { is_single self.new ≡ is_single self.old }
         ensures once_closed { is_closed self.old ≡ true → (result.outcome ≡ Closed) × (R.remaining reader.new ≡ R.remaining reader.old) }
@@ -241,84 +355,14 @@ impl Connection {
         if self.closed {
             return unserved(self.alloc, Outcome::Closed);
         }
-        match arrive(&mut self.requests, reader) {
-            Arrived::Request(raw) => self.direct(writer, site, moment, token, raw),
-            Arrived::Fault(fault) => {
-                self.closed = true;
-                let said = say_read_fault(self.alloc, &mut self.buffer, writer, fault, moment.now);
-                unserved(self.alloc, said.outcome)
+        match self.arrive(reader) {
+            Arrived::Request(request) => self.ask(writer, site, moment, token, request),
+            Arrived::Refused { fault, head_only } => {
+                let outcome = self.refuse(writer, fault, head_only, moment.now);
+                unserved(self.alloc, outcome)
             }
-            Arrived::End => {
-                self.closed = true;
-                unserved(self.alloc, Outcome::Closed)
-            }
-            Arrived::Broken => {
-                self.closed = true;
-                unserved(self.alloc, Outcome::ReadFailed)
-            }
-        }
-    }
-
-    /// One call of `feed`, but for what waits behind it.
-    fn hear<W: Write, S: Site>(
-        &mut self,
-        piece: &[u8],
-        writer: &mut W,
-        site: &mut S,
-        moment: Moment,
-        token: u64,
-    ) -> Option<Served>
-        requires { S.site_valid site.old }
-        ensures valid { S.site_valid site.new }
-        ensures single { is_single self.new ≡ is_single self.old }
-        ensures fed { IsFed S.steps (how moment token (is_single self.old)) (sight_of self.old (Some piece.now) (W.contents writer.old) site.old) (sight_of self.new (Some []) (W.contents writer.new) site.new) result }
-    {
-        if self.closed() {
-            return Some(unserved(self.alloc, Outcome::Closed));
-        }
-        match take_in(&mut self.requests, piece) {
-            Ok(None) => None,
-            Ok(Some(raw)) => Some(self.direct(writer, site, moment, token, raw)),
-            Err(fault) => {
-                self.closed = true;
-                let page = say_read_fault(self.alloc, &mut self.buffer, writer, fault, moment.now);
-                Some(unserved(self.alloc, page.outcome))
-            }
-        }
-    }
-
-    /// Reads the target and the cookies of a request, and asks the site.
-    fn direct<W: Write, S: Site>(
-        &mut self,
-        writer: &mut W,
-        site: &mut S,
-        moment: Moment,
-        token: u64,
-        raw: RawRequest,
-    ) -> Served
-        requires valid { S.site_valid site.old }
-        requires not_spent { self.old.requests.closed ≡ false }
-        ensures valid { S.site_valid site.new }
-        ensures requests { self.new.requests ≡ self.old.requests }
-        ensures single { self.new.single ≡ self.old.single }
-        ensures directed { IsDirected S.steps (how moment token self.old.single) raw site.old site.new (W.contents writer.old) (W.contents writer.new) self.new.closed result }
-    {
-        self.leaving = raw.close;
-        match read_request(self.alloc, &raw) {
-            Ok(read) => self.ask(writer, site, moment, token, raw, read),
-            Err(fault) => {
-                self.closed = true;
-                let head_only = is_head(&raw.method);
-                let said = say_target_fault(
-                    self.alloc,
-                    &mut self.buffer,
-                    writer,
-                    fault,
-                    head_only,
-                    moment.now,
-                );
-                unserved(self.alloc, said.outcome)
-            }
+            Arrived::End => unserved(self.alloc, Outcome::Closed),
+            Arrived::Broken => unserved(self.alloc, Outcome::ReadFailed),
         }
     }
 }

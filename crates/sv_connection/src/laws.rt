@@ -1,6 +1,6 @@
-//! Laws of a node alone, over every list of calls of its step.
+//! Laws of a node alone, over every list of calls of its step; and of what a connection receives.
 //!
-//! They speak of the definitions that [`crate::solo::Solo`]'s step cites, at the node that it is seen as, and over every
+//! Those of a node speak of the definitions that [`crate::solo::Solo`]'s step cites, at the node that it is seen as, and over every
 //! engine that keeps an engine's laws.
 
 ghost use Rattle.std.specs.Prelude.{◌≡◌, List, []};
@@ -8,8 +8,11 @@ ghost use Rattle.sv_model.specs.Engine.{EngineMeaning, TouchesOnlyHanded, NamesK
 ghost use Rattle.sv_model.specs.Step.{View};
 ghost use Rattle.sv_connection.specs.Table.{alone, node_of};
 ghost use Rattle.sv_connection.specs.Solo.{IsHistory};
+ghost use Rattle.sv_connection.specs.Receive.{HoldsNoMessage, MeetsFaults};
 ghost use Rattle.sv_model.specs.Trace.{Call, Item, asked_of, told_of, trace_of};
 ghost use Rattle.sv_model.specs.OneContainer.{IsOneContainer, IsAcknowledged, IsServedOnce, AreDistinct, active_at};
+
+use sv_message::laws::front_is_one_thing;
 
 /// The commits of all steps are a run of one container, in which a request is served without the session that it names
 /// only where the container had none since the request came; and the node holds the container's sessions.
@@ -35,3 +38,12 @@ pub fn heard()
         → (first end : View) (calls : List Call) → IsHistory m first calls end
         → end.heard ≡ heard_all m first.heard (told_of (trace_of m alone (node_of []) calls)) }
 {}
+
+/// What stands at the front of what has come is received: a fault is met, and where less than a request is received, none has come.
+/// That a request is given where its message stands is a clause of [`crate::connection::Connection::receive`].
+pub fn what_stands_is_received()
+    ensures faults { MeetsFaults }
+    ensures none { HoldsNoMessage }
+{
+    front_is_one_thing();
+}

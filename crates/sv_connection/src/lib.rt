@@ -10,6 +10,7 @@ mod arrive;
 mod connection;
 pub mod laws;
 mod outcome;
+mod received;
 mod reply;
 mod request;
 mod solo;
@@ -18,6 +19,7 @@ mod table;
 
 pub use connection::Connection;
 pub use outcome::{Outcome, RequestFault, Served};
+pub use received::Received;
 pub use reply::refusal;
 pub use solo::Solo;
 pub use speak::memory_lines;

@@ -3,7 +3,7 @@
 ghost use Rattle.std.specs.Prelude.{◌≡◌, true, false, []};
 ghost use Rattle.std.specs.Io.KnownBytes.{Appends};
 ghost use Rattle.sv_model.specs.Page.{plain_page};
-ghost use Rattle.sv_connection.specs.Serve.{IsWritten, IsSaid, IsStarved, IsPage, memory_lines, status_of_read, status_of_target};
+ghost use Rattle.sv_connection.specs.Serve.{IsWritten, IsSaid, IsStarved, IsPage, memory_lines, status_of, status_of_read, status_of_target};
 
 use crate::outcome::{Outcome, RequestFault};
 use http::StatusCode;
@@ -131,36 +131,29 @@ fn say_page<W: Write>(
     }
 }
 
-/// Sends the page of a message's fault.
-pub fn say_read_fault<W: Write>(
-    alloc: Global,
-    buffer: &mut Vec<u8>,
-    writer: &mut W,
-    fault: ReadFault,
-    now: u64,
-) -> Said
-    ensures { IsPage (status_of_read fault) false now (RequestFault.Read fault) (W.contents writer.old) (W.contents writer.new) result.closed result.outcome }
+/// The status of the page of a fault; none where no page is made.
+fn status_of(fault: RequestFault) -> Option<StatusCode>
+    ensures { result ≡ status_of fault }
 {
-    let done = Outcome::Refused(RequestFault::Read(fault));
-    match status_of_read(fault) {
-        Some(status) => say_page(alloc, buffer, writer, status, false, now, done),
-        None => starve(writer),
+    match fault {
+        RequestFault::Read(fault) => status_of_read(fault),
+        RequestFault::Target(fault) => status_of_target(fault),
     }
 }
 
-/// Sends the page of a target's fault, without its body to a request that wants none.
-pub fn say_target_fault<W: Write>(
+/// Sends the page of a fault, without its body where that is not wanted.
+pub fn say_fault<W: Write>(
     alloc: Global,
     buffer: &mut Vec<u8>,
     writer: &mut W,
-    fault: TargetFault,
+    fault: RequestFault,
     head_only: bool,
     now: u64,
 ) -> Said
-    ensures { IsPage (status_of_target fault) head_only now (RequestFault.Target fault) (W.contents writer.old) (W.contents writer.new) result.closed result.outcome }
+    ensures { IsPage (status_of fault) head_only now fault (W.contents writer.old) (W.contents writer.new) result.closed result.outcome }
 {
-    let done = Outcome::Refused(RequestFault::Target(fault));
-    match status_of_target(fault) {
+    let done = Outcome::Refused(fault);
+    match status_of(fault) {
         Some(status) => say_page(alloc, buffer, writer, status, head_only, now, done),
         None => starve(writer),
     }

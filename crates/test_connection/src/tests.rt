@@ -4,6 +4,7 @@ mod alone;
 mod echo;
 mod engines;
 mod parked;
+mod received;
 mod rows;
 mod streams;
 

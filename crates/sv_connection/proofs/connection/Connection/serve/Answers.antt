@@ -1,16 +1,20 @@
-use Rattle.std.proofs.Common.{refl, inl}
+use Rattle.std.proofs.Common.{ap, refl, List, ℕ}
 use Rattle.std.specs.Io.KnownBytes.{prepend_known}
-use Rattle.sv_connection.specs.Serve.{Faulty}
-use Rattle.sv_connection.proofs.ServeLemmas.{page_shut, stands}
+use Rattle.sv_message.specs.Stream.{Stream}
+use Rattle.sv_connection.specs.Connection.{held_by, is_single}
+use Rattle.sv_connection.specs.Serve.{how}
+use Rattle.sv_connection.proofs.ServeLemmas.{asked_by, refused_by}
 use Rattle.sv_connection.proofs.connection.Connection.serve.Goals as goal
 
-pub returns-in-Fault-clause-served : goal.returns-in-Fault-clause-served
-returns-in-Fault-clause-served g c =
-    let before = prepend_known c.args.self.now.requests.rest (g.R.Read.remaining c.args.reader.now) in
-    let after = prepend_known c.arrive.new.requests.rest (g.R.Read.remaining c.arrive.new.reader) in
-    inl (record {
-      site = refl;
-      outputs = c.unserved-in-Fault.ensures.outputs;
-      closed = refl;
-      idle = Faulty c.in-Fault.fault (stands before after c.arrive.new.requests c.in-Fault.fault c.in-Fault.ensures) (rw c.unserved-in-Fault.ensures.outcome (page_shut _ _ _ _ _ _ _ _ c.say_read_fault-said.ensures));
-    })
+pub returns-in-Request-clause-served : goal.returns-in-Request-clause-served
+returns-in-Request-clause-served g c =
+    let left = g.R.Read.remaining c.arrive.new.reader in
+    asked_by g.S.Site.steps c.args.moment c.args.token (is_single c.args.self.now) (is_single c.arrive.new.self) _ _ (prepend_known (held_by c.arrive.new.self) left) c.ask.result c.in-Request.request
+    c.arrive.ensures.single (ap (λ (s : Stream). prepend_known s.rest left) c.ask.ensures.requests) c.in-Request.ensures.arrived.1 c.ask.ensures.answered
+
+pub returns-in-Refused-clause-served : goal.returns-in-Refused-clause-served
+returns-in-Refused-clause-served g c =
+    let left = g.R.Read.remaining c.arrive.new.reader in
+    refused_by g.S.Site.steps (how c.args.moment c.args.token (is_single c.args.self.now)) _ _ (prepend_known (held_by c.arrive.new.self) left) c.unserved-in-Refused.result c.in-Refused.fault
+    c.in-Refused.head_only c.refuse-outcome.result (ap (λ (xs : List ℕ). prepend_known xs left) c.refuse-outcome.ensures.held) c.in-Refused.ensures.arrived.1 refl c.unserved-in-Refused.ensures.outputs
+    c.refuse-outcome.ensures.closed c.unserved-in-Refused.ensures.outcome c.refuse-outcome.ensures.page
