@@ -1,2 +1,3 @@
 pub mod SendLemmas
 pub mod LifeLemmas
+pub mod GroupLemmas

@@ -1,6 +1,9 @@
 pub mod Outputs
+pub mod Round
+pub mod Time
 pub mod Place
 pub mod Secrets
 pub mod Host
-pub mod Ending
 pub mod Frames
+pub mod Group
+pub mod Serve

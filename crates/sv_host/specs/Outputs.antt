@@ -1,9 +1,11 @@
 -- What a node puts out, as what can be sent.
-use Rattle.std.specs.Prelude.{List, ⊤}
+use Rattle.std.specs.Prelude.{List, Result, Ok, Err, Vec, ⊤}
+use Rattle.std.specs.declared.alloc.Global.{Global}
 use Rattle.std.specs.List.{AllByRecursion}
 use Rattle.sv_model.specs.declared.output.Output.{Output}
 use Rattle.sv_model.specs.declared.output.Output.TheVariants.{Answer, Refuse, Send, Moved, MoveRefused}
 use Rattle.sv_model.specs.Outputs.{sends_in}
+use Rattle.sv_model.specs.declared.site.StepFault.{StepFault}
 use Rattle.sv_model.specs.Ranges.{IsPacket}
 
 -- a packet has a spelling
@@ -16,3 +18,8 @@ IsSendable (MoveRefused why) = ⊤
 
 abbrev pub AreSendable : List Output → Type 0
 AreSendable outputs = AllByRecursion IsPacket (sends_in outputs)
+
+-- of a step that was taken, or of none
+abbrev pub IsHandedOn : Result (Vec Output Global) StepFault → Type 0
+IsHandedOn (Ok outputs) = AreSendable outputs.items
+IsHandedOn (Err fault) = ⊤

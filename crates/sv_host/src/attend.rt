@@ -1,22 +1,163 @@
-//! A node's connections, one after the other, and what is done behind each of them.
+//! A node's turns: what has come on its connections is gathered, given to the node together, and handed out.
 
-ghost use Rattle.std.specs.Prelude.{◌≡◌, ℕ, false, OnOk, IsTrue};
+ghost use Rattle.std.specs.Prelude.{◌≡◌, ◌<◌, ℕ, false, OnOk, IfOk, IsTrue};
+ghost use Rattle.sv_model.specs.Ranges.{IsInput};
 ghost use Rattle.sv_node.specs.Call.{compaction_ends};
-ghost use Rattle.sv_node.specs.History.{HasGone, HasEnded};
+ghost use Rattle.sv_node.specs.History.{IsAbove, HasGone, HasEnded};
 ghost use Rattle.sv_node.specs.Node.{IsNode, journal_of};
+ghost use Rattle.sv_host.specs.Group.{Comes, IsRising, before_of, number_of};
 
-use crate::desk::{Desk, Taken};
+use crate::desk::{Desk, Packets, Taken};
+use crate::expiry::Expiry;
 use crate::fault::{HostFault, Stop};
-use crate::machine::{Machine, seconds};
+use crate::group::{Asker, Came, GROUP_LIMIT, Group};
+use crate::machine::Machine;
 use crate::porch::{Arrival, Porch};
 use crate::serve::{PIECE, greet, serve};
 use crate::stage::Open;
+use crate::time::steady;
 use sv_journal::{Disk, JournalFault};
-use sv_model::{Engine, Input, PARK_LIMIT};
+use sv_model::{Engine, Input};
 use sv_node::Node;
 
 /// The journal is written anew where it is longer than this, and twice as long as when it was last written anew.
 const COMPACTING: u64 = 4_194_304;
+
+/// So many sessions end in a group, at most.
+const ENDED_TOGETHER: usize = 8;
+
+/// So many groups of them are given to the node in a turn, at most.
+const ENDING: u32 = 8;
+
+/// So many groups of pokes are given to the node in a turn, at most.
+const POKING: u32 = 8;
+
+/// What a node is told by itself.
+#[derive(Clone, Copy, Debug, PartialEq, Eq)]
+enum Nudge {
+    /// Requests that wait may be served.
+    Poke,
+    /// Time has passed.
+    Tick,
+}
+
+impl Nudge {
+    fn input(self) -> Input
+        ensures input { IsInput result }
+        ensures above { (low : ℕ) → IsAbove low result }
+    {
+        match self {
+            Nudge::Poke => Input::Poke,
+            Nudge::Tick => Input::Tick,
+        }
+    }
+}
+
+/// The number of the next request; behind the last there is none.
+fn next_number(group: &Group) -> Result<u64, Stop>
+    ensures { IfOk result (λ number. number_of group.now < number) }
+{
+    let number = group.number();
+    if number == u64::MAX {
+        return Err(Stop::Done);
+    }
+    Ok(number + 1)
+}
+
+/// Adds what has come on a connection to a group. Where memory is refused who asks is told.
+fn add<M: Machine>(
+    machine: &M,
+    desk: &mut Desk,
+    group: &mut Group,
+    came: Came,
+    number: u64,
+) -> Result<(), Stop>
+    requires comes { Comes number came }
+    requires above { number_of group.old < number }
+    requires rising { IsRising group.old }
+    ensures rising { IsRising group.new }
+    ensures before { before_of group.new ≡ before_of group.old }
+{
+    let Came {
+        input,
+        asker,
+        packets,
+    } = came;
+    match desk.moment(machine) {
+        Ok(moment) => {
+            if !group.add(moment, input, asker, packets) {
+                desk.turn_away(asker);
+            }
+            Ok(())
+        }
+        Err(stop) => {
+            let_go(input);
+            Err(stop)
+        }
+    }
+}
+
+/// Drops an input that no step has had, as one step of a proof.
+fn let_go(_input: Input) {}
+
+/// Adds one of what a node is told by itself to a group.
+fn add_nudge<M: Machine>(
+    machine: &M,
+    desk: &mut Desk,
+    group: &mut Group,
+    nudge: Nudge,
+    packets: Packets,
+) -> Result<(), Stop>
+    requires rising { IsRising group.old }
+    ensures rising { IsRising group.new }
+    ensures before { before_of group.new ≡ before_of group.old }
+{
+    let moment = desk.moment(machine)?;
+    let _added = group.add(moment, nudge.input(), Asker::Nobody, packets);
+    Ok(())
+}
+
+/// Adds so many of them.
+fn add_nudges<M: Machine>(
+    machine: &M,
+    desk: &mut Desk,
+    group: &mut Group,
+    nudge: Nudge,
+    packets: Packets,
+    count: usize,
+) -> Result<(), Stop>
+    requires rising { IsRising group.old }
+    ensures rising { IsRising group.new }
+    ensures before { before_of group.new ≡ before_of group.old }
+{
+    for _ in 0..count {
+        add_nudge(machine, desk, group, nudge, packets)?;
+    }
+    Ok(())
+}
+
+/// Tells the node so many of them together; what came of the last.
+fn tell<M: Machine, E: Engine, D: Disk>(
+    machine: &M,
+    desk: &mut Desk,
+    node: &mut Node<E, D>,
+    group: &mut Group,
+    nudge: Nudge,
+    packets: Packets,
+    count: usize,
+) -> Result<Taken, Stop>
+    requires valid { IsNode E.valid D.tells D.seen D.may_leave node.old }
+    requires live { IsTrue (journal_of node.old).live }
+    requires rising { IsRising group.old }
+    ensures valid { IsNode E.valid D.tells D.seen D.may_leave node.new }
+    ensures rising { IsRising group.new }
+    ensures gone { HasGone E.meaning E.heard D.tells D.may_leave (before_of group.old) (before_of group.new) node.old node.new result }
+{
+    match add_nudges(machine, desk, group, nudge, packets, count) {
+        Ok(()) => desk.step(machine, node, group),
+        Err(stop) => Err(stop),
+    }
+}
 
 /// Serves waiting requests whose sessions have come, until none is left. Where nobody waits there is nothing to look for, and no
 /// secret is drawn for it.
@@ -24,22 +165,49 @@ fn settle<M: Machine, E: Engine, D: Disk>(
     machine: &M,
     desk: &mut Desk,
     node: &mut Node<E, D>,
+    group: &mut Group,
 ) -> Result<(), Stop>
     requires valid { IsNode E.valid D.tells D.seen D.may_leave node.old }
     requires live { IsTrue (journal_of node.old).live }
+    requires rising { IsRising group.old }
     ensures valid { IsNode E.valid D.tells D.seen D.may_leave node.new }
-    ensures gone { (low : ℕ) → HasGone E.meaning E.heard D.tells D.may_leave low low node.old node.new result }
+    ensures rising { IsRising group.new }
+    ensures gone { HasGone E.meaning E.heard D.tells D.may_leave (before_of group.old) (before_of group.new) node.old node.new result }
 {
     if !desk.lobby.may_wait() {
         return Ok(());
     }
-    for _ in 0..=PARK_LIMIT {
-        match desk.step(machine, node, Input::Poke)? {
+    let mut count: usize = 1;
+    for _ in 0..POKING {
+        match tell(machine, desk, node, group, Nudge::Poke, Packets::All, count)? {
             Taken::Quiet | Taken::Refused => return Ok(()),
-            Taken::Busy | Taken::MoveRefused(_) => {}
+            Taken::Busy | Taken::MoveRefused(_) => count = GROUP_LIMIT,
         }
     }
     Ok(())
+}
+
+/// Has the node look at the time so often; whether a session has ended by that, of which alone a record tells.
+fn tick_all<M: Machine, E: Engine, D: Disk>(
+    machine: &M,
+    desk: &mut Desk,
+    node: &mut Node<E, D>,
+    group: &mut Group,
+    packets: Packets,
+    count: usize,
+) -> Result<bool, Stop>
+    requires valid { IsNode E.valid D.tells D.seen D.may_leave node.old }
+    requires live { IsTrue (journal_of node.old).live }
+    requires rising { IsRising group.old }
+    ensures valid { IsNode E.valid D.tells D.seen D.may_leave node.new }
+    ensures rising { IsRising group.new }
+    ensures gone { HasGone E.meaning E.heard D.tells D.may_leave (before_of group.old) (before_of group.new) node.old node.new result }
+{
+    let before = node.journal_len();
+    match tell(machine, desk, node, group, Nudge::Tick, packets, count) {
+        Ok(_) => Ok(node.journal_len() > before),
+        Err(stop) => Err(stop),
+    }
 }
 
 /// Lets the node look at the time, where a second has passed.
@@ -47,16 +215,72 @@ fn tick<M: Machine, E: Engine, D: Disk>(
     machine: &M,
     desk: &mut Desk,
     node: &mut Node<E, D>,
+    group: &mut Group,
 ) -> Result<(), Stop>
     requires valid { IsNode E.valid D.tells D.seen D.may_leave node.old }
     requires live { IsTrue (journal_of node.old).live }
+    requires rising { IsRising group.old }
     ensures valid { IsNode E.valid D.tells D.seen D.may_leave node.new }
-    ensures gone { (low : ℕ) → HasGone E.meaning E.heard D.tells D.may_leave low low node.old node.new result }
+    ensures rising { IsRising group.new }
+    ensures gone { HasGone E.meaning E.heard D.tells D.may_leave (before_of group.old) (before_of group.new) node.old node.new result }
 {
-    let now = seconds(machine);
-    if now > desk.ticked {
-        desk.ticked = now;
-        desk.step(machine, node, Input::Tick)?;
+    let now = desk.second(machine);
+    if now <= desk.ticked {
+        return Ok(());
+    }
+    desk.ticked = now;
+    match tick_all(machine, desk, node, group, Packets::InTurn, 1) {
+        Ok(has_ended) => {
+            desk.expiry = Expiry::begin(has_ended);
+            Ok(())
+        }
+        Err(stop) => Err(stop),
+    }
+}
+
+/// Ends some more sessions that have expired, where one is known to be left in this second.
+fn end_some<M: Machine, E: Engine, D: Disk>(
+    machine: &M,
+    desk: &mut Desk,
+    node: &mut Node<E, D>,
+    group: &mut Group,
+) -> Result<(), Stop>
+    requires valid { IsNode E.valid D.tells D.seen D.may_leave node.old }
+    requires live { IsTrue (journal_of node.old).live }
+    requires rising { IsRising group.old }
+    ensures valid { IsNode E.valid D.tells D.seen D.may_leave node.new }
+    ensures rising { IsRising group.new }
+    ensures gone { HasGone E.meaning E.heard D.tells D.may_leave (before_of group.old) (before_of group.new) node.old node.new result }
+{
+    match tick_all(machine, desk, node, group, Packets::Nothing, ENDED_TOGETHER) {
+        Ok(has_ended) => {
+            desk.expiry = desk.expiry.next(has_ended);
+            Ok(())
+        }
+        Err(stop) => Err(stop),
+    }
+}
+
+/// Ends more sessions that have expired, a few, so that nobody waits for it for longer than a thousandth of a second or two.
+fn expire<M: Machine, E: Engine, D: Disk>(
+    machine: &M,
+    desk: &mut Desk,
+    node: &mut Node<E, D>,
+    group: &mut Group,
+) -> Result<(), Stop>
+    requires valid { IsNode E.valid D.tells D.seen D.may_leave node.old }
+    requires live { IsTrue (journal_of node.old).live }
+    requires rising { IsRising group.old }
+    ensures valid { IsNode E.valid D.tells D.seen D.may_leave node.new }
+    ensures rising { IsRising group.new }
+    ensures gone { HasGone E.meaning E.heard D.tells D.may_leave (before_of group.old) (before_of group.new) node.old node.new result }
+{
+    let begun = steady(machine);
+    for _ in 0..ENDING {
+        if !desk.expiry.is_due() || steady(machine) > begun {
+            return Ok(());
+        }
+        end_some(machine, desk, node, group)?;
     }
     Ok(())
 }
@@ -92,76 +316,176 @@ fn compact<E: Engine, D: Disk>(desk: &mut Desk, node: &mut Node<E, D>) -> Result
     }
 }
 
-/// What is done behind each connection.
+/// The same of the journal, which no request has to do with.
+fn compact_in_turn<E: Engine, D: Disk>(
+    desk: &mut Desk,
+    node: &mut Node<E, D>,
+    group: &mut Group,
+) -> Result<(), Stop>
+    requires valid { IsNode E.valid D.tells D.seen D.may_leave node.old }
+    requires live { IsTrue (journal_of node.old).live }
+    requires rising { IsRising group.old }
+    ensures valid { IsNode E.valid D.tells D.seen D.may_leave node.new }
+    ensures rising { IsRising group.new }
+    ensures gone { HasGone E.meaning E.heard D.tells D.may_leave (before_of group.old) (before_of group.new) node.old node.new result }
+{
+    compact(desk, node)
+}
+
+/// What is done at the end of each turn as time passes.
+fn keep_time<M: Machine, E: Engine, D: Disk>(
+    machine: &M,
+    desk: &mut Desk,
+    node: &mut Node<E, D>,
+    group: &mut Group,
+) -> Result<(), Stop>
+    requires valid { IsNode E.valid D.tells D.seen D.may_leave node.old }
+    requires live { IsTrue (journal_of node.old).live }
+    requires rising { IsRising group.old }
+    ensures valid { IsNode E.valid D.tells D.seen D.may_leave node.new }
+    ensures rising { IsRising group.new }
+    ensures gone { HasGone E.meaning E.heard D.tells D.may_leave (before_of group.old) (before_of group.new) node.old node.new result }
+{
+    tick(machine, desk, node, group)?;
+    expire(machine, desk, node, group)
+}
+
+/// What is done at the end of each turn as sessions come.
 fn look_after<M: Machine, E: Engine, D: Disk>(
     machine: &M,
     desk: &mut Desk,
     node: &mut Node<E, D>,
+    group: &mut Group,
 ) -> Result<(), Stop>
     requires valid { IsNode E.valid D.tells D.seen D.may_leave node.old }
     requires live { IsTrue (journal_of node.old).live }
+    requires rising { IsRising group.old }
     ensures valid { IsNode E.valid D.tells D.seen D.may_leave node.new }
-    ensures gone { (low : ℕ) → HasGone E.meaning E.heard D.tells D.may_leave low low node.old node.new result }
+    ensures rising { IsRising group.new }
+    ensures gone { HasGone E.meaning E.heard D.tells D.may_leave (before_of group.old) (before_of group.new) node.old node.new result }
 {
-    settle(machine, desk, node)?;
-    tick(machine, desk, node)?;
-    compact(desk, node)
+    settle(machine, desk, node, group)?;
+    compact_in_turn(desk, node, group)
 }
 
-/// Goes on with one connection, and does what is done behind that.
-fn serve_one<M: Machine, E: Engine, D: Disk>(
+/// What is done at the end of each turn.
+fn end_turn<M: Machine, E: Engine, D: Disk>(
     machine: &M,
     desk: &mut Desk,
     node: &mut Node<E, D>,
+    group: &mut Group,
+) -> Result<(), Stop>
+    requires valid { IsNode E.valid D.tells D.seen D.may_leave node.old }
+    requires live { IsTrue (journal_of node.old).live }
+    requires rising { IsRising group.old }
+    ensures valid { IsNode E.valid D.tells D.seen D.may_leave node.new }
+    ensures rising { IsRising group.new }
+    ensures gone { HasGone E.meaning E.heard D.tells D.may_leave (before_of group.old) (before_of group.new) node.old node.new result }
+{
+    keep_time(machine, desk, node, group)?;
+    look_after(machine, desk, node, group)
+}
+
+/// Gives what was gathered to the node.
+fn step_gathered<M: Machine, E: Engine, D: Disk>(
+    machine: &M,
+    desk: &mut Desk,
+    node: &mut Node<E, D>,
+    group: &mut Group,
+) -> Result<(), Stop>
+    requires valid { IsNode E.valid D.tells D.seen D.may_leave node.old }
+    requires live { IsTrue (journal_of node.old).live }
+    requires rising { IsRising group.old }
+    ensures valid { IsNode E.valid D.tells D.seen D.may_leave node.new }
+    ensures rising { IsRising group.new }
+    ensures gone { HasGone E.meaning E.heard D.tells D.may_leave (before_of group.old) (before_of group.new) node.old node.new result }
+{
+    if group.is_empty() {
+        return Ok(());
+    }
+    match desk.step(machine, node, group) {
+        Ok(_) => Ok(()),
+        Err(stop) => Err(stop),
+    }
+}
+
+/// Ends a turn in which all was gathered; else the node stops, now that what was gathered has been given to it.
+fn finish_turn<M: Machine, E: Engine, D: Disk>(
+    machine: &M,
+    desk: &mut Desk,
+    node: &mut Node<E, D>,
+    group: &mut Group,
+    gathered: Result<(), Stop>,
+) -> Result<(), Stop>
+    requires valid { IsNode E.valid D.tells D.seen D.may_leave node.old }
+    requires live { IsTrue (journal_of node.old).live }
+    requires rising { IsRising group.old }
+    ensures valid { IsNode E.valid D.tells D.seen D.may_leave node.new }
+    ensures rising { IsRising group.new }
+    ensures gone { HasGone E.meaning E.heard D.tells D.may_leave (before_of group.old) (before_of group.new) node.old node.new result }
+{
+    match gathered {
+        Ok(()) => end_turn(machine, desk, node, group),
+        Err(stop) => Err(stop),
+    }
+}
+
+/// Gathers what has come on one connection.
+fn gather_one<M: Machine>(
+    machine: &M,
+    desk: &mut Desk,
+    group: &mut Group,
     place: usize,
     piece: &mut [u8; PIECE],
-    numbers: &mut u64,
 ) -> Result<(), Stop>
-    requires valid { IsNode E.valid D.tells D.seen D.may_leave node.old }
-    requires live { IsTrue (journal_of node.old).live }
-    ensures valid { IsNode E.valid D.tells D.seen D.may_leave node.new }
-    ensures gone { HasGone E.meaning E.heard D.tells D.may_leave numbers.old numbers.new node.old node.new result }
+    requires rising { IsRising group.old }
+    ensures rising { IsRising group.new }
+    ensures before { before_of group.new ≡ before_of group.old }
 {
-    serve(machine, desk, node, place, piece, numbers)?;
-    look_after(machine, desk, node)
+    let number = next_number(group)?;
+    match serve(desk, place, piece, number) {
+        Ok(Some(came)) => add(machine, desk, group, came, number),
+        Ok(None) => Ok(()),
+        Err(stop) => Err(stop),
+    }
 }
 
-/// Goes on with all connections that have been reported.
-fn serve_reported<M: Machine, E: Engine, D: Disk>(
+/// Gathers what has come on the connections whose turn it is.
+fn gather_reported<M: Machine>(
     machine: &M,
     desk: &mut Desk,
-    node: &mut Node<E, D>,
+    group: &mut Group,
     porch: &Porch,
     piece: &mut [u8; PIECE],
-    numbers: &mut u64,
 ) -> Result<(), Stop>
-    requires valid { IsNode E.valid D.tells D.seen D.may_leave node.old }
-    requires live { IsTrue (journal_of node.old).live }
-    ensures valid { IsNode E.valid D.tells D.seen D.may_leave node.new }
-    ensures gone { HasGone E.meaning E.heard D.tells D.may_leave numbers.old numbers.new node.old node.new result }
+    requires rising { IsRising group.old }
+    ensures rising { IsRising group.new }
+    ensures before { before_of group.new ≡ before_of group.old }
 {
-    for place in porch.reported() {
-        serve_one(machine, desk, node, *place, piece, numbers)?;
+    for place in porch.turn() {
+        gather_one(machine, desk, group, *place, piece)?;
     }
     Ok(())
 }
 
-/// Accepts one who stands at the door, and goes on with that one; what is done behind each connection is done at the end of the turn.
-fn serve_new<M: Machine, E: Engine, D: Disk>(
+/// Accepts one who stands at the door, and gathers what has come of that one.
+fn gather_new<M: Machine>(
     machine: &M,
     desk: &mut Desk,
-    node: &mut Node<E, D>,
+    group: &mut Group,
     porch: &mut Porch,
     piece: &mut [u8; PIECE],
-    numbers: &mut u64,
 ) -> Result<(), Stop>
-    requires valid { IsNode E.valid D.tells D.seen D.may_leave node.old }
-    requires live { IsTrue (journal_of node.old).live }
-    ensures valid { IsNode E.valid D.tells D.seen D.may_leave node.new }
-    ensures gone { HasGone E.meaning E.heard D.tells D.may_leave numbers.old numbers.new node.old node.new result }
+    requires rising { IsRising group.old }
+    ensures rising { IsRising group.new }
+    ensures before { before_of group.new ≡ before_of group.old }
 {
-    match admit(machine, desk, porch) {
-        Ok(Some((place, open))) => greet(machine, desk, node, place, open, piece, numbers),
+    let number = next_number(group)?;
+    let Some((place, open)) = admit(machine, desk, porch) else {
+        return Ok(());
+    };
+    match greet(desk, place, open, piece, number) {
+        Ok(Some(came)) => add(machine, desk, group, came, number),
         Ok(None) => Ok(()),
         Err(stop) => Err(stop),
     }
@@ -169,77 +493,74 @@ fn serve_new<M: Machine, E: Engine, D: Disk>(
 
 /// Accepts somebody who may stand at the door, and says at which place; none where nobody stands there, or there is no memory.
 /// Where there is no room for them, one that is open gives way.
-fn admit<M: Machine>(
-    machine: &M,
-    desk: &mut Desk,
-    porch: &mut Porch,
-) -> Result<Option<(usize, Open)>, Stop> {
+fn admit<M: Machine>(machine: &M, desk: &mut Desk, porch: &mut Porch) -> Option<(usize, Open)> {
     if !porch.may_accept() {
-        return Ok(None);
+        return None;
     }
     match porch.accept() {
-        Ok(Arrival::Somebody(line)) => {
+        Arrival::Somebody(line) => {
             desk.hall.look_at_clock(machine);
             match desk.hall.make_place() {
-                Some(place) => Ok(Some((place, Open::new(line, desk.hall.clock())))),
-                None => Ok(None),
+                Some(place) => Some((place, Open::new(line, desk.hall.clock()))),
+                None => None,
             }
         }
-        Ok(Arrival::Nobody) => Ok(None),
-        Ok(Arrival::NoRoom) => {
+        Arrival::Nobody => None,
+        Arrival::NoRoom => {
             if desk.hall.make_room() {
                 porch.try_again();
             }
-            Ok(None)
+            None
         }
-        Err(fault) => Err(Stop::Fault(fault)),
     }
 }
 
-/// Goes on with all who have been reported, and with one who has come.
-fn serve_all<M: Machine, E: Engine, D: Disk>(
+/// Gathers what has come of all whose turn it is, and of one who has come.
+fn gather<M: Machine>(
     machine: &M,
     desk: &mut Desk,
-    node: &mut Node<E, D>,
+    group: &mut Group,
     porch: &mut Porch,
     piece: &mut [u8; PIECE],
-    numbers: &mut u64,
 ) -> Result<(), Stop>
-    requires valid { IsNode E.valid D.tells D.seen D.may_leave node.old }
-    requires live { IsTrue (journal_of node.old).live }
-    ensures valid { IsNode E.valid D.tells D.seen D.may_leave node.new }
-    ensures gone { HasGone E.meaning E.heard D.tells D.may_leave numbers.old numbers.new node.old node.new result }
+    requires rising { IsRising group.old }
+    ensures rising { IsRising group.new }
+    ensures before { before_of group.new ≡ before_of group.old }
 {
-    serve_reported(machine, desk, node, porch, piece, numbers)?;
-    serve_new(machine, desk, node, porch, piece, numbers)
+    gather_reported(machine, desk, group, porch, piece)?;
+    gather_new(machine, desk, group, porch, piece)
 }
 
 /// Waits until somebody is to be looked after, and looks who has taken too long.
 fn wait<M: Machine>(machine: &M, desk: &mut Desk, porch: &mut Porch) {
-    porch.wait(&mut desk.hall);
-    if !desk.hall.is_empty() {
+    porch.wait(&mut desk.hall, desk.expiry.is_due());
+    desk.is_spared = porch.is_spared();
+    if !desk.hall.is_empty() && !desk.is_spared {
         desk.hall.look_at_clock(machine);
         desk.hall.look_round();
     }
 }
 
-/// Waits until somebody is to be looked after, and goes on with all of them.
+/// Waits until somebody is to be looked after, gives what has come to the node, and hands on what comes of it.
 fn take_turn<M: Machine, E: Engine, D: Disk>(
     machine: &M,
     desk: &mut Desk,
     node: &mut Node<E, D>,
+    group: &mut Group,
     porch: &mut Porch,
     piece: &mut [u8; PIECE],
-    numbers: &mut u64,
 ) -> Result<(), Stop>
     requires valid { IsNode E.valid D.tells D.seen D.may_leave node.old }
     requires live { IsTrue (journal_of node.old).live }
+    requires rising { IsRising group.old }
     ensures valid { IsNode E.valid D.tells D.seen D.may_leave node.new }
-    ensures gone { HasGone E.meaning E.heard D.tells D.may_leave numbers.old numbers.new node.old node.new result }
+    ensures rising { IsRising group.new }
+    ensures gone { HasGone E.meaning E.heard D.tells D.may_leave (before_of group.old) (before_of group.new) node.old node.new result }
 {
     wait(machine, desk, porch);
-    serve_all(machine, desk, node, porch, piece, numbers)?;
-    look_after(machine, desk, node)
+    let gathered = gather(machine, desk, group, porch, piece);
+    step_gathered(machine, desk, node, group)?;
+    finish_turn(machine, desk, node, group, gathered)
 }
 
 /// Serves whoever connects, until the node is to stop.
@@ -254,10 +575,10 @@ pub fn attend<M: Machine, E: Engine, D: Disk>(
     ensures valid { IsNode E.valid D.tells D.seen D.may_leave node.new }
     ensures ended { HasEnded E.meaning E.heard D.tells D.may_leave node.old node.new }
 {
-    let mut numbers: u64 = 0;
+    let mut group = Group::new(desk.alloc);
     let mut piece = [0u8; PIECE];
     for _ in 0..u64::MAX {
-        if let Err(stop) = take_turn(machine, desk, node, porch, &mut piece, &mut numbers) {
+        if let Err(stop) = take_turn(machine, desk, node, &mut group, porch, &mut piece) {
             return stop;
         }
     }

@@ -12,6 +12,8 @@ const REQUEST_LIMIT: u32 = 10_000;
 pub struct Client {
     pub connection: Connection,
     answered: u32,
+    /// More may lie unread behind the last request: a close would tear its answer away.
+    unread: bool,
 }
 
 /// By hand, so that the proof of a caller has one step for it.
@@ -20,6 +22,7 @@ impl Drop for Client {
         let Client {
             connection: _,
             answered: _,
+            unread: _,
         } = self;
     }
 }
@@ -29,7 +32,15 @@ impl Client {
         Client {
             connection: Connection::new(alloc, persistence == Persistence::Single),
             answered: 0,
+            unread: false,
         }
+    }
+
+    /// The piece by which its request became whole was as large as one may be, so that more may lie unread.
+    pub fn with_piece(self, is_whole: bool) -> Client {
+        let mut client = self;
+        client.unread = is_whole;
+        client
     }
 
     /// What follows behind an answer (RFC 9112, section 9.6): the next request; or, where the connection closes, the close, at
@@ -37,7 +48,7 @@ impl Client {
     pub fn next(self) -> Next {
         if !self.connection.closed() {
             Next::Listen(self.counted())
-        } else if self.connection.leaving() {
+        } else if self.connection.leaving() && !self.unread {
             Next::Close
         } else {
             Next::Part

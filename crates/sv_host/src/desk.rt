@@ -1,24 +1,28 @@
 //! What a running node keeps beside its journal: its clients, its peers, its secrets, and the time.
 
 ghost use Rattle.std.specs.Prelude.{◌≡◌, ℕ, false, OnOk, IsTrue};
-ghost use Rattle.sv_model.specs.Ranges.{IsInput, IsPacket};
+ghost use Rattle.sv_model.specs.Ranges.{IsPacket};
 ghost use Rattle.sv_node.specs.Call.{step_ends};
-ghost use Rattle.sv_node.specs.History.{IsAbove, number_in, HasGone};
+ghost use Rattle.sv_node.specs.History.{HasGone};
 ghost use Rattle.sv_node.specs.Node.{IsNode, journal_of};
-ghost use Rattle.sv_host.specs.Outputs.{AreSendable, IsSendable};
+ghost use Rattle.std.specs.List.{AllByRecursion};
+ghost use Rattle.sv_host.specs.Group.{IsRising, before_of};
+ghost use Rattle.sv_host.specs.Outputs.{AreSendable, IsHandedOn, IsSendable};
 
+use crate::expiry::Expiry;
 use crate::fault::{HostFault, Stop};
+use crate::group::{Asker, Group, Way};
 use crate::hall::Hall;
 use crate::lobby::Lobby;
-use crate::machine::{Machine, seconds};
+use crate::machine::Machine;
 use crate::peers::address_of;
 use crate::persistence::Persistence;
+use crate::round::{Round, Share};
 use crate::secrets::Secrets;
+use crate::time::{Time, read};
 use std::alloc::Global;
 use sv_journal::Disk;
-use sv_model::{
-    Cause, Engine, Input, Moment, MoveRefusal, Output, Packet, Response, Site, StepFault,
-};
+use sv_model::{Cause, Engine, Moment, MoveRefusal, Output, Packet, Response, StepFault};
 use sv_node::Node;
 
 /// What a running node keeps beside its journal.
@@ -32,8 +36,13 @@ pub struct Desk {
     pub text: Vec<u8>,
     /// How many requests a client's connection brings.
     pub persistence: Persistence,
+    pub time: Time,
     /// When the node last looked at the time, in seconds since 1970.
     pub ticked: u64,
+    /// No time has passed since it looked.
+    pub is_spared: bool,
+    pub expiry: Expiry,
+    pub round: Round,
     /// The length of the journal behind its last compaction; 0 before the first.
     pub compacted: u64,
     pub alloc: Global,
@@ -49,7 +58,11 @@ impl Drop for Desk {
             lobby: _,
             text: _,
             persistence: _,
+            time: _,
             ticked: _,
+            is_spared: _,
+            expiry: _,
+            round: _,
             compacted: _,
             alloc: _,
         } = self;
@@ -69,6 +82,43 @@ pub enum Taken {
     Refused,
 }
 
+/// Which of the packets that a step puts out are sent. One that isn't sent is a packet that is lost.
+#[derive(Clone, Copy, Debug, PartialEq, Eq)]
+pub enum Packets {
+    All,
+    /// Of those of a tick so many as are sent of one, in turn.
+    InTurn,
+    /// None: the tick of this second has put out the same ones.
+    Nothing,
+}
+
+/// What is still to be sent of what a step has put out.
+#[derive(Clone, Copy, Debug, PartialEq, Eq)]
+enum Sending {
+    All,
+    Share(Share),
+    Nothing,
+}
+
+impl Sending {
+    fn of(packets: Packets, round: Round, outputs: &[Output]) -> Sending {
+        match packets {
+            Packets::All => Sending::All,
+            Packets::InTurn => Sending::Share(round.share(outputs)),
+            Packets::Nothing => Sending::Nothing,
+        }
+    }
+
+    /// Whether an output is handed on.
+    fn takes(&mut self, output: &Output) -> bool {
+        match self {
+            Sending::All => true,
+            Sending::Share(share) => share.takes(output),
+            Sending::Nothing => !matches!(output, Output::Send(_)),
+        }
+    }
+}
+
 /// What was put out by a step.
 fn sum_up(outputs: &[Output]) -> Taken {
     match outputs {
@@ -78,8 +128,38 @@ fn sum_up(outputs: &[Output]) -> Taken {
     }
 }
 
-/// Drops an input that no step has had, as one step of a proof.
-fn let_go(_input: Input) {}
+/// Where what comes of an input goes that nobody asked for.
+const NO_WAY: Way = Way {
+    asker: Asker::Nobody,
+    packets: Packets::All,
+};
+
+/// What a command that isn't done is answered with.
+fn refusal_byte(why: MoveRefusal) -> u8 {
+    match why {
+        MoveRefusal::UnknownKey => 1,
+        MoveRefusal::NotActive => 2,
+        MoveRefusal::BadPeer => 3,
+        MoveRefusal::EpochsSpent => 4,
+    }
+}
+
+/// The byte that answers a command.
+fn answer_byte(taken: Taken) -> u8 {
+    match taken {
+        Taken::Quiet | Taken::Busy => 0,
+        Taken::MoveRefused(why) => refusal_byte(why),
+        Taken::Refused => 5,
+    }
+}
+
+/// Why a request is refused whose step was.
+fn cause_of(fault: StepFault) -> Cause {
+    match fault {
+        StepFault::Full => Cause::JournalFull,
+        StepFault::Memory | StepFault::Failed | StepFault::Device => Cause::Memory,
+    }
+}
 
 /// What comes of a step that was refused: a node goes on, unless its disk has failed.
 fn refused(fault: StepFault) -> Result<Taken, Stop>
@@ -92,10 +172,25 @@ fn refused(fault: StepFault) -> Result<Taken, Stop>
 }
 
 impl Desk {
-    /// The moment of a step: the machine's clock, and a secret that no step has had.
+    /// What is taken for the time, in seconds since 1970.
+    pub fn now(&mut self, machine: &impl Machine) -> u64 {
+        self.time = self.time.next(read(machine));
+        self.time.seconds()
+    }
+
+    /// The second in which a turn ends.
+    pub fn second(&mut self, machine: &impl Machine) -> u64 {
+        if self.is_spared {
+            self.ticked
+        } else {
+            self.now(machine)
+        }
+    }
+
+    /// The moment of a step: the time, and a secret that no step has had.
     pub fn moment(&mut self, machine: &impl Machine) -> Result<Moment, Stop> {
         Ok(Moment {
-            now: seconds(machine),
+            now: self.now(machine),
             secret: self.secrets.next()?,
         })
     }
@@ -113,14 +208,15 @@ impl Desk {
     /// Answers the client that waits under a token.
     fn answer(&mut self, token: u64, response: &Response, now: u64) {
         if let Some(place) = self.lobby.take(token) {
-            self.hall.answer(place, token, response, now);
+            self.hall
+                .answer(place, token, response, now, &mut self.text);
         }
     }
 
     /// Refuses the client that waits under a token.
     fn refuse(&mut self, token: u64, cause: Cause, now: u64) {
         if let Some(place) = self.lobby.take(token) {
-            self.hall.refuse(place, token, cause, now);
+            self.hall.refuse(place, token, cause, now, &mut self.text);
         }
     }
 
@@ -137,57 +233,134 @@ impl Desk {
     }
 
     /// Hands on what a step has put out, in order: packets to their nodes, answers to the clients that wait for them.
-    pub fn hand_on(&mut self, machine: &impl Machine, outputs: Vec<Output>, now: u64)
+    pub fn hand_on(
+        &mut self,
+        machine: &impl Machine,
+        outputs: Vec<Output>,
+        now: u64,
+        packets: Packets,
+    )
         requires { AreSendable outputs.items }
     {
+        let mut sending = Sending::of(packets, self.round, outputs.as_slice());
         for output in outputs {
-            self.hand_on_one(machine, output, now);
+            if sending.takes(&output) {
+                self.hand_on_one(machine, output, now);
+            }
+        }
+        if let Sending::Share(share) = sending {
+            self.round = share.end();
         }
     }
 
-    /// Has the node take a step, and hands on what it puts out.
+    /// Refuses whoever asked for what memory was refused for.
+    pub fn turn_away(&mut self, asker: Asker) {
+        let now = self.time.seconds();
+        self.conclude_refused(asker, StepFault::Memory, now);
+    }
+
+    /// What came of a command, told to whoever gave it; a client that waits from now on is watched.
+    fn conclude(&mut self, asker: Asker, taken: Taken) {
+        match asker {
+            Asker::Client { place, token } => {
+                if self.hall.waits_at(place, token) {
+                    self.hall.call_again(place);
+                }
+            }
+            Asker::Command(place) => self.hall.obeyed(place, answer_byte(taken)),
+            Asker::Nobody => {}
+        }
+    }
+
+    /// The step of an input was refused.
+    fn conclude_refused(&mut self, asker: Asker, fault: StepFault, now: u64) {
+        match asker {
+            Asker::Client { token, .. } => self.refuse(token, cause_of(fault), now),
+            Asker::Command(place) => self.hall.obeyed(place, answer_byte(Taken::Refused)),
+            Asker::Nobody => {}
+        }
+    }
+
+    /// Hands on what came of one input.
+    fn hand_out_one(
+        &mut self,
+        machine: &impl Machine,
+        way: Way,
+        answer: Result<Vec<Output>, StepFault>,
+        now: u64,
+    ) -> Taken
+        requires { IsHandedOn answer }
+    {
+        match answer {
+            Ok(outputs) => {
+                let taken = sum_up(outputs.as_slice());
+                self.hall.forget_call();
+                self.hand_on(machine, outputs, now, way.packets);
+                self.conclude(way.asker, taken);
+                taken
+            }
+            Err(fault) => {
+                self.conclude_refused(way.asker, fault, now);
+                Taken::Refused
+            }
+        }
+    }
+
+    /// Hands on what came of a group, in order; what came of the last of them.
+    fn hand_out(
+        &mut self,
+        machine: &impl Machine,
+        ways: &[Way],
+        answers: Vec<Result<Vec<Output>, StepFault>>,
+    ) -> Taken
+        requires { AllByRecursion (λ a. IsHandedOn a) answers.items }
+    {
+        let now = self.time.seconds();
+        let mut taken = Taken::Quiet;
+        let mut place: usize = 0;
+        for answer in answers {
+            let way = ways.get(place).copied().unwrap_or(NO_WAY);
+            place = place.saturating_add(1);
+            taken = self.hand_out_one(machine, way, answer, now);
+        }
+        taken
+    }
+
+    /// Refuses all of a group, of which no step was taken.
+    fn refuse_all(&mut self, ways: &[Way], fault: StepFault) {
+        let now = self.time.seconds();
+        for way in ways {
+            self.conclude_refused(way.asker, fault, now);
+        }
+    }
+
+    /// What comes of a group of which no step was taken. Where a disk has failed nobody is told: its records may be there.
+    fn not_taken(&mut self, ways: &[Way], fault: StepFault) -> Result<Taken, Stop>
+        ensures { OnOk result (step_ends fault ≡ false) }
+    {
+        let taken = refused(fault)?;
+        self.refuse_all(ways, fault);
+        Ok(taken)
+    }
+
+    /// Gives a group to the node, and hands on what comes of it; what came of the last of them.
     pub fn step<E: Engine, D: Disk>(
         &mut self,
         machine: &impl Machine,
         node: &mut Node<E, D>,
-        input: Input,
+        group: &mut Group,
     ) -> Result<Taken, Stop>
         requires valid { IsNode E.valid D.tells D.seen D.may_leave node.old }
         requires live { IsTrue (journal_of node.old).live }
-        requires input { IsInput input }
+        requires rising { IsRising group.old }
         ensures valid { IsNode E.valid D.tells D.seen D.may_leave node.new }
-        ensures gone { (low : ℕ) → IsAbove low input → HasGone E.meaning E.heard D.tells D.may_leave low (number_in low input) node.old node.new result }
+        ensures rising { IsRising group.new }
+        ensures gone { HasGone E.meaning E.heard D.tells D.may_leave (before_of group.old) (before_of group.new) node.old node.new result }
     {
-        match self.moment(machine) {
-            Ok(moment) => self.step_at(machine, node, moment, input),
-            Err(stop) => {
-                let_go(input);
-                Err(stop)
-            }
-        }
-    }
-
-    /// The same at a moment.
-    fn step_at<E: Engine, D: Disk>(
-        &mut self,
-        machine: &impl Machine,
-        node: &mut Node<E, D>,
-        moment: Moment,
-        input: Input,
-    ) -> Result<Taken, Stop>
-        requires valid { IsNode E.valid D.tells D.seen D.may_leave node.old }
-        requires live { IsTrue (journal_of node.old).live }
-        requires input { IsInput input }
-        ensures valid { IsNode E.valid D.tells D.seen D.may_leave node.new }
-        ensures gone { (low : ℕ) → IsAbove low input → HasGone E.meaning E.heard D.tells D.may_leave low (number_in low input) node.old node.new result }
-    {
-        match node.step(moment, input) {
-            Ok(outputs) => {
-                let taken = sum_up(outputs.as_slice());
-                self.hand_on(machine, outputs, moment.now);
-                Ok(taken)
-            }
-            Err(fault) => refused(fault),
+        let (inputs, ways) = group.take();
+        match node.step_all(inputs) {
+            Ok(answers) => Ok(self.hand_out(machine, ways.as_slice(), answers)),
+            Err(fault) => self.not_taken(ways.as_slice(), fault),
         }
     }
 }

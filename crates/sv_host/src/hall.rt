@@ -5,11 +5,12 @@ ghost use Rattle.sv_model.specs.Ranges.{IsPacket};
 use crate::client::Client;
 use crate::line::{Line, Sign, Written, comes_later};
 use crate::machine::Machine;
-use crate::stage::{Next, Open, Stage};
+use crate::queue::Queue;
+use crate::stage::{Next, Open, Stage, Yielding};
 use mio::net::TcpStream;
 use mio::{Interest, Registry};
 use std::alloc::{AllocFailed, Global};
-use std::mem::{replace, swap};
+use std::mem::replace;
 use std::net::SocketAddr;
 use std::time::Duration;
 use sv_connection::{memory_lines, refusal};
@@ -18,6 +19,9 @@ use sv_record::{Frame, write_frame};
 
 /// So many connections are open at once. Behind that one that has been silent for longest is closed for a new one.
 const OPEN_LIMIT: usize = 1_000;
+
+/// So many of them are packets on their way to other nodes. One more is lost, and sent again.
+const CALL_LIMIT: usize = 128;
 
 /// So many bytes are read of what a client goes on sending behind its last answer.
 const LAST_BYTES: usize = 131_072;
@@ -185,10 +189,12 @@ impl Hall {
         }
     }
 
-    /// Hands over the places where something is to be done that the poll may not report, for none.
-    pub fn hand_over(&mut self, places: &mut Vec<usize>) {
-        places.clear();
-        swap(&mut self.due, places);
+    /// Hands over the places where something is to be done that the poll may not report.
+    pub fn hand_over(&mut self, queue: &mut Queue) {
+        for place in &self.due {
+            queue.add(*place);
+        }
+        self.due.clear();
     }
 
     /// When that began which a connection now brings: for one that has rested it is its next request.
@@ -215,8 +221,8 @@ impl Hall {
         Some(place)
     }
 
-    /// The one that has been silent for longest, of those that give way.
-    fn most_silent(&self) -> Option<usize> {
+    /// The one that has been silent for longest, of those that give way like this.
+    fn most_silent(&self, yielding: Yielding) -> Option<usize> {
         let mut oldest: Option<(usize, Duration)> = None;
         for (place, slot) in self.places.iter().enumerate() {
             if let Some(open) = slot {
@@ -224,7 +230,7 @@ impl Hall {
                     Some((_, heard)) => open.heard < heard,
                     None => true,
                 };
-                if is_older && open.stage.gives_way() {
+                if is_older && open.stage.yielding() == yielding {
                     oldest = Some((place, open.heard));
                 }
             }
@@ -233,19 +239,26 @@ impl Hall {
         Some(place)
     }
 
-    /// Closes the connection that has been silent for longest, of those that give way; false where none does.
+    /// The one that gives way first: a packet on its way, which is sent again, before a client is closed.
+    fn first_to_go(&self) -> Option<usize> {
+        match self.most_silent(Yielding::First) {
+            Some(place) => Some(place),
+            None => self.most_silent(Yielding::BySilence),
+        }
+    }
+
+    /// Closes the connection that gives way first; false where none does.
     pub fn make_room(&mut self) -> bool {
-        let Some(place) = self.most_silent() else {
+        let Some(place) = self.first_to_go() else {
             return false;
         };
-        let _closed = self.take(place);
-        self.leave(place);
+        self.end(place);
         true
     }
 
-    /// A place for one more connection, which is kept for it; none where there is none, or no memory for it.
-    pub fn make_place(&mut self) -> Option<usize> {
-        if self.count >= OPEN_LIMIT && !self.make_room() {
+    /// A place for one more connection, which is kept for it; none where as many are open as may be, or there is no memory for it.
+    fn free_place(&mut self) -> Option<usize> {
+        if self.count >= OPEN_LIMIT {
             return None;
         }
         let place = self.vacant()?;
@@ -253,27 +266,50 @@ impl Hall {
         Some(place)
     }
 
-    /// Gives a connection a place. Where there is none, or no memory for it, the connection is closed.
-    fn admit(&mut self, line: Line, stage: Stage) -> Option<usize> {
-        let place = self.make_place()?;
+    /// The same for somebody who has come, for whom another gives way.
+    pub fn make_place(&mut self) -> Option<usize> {
+        if self.count >= OPEN_LIMIT && !self.make_room() {
+            return None;
+        }
+        self.free_place()
+    }
+
+    /// How many packets are on their way.
+    fn calls(&self) -> usize {
+        let mut count: usize = 0;
+        for slot in &self.places {
+            if let Some(
+                Open {
+                    stage: Stage::Calling { .. },
+                    ..
+                },
+            ) = slot
+            {
+                count = count.saturating_add(1);
+            }
+        }
+        count
+    }
+
+    /// Gives a packet on its way a place. Where there is none, or no memory for it, the packet is lost: nobody gives way for it.
+    fn admit_call(&mut self, line: Line, stage: Stage) -> Option<usize> {
+        if self.calls() >= CALL_LIMIT {
+            return None;
+        }
+        let place = self.free_place()?;
         self.begin(place, line, stage);
         Some(place)
     }
 
-    /// What follows once a text is written; whether the connection is to be gone on with at once.
-    fn follow(&mut self, place: usize, line: Line, next: Next) -> bool {
+    /// What follows once a text is written. A client that is listened to further is gone on with in the next turn, so that each has
+    /// one request a turn.
+    fn follow(&mut self, place: usize, line: Line, next: Next) {
         match next {
-            Next::Close => {
-                self.leave(place);
-                false
-            }
-            Next::Part => {
-                self.half_close(place, line);
-                false
-            }
+            Next::Close => self.leave(place),
+            Next::Part => self.half_close(place, line),
             Next::Listen(client) => {
                 self.begin(place, line, Stage::Asked(client));
-                true
+                self.put_down(place);
             }
         }
     }
@@ -290,11 +326,10 @@ impl Hall {
         self.call_again(place);
     }
 
-    /// Says a text at a place; whether the connection is to be gone on with at once. What isn't taken of it is kept, and leaves
-    /// `text`.
-    pub fn say(&mut self, place: usize, line: Line, text: &mut Vec<u8>, next: Next) -> bool {
+    /// Says a text at a place. What isn't taken of it is kept, and leaves `text`.
+    pub fn say(&mut self, place: usize, line: Line, text: &mut Vec<u8>, next: Next) {
         let begun = self.clock;
-        self.say_on(place, line, text, next, begun)
+        self.say_on(place, line, text, next, begun, begun);
     }
 
     /// A packet is sent or lost: the command that waits for that is answered.
@@ -324,7 +359,7 @@ impl Hall {
     pub fn tell(&mut self, place: usize, line: Line, byte: u8) {
         let mut text = Vec::new(self.alloc);
         if text.push(byte).is_ok() {
-            let _ = self.say(place, line, &mut text, Next::Close);
+            self.say(place, line, &mut text, Next::Close);
         } else {
             self.leave(place);
         }
@@ -346,7 +381,7 @@ impl Hall {
         let mut line = line;
         let mut frame = frame;
         if line.write(&mut frame) == Written::Part {
-            self.calling = self.admit(
+            self.calling = self.admit_call(
                 line,
                 Stage::Calling {
                     frame,
@@ -371,8 +406,21 @@ impl Hall {
         self.calling = None;
     }
 
+    /// Answers the command at a place by a byte, once the packet is sent or lost that it has put out.
+    pub fn obeyed(&mut self, place: usize, byte: u8) {
+        let Some(open) = self.take(place) else {
+            return;
+        };
+        let (line, _stage, _begun, _heard) = open.into_parts();
+        if self.hold(place) {
+            self.begin(place, line, Stage::Holding(byte));
+        } else {
+            self.tell(place, line, byte);
+        }
+    }
+
     /// Keeps a command's connection until the packet is sent or lost that its step has put out; false where none is on its way.
-    pub fn hold(&mut self, place: usize) -> bool {
+    fn hold(&mut self, place: usize) -> bool {
         let Some(call) = self.calling else {
             return false;
         };
@@ -392,29 +440,42 @@ impl Hall {
         }
     }
 
-    /// Whether the client that waits at a place for the answer under a token wants the head alone; none where no such client is
-    /// there, be the place another's by now.
-    fn head_only_at(&self, place: usize, token: u64) -> Option<bool> {
+    /// How the client that waits at a place for the answer under a token wants a refusal: the head alone, and whether its connection
+    /// closes; none where no such client is there, be the place another's by now.
+    fn manner_at(&self, place: usize, token: u64) -> Option<(bool, bool)> {
         match self.places.get(place) {
             Some(
                 Some(
                     Open {
                         stage: Stage::Waiting {
                             head_only,
+                            close,
                             token: own,
                             ..
                         },
                         ..
                     },
                 ),
-            ) if *own == token => Some(*head_only),
+            ) if *own == token => Some((*head_only, *close)),
             _ => None,
         }
     }
 
-    /// Answers the client that waits at a place for the answer under a token.
-    pub fn answer(&mut self, place: usize, token: u64, response: &Response, now: u64) {
-        if self.head_only_at(place, token).is_none() {
+    /// Whether a client waits at a place for the answer under a token.
+    pub fn waits_at(&self, place: usize, token: u64) -> bool {
+        self.manner_at(place, token).is_some()
+    }
+
+    /// Answers the client that waits at a place for the answer under a token. The text is made in `text`.
+    pub fn answer(
+        &mut self,
+        place: usize,
+        token: u64,
+        response: &Response,
+        now: u64,
+        text: &mut Vec<u8>,
+    ) {
+        if !self.waits_at(place, token) {
             return;
         }
         let Some(open) = self.take(place) else {
@@ -422,7 +483,9 @@ impl Hall {
         };
         let (line, stage, begun, heard) = open.into_parts();
         match stage {
-            Stage::Waiting { client, .. } => self.answer_at(place, line, client, response, now),
+            Stage::Waiting { client, .. } => {
+                self.answer_at(place, line, client, response, now, text);
+            }
             other => self.keep(
                 place,
                 Open {
@@ -443,13 +506,12 @@ impl Hall {
         client: Client,
         response: &Response,
         now: u64,
+        text: &mut Vec<u8>,
     ) {
         let mut client = client;
-        let mut text = Vec::new(self.alloc);
-        let _ = client.connection.answer(&mut text, response, now);
-        if self.say(place, line, &mut text, client.next()) {
-            self.put_down(place);
-        }
+        text.clear();
+        let _ = client.connection.answer(text, response, now);
+        self.say(place, line, text, client.next());
     }
 
     /// Says to a client that memory was refused, and parts from it.
@@ -457,21 +519,24 @@ impl Hall {
         match Vec::from_slice(self.alloc, memory_lines()) {
             Ok(lines) => {
                 let mut text = lines;
-                if self.say(place, line, &mut text, Next::Part) {
-                    self.put_down(place);
-                }
+                self.say(place, line, &mut text, Next::Part);
             }
             Err(_) => self.leave(place),
         }
     }
 
-    /// Refuses the client that waits at a place for the answer under a token.
-    pub fn refuse(&mut self, place: usize, token: u64, cause: Cause, now: u64) {
-        let Some(head_only) = self.head_only_at(place, token) else {
+    /// Refuses the client that waits at a place for the answer under a token. The connection of one that has waited in vain closes.
+    pub fn refuse(&mut self, place: usize, token: u64, cause: Cause, now: u64, text: &mut Vec<u8>) {
+        let Some((head_only, close)) = self.manner_at(place, token) else {
             return;
         };
-        match refusal(self.alloc, cause, head_only, true) {
-            Ok(response) => self.answer(place, token, &response, now),
+        match refusal(
+            self.alloc,
+            cause,
+            head_only,
+            close || cause == Cause::Deadline,
+        ) {
+            Ok(response) => self.answer(place, token, &response, now, text),
             Err(_) => {
                 if let Some(open) = self.take(place) {
                     let (line, _stage, _begun, _heard) = open.into_parts();
@@ -534,17 +599,17 @@ impl Hall {
         }
     }
 
-    /// Goes on with a connection that was taken, where no more than its socket is needed; whether it is to be gone on with at once.
-    pub fn go_on(&mut self, place: usize, open: Open) -> bool {
+    /// Goes on with a connection that was taken, where no more than its socket is needed.
+    pub fn go_on(&mut self, place: usize, open: Open) {
         if let Stage::Waiting { .. } = open.stage {
             self.look_at_guest(place, open);
-            return false;
+            return;
         }
         let (line, stage, begun, heard) = open.into_parts();
         match stage {
             Stage::Saying { text, next } => {
                 let mut text = text;
-                return self.say_on(place, line, &mut text, next, begun);
+                self.say_on(place, line, &mut text, next, begun, heard);
             }
             Stage::Parting { bytes } => self.part(place, line, bytes, begun),
             Stage::Calling { frame, holder } => {
@@ -575,10 +640,14 @@ impl Hall {
                 },
             ),
         }
-        false
     }
 
-    /// Says more of a text that was begun at a moment; whether the connection is to be gone on with at once.
+    /// When something was last taken of a text, of which so many bytes were left before, and so many are.
+    fn taken_at(&self, heard: Duration, before: usize, left: usize) -> Duration {
+        if left < before { self.clock } else { heard }
+    }
+
+    /// Says more of a text that was begun at a moment, and of which something was last taken at another.
     fn say_on(
         &mut self,
         place: usize,
@@ -586,11 +655,14 @@ impl Hall {
         text: &mut Vec<u8>,
         next: Next,
         begun: Duration,
-    ) -> bool {
+        heard: Duration,
+    ) {
         let mut line = line;
+        let before = text.len();
         match line.write(text) {
             Written::All => self.follow(place, line, next),
             Written::Part => {
+                let heard = self.taken_at(heard, before, text.len());
                 let text = replace(text, Vec::new(self.alloc));
                 self.keep(
                     place,
@@ -598,15 +670,11 @@ impl Hall {
                         line,
                         stage: Stage::Saying { text, next },
                         begun,
-                        heard: begun,
+                        heard,
                     },
                 );
-                false
             }
-            Written::Broken => {
-                self.leave(place);
-                false
-            }
+            Written::Broken => self.leave(place),
         }
     }
 

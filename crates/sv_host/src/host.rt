@@ -11,15 +11,18 @@ ghost use Rattle.sv_node.specs.Stops.{Restores};
 use crate::attend::attend;
 use crate::deadline::listen;
 use crate::desk::Desk;
+use crate::expiry::Expiry;
 use crate::fault::{HostFault, Stop};
 use crate::hall::Hall;
 use crate::lobby::Lobby;
-use crate::machine::{Machine, seconds};
+use crate::machine::Machine;
 use crate::peers::loopback;
 use crate::persistence::Persistence;
 use crate::place::Place;
 use crate::porch::Porch;
+use crate::round::Round;
 use crate::secrets::Secrets;
+use crate::time::{Time, read};
 use mio::Registry;
 use std::alloc::Global;
 use sv_journal::Disk;
@@ -120,6 +123,7 @@ impl Host {
             ports,
             secrets: _,
         } = place;
+        let time = Time::new(read(machine));
         Ok(Host {
             setting,
             porch,
@@ -130,7 +134,11 @@ impl Host {
                 lobby: Lobby::new(alloc),
                 text: Vec::new(alloc),
                 persistence,
-                ticked: seconds(machine),
+                time,
+                ticked: time.seconds(),
+                is_spared: false,
+                expiry: Expiry::NONE,
+                round: Round::START,
                 compacted: 0,
                 alloc,
             },

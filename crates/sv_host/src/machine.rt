@@ -19,11 +19,3 @@ where
         + Print
         + AllocGlobal,
 {}
-
-/// The machine's clock in whole seconds since 1970; 0 before that, and where it can't be read.
-pub fn seconds(machine: &impl Clock) -> u64 {
-    match machine.since_1970() {
-        Ok(since) => since.as_secs(),
-        Err(_) => 0,
-    }
-}

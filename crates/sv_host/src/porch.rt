@@ -2,20 +2,25 @@
 
 use crate::deadline::TURN;
 use crate::fault::HostFault;
+use crate::group::GROUP_LIMIT;
 use crate::hall::Hall;
 use crate::line::Line;
 use crate::machine::Machine;
+use crate::queue::Queue;
 use mio::unix::SourceFd;
 use mio::{Events, Interest, Poll, Registry, Token};
-use std::alloc::{AllocFailed, Global};
+use std::alloc::Global;
 use std::io;
 use std::io::ErrorKind;
 use std::net::{OpenListener, OpenStream, TcpListener, TcpStream};
 use std::os::fd::{AsRawFd, RawFd};
 use std::time::Duration;
 
-/// So many connections in turn can't be accepted before the node gives up its socket.
-const TRIES: u32 = 1_000;
+/// In milliseconds: so long a node waits before it tries again to accept somebody for whom there was no room.
+const RETRY: u64 = 50;
+
+/// So many connections are gone on with in a turn, before somebody who has come is let in: with that one they make a whole group.
+const TURN_LIMIT: usize = GROUP_LIMIT - 1;
 
 /// So many events are told in one turn.
 const EVENTS: usize = 256;
@@ -37,14 +42,16 @@ pub struct Porch {
     listener: TcpListener,
     poll: Poll,
     events: Events,
-    /// The places that have been reported in this turn.
-    reported: Vec<usize>,
+    /// The places that are to be gone on with.
+    queue: Queue,
+    /// The poll was asked in this turn.
+    polled: bool,
     /// `accept` waits.
     waits: bool,
     /// Somebody may stand at the door.
     door: bool,
-    /// So many in turn couldn't be accepted.
-    failed: u32,
+    /// There was no room for the last one who came.
+    is_full: bool,
 }
 
 /// By hand, so that the proof of a caller has one step for it and not one for each state of its parts.
@@ -54,10 +61,11 @@ impl Drop for Porch {
             listener: _,
             poll: _,
             events: _,
-            reported: _,
+            queue: _,
+            polled: _,
             waits: _,
             door: _,
-            failed: _,
+            is_full: _,
         } = self;
     }
 }
@@ -88,44 +96,67 @@ impl Porch {
                 listener,
                 poll,
                 events,
-                reported: Vec::new(alloc),
+                queue: Queue::new(alloc),
+                polled: false,
                 waits: true,
                 door: true,
-                failed: 0,
+                is_full: false,
             },
             registry,
         ))
     }
 
-    /// Waits until somebody is to be looked after, a turn at most. While nobody is in the hall it doesn't wait here, but at the
-    /// door: that needs no call of the poll.
-    ///
-    /// Else the door is gone to only where the poll says that somebody stands there, who then stays there until accepted, or
-    /// where nobody could be accepted before, which never waits: so `accept`, which would wait for a turn, doesn't, and the
-    /// listener needn't be switched to and fro.
-    pub fn wait(&mut self, hall: &mut Hall) {
-        self.waits = hall.is_empty();
-        hall.hand_over(&mut self.reported);
-        if self.waits {
-            self.door = true;
-            return;
-        }
-        let timeout = if self.door || !self.reported.is_empty() {
-            Duration::ZERO
+    /// How long the poll may wait for somebody to be looked after, where nothing else is to be done.
+    fn patience(&self) -> Duration {
+        if self.is_full {
+            Duration::from_millis(RETRY)
         } else {
             Duration::from_secs(TURN)
-        };
+        }
+    }
+
+    /// Has the poll report who is to be looked after, and waits for that.
+    fn ask_poll(&mut self, timeout: Duration) {
         let _ = self.poll.poll(&mut self.events, Some(timeout));
         for event in &self.events {
             let Token(place) = event.token();
             if place == DOOR {
                 self.door = true;
             } else {
-                let _: Result<(), AllocFailed<usize>> = self.reported.push(place);
+                self.queue.add(place);
             }
         }
-        if self.failed > 0 {
+        if self.is_full {
             self.door = true;
+        }
+    }
+
+    /// Waits until somebody is to be looked after, a turn at most; not at all where something else is to be done. While nobody is in
+    /// the hall it doesn't wait here, but at the door: that needs no call of the poll.
+    ///
+    /// Else the door is gone to only where the poll says that somebody stands there, who then stays there until accepted, or
+    /// where nobody could be accepted before, which never waits: so `accept`, which would wait for a turn, doesn't, and the
+    /// listener needn't be switched to and fro.
+    ///
+    /// Who was put down in the turn before is gone on with before the poll is asked again: mostly nothing has come of them, and
+    /// they cost no call of the poll then.
+    pub fn wait(&mut self, hall: &mut Hall, is_busy: bool) {
+        self.queue.forget(TURN_LIMIT);
+        hall.hand_over(&mut self.queue);
+        self.waits = hall.is_empty() && !is_busy && !self.is_full;
+        if self.waits {
+            self.door = true;
+            return;
+        }
+        let count = self.queue.len();
+        self.polled = !(self.polled && 0 < count && count <= TURN_LIMIT);
+        if self.polled {
+            let is_idle = count == 0 && !self.door && !is_busy;
+            self.ask_poll(if is_idle {
+                self.patience()
+            } else {
+                Duration::ZERO
+            });
         }
     }
 
@@ -141,9 +172,14 @@ impl Porch {
         }
     }
 
-    /// The places that have been reported in this turn.
-    pub fn reported(&self) -> &[usize] {
-        self.reported.as_slice()
+    /// The places that are gone on with in this turn.
+    pub fn turn(&self) -> &[usize] {
+        self.queue.front(TURN_LIMIT)
+    }
+
+    /// This turn goes on with what was put down in the one before, and no time has passed since.
+    pub fn is_spared(&self) -> bool {
+        !self.waits && !self.polled
     }
 
     /// Somebody may stand at the door.
@@ -151,24 +187,32 @@ impl Porch {
         self.door
     }
 
-    /// Accepts a connection. Failures in turn, between which no connection could give way, are counted: too many end the node.
-    pub fn accept(&mut self) -> Result<Arrival, HostFault> {
+    /// Accepts a connection. Whatever keeps it out, the node goes on, and tries again.
+    pub fn accept(&mut self) -> Arrival {
+        self.door = false;
         match self.listener.accept() {
             Ok((stream, _)) => {
-                self.failed = 0;
-                self.door = false;
+                self.is_full = false;
                 if !self.waits {
                     self.watch_door();
                 }
-                Ok(self.introduce(stream))
+                self.introduce(stream)
             }
-            Err(fault) => {
-                self.door = false;
-                match fault.kind() {
-                    ErrorKind::WouldBlock | ErrorKind::ConnectionAborted => Ok(Arrival::Nobody),
-                    _ => self.fail(),
+            Err(fault) => match fault.kind() {
+                ErrorKind::Interrupted => {
+                    self.door = true;
+                    Arrival::Nobody
                 }
-            }
+                ErrorKind::WouldBlock | ErrorKind::ConnectionAborted => {
+                    self.is_full = false;
+                    self.watch_door();
+                    Arrival::Nobody
+                }
+                _ => {
+                    self.is_full = true;
+                    Arrival::NoRoom
+                }
+            },
         }
     }
 
@@ -186,19 +230,9 @@ impl Porch {
         }
     }
 
-    /// Counts a connection that couldn't be accepted.
-    fn fail(&mut self) -> Result<Arrival, HostFault> {
-        self.failed = self.failed.saturating_add(1);
-        if self.failed == TRIES {
-            Err(HostFault::Socket)
-        } else {
-            Ok(Arrival::NoRoom)
-        }
-    }
-
     /// A connection has given way: who stands at the door may be accepted.
     pub fn try_again(&mut self) {
-        self.failed = 0;
+        self.is_full = false;
         self.door = true;
     }
 }

@@ -21,17 +21,12 @@ enum Source {
 /// A node's secrets: each is had by one step at most.
 pub struct Secrets {
     source: Source,
-    /// One that was drawn, and that no step has had.
-    unused: Option<Secret>,
 }
 
 /// By hand, so that the proof of a caller has one step for it.
 impl Drop for Secrets {
     fn drop(self) {
-        let Secrets {
-            source: _,
-            unused: _,
-        } = self;
+        let Secrets { source: _ } = self;
     }
 }
 
@@ -79,22 +74,11 @@ impl Secrets {
                 Err(_) => return Err(HostFault::Secrets),
             },
         };
-        Ok(Secrets {
-            source,
-            unused: None,
-        })
+        Ok(Secrets { source })
     }
 
     /// The next secret.
     pub fn next(&mut self) -> Result<Secret, Stop> {
-        match self.unused.take() {
-            Some(secret) => Ok(secret),
-            None => self.source.draw(),
-        }
-    }
-
-    /// Gives one back that no step has had.
-    pub fn give_back(&mut self, secret: Secret) {
-        self.unused = Some(secret);
+        self.source.draw()
     }
 }

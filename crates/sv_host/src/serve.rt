@@ -1,28 +1,24 @@
 //! What comes on one connection.
 
-ghost use Rattle.std.specs.Prelude.{◌≡◌, ◌<◌, ◌+◌, ℕ, false, IsTrue, OnOk, OnErr};
-ghost use Rattle.sv_model.specs.NodeState.{last_number};
+ghost use Rattle.std.specs.Prelude.{◌<◌, ℕ, IfOk, IfSome};
 ghost use Rattle.sv_model.specs.Ranges.{IsInput, IsPacket};
+ghost use Rattle.sv_node.specs.History.{IsAbove};
 ghost use Rattle.sv_record.specs.Frame.{IsFrame};
-ghost use Rattle.sv_node.specs.History.{IsAbove, number_in, HasGone};
-ghost use Rattle.sv_node.specs.Node.{IsNode, journal_of};
-ghost use Rattle.sv_connection.specs.Connection.{is_waiting};
-ghost use Rattle.sv_host.specs.Ending.{has_failed};
-ghost use Rattle.sv_host.specs.Outputs.{AreSendable};
+ghost use Rattle.sv_host.specs.Group.{Comes};
+ghost use Rattle.sv_host.specs.Serve.{Brings, IsHeard};
 
 use crate::client::Client;
-use crate::desk::{Desk, Taken};
-use crate::fault::{HostFault, Stop};
+use crate::desk::{Desk, Packets};
+use crate::fault::Stop;
 use crate::frames::take_in;
+use crate::group::{Asker, Came};
 use crate::line::{Line, comes_later};
 use crate::lobby::Guest;
 use crate::machine::Machine;
 use crate::stage::{Next, Open, Stage, Turn};
 use std::time::Duration;
-use sv_connection::{Outcome, Served};
-use sv_journal::Disk;
-use sv_model::{Engine, Input, Moment, MoveRefusal, Packet};
-use sv_node::Node;
+use sv_connection::{Received, RequestFault};
+use sv_model::{Input, Packet, Request, is_head};
 use sv_record::Frame;
 
 /// So many bytes of a connection are read at once: more than most requests and packets have.
@@ -31,261 +27,75 @@ pub const PIECE: usize = 16_384;
 /// So many pieces of a connection are read in turn, before others come in.
 const PIECES: u32 = 16;
 
-/// What is to be done with a connection, by what has come on it.
+/// What has come on a connection.
 #[derive(Drop)]
 enum Heard {
-    /// More has to come.
+    /// Less than a request or a frame.
     More(Stage),
-    /// The desk's text is said, and this follows.
-    Say(Next),
-    /// It is kept for the answer to its request.
-    Wait {
+    /// A request.
+    Request {
         client: Client,
-        head_only: bool,
-        token: u64,
+        request: Request,
     },
-    /// It is told this byte, once the packet is sent or lost that the command has put out.
-    Tell(u8),
-    /// It is closed.
+    /// A fault, whose page is to be written.
+    Refused {
+        client: Client,
+        fault: RequestFault,
+        head_only: bool,
+    },
+    /// A frame.
+    Frame(Frame),
+    /// Nothing that is served: it is closed.
     Nothing,
 }
 
-/// What a command that isn't done is answered with.
-fn refusal_byte(why: MoveRefusal) -> u8 {
-    match why {
-        MoveRefusal::UnknownKey => 1,
-        MoveRefusal::NotActive => 2,
-        MoveRefusal::BadPeer => 3,
-        MoveRefusal::EpochsSpent => 4,
-    }
-}
-
-/// The byte that answers a command.
-fn answer_byte(taken: Taken) -> u8 {
-    match taken {
-        Taken::Quiet | Taken::Busy => 0,
-        Taken::MoveRefused(why) => refusal_byte(why),
-        Taken::Refused => 5,
-    }
-}
-
-/// Tells a byte at once. Whoever gave the command may have gone away.
-fn tell(desk: &Desk, line: &mut Line, byte: u8) {
-    let mut text = Vec::new(desk.alloc);
-    if text.push(byte).is_ok() {
-        let _ = line.write(&mut text);
-    }
-}
-
-/// Takes the packet of a peer, or does what a command says.
-fn serve_frame<M: Machine, E: Engine, D: Disk>(
-    machine: &M,
-    desk: &mut Desk,
-    node: &mut Node<E, D>,
-    line: &mut Line,
-    frame: Frame,
-) -> Result<Heard, Stop>
-    requires valid { IsNode E.valid D.tells D.seen D.may_leave node.old }
-    requires live { IsTrue (journal_of node.old).live }
-    requires frame { IsFrame frame }
-    ensures valid { IsNode E.valid D.tells D.seen D.may_leave node.new }
-    ensures gone { (low : ℕ) → HasGone E.meaning E.heard D.tells D.may_leave low low node.old node.new result }
+/// Takes what stands at the front of a client's bytes.
+fn hear_client(client: Client, piece: &[u8]) -> Heard
+    ensures { IsHeard result }
 {
-    match frame {
-        Frame::Peer(packet) => receive(machine, desk, node, packet),
-        Frame::Move { key, to } => obey(machine, desk, node, Input::Move { key, to }),
-        Frame::Tick => obey(machine, desk, node, Input::Tick),
-        Frame::Halt => {
-            tell(desk, line, 0);
-            Err(Stop::Done)
-        }
+    let mut client = client;
+    if client.connection.waiting() {
+        return Heard::Nothing;
+    }
+    match client.connection.receive(piece) {
+        Received::Request(request) => Heard::Request {
+            client: client.with_piece(piece.len() == PIECE),
+            request,
+        },
+        Received::Refused { fault, head_only } => Heard::Refused {
+            client,
+            fault,
+            head_only,
+        },
+        // Behind no bytes it has begun no request.
+        Received::More if piece.is_empty() => Heard::More(Stage::Resting(client)),
+        Received::More => Heard::More(Stage::Asking(client)),
+        Received::Closed => Heard::Nothing,
     }
 }
 
-/// Has the node take the packet of a peer.
-fn receive<M: Machine, E: Engine, D: Disk>(
-    machine: &M,
-    desk: &mut Desk,
-    node: &mut Node<E, D>,
-    packet: Packet,
-) -> Result<Heard, Stop>
-    requires valid { IsNode E.valid D.tells D.seen D.may_leave node.old }
-    requires live { IsTrue (journal_of node.old).live }
-    requires packet { IsPacket packet }
-    ensures valid { IsNode E.valid D.tells D.seen D.may_leave node.new }
-    ensures gone { (low : ℕ) → HasGone E.meaning E.heard D.tells D.may_leave low low node.old node.new result }
-{
-    desk.step(machine, node, Input::Packet(packet))?;
-    Ok(Heard::Nothing)
-}
-
-/// Has the node take the step of a command.
-fn obey<M: Machine, E: Engine, D: Disk>(
-    machine: &M,
-    desk: &mut Desk,
-    node: &mut Node<E, D>,
-    input: Input,
-) -> Result<Heard, Stop>
-    requires valid { IsNode E.valid D.tells D.seen D.may_leave node.old }
-    requires live { IsTrue (journal_of node.old).live }
-    requires input { IsInput input }
-    ensures valid { IsNode E.valid D.tells D.seen D.may_leave node.new }
-    ensures gone { (low : ℕ) → IsAbove low input → HasGone E.meaning E.heard D.tells D.may_leave low (number_in low input) node.old node.new result }
-{
-    desk.hall.forget_call();
-    let taken = desk.step(machine, node, input)?;
-    Ok(Heard::Tell(answer_byte(taken)))
-}
-
-/// Puts a piece of a frame behind what came of it before, and does what the frame says that is then whole.
-fn serve_framer<M: Machine, E: Engine, D: Disk>(
-    machine: &M,
-    desk: &mut Desk,
-    node: &mut Node<E, D>,
-    line: &mut Line,
-    bytes: Vec<u8>,
-    piece: &[u8],
-) -> Result<Heard, Stop>
-    requires valid { IsNode E.valid D.tells D.seen D.may_leave node.old }
-    requires live { IsTrue (journal_of node.old).live }
-    ensures valid { IsNode E.valid D.tells D.seen D.may_leave node.new }
-    ensures gone { (low : ℕ) → HasGone E.meaning E.heard D.tells D.may_leave low low node.old node.new result }
+/// Puts a piece of a frame behind what came of it before, and takes the frame that is then whole.
+fn hear_framer(desk: &Desk, bytes: Vec<u8>, piece: &[u8]) -> Heard
+    ensures { IsHeard result }
 {
     let mut bytes = bytes;
     match take_in(desk.alloc, &mut bytes, piece) {
-        Ok(Some(frame)) => serve_frame(machine, desk, node, line, frame),
-        Ok(None) => Ok(Heard::More(Stage::Framing(bytes))),
-        Err(_) => Ok(Heard::Nothing),
-    }
-}
-
-/// The node has failed under the request.
-fn has_failed(outcome: Outcome) -> bool
-    ensures { result ≡ has_failed outcome }
-{
-    matches!(outcome, Outcome::Failed)
-}
-
-/// What is to be done for a client, by what came of its request.
-fn heard_of(client: Client, outcome: Outcome, token: u64) -> Heard {
-    match outcome {
-        Outcome::Parked { head_only } => Heard::Wait {
-            client,
-            head_only,
-            token,
-        },
-        Outcome::Refused(_) => Heard::Say(Next::Part),
-        Outcome::Answered => Heard::Say(client.next()),
-        Outcome::Closed | Outcome::ReadFailed | Outcome::WriteFailed | Outcome::Failed => {
-            Heard::Nothing
-        }
-    }
-}
-
-/// Hands on what a client's request has put out, and says what is to be done for the client.
-fn see_to<M: Machine>(
-    machine: &M,
-    desk: &mut Desk,
-    client: Client,
-    served: Served,
-    token: u64,
-    now: u64,
-) -> Result<Heard, Stop>
-    requires { AreSendable served.outputs.items }
-    ensures { OnOk result (has_failed served.outcome ≡ false) }
-{
-    let Served { outcome, outputs } = served;
-    desk.hand_on(machine, outputs, now);
-    if has_failed(outcome) {
-        Err(Stop::Fault(HostFault::Device))
-    } else {
-        Ok(heard_of(client, outcome, token))
-    }
-}
-
-/// A client whose request isn't whole yet, behind a piece of it; behind none it has begun none.
-fn unfinished(client: Client, piece: &[u8]) -> Heard {
-    Heard::More(if piece.is_empty() {
-        Stage::Resting(client)
-    } else {
-        Stage::Asking(client)
-    })
-}
-
-/// Hands a client's bytes to its connection, which has the node asked under a number where the request is then whole.
-fn serve_client<M: Machine, E: Engine, D: Disk>(
-    machine: &M,
-    desk: &mut Desk,
-    node: &mut Node<E, D>,
-    client: Client,
-    piece: &[u8],
-    token: u64,
-) -> Result<Heard, Stop>
-    requires valid { IsNode E.valid D.tells D.seen D.may_leave node.old }
-    requires live { IsTrue (journal_of node.old).live }
-    ensures valid { IsNode E.valid D.tells D.seen D.may_leave node.new }
-    ensures gone { (low : ℕ) → low < token → HasGone E.meaning E.heard D.tells D.may_leave low token node.old node.new result }
-{
-    if client.connection.waiting() {
-        return Ok(Heard::Nothing);
-    }
-    match desk.moment(machine) {
-        Ok(moment) => serve_at(machine, desk, node, client, piece, moment, token),
-        Err(stop) => Err(stop),
-    }
-}
-
-/// The same at a moment. Where the request isn't whole, the moment's secret serves for another step.
-fn serve_at<M: Machine, E: Engine, D: Disk>(
-    machine: &M,
-    desk: &mut Desk,
-    node: &mut Node<E, D>,
-    client: Client,
-    piece: &[u8],
-    moment: Moment,
-    token: u64,
-) -> Result<Heard, Stop>
-    requires answered { is_waiting client.connection ≡ false }
-    requires valid { IsNode E.valid D.tells D.seen D.may_leave node.old }
-    requires live { IsTrue (journal_of node.old).live }
-    ensures valid { IsNode E.valid D.tells D.seen D.may_leave node.new }
-    ensures gone { (low : ℕ) → low < token → HasGone E.meaning E.heard D.tells D.may_leave low token node.old node.new result }
-{
-    let mut client = client;
-    desk.text.clear();
-    match client
-        .connection
-        .feed(piece, &mut desk.text, node, moment, token)
-    {
-        None => {
-            desk.secrets.give_back(moment.secret);
-            Ok(unfinished(client, piece))
-        }
-        Some(served) => see_to(machine, desk, client, served, token, moment.now),
+        Ok(Some(frame)) => Heard::Frame(frame),
+        Ok(None) => Heard::More(Stage::Framing(bytes)),
+        Err(_) => Heard::Nothing,
     }
 }
 
 /// Takes what has come on a connection that is at a stage.
-fn serve_stage<M: Machine, E: Engine, D: Disk>(
-    machine: &M,
-    desk: &mut Desk,
-    node: &mut Node<E, D>,
-    line: &mut Line,
-    stage: Stage,
-    piece: &[u8],
-    token: u64,
-) -> Result<Heard, Stop>
-    requires valid { IsNode E.valid D.tells D.seen D.may_leave node.old }
-    requires live { IsTrue (journal_of node.old).live }
-    ensures valid { IsNode E.valid D.tells D.seen D.may_leave node.new }
-    ensures gone { (low : ℕ) → low < token → HasGone E.meaning E.heard D.tells D.may_leave low token node.old node.new result }
+fn hear(desk: &Desk, stage: Stage, piece: &[u8]) -> Heard
+    ensures { IsHeard result }
 {
     match stage {
         Stage::Asking(client) | Stage::Asked(client) | Stage::Resting(client) => {
-            serve_client(machine, desk, node, client, piece, token)
+            hear_client(client, piece)
         }
-        Stage::Framing(bytes) => serve_framer(machine, desk, node, line, bytes, piece),
-        other => Ok(Heard::More(other)),
+        Stage::Framing(bytes) => hear_framer(desk, bytes, piece),
+        other => Heard::More(other),
     }
 }
 
@@ -304,79 +114,165 @@ fn begun(desk: &Desk, open: Open, piece: &[u8]) -> (Line, Stage, Duration) {
     (line, stage_at(desk, stage, piece), since)
 }
 
-/// Where more may lie unread behind a request, a close would tear the answer away: that is read first.
-fn with_care(heard: Heard, piece: &[u8]) -> Heard {
-    match heard {
-        Heard::Say(Next::Close) if piece.len() == PIECE => Heard::Say(Next::Part),
-        other => other,
-    }
-}
-
-/// Keeps a client for the answer to its request. Where there is no memory to keep it, its connection is closed.
-fn keep_waiting(
+/// Keeps a client for the answer to its request, which is to be given to the node. Where there is no memory to keep it, its
+/// connection is closed, and the node isn't asked.
+fn ask(
     desk: &mut Desk,
     place: usize,
     line: Line,
     client: Client,
-    head_only: bool,
+    request: Request,
     token: u64,
-) {
+) -> Option<Came>
+    ensures { IfSome result (λ came. Comes token came) }
+{
     if !desk.lobby.add(Guest { token, place }) {
         desk.hall.leave(place);
-        return;
+        return None;
     }
+    let head_only = is_head(&request.method);
+    let close = request.close;
     desk.hall.begin(
         place,
         line,
         Stage::Waiting {
             client,
             head_only,
+            close,
             token,
             silent: false,
         },
     );
-    desk.hall.call_again(place);
+    Some(Came {
+        input: Input::Ask { token, request },
+        asker: Asker::Client { place, token },
+        packets: Packets::All,
+    })
 }
 
-/// Tells whoever gave a command a byte, once the packet is sent or lost that the command has put out.
-fn tell_behind_packet(desk: &mut Desk, place: usize, line: Line, byte: u8) {
-    if desk.hall.hold(place) {
-        desk.hall.begin(place, line, Stage::Holding(byte));
-    } else {
-        desk.hall.tell(place, line, byte);
-    }
-}
-
-/// Does with a connection what is to be done; whether it is to be gone on with at once.
-fn see_off(
+/// Writes the page of a fault, and parts from the client.
+fn refuse(
     desk: &mut Desk,
     place: usize,
     line: Line,
-    heard: Heard,
+    client: Client,
+    fault: RequestFault,
+    head_only: bool,
+) {
+    let mut client = client;
+    desk.text.clear();
+    let now = desk.time.seconds();
+    let _ = client
+        .connection
+        .refuse(&mut desk.text, fault, head_only, now);
+    desk.hall.say(place, line, &mut desk.text, Next::Part);
+}
+
+/// Tells a byte at once. Whoever gave the command may have gone away.
+fn tell(desk: &Desk, line: &mut Line, byte: u8) {
+    let mut text = Vec::new(desk.alloc);
+    if text.push(byte).is_ok() {
+        let _ = line.write(&mut text);
+    }
+}
+
+/// Gives up the connection of a peer's packet, which is to be given to the node.
+fn receive(desk: &mut Desk, place: usize, packet: Packet) -> Option<Came>
+    requires { IsPacket packet }
+    ensures { (number : ℕ) → IfSome result (λ came. Comes number came) }
+{
+    desk.hall.leave(place);
+    Some(Came {
+        input: Input::Packet(packet),
+        asker: Asker::Nobody,
+        packets: Packets::All,
+    })
+}
+
+/// Keeps whoever gave a command for the answer to it.
+fn obey(desk: &mut Desk, place: usize, line: Line, input: Input, packets: Packets) -> Option<Came>
+    requires input { IsInput input }
+    requires no_request { (low : ℕ) → IsAbove low input }
+    ensures { (number : ℕ) → IfSome result (λ came. Comes number came) }
+{
+    desk.hall.begin(place, line, Stage::Ordering);
+    Some(Came {
+        input,
+        asker: Asker::Command(place),
+        packets,
+    })
+}
+
+/// What a frame has for the node.
+fn take_frame(desk: &mut Desk, place: usize, line: Line, frame: Frame) -> Result<Option<Came>, Stop>
+    requires { IsFrame frame }
+    ensures { (number : ℕ) → IfOk result (λ came. IfSome came (λ came. Comes number came)) }
+{
+    match frame {
+        Frame::Peer(packet) => Ok(receive(desk, place, packet)),
+        Frame::Move { key, to } => {
+            Ok(obey(desk, place, line, Input::Move { key, to }, Packets::All))
+        }
+        Frame::Tick => Ok(obey(desk, place, line, Input::Tick, Packets::InTurn)),
+        Frame::Halt => {
+            let mut line = line;
+            tell(desk, &mut line, 0);
+            Err(Stop::Done)
+        }
+    }
+}
+
+/// What comes of a connection: what it has for the node, or whether more of it is to be read at once.
+#[derive(Drop)]
+pub enum Progress {
+    More,
+    Done,
+    Came(Came),
+}
+
+fn progress_of(came: Option<Came>) -> Progress
+    ensures { (number : ℕ) → IfSome came (λ came. Comes number came) → Brings number result }
+{
+    match came {
+        Some(came) => Progress::Came(came),
+        None => Progress::Done,
+    }
+}
+
+/// Takes what has come on a connection.
+fn take(
+    desk: &mut Desk,
+    place: usize,
+    open: Open,
     piece: &[u8],
-    begun: Duration,
-) -> bool {
-    match with_care(heard, piece) {
+    token: u64,
+) -> Result<Progress, Stop>
+    ensures { IfOk result (λ progress. Brings token progress) }
+{
+    let (line, stage, since) = begun(desk, open, piece);
+    match hear(desk, stage, piece) {
         Heard::More(stage) => {
-            desk.hall.put(place, line, stage, begun);
-            true
+            desk.hall.put(place, line, stage, since);
+            Ok(Progress::More)
         }
-        Heard::Say(next) => desk.hall.say(place, line, &mut desk.text, next),
-        Heard::Wait {
+        Heard::Request { client, request } => {
+            Ok(progress_of(ask(desk, place, line, client, request, token)))
+        }
+        Heard::Refused {
             client,
+            fault,
             head_only,
-            token,
         } => {
-            keep_waiting(desk, place, line, client, head_only, token);
-            false
+            refuse(desk, place, line, client, fault, head_only);
+            Ok(Progress::Done)
         }
-        Heard::Tell(byte) => {
-            tell_behind_packet(desk, place, line, byte);
-            false
-        }
+        Heard::Frame(frame) => match take_frame(desk, place, line, frame) {
+            Ok(came) => Ok(progress_of(came)),
+            Err(stop) => Err(stop),
+        },
         Heard::Nothing => {
             desk.hall.leave(place);
-            false
+            Ok(Progress::Done)
         }
     }
 }
@@ -408,172 +304,83 @@ fn see_silent(desk: &mut Desk, place: usize, open: Open, missing: Missing) {
     }
 }
 
-/// Reads once what has come on a connection, and does what it leads to; whether it is to be gone on with at once.
-fn listen_once<M: Machine, E: Engine, D: Disk>(
-    machine: &M,
+/// Reads once what has come on a connection, and takes it.
+fn listen_once(
     desk: &mut Desk,
-    node: &mut Node<E, D>,
     place: usize,
     open: Open,
     piece: &mut [u8; PIECE],
     token: u64,
-) -> Result<bool, Stop>
-    requires valid { IsNode E.valid D.tells D.seen D.may_leave node.old }
-    requires live { IsTrue (journal_of node.old).live }
-    ensures valid { IsNode E.valid D.tells D.seen D.may_leave node.new }
-    ensures gone { (low : ℕ) → low < token → HasGone E.meaning E.heard D.tells D.may_leave low token node.old node.new result }
+) -> Result<Progress, Stop>
+    ensures { IfOk result (λ progress. Brings token progress) }
 {
     let mut open = open;
     match look(&mut open.line, piece) {
-        Ok(come) => take(machine, desk, node, place, open, come, token),
+        Ok(come) => take(desk, place, open, come, token),
         Err(missing) => {
             see_silent(desk, place, open, missing);
-            Ok(false)
+            Ok(Progress::Done)
         }
     }
 }
 
-/// Takes what has come on a connection, and does what it leads to; whether it is to be gone on with at once.
-fn take<M: Machine, E: Engine, D: Disk>(
-    machine: &M,
+/// Goes on with a connection that was taken, by one read or write.
+fn go_on_with(
     desk: &mut Desk,
-    node: &mut Node<E, D>,
-    place: usize,
-    open: Open,
-    piece: &[u8],
-    token: u64,
-) -> Result<bool, Stop>
-    requires valid { IsNode E.valid D.tells D.seen D.may_leave node.old }
-    requires live { IsTrue (journal_of node.old).live }
-    ensures valid { IsNode E.valid D.tells D.seen D.may_leave node.new }
-    ensures gone { (low : ℕ) → low < token → HasGone E.meaning E.heard D.tells D.may_leave low token node.old node.new result }
-{
-    let (mut line, stage, since) = begun(desk, open, piece);
-    let heard = serve_stage(machine, desk, node, &mut line, stage, piece, token)?;
-    Ok(see_off(desk, place, line, heard, piece, since))
-}
-
-/// Goes on with a connection that was taken, by one read or write; whether it is to be gone on with at once.
-fn go_on_with<M: Machine, E: Engine, D: Disk>(
-    machine: &M,
-    desk: &mut Desk,
-    node: &mut Node<E, D>,
     place: usize,
     open: Open,
     piece: &mut [u8; PIECE],
     token: u64,
-) -> Result<bool, Stop>
-    requires valid { IsNode E.valid D.tells D.seen D.may_leave node.old }
-    requires live { IsTrue (journal_of node.old).live }
-    ensures valid { IsNode E.valid D.tells D.seen D.may_leave node.new }
-    ensures gone { (low : ℕ) → low < token → HasGone E.meaning E.heard D.tells D.may_leave low token node.old node.new result }
+) -> Result<Progress, Stop>
+    ensures { IfOk result (λ progress. Brings token progress) }
 {
     match open.stage.turn() {
-        Turn::Serve => take(machine, desk, node, place, open, &[], token),
-        Turn::Read => listen_once(machine, desk, node, place, open, piece, token),
-        Turn::Socket => Ok(desk.hall.go_on(place, open)),
+        Turn::Serve => take(desk, place, open, &[], token),
+        Turn::Read => listen_once(desk, place, open, piece, token),
+        Turn::Socket => {
+            desk.hall.go_on(place, open);
+            Ok(Progress::Done)
+        }
     }
 }
 
-/// Counts up to the number under which the node is asked next; behind the last there is none.
-fn count_up(numbers: &mut u64) -> Result<(), Stop>
-    ensures next { OnOk result (numbers.new ≡ numbers.old + 1) }
-    ensures spent { OnErr result (numbers.new ≡ numbers.old) }
-    ensures last { OnErr result (numbers.old ≡ last_number) }
-{
-    if *numbers == u64::MAX {
-        return Err(Stop::Done);
-    }
-    *numbers += 1;
-    Ok(())
-}
-
-/// Goes on with a connection by one read or write, under the next number; whether it is to be gone on with at once.
-fn go_on<M: Machine, E: Engine, D: Disk>(
-    machine: &M,
+/// Goes on with a connection as far as it has come, up to one request or frame, which is then to be given to the node under this
+/// number. Whatever its other end does, the node goes on. What is read is read into the piece.
+pub fn serve(
     desk: &mut Desk,
-    node: &mut Node<E, D>,
     place: usize,
     piece: &mut [u8; PIECE],
-    numbers: &mut u64,
-) -> Result<bool, Stop>
-    requires valid { IsNode E.valid D.tells D.seen D.may_leave node.old }
-    requires live { IsTrue (journal_of node.old).live }
-    ensures valid { IsNode E.valid D.tells D.seen D.may_leave node.new }
-    ensures gone { HasGone E.meaning E.heard D.tells D.may_leave numbers.old numbers.new node.old node.new result }
-{
-    count_up(numbers)?;
-    match desk.hall.take(place) {
-        Some(open) => go_on_with(machine, desk, node, place, open, piece, *numbers),
-        None => Ok(false),
-    }
-}
-
-/// Goes on with a connection as far as it has come. Whatever its other end does, the node goes on. Requests are asked under
-/// numbers that rise. What is read is read into the piece.
-pub fn serve<M: Machine, E: Engine, D: Disk>(
-    machine: &M,
-    desk: &mut Desk,
-    node: &mut Node<E, D>,
-    place: usize,
-    piece: &mut [u8; PIECE],
-    numbers: &mut u64,
-) -> Result<(), Stop>
-    requires valid { IsNode E.valid D.tells D.seen D.may_leave node.old }
-    requires live { IsTrue (journal_of node.old).live }
-    ensures valid { IsNode E.valid D.tells D.seen D.may_leave node.new }
-    ensures gone { HasGone E.meaning E.heard D.tells D.may_leave numbers.old numbers.new node.old node.new result }
+    token: u64,
+) -> Result<Option<Came>, Stop>
+    ensures { IfOk result (λ came. IfSome came (λ came. Comes token came)) }
 {
     for _ in 0..PIECES {
-        if !go_on(machine, desk, node, place, piece, numbers)? {
-            return Ok(());
+        let Some(open) = desk.hall.take(place) else {
+            return Ok(None);
+        };
+        match go_on_with(desk, place, open, piece, token)? {
+            Progress::More => {}
+            Progress::Done => return Ok(None),
+            Progress::Came(came) => return Ok(Some(came)),
         }
     }
     desk.hall.call_again(place);
-    Ok(())
+    Ok(None)
 }
 
-/// Reads once what has come on a connection, under the next number, and does what it leads to; whether it is to be gone on with at
-/// once.
-fn listen_next<M: Machine, E: Engine, D: Disk>(
-    machine: &M,
+/// The same of a connection that has just come. It is put to its place, which is kept for it, only where it stays.
+pub fn greet(
     desk: &mut Desk,
-    node: &mut Node<E, D>,
     place: usize,
     open: Open,
     piece: &mut [u8; PIECE],
-    numbers: &mut u64,
-) -> Result<bool, Stop>
-    requires valid { IsNode E.valid D.tells D.seen D.may_leave node.old }
-    requires live { IsTrue (journal_of node.old).live }
-    ensures valid { IsNode E.valid D.tells D.seen D.may_leave node.new }
-    ensures gone { HasGone E.meaning E.heard D.tells D.may_leave numbers.old numbers.new node.old node.new result }
+    token: u64,
+) -> Result<Option<Came>, Stop>
+    ensures { IfOk result (λ came. IfSome came (λ came. Comes token came)) }
 {
-    match count_up(numbers) {
-        Ok(()) => listen_once(machine, desk, node, place, open, piece, *numbers),
-        Err(stop) => Err(stop),
-    }
-}
-
-/// Goes on with a connection that has just come as far as it has come, as `serve` does with those that were here before. It is put
-/// to its place, which is kept for it, only where it stays.
-pub fn greet<M: Machine, E: Engine, D: Disk>(
-    machine: &M,
-    desk: &mut Desk,
-    node: &mut Node<E, D>,
-    place: usize,
-    open: Open,
-    piece: &mut [u8; PIECE],
-    numbers: &mut u64,
-) -> Result<(), Stop>
-    requires valid { IsNode E.valid D.tells D.seen D.may_leave node.old }
-    requires live { IsTrue (journal_of node.old).live }
-    ensures valid { IsNode E.valid D.tells D.seen D.may_leave node.new }
-    ensures gone { HasGone E.meaning E.heard D.tells D.may_leave numbers.old numbers.new node.old node.new result }
-{
-    if listen_next(machine, desk, node, place, open, piece, numbers)? {
-        serve(machine, desk, node, place, piece, numbers)
-    } else {
-        Ok(())
+    match listen_once(desk, place, open, piece, token)? {
+        Progress::More => serve(desk, place, piece, token),
+        Progress::Done => Ok(None),
+        Progress::Came(came) => Ok(Some(came)),
     }
 }

@@ -35,11 +35,15 @@ pub enum Stage {
     Waiting {
         client: Client,
         head_only: bool,
+        /// Its request says that the connection closes behind the answer.
+        close: bool,
         /// The number under which the node was asked.
         token: u64,
         /// It sends no more, and so may have gone away.
         silent: bool,
     },
+    /// A command that the node is given.
+    Ordering,
     /// A command that is answered by this byte once its packet is sent or lost.
     Holding(u8),
     /// The rest of a text.
@@ -100,6 +104,16 @@ const CALLING: u64 = 1;
 /// For ever, as far as a node goes.
 const UNBOUNDED: u64 = u64::MAX;
 
+/// Whether a connection is closed where there is no room for another.
+#[derive(Clone, Copy, Debug, PartialEq, Eq)]
+pub enum Yielding {
+    Never,
+    /// Where it has been silent for longest.
+    BySilence,
+    /// Before all others.
+    First,
+}
+
 /// How a connection is gone on with.
 #[derive(Clone, Copy, Debug, PartialEq, Eq)]
 pub enum Turn {
@@ -118,6 +132,7 @@ impl Stage {
             Stage::Asked(_) => Turn::Serve,
             Stage::New | Stage::Asking(_) | Stage::Resting(_) | Stage::Framing(_) => Turn::Read,
             Stage::Waiting { .. }
+            | Stage::Ordering
             | Stage::Holding(_)
             | Stage::Saying { .. }
             | Stage::Parting { .. }
@@ -133,18 +148,22 @@ impl Stage {
         }
     }
 
-    /// It may be closed where there is no room for another: its other end is to say something, has been told all, or may have gone
-    /// away.
-    pub fn gives_way(&self) -> bool {
+    /// Whether it is closed where there is no room for another: its other end is to say or to take something, has been told all, or
+    /// may have gone away.
+    pub fn yielding(&self) -> Yielding {
         match self {
             Stage::New
             | Stage::Asking(_)
             | Stage::Asked(_)
             | Stage::Resting(_)
             | Stage::Framing(_)
-            | Stage::Parting { .. } => true,
-            Stage::Waiting { silent, .. } => *silent,
-            Stage::Holding(_) | Stage::Saying { .. } | Stage::Calling { .. } => false,
+            | Stage::Saying { .. }
+            | Stage::Parting { .. }
+            | Stage::Waiting { silent: true, .. } => Yielding::BySilence,
+            Stage::Waiting { silent: false, .. } | Stage::Ordering | Stage::Holding(_) => {
+                Yielding::Never
+            }
+            Stage::Calling { .. } => Yielding::First,
         }
     }
 
@@ -159,7 +178,7 @@ impl Stage {
             | Stage::Waiting { .. }
             | Stage::Parting { .. } => Some(Interest::READABLE),
             Stage::Saying { .. } | Stage::Calling { .. } => Some(Interest::WRITABLE),
-            Stage::Holding(_) => None,
+            Stage::Ordering | Stage::Holding(_) => None,
         }
     }
 
@@ -169,11 +188,13 @@ impl Stage {
             Stage::Waiting {
                 client,
                 head_only,
+                close,
                 token,
                 silent: _,
             } => Stage::Waiting {
                 client,
                 head_only,
+                close,
                 token,
                 silent: true,
             },
@@ -188,7 +209,7 @@ impl Stage {
                 (ASKING, SILENCE)
             }
             Stage::Resting(_) => (RESTING, RESTING),
-            Stage::Waiting { .. } | Stage::Holding(_) => (UNBOUNDED, UNBOUNDED),
+            Stage::Waiting { .. } | Stage::Ordering | Stage::Holding(_) => (UNBOUNDED, UNBOUNDED),
             Stage::Saying { .. } => (SAYING, SAYING),
             Stage::Parting { .. } => (PARTING, PARTING),
             Stage::Calling { .. } => (CALLING, CALLING),

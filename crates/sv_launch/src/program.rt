@@ -13,6 +13,7 @@ use std::rt::{Clock, Env, Files};
 use std::{env, io};
 use sv_config::Deployment;
 use sv_host::{Machine, Persistence, Place};
+use sv_version::version;
 
 /// The words behind the program's name. One that is no UTF-8 text is [`Fault::Arguments`].
 pub fn words_of<R: Env + AllocGlobal>(rt: &R) -> Result<Vec<String>, Fault> {
@@ -95,13 +96,63 @@ fn run_in_cluster<A: Applications, M: Machine>(
     applications.start(machine.alloc(), deployment, running)
 }
 
-/// Does what the words of a command line ask for: serves standard input, or runs a node. Other words are [`Fault::Arguments`].
+/// What the words may be, behind the program's name.
+const HELP: &str = " serves web applications over HTTP/1.1, and keeps their sessions in a journal.
+
+    [--keep-alive] CONFIG JOURNAL NUMBER   runs a node of a cluster until it is told to halt; it says `ready` and its
+                                           number once it serves
+    --once CONFIG NOW                      serves the requests of standard input, to standard output
+    --help, --version
+
+    CONFIG        the descriptor of the nodes and their applications, in TOML; with --once also -, for the one that is
+                  built in
+    JOURNAL       the file that keeps the node's sessions, beside a second one with .b behind its name; both are made
+                  where they aren't there
+    NUMBER        which node of the descriptor it is, from 0
+    NOW           the moment of all requests, in whole seconds since 1970
+    --keep-alive  lets each connection of a client bring many requests, else one
+
+Status 0: halted, or served to the end. 2: words. 3: the descriptor, or an object that it names. 4: the journal. 5: a
+socket, secrets, standard input or output. A fault prints one line with its name on standard error.
+";
+
+/// What the program's file is called, as it was called.
+fn name_of<R: Env + AllocGlobal>(rt: &R) -> Result<String, Fault> {
+    let Ok(mut args) = env::args(rt) else {
+        return Err(Fault::Arguments);
+    };
+    let called = match args.next() {
+        Some(called) => called,
+        None => String::new(rt.alloc()),
+    };
+    let name = called.rsplit('/').next().unwrap_or("");
+    Ok(String::from_str(rt.alloc(), name)?)
+}
+
+/// Prints the program's name with a text behind it.
+fn say<R: Env + Print + AllocGlobal>(rt: &R, text: &str) -> Result<(), Fault> {
+    let name = name_of(rt)?;
+    match print!(rt; "{name}{text}") {
+        Ok(()) => Ok(()),
+        Err(_) => Err(Fault::Output),
+    }
+}
+
+/// Prints which version the program is.
+fn say_version<R: Env + Print + AllocGlobal>(rt: &R) -> Result<(), Fault> {
+    let text = format!(in rt.alloc(); " {}\n", version())?;
+    say(rt, text.as_str())
+}
+
+/// Does what the words of a command line ask for: serves standard input, runs a node, or says what was asked of the program itself.
+/// Other words are [`Fault::Arguments`].
 pub fn run<A, R>(applications: &A, rt: &R, words: &[String]) -> Result<(), Fault>
 where
     A: Applications,
     R: Net<Listener = TcpListener, Stream = TcpStream>
         + Files<File = File>
         + Clock
+        + Env
         + Print
         + Input
         + AllocGlobal,
@@ -116,6 +167,8 @@ where
                 number,
             },
         ) => run_in_cluster(applications, rt, persistence, config, journal, number),
+        Ok(Words::Help) => say(rt, HELP),
+        Ok(Words::Version) => say_version(rt),
         Err(_) => Err(Fault::Arguments),
     }
 }

@@ -2,7 +2,7 @@
 
 ghost use Rattle.std.specs.Prelude.{◌≡◌, map, string_bytes};
 ghost use Rattle.sv_samples.specs.Numeral.{number_in};
-ghost use Rattle.sv_launch.specs.Words.{command_of, command_in, once_at, node_at, of_three, of_four};
+ghost use Rattle.sv_launch.specs.Words.{command_of, command_in, once_at, node_at, of_one, of_three, of_four};
 
 use sv_host::Persistence;
 use sv_samples::{read_u8, read_u64};
@@ -23,6 +23,10 @@ pub enum Words<'a> {
         journal: &'a str,
         number: u8,
     },
+    /// `--help` or `-h`: says what the words may be.
+    Help,
+    /// `--version` or `-V`: says which version it is.
+    Version,
 }
 
 /// The words ask for nothing.
@@ -60,6 +64,19 @@ fn read_node<'a>(
     }
 }
 
+/// One word.
+fn read_one<'a>(word: &str) -> Result<Words<'a>, Arguments>
+    ensures { command_of result ≡ of_one word.now }
+{
+    if word == "--help" || word == "-h" {
+        Ok(Words::Help)
+    } else if word == "--version" || word == "-V" {
+        Ok(Words::Version)
+    } else {
+        Err(Arguments)
+    }
+}
+
 /// Three words.
 fn read_three<'a>(first: &'a str, second: &'a str, third: &str) -> Result<Words<'a>, Arguments>
     ensures { command_of result ≡ of_three first.now second.now third.now }
@@ -94,6 +111,7 @@ pub fn read_words(words: &[String]) -> Result<Words<'_>, Arguments>
     ensures { command_of result ≡ command_in (map string_bytes words.now) }
 {
     match words {
+        [word] => read_one(word.as_str()),
         [first, second, third] => read_three(first.as_str(), second.as_str(), third.as_str()),
         [first, second, third, fourth] => read_four(
             first.as_str(),

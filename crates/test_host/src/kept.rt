@@ -6,12 +6,24 @@ use std::test::Fail;
 use sv_host::Persistence;
 
 /// A node reads 16,384 bytes at once, so each large request comes in two pieces or three, the first of them with a part of the
-/// next. The first session has the first secret, as the piece behind which its request wasn't whole has used none.
+/// next. The first session has the first secret, as the piece behind which its request wasn't whole has used none. Each connection has
+/// one request a turn, and a turn lets in one who has come: so the node is told to stop only after eight others, who say nothing.
 #[test]
 fn requests_in_pieces_are_answered_once_and_in_order(rt: HostRuntime) -> Result<(), Fail> {
-    let all = [Said::Pieces, Said::Frame(HALT)];
+    let all = [
+        Said::Pieces,
+        Said::Nothing,
+        Said::Nothing,
+        Said::Nothing,
+        Said::Nothing,
+        Said::Nothing,
+        Said::Nothing,
+        Said::Nothing,
+        Said::Nothing,
+        Said::Frame(HALT),
+    ];
     let told = play(&rt, &Town::new(&rt)?, Persistence::Kept, &all)?;
-    assert_eq!(rt; told.as_slice(), b"121314|\0|".as_slice());
+    assert_eq!(rt; told.as_slice(), b"121314|||||||||\0|".as_slice());
     Ok(())
 }
 

@@ -14,6 +14,10 @@ mod kept;
 #[cfg(test)]
 mod lives;
 #[cfg(test)]
+mod rounds;
+#[cfg(test)]
 mod scene;
+#[cfg(test)]
+mod times;
 #[cfg(test)]
 mod town;

@@ -8,7 +8,7 @@ use sv_host::secret_of;
 use sv_launch::deployment_in;
 use sv_model::Moment;
 use sv_samples::{Count, Gate, Tally};
-use sv_servlet::GenericServlet;
+use sv_servlet::{GenericFilter, GenericServlet};
 
 /// A shop whose sessions expire after a minute.
 const SHORT: &str =
@@ -46,7 +46,7 @@ fn written(alloc: Global, moments: [u64; 2], input: &str) -> Result<Vec<u8>, Fai
         name: String::from_str(alloc, "count")?,
         object: GenericServlet::new(Count::new(alloc)),
     })?;
-    let filters: Vec<Named<Gate>> = Vec::new(alloc);
+    let filters: Vec<Named<GenericFilter<Gate>>> = Vec::new(alloc);
     let listeners: Vec<Named<Tally>> = Vec::new(alloc);
     let deployment = deployment_in(alloc, SHORT)?;
     let Ok(container) = Container::start(alloc, deployment, servlets, filters, listeners) else {

@@ -59,6 +59,29 @@ fn words(rt: HostRuntime) -> Result<(), Fail> {
     Ok(())
 }
 
+/// One word, and what it asks of the program itself.
+const SINGLE: [(&str, Result<Words<'static>, Arguments>); 6] = [
+    ("--help", Ok(Words::Help)),
+    ("-h", Ok(Words::Help)),
+    ("--version", Ok(Words::Version)),
+    ("-V", Ok(Words::Version)),
+    ("-v", Err(Arguments)),
+    ("--once", Err(Arguments)),
+];
+
+#[test]
+fn one_word(rt: HostRuntime) -> Result<(), Fail> {
+    for (word, meant) in &SINGLE {
+        let mut list = Vec::new(rt.alloc());
+        list.push(String::from_str(rt.alloc(), *word)?)?;
+        assert!(rt; read_words(list.as_slice()) == *meant, "{word}");
+        // With another word behind it asks for nothing.
+        list.push(String::from_str(rt.alloc(), "-")?)?;
+        assert!(rt; read_words(list.as_slice()) == Err(Arguments));
+    }
+    Ok(())
+}
+
 /// A fourth word in front, and what it has the words of a node ask for.
 const FRONTS: [(&str, Result<Words<'static>, Arguments>); 2] = [
     (

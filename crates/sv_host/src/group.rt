@@ -1,0 +1,146 @@
+//! What has come to a node and is made durable together.
+
+ghost use Rattle.std.specs.Prelude.{◌≡◌, ◌<◌, OnOk, vec_len, vec_capacity};
+ghost use Rattle.sv_model.specs.Ranges.{IsInput};
+ghost use Rattle.sv_node.specs.History.{IsAbove, number_in};
+
+use crate::desk::Packets;
+use std::alloc::{AllocError, Global};
+use std::mem::replace;
+use sv_model::{Input, Moment};
+
+/// So many inputs are made durable together, at most.
+pub const GROUP_LIMIT: usize = 64;
+
+/// Who is told what has come of an input, beside those that its outputs name.
+#[derive(Clone, Copy, Debug, PartialEq, Eq)]
+pub enum Asker {
+    /// A client, at the place of its connection, under its token.
+    Client { place: usize, token: u64 },
+    /// Whoever gave a command, at the place of its connection.
+    Command(usize),
+    /// Nobody.
+    Nobody,
+}
+
+/// What has come on a connection for the node.
+#[derive(Drop)]
+pub struct Came {
+    pub input: Input,
+    pub asker: Asker,
+    /// Which of the packets are sent that its step puts out.
+    pub packets: Packets,
+}
+
+/// To whom what comes of an input goes.
+#[derive(Clone, Copy, Debug, PartialEq, Eq)]
+pub struct Way {
+    pub asker: Asker,
+    pub packets: Packets,
+}
+
+/// Inputs that have come, in order, each with its moment.
+pub struct Group {
+    inputs: Vec<(Moment, Input)>,
+    ways: Vec<Way>,
+    /// The number of the last request before this group.
+    before: u64,
+    /// The number of the last request.
+    number: u64,
+    alloc: Global,
+}
+
+/// By hand, so that the proof of a caller has one step for it.
+impl Drop for Group {
+    fn drop(self) {
+        let Group {
+            inputs: _,
+            ways: _,
+            before: _,
+            number: _,
+            alloc: _,
+        } = self;
+    }
+}
+
+/// The greatest number so far, with this input.
+fn number_with(number: u64, input: &Input) -> u64
+    ensures { result ≡ number_in number input.now }
+{
+    match input {
+        Input::Ask { token, .. } => *token,
+        Input::Packet(_) | Input::Poke | Input::Tick | Input::Move { .. } => number,
+    }
+}
+
+impl Group {
+    ghost use Rattle.sv_host.specs.Group.{inputs_of, before_of, number_of, IsRising};
+
+    /// No input yet; no request has come before.
+    pub fn new(alloc: Global) -> Group
+        ensures rising { IsRising result }
+        ensures number { number_of result ≡ 0 }
+        ensures before { before_of result ≡ 0 }
+    {
+        Group {
+            inputs: Vec::new(alloc),
+            ways: Vec::new(alloc),
+            before: 0,
+            number: 0,
+            alloc,
+        }
+    }
+
+    pub fn is_empty(&self) -> bool {
+        self.inputs.is_empty()
+    }
+
+    /// The number of the last request.
+    pub fn number(&self) -> u64
+        ensures { result ≡ number_of self.now }
+    {
+        self.number
+    }
+
+    /// Makes room for one more.
+    fn reserve(&mut self) -> Result<(), AllocError>
+        ensures room { OnOk result ((vec_len self.new.inputs < vec_capacity self.new.inputs) × (vec_len self.new.ways < vec_capacity self.new.ways)) }
+        ensures same { inputs_of self.new ≡ inputs_of self.old }
+        ensures before { before_of self.new ≡ before_of self.old }
+        ensures number { number_of self.new ≡ number_of self.old }
+    {
+        self.inputs.try_reserve(1)?;
+        self.ways.try_reserve(1)?;
+        Ok(())
+    }
+
+    /// Adds an input behind the others; whether there was memory for it.
+    pub fn add(&mut self, moment: Moment, input: Input, asker: Asker, packets: Packets) -> bool
+        requires rising { IsRising self.old }
+        requires input { IsInput input }
+        requires above { IsAbove (number_of self.old) input }
+        ensures rising { IsRising self.new }
+        ensures before { before_of self.new ≡ before_of self.old }
+    {
+        if self.reserve().is_err() {
+            return false;
+        }
+        self.number = number_with(self.number, &input);
+        self.inputs.push_reserved((moment, input));
+        self.ways.push_reserved(Way { asker, packets });
+        true
+    }
+
+    /// Takes all of them out; what comes from now on is of the next group.
+    pub fn take(&mut self) -> (Vec<(Moment, Input)>, Vec<Way>)
+        ensures inputs { result.0.items ≡ inputs_of self.old }
+        ensures before { before_of self.new ≡ number_of self.old }
+        ensures number { number_of self.new ≡ number_of self.old }
+        ensures rising { IsRising self.new }
+    {
+        let inputs = replace(&mut self.inputs, Vec::new(self.alloc));
+        let ways = replace(&mut self.ways, Vec::new(self.alloc));
+        self.before = self.number;
+        (inputs, ways)
+    }
+}

@@ -1,0 +1,72 @@
+//! Which of the packets of a tick are sent.
+
+use std::alloc::{AllocError, Global};
+use std::test::Fail;
+use sv_host::Round;
+use sv_model::{Key, Output, Packet};
+
+/// One tick after the other: it puts out the wants of the numbers from the first to the last, and so many are sent, of this sum.
+const ROWS: &[(u64, u64, u64, u64)] = &[
+    // The first 128, whose sum is 128 * 129 / 2; those after them, 128 more each; and the last 44, from 257 on, with the first 84.
+    (1, 300, 128, 8_256),
+    (1, 300, 128, 24_640),
+    (1, 300, 128, 15_824),
+    // Of those in front 128 are gone meanwhile: the next is 129 all the same.
+    (129, 300, 128, 24_640),
+    // All of them, where they are few, 290 in the middle; after them the first comes again.
+    (280, 300, 21, 6_090),
+    (1, 0, 0, 0),
+    (1, 129, 128, 8_256),
+    (1, 129, 128, 8_257),
+];
+
+fn want(number: u64) -> Output {
+    Output::Send(Packet::Want {
+        from: 0,
+        to: 1,
+        key: Key { home: 1, serial: 7 },
+        boot: 1,
+        want: number,
+    })
+}
+
+/// The wants of the numbers from the first to the last.
+fn wants(alloc: Global, first: u64, last: u64) -> Result<Vec<Output>, AllocError> {
+    let mut outputs = Vec::new(alloc);
+    for number in first..=last {
+        outputs.push(want(number))?;
+    }
+    Ok(outputs)
+}
+
+/// The number of a want.
+fn number_of(output: &Output) -> u64 {
+    match output {
+        Output::Send(Packet::Want { want, .. }) => *want,
+        _ => 0,
+    }
+}
+
+/// The number and the sum of those that are sent.
+fn sent(round: &mut Round, outputs: &[Output]) -> (u64, u64) {
+    let mut share = round.share(outputs);
+    let (mut count, mut sum) = (0u64, 0u64);
+    for output in outputs {
+        if share.takes(output) {
+            count = count.saturating_add(1);
+            sum = sum.saturating_add(number_of(output));
+        }
+    }
+    *round = share.end();
+    (count, sum)
+}
+
+#[test]
+fn the_packets_of_a_tick_are_sent_in_turn(rt: HostRuntime) -> Result<(), Fail> {
+    let mut round = Round::START;
+    for &(first, last, count, sum) in ROWS {
+        let outputs = wants(rt.alloc(), first, last)?;
+        assert_eq!(rt; sent(&mut round, &outputs), (count, sum));
+    }
+    Ok(())
+}
