@@ -27,14 +27,18 @@ pub fn read_config<R: Files + AllocGlobal>(rt: &R, path: &str) -> Result<String,
     }
 }
 
+/// What the descriptor at a path says.
+pub fn read_deployment<R: Files + AllocGlobal>(rt: &R, path: &str) -> Result<Deployment, Fault> {
+    let text = read_config(rt, path)?;
+    match Deployment::from_toml(rt.alloc(), text.as_str()) {
+        Ok(deployment) => Ok(deployment),
+        Err(fault) => Err(config_fault(fault)),
+    }
+}
+
 /// The nodes of the descriptor at a path; it has ports.
 pub fn read_cluster<R: Files + AllocGlobal>(rt: &R, path: &str) -> Result<Cluster, Fault> {
-    let text = read_config(rt, path)?;
-    let deployment = match Deployment::from_toml(rt.alloc(), text.as_str()) {
-        Ok(deployment) => deployment,
-        Err(fault) => return Err(config_fault(fault)),
-    };
-    let cluster = deployment.cluster;
+    let cluster = read_deployment(rt, path)?.cluster;
     if cluster.ports.is_empty() {
         return Err(Fault::Descriptor(DescriptorFault::NoPorts));
     }

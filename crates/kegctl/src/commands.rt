@@ -10,15 +10,7 @@ use sv_record::Frame;
 use sv_script::NodeNumber;
 
 /// How long a node may take for a command, in seconds: what it sends to a peer that doesn't answer takes one.
-const PATIENCE: u64 = 10;
-
-/// Where a node is called.
-fn address(port: u16) -> Address {
-    Address {
-        port,
-        patience: PATIENCE,
-    }
-}
+pub const PATIENCE: u64 = 10;
 
 /// What a node's answer to a command means; a tick and a halt have no other refusal than the fifth.
 pub fn told(answer: u8) -> &'static str {
@@ -33,20 +25,25 @@ pub fn told(answer: u8) -> &'static str {
     }
 }
 
-/// Has a node hand a session over to another; its answer.
-pub fn hand_over<M: Machine>(machine: &M, port: u16, key: Key, to: NodeNumber) -> Result<u8, Fault>
+/// Has the node at an address hand a session over to another; its answer.
+pub fn hand_over<M: Machine>(
+    machine: &M,
+    address: Address,
+    key: Key,
+    to: NodeNumber,
+) -> Result<u8, Fault>
     requires { IsKey key }
 {
     let frame = Frame::Move { key, to: to.value };
-    Ok(command(machine, address(port), &frame)?)
+    Ok(command(machine, address, &frame)?)
 }
 
-/// Has a node do what is due; its answer.
-pub fn tick<M: Machine>(machine: &M, port: u16) -> Result<u8, Fault> {
-    Ok(command(machine, address(port), &Frame::Tick)?)
+/// Has the node at an address do what is due; its answer.
+pub fn tick<M: Machine>(machine: &M, address: Address) -> Result<u8, Fault> {
+    Ok(command(machine, address, &Frame::Tick)?)
 }
 
-/// Halts a node; its answer.
-pub fn halt<M: Machine>(machine: &M, port: u16) -> Result<u8, Fault> {
-    Ok(command(machine, address(port), &Frame::Halt)?)
+/// Halts the node at an address; its answer.
+pub fn halt<M: Machine>(machine: &M, address: Address) -> Result<u8, Fault> {
+    Ok(command(machine, address, &Frame::Halt)?)
 }

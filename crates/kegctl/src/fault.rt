@@ -15,6 +15,9 @@ pub enum DescriptorFault {
     /// A node would refuse it.
     #[error("the CONFIG: {0}")]
     Refused(ConfigFault),
+    /// Sessions that nodes have under another one are lost under it.
+    #[error("the CONFIG loses sessions of the one before")]
+    Loses,
     /// It has no nodes.
     #[error("the CONFIG has no cluster.ports")]
     NoPorts,

@@ -9,8 +9,10 @@ mod commands;
 mod draining;
 mod fault;
 mod journal;
+mod limit;
 mod machine;
 mod orders;
+mod stopping;
 mod words;
 
 use fault::Fault;

@@ -3,16 +3,18 @@
 ghost use Rattle.std.specs.Prelude.{IfOk};
 ghost use Rattle.sv_model.specs.Keys.{IsKey};
 
-use crate::cluster::{config_fault, read_cluster, read_config};
-use crate::commands::{halt, hand_over, tick, told};
+use crate::cluster::{config_fault, read_cluster, read_config, read_deployment};
+use crate::commands::{PATIENCE, halt, hand_over, tick, told};
 use crate::draining::take_out;
-use crate::fault::Fault;
+use crate::fault::{DescriptorFault, Fault};
 use crate::journal::{entries, kept, records};
 use crate::machine::Machine;
+use crate::stopping::stop;
 use crate::words::{Form, Order};
-use sv_client::session_named;
+use sv_client::{Address, session_named};
 use sv_control::{
-    Look, RecordPlace, SessionLine, Shown, ShownRecord, look_at, places_of, session_line, shown_key,
+    Look, RecordPlace, SessionLine, Shown, ShownRecord, look_at, losses, places_of, session_line,
+    shown_key,
 };
 use sv_model::{Key, Record};
 use sv_script::NodeNumber;
@@ -43,6 +45,18 @@ fn check_text<M: Machine>(machine: &M, text: &str) -> Result<(), Fault> {
 fn check_config<M: Machine>(machine: &M, config: &str) -> Result<(), Fault> {
     let text = read_config(machine, config)?;
     check_text(machine, text.as_str())
+}
+
+/// Says which sessions of a descriptor another one loses.
+fn compare_configs<M: Machine>(machine: &M, old: &str, new: &str) -> Result<(), Fault> {
+    let old = read_deployment(machine, old)?;
+    let new = read_deployment(machine, new)?;
+    let lost = losses(machine.alloc(), &old, &new)?;
+    if lost.is_empty() {
+        return say(machine, "no session is lost");
+    }
+    say(machine, lost.trim_end())?;
+    Err(Fault::Descriptor(DescriptorFault::Loses))
 }
 
 /// A session in the form that is asked for.
@@ -135,6 +149,14 @@ fn show_records<M: Machine>(machine: &M, journal: &str) -> Result<(), Fault> {
     show_placed(machine, &places, &records)
 }
 
+/// Where a node is called.
+fn address(port: u16) -> Address {
+    Address {
+        port,
+        patience: PATIENCE,
+    }
+}
+
 /// Says what a node's answer means.
 fn say_answer<M: Machine>(machine: &M, answer: u8) -> Result<(), Fault> {
     say(machine, told(answer))?;
@@ -166,20 +188,20 @@ fn move_session<M: Machine>(
     to: NodeNumber,
 ) -> Result<(), Fault> {
     let key = key_of(machine, session)?;
-    say_answer(machine, hand_over(machine, port, key, to)?)
+    say_answer(machine, hand_over(machine, address(port), key, to)?)
 }
 
 fn tick_node<M: Machine>(machine: &M, port: u16) -> Result<(), Fault> {
-    say_answer(machine, tick(machine, port)?)
+    say_answer(machine, tick(machine, address(port))?)
 }
 
 fn halt_node<M: Machine>(machine: &M, port: u16) -> Result<(), Fault> {
-    say_answer(machine, halt(machine, port)?)
+    say_answer(machine, halt(machine, address(port))?)
 }
 
 /// Whether a node answers; it is asked to do what is due, which it would do by itself.
 fn state_of<M: Machine>(machine: &M, port: u16) -> &'static str {
-    match tick(machine, port) {
+    match tick(machine, address(port)) {
         Ok(0) => "answers",
         Ok(_) => "answers, and has no room in its journal or no memory",
         Err(_) => "doesn't answer",
@@ -213,6 +235,7 @@ fn show_status<M: Machine>(machine: &M, config: &str) -> Result<(), Fault> {
 pub fn carry_out<M: Machine>(machine: &M, order: Order<'_>) -> Result<(), Fault> {
     match order {
         Order::Check { config } => check_config(machine, config),
+        Order::Compare { old, new } => compare_configs(machine, old, new),
         Order::Sessions {
             journal,
             shown,
@@ -223,6 +246,7 @@ pub fn carry_out<M: Machine>(machine: &M, order: Order<'_>) -> Result<(), Fault>
         Order::Tick { port } => tick_node(machine, port),
         Order::Halt { port } => halt_node(machine, port),
         Order::Status { config } => show_status(machine, config),
+        Order::Stop { config } => stop(machine, config),
         Order::Drain(order) => take_out(machine, order),
     }
 }

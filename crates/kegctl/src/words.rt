@@ -7,9 +7,15 @@ use std::alloc::{AllocError, Global};
 use sv_control::Shown;
 use sv_model::NODE_LIMIT;
 use sv_script::NodeNumber;
+use sv_version::version;
 
 /// The program's name in what it prints, whatever its file is called.
 const NAME: &str = "kegctl";
+
+/// So many seconds a drain takes at most, if it isn't said; and it is never told to take longer than a day.
+const SECONDS: &str = "10";
+
+const DAY: u64 = 86_400;
 
 /// In which form sessions are shown.
 #[derive(Clone, Copy, Debug, PartialEq, Eq)]
@@ -24,6 +30,11 @@ pub enum Form {
 pub enum Order<'a> {
     Check {
         config: &'a str,
+    },
+    /// Two descriptors: which sessions of the first the second loses.
+    Compare {
+        old: &'a str,
+        new: &'a str,
     },
     Sessions {
         journal: &'a str,
@@ -48,6 +59,9 @@ pub enum Order<'a> {
     Status {
         config: &'a str,
     },
+    Stop {
+        config: &'a str,
+    },
     Drain(Drain<'a>),
 }
 
@@ -59,6 +73,8 @@ pub struct Drain<'a> {
     pub journal: &'a str,
     /// The nodes that take its sessions, numbers with commas between; none for all others.
     pub to: Option<&'a str>,
+    /// So long it may take.
+    pub seconds: u64,
     /// It is halted once it has none left.
     pub halts: bool,
 }
@@ -80,9 +96,16 @@ fn choice<'a>(alloc: Global, id: &'a str, help: &'a str) -> Arg<'a> {
 }
 
 fn check<'a>(alloc: Global) -> Result<Command<'a>, AllocError> {
+    let against = Arg::new(alloc, "against")
+        .long("against")
+        .value_name("OLD")
+        .help(
+            "the descriptor that the nodes had until now: says which of their sessions CONFIG would lose",
+        );
     Command::new(alloc, "check")
         .about("says what a descriptor has, or where it is at fault and what to write there")
-        .arg(word(alloc, "CONFIG", "the descriptor of the nodes"))
+        .arg(word(alloc, "CONFIG", "the descriptor of the nodes"))?
+        .arg(against)
 }
 
 fn sessions<'a>(alloc: Global) -> Result<Command<'a>, AllocError> {
@@ -138,6 +161,12 @@ fn status<'a>(alloc: Global) -> Result<Command<'a>, AllocError> {
         .arg(word(alloc, "CONFIG", "the descriptor of the nodes"))
 }
 
+fn stop<'a>(alloc: Global) -> Result<Command<'a>, AllocError> {
+    Command::new(alloc, "stop")
+        .about("halts all nodes of a cluster at once; their sessions stay in their journals")
+        .arg(word(alloc, "CONFIG", "the descriptor of the nodes"))
+}
+
 /// The words that a drain has to have.
 fn drained<'a>(alloc: Global) -> Result<Command<'a>, AllocError> {
     Command::new(alloc, "drain")
@@ -149,11 +178,19 @@ fn drained<'a>(alloc: Global) -> Result<Command<'a>, AllocError> {
         .arg(word(alloc, "JOURNAL", "the first file of its journal"))
 }
 
+/// The same, and how long it may take.
+fn timed<'a>(alloc: Global) -> Result<Command<'a>, AllocError> {
+    let seconds = Arg::new(alloc, "seconds").long("seconds").help(
+        "so long it takes at most, 10 if it isn't said; then it says what is left, and ends with status 6",
+    );
+    drained(alloc)?.arg(seconds)
+}
+
 fn take_out<'a>(alloc: Global) -> Result<Command<'a>, AllocError> {
     let to = Arg::new(alloc, "to").long("to").help(
         "the nodes that take its sessions in turn, numbers with commas between; else all others",
     );
-    drained(alloc)?.arg(to)?.arg(choice(alloc, "halt", "halts the node once it has none left"))
+    timed(alloc)?.arg(to)?.arg(choice(alloc, "halt", "halts the node once it has none left"))
 }
 
 /// One command more.
@@ -172,6 +209,7 @@ fn on_files<'a>(alloc: Global) -> Result<Command<'a>, AllocError> {
     let program = Command::new(alloc, NAME)
         .bin_name(NAME)?
         .about("what an operator of nodes has in hand")
+        .version(version())
         .subcommand_required(true)
         .arg_required_else_help(true);
     let program = with(program, check(alloc))?;
@@ -189,6 +227,7 @@ fn on_nodes<'a>(alloc: Global) -> Result<Command<'a>, AllocError> {
 /// The program with all its commands.
 fn program<'a>(alloc: Global) -> Result<Command<'a>, AllocError> {
     let program = with(on_nodes(alloc)?, status(alloc))?;
+    let program = with(program, stop(alloc))?;
     with(program, take_out(alloc))
 }
 
@@ -214,12 +253,21 @@ pub fn node_of(text: &str) -> Result<NodeNumber, Fault> {
     Err(Fault::Arguments("a node is a number from 0 to 7"))
 }
 
+/// How long a drain may take, in seconds.
+fn seconds(matches: &ArgMatches<'_>) -> Result<u64, Fault> {
+    match matches.get_str("seconds").unwrap_or(SECONDS).parse::<u64>() {
+        Ok(seconds) if seconds > 0 && seconds <= DAY => Ok(seconds),
+        _ => Err(Fault::Arguments("--seconds is a number from 1 to 86400")),
+    }
+}
+
 fn drain_of<'a>(matches: &ArgMatches<'a>) -> Result<Order<'a>, Fault> {
     Ok(Order::Drain(Drain {
         config: text(matches, "CONFIG"),
         node: node_of(text(matches, "NODE"))?,
         journal: text(matches, "JOURNAL"),
         to: matches.get_str("to"),
+        seconds: seconds(matches)?,
         halts: matches.get_flag("halt"),
     }))
 }
@@ -240,16 +288,31 @@ fn sessions_of<'a>(matches: &ArgMatches<'a>) -> Order<'a> {
     }
 }
 
+fn check_of<'a>(matches: &ArgMatches<'a>) -> Order<'a> {
+    let config = text(matches, "CONFIG");
+    match matches.get_str("against") {
+        Some(old) => Order::Compare { old, new: config },
+        None => Order::Check { config },
+    }
+}
+
 /// What a command on files asks for.
 fn order_on_files<'a>(name: &str, matches: &ArgMatches<'a>) -> Order<'a> {
     match name {
-        "check" => Order::Check {
-            config: text(matches, "CONFIG"),
-        },
+        "check" => check_of(matches),
         "records" => Order::Records {
             journal: text(matches, "JOURNAL"),
         },
         _ => sessions_of(matches),
+    }
+}
+
+/// What a command on all nodes of a descriptor asks for.
+fn order_on_cluster<'a>(name: &str, matches: &ArgMatches<'a>) -> Order<'a> {
+    let config = text(matches, "CONFIG");
+    match name {
+        "stop" => Order::Stop { config },
+        _ => Order::Status { config },
     }
 }
 
@@ -268,9 +331,7 @@ fn order_of<'a>(name: &str, matches: &ArgMatches<'a>) -> Result<Order<'a>, Fault
         "halt" => Ok(Order::Halt {
             port: port(matches)?,
         }),
-        "status" => Ok(Order::Status {
-            config: text(matches, "CONFIG"),
-        }),
+        "status" | "stop" => Ok(order_on_cluster(name, matches)),
         _ => drain_of(matches),
     }
 }

@@ -1,5 +1,5 @@
 -- Which sessions a drain moves.
-use Rattle.std.specs.Prelude.{List, [], ◌∷◌}
+use Rattle.std.specs.Prelude.{ℕ, List, [], ◌∷◌, length}
 use Rattle.std.specs.List.{flat_map}
 use Rattle.std.specs.FinMap.{entries}
 use Rattle.sv_model.specs.declared.key.Key.{Key}
@@ -30,6 +30,32 @@ active_at (Counters boot next) = []
 -- the keys whose sessions are active by a snapshot
 abbrev pub active_in : List Record → List Key
 active_in records = flat_map active_at records
+
+-- the key, if its session was handed over and not yet acknowledged
+abbrev pub if_sent : Key → KeyState → List Key
+if_sent k (Active e s) = []
+if_sent k (Sent e s to) = k ∷ []
+if_sent k (Gone e) = []
+if_sent k (Ended e) = []
+
+-- the key of a record of a snapshot, if its session is on its way
+abbrev pub sent_at : Record → List Key
+sent_at (Boot boot) = []
+sent_at (Commit named born) = []
+sent_at (Expired k) = []
+sent_at (SentRecord k e to s) = []
+sent_at (Taken k e from s) = []
+sent_at (GoneRecord k e) = []
+sent_at (State k st) = if_sent k st
+sent_at (Counters boot next) = []
+
+-- the keys whose sessions are on their way by a snapshot
+abbrev pub sent_in : List Record → List Key
+sent_in records = flat_map sent_at records
+
+-- what is left to be done: how many sessions are active, and how many are on their way
+abbrev pub left_of : List Record → ℕ × ℕ
+left_of records = (length (active_in records), length (sent_in records))
 
 -- the keys whose sessions are active at a node, in order
 abbrev pub active_of : Durable → List Key

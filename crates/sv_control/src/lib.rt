@@ -4,7 +4,8 @@
 //! Under the program `kegctl`, a `main` over it, which has the files and the sockets. [`entries_of`] reads a journal from images of
 //! its two files, in memory, so that nothing is ever written; [`replay`] gives what its records give. [`session_line`] is
 //! what is shown of a session and [`ShownRecord`] of a record, and [`places_of`] says where each record stands; [`to_move`] says which
-//! sessions a drain moves; [`look_at`] tells of a descriptor.
+//! sessions a drain moves, and [`left_in`] how many are left; [`look_at`] tells of a descriptor, and [`losses`] of one that takes the
+//! place of another.
 #![tactic(auto)]
 
 mod descriptor;
@@ -12,6 +13,7 @@ mod images;
 mod kept;
 pub mod laws;
 mod lines;
+mod losing;
 mod moving;
 mod naming;
 mod places;
@@ -21,7 +23,8 @@ pub use descriptor::{Look, look_at};
 pub use images::{FoundFault, entries_of};
 pub use kept::{Replayed, records_of, replay};
 pub use lines::{AttributeLine, SessionLine, SessionPlace, SessionTimes, Shown, session_line};
-pub use moving::to_move;
+pub use losing::{Moved, losses, moved_contexts};
+pub use moving::{Left, left_in, to_move};
 pub use naming::{ShownKey, key_text, shown_key};
 pub use places::{RecordPlace, places_of};
 pub use records::ShownRecord;

@@ -1,0 +1,38 @@
+//! How long a drain takes.
+
+use crate::commands::PATIENCE;
+use crate::machine::Machine;
+use std::time::Duration;
+
+/// When a drain is to end, by the clock that nobody sets.
+#[derive(Clone, Copy, Debug, PartialEq, Eq)]
+pub struct Limit {
+    end: Duration,
+}
+
+/// What that clock shows; its end where it can't be read.
+fn clock<M: Machine>(machine: &M) -> Duration {
+    match machine.monotonic() {
+        Ok(now) => now,
+        Err(_) => Duration::MAX,
+    }
+}
+
+impl Limit {
+    /// So many seconds from now on.
+    pub fn new<M: Machine>(machine: &M, seconds: u64) -> Limit {
+        Limit {
+            end: clock(machine).saturating_add(Duration::from_secs(seconds)),
+        }
+    }
+
+    pub fn is_over<M: Machine>(self, machine: &M) -> bool {
+        clock(machine) >= self.end
+    }
+
+    /// How long a node may take for a command, in seconds: a second longer than the drain at most.
+    pub fn patience<M: Machine>(self, machine: &M) -> u64 {
+        let left = self.end.saturating_sub(clock(machine)).as_secs();
+        if left < PATIENCE { left + 1 } else { PATIENCE }
+    }
+}
