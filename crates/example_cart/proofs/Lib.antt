@@ -1,4 +1,4 @@
-pub mod CartLemmas
+pub mod FormsLemmas
 pub mod HtmlLemmas
 pub mod JoinLemmas
 pub mod KeptLemmas

@@ -6,27 +6,25 @@ use Rattle.std.proofs.Math.Seq.{drop-cons}
 use Rattle.std.proofs.lemmas.Bool.{cases_lt}
 use Rattle.std.proofs.lemmas.List.{append-nil}
 use Rattle.example_cart.specs.declared.article.Article.{Article}
-use Rattle.example_cart.specs.declared.cart.Row.{Row}
-use Rattle.example_cart.specs.declared.rows.Listing.{Listing}
 use Rattle.example_cart.specs.Cart.{cost}
-use Rattle.example_cart.specs.Pages.{row_html, rows_html}
+use Rattle.example_cart.specs.Pages.{Sheet, row_html, rows_html}
 
-zip_with_none : (articles : List Article) → zip {X = Row} articles [] ≡ []
+zip_with_none : (articles : List Article) → zip {X = ℕ} articles [] ≡ []
 zip_with_none [] = refl
 zip_with_none (a ∷ more) = refl
 
-html_of_none : (listing : Listing) (n : ℕ) (articles : List Article) → rows_html listing n articles [] ≡ []
-html_of_none listing n [] = refl
-html_of_none listing n (a ∷ more) = refl
+html_of_none : (sheet : Sheet) (n : ℕ) (articles : List Article) → rows_html sheet n articles [] ≡ []
+html_of_none sheet n [] = refl
+html_of_none sheet n (a ∷ more) = refl
 
 -- where the articles or the rows have ended, nothing is left
-pub zip_ends : (articles : List Article) (rows : List Row) (i : ℕ) → (length articles ≤ i) ⊎ (length rows ≤ i) → zip (drop i articles) (drop i rows) ≡ []
+pub zip_ends : (articles : List Article) (rows : List ℕ) (i : ℕ) → (length articles ≤ i) ⊎ (length rows ≤ i) → zip (drop i articles) (drop i rows) ≡ []
 zip_ends articles rows i (inl over) = ap (λ a. zip a (drop i rows)) (drop_of_length-le articles over)
 zip_ends articles rows i (inr over) = ap (λ r. zip (drop i articles) r) (drop_of_length-le rows over) ∙ zip_with_none (drop i articles)
 
-pub html_ends : (listing : Listing) (articles : List Article) (rows : List Row) (i : ℕ) → (length articles ≤ i) ⊎ (length rows ≤ i) → rows_html listing i (drop i articles) (drop i rows) ≡ []
-html_ends listing articles rows i (inl over) = ap (λ a. rows_html listing i a (drop i rows)) (drop_of_length-le articles over)
-html_ends listing articles rows i (inr over) = ap (λ r. rows_html listing i (drop i articles) r) (drop_of_length-le rows over) ∙ html_of_none listing i (drop i articles)
+pub html_ends : (sheet : Sheet) (articles : List Article) (rows : List ℕ) (i : ℕ) → (length articles ≤ i) ⊎ (length rows ≤ i) → rows_html sheet i (drop i articles) (drop i rows) ≡ []
+html_ends sheet articles rows i (inl over) = ap (λ a. rows_html sheet i a (drop i rows)) (drop_of_length-le articles over)
+html_ends sheet articles rows i (inr over) = ap (λ r. rows_html sheet i (drop i articles) r) (drop_of_length-le rows over) ∙ html_of_none sheet i (drop i articles)
 
 cons_at : {A : Type 0} (xs : List A) (i : ℕ) (x : A) → i < length xs → x ≡ get_or xs i x → drop i xs ≡ x ∷ drop (i + 1) xs
 cons_at xs i x within is =
@@ -34,12 +32,12 @@ cons_at xs i x within is =
     drop-cons xs i x within ∙ ap (λ y. y ∷ drop (suc i) xs) (sym is) ∙ ap (λ n. x ∷ drop n xs) next
 
 -- the next article's entry
-pub next_html : (listing : Listing) (articles : List Article) (rows : List Row) (i : ℕ) (article : Article) (row : Row) → i < length articles → i < length rows
+pub next_html : (sheet : Sheet) (articles : List Article) (rows : List ℕ) (i : ℕ) (article : Article) (row : ℕ) → i < length articles → i < length rows
     → article ≡ get_or articles i article → row ≡ get_or rows i row
-    → rows_html listing i (drop i articles) (drop i rows) ≡ row_html listing i article row ++ rows_html listing (i + 1) (drop (i + 1) articles) (drop (i + 1) rows)
-next_html listing articles rows i article row in_articles in_rows article_is row_is =
-    ap (λ a. rows_html listing i a (drop i rows)) (cons_at articles i article in_articles article_is)
-    ∙ ap (λ r. rows_html listing i (article ∷ drop (i + 1) articles) r) (cons_at rows i row in_rows row_is)
+    → rows_html sheet i (drop i articles) (drop i rows) ≡ row_html sheet i article row ++ rows_html sheet (i + 1) (drop (i + 1) articles) (drop (i + 1) rows)
+next_html sheet articles rows i article row in_articles in_rows article_is row_is =
+    ap (λ a. rows_html sheet i a (drop i rows)) (cons_at articles i article in_articles article_is)
+    ∙ ap (λ r. rows_html sheet i (article ∷ drop (i + 1) articles) r) (cons_at rows i row in_rows row_is)
 
 -- one entry more on the page
 pub one_more : (page new entry rest all so : List ℕ) → new ≡ page ++ entry → so ≡ entry ++ rest → page ++ so ≡ all → new ++ rest ≡ all
@@ -54,7 +52,7 @@ all_done page rest all none so_far = sym (append-nil page) ∙ ap (λ r. page ++
 pub one_has_ended : (m n i : ℕ) → min m n ≤ i → (m ≤ i) ⊎ (n ≤ i)
 one_has_ended m n i over = elim (cases_lt m n) [ inl below ↦ inl (omega arith) | inr above ↦ inr (omega arith) ]
 
-pub total_ends : (articles : List Article) (rows : List Row) (i so_far : ℕ) → (length articles ≤ i) ⊎ (length rows ≤ i)
+pub total_ends : (articles : List Article) (rows : List ℕ) (i so_far : ℕ) → (length articles ≤ i) ⊎ (length rows ≤ i)
     → so_far + sum_by cost (zip (drop i articles) (drop i rows)) ≡ sum_by cost (zip articles rows) → so_far ≡ sum_by cost (zip articles rows)
 total_ends articles rows i so_far over sum =
     let none : sum_by cost (zip (drop i articles) (drop i rows)) ≡ 0 = ap (sum_by cost) (zip_ends articles rows i over) in

@@ -1,6 +1,9 @@
 pub mod Cart
 pub mod Form
+pub mod Forms
 pub mod Html
 pub mod Kept
+pub mod Notice
 pub mod Order
 pub mod Pages
+pub mod Visit

@@ -1,110 +1,108 @@
 //! A cart.
 
-ghost use Rattle.std.specs.Prelude.{◌≡◌, ◌≤◌, ◌^◌, IfOk, length, map};
+ghost use Rattle.std.specs.Prelude.{◌≡◌, ◌≤◌, ◌^◌, IfOk, length};
 ghost use Rattle.example_cart.specs.Cart as spec;
-ghost use Rattle.example_cart.specs.Cart.{emptied, is_empty, new_cart, posted, total};
+ghost use Rattle.example_cart.specs.Cart.{count, is_empty, made, new_cart, total};
 
 use crate::article::Article;
 use crate::post::Post;
 use std::alloc::{AllocError, Global};
 use std::marker::Model;
 
-/// How many articles a cart has a row for.
+/// How many articles a cart has a quantity of.
 pub const ROWS: usize = 10;
 
-/// What a cart has of one article.
-#[derive(Clone, Copy, Debug, PartialEq, Eq)]
-pub struct Row {
-    pub quantity: u8,
-    /// The number of the article's next form: how many of its forms have counted.
-    pub form: u16,
-}
-
-/// A cart, seen by contracts as the list of its rows, one for each article in the order of the catalogue.
+/// A cart, seen by contracts as the list of its quantities, one for each article in the order of the catalogue.
 #[derive(Drop)]
 pub struct Cart {
-    rows: Vec<Row>,
+    quantities: Vec<u8>,
 }
 
 impl Model for Cart {
-    ghost use Rattle.std.specs.Prelude.{◌≡◌, List, length};
-    ghost use Rattle.example_cart.specs.declared.cart.Row.{Row};
+    ghost use Rattle.std.specs.Prelude.{◌≡◌, ℕ, List, length};
 
-    ghost Value = { List Row };
+    ghost Value = { List ℕ };
 
-    ghost view = { λ c. c.rows.items };
+    ghost view = { λ c. c.quantities.items };
 
-    ghost invariant = { λ c. length c.rows.items ≡ 10 };
+    ghost invariant = { λ c. length c.quantities.items ≡ 10 };
 }
 
-/// A form of this number counts for the row: it is the next one. The last number of 16 bits never counts.
-fn is_next(row: Row, form: u16) -> bool
-    ensures { result ≡ spec.is_next row form }
-{
-    row.form == form && form < u16::MAX
-}
-
-/// What an article of a row costs, in cents.
-pub fn cost(article: Article, row: Row) -> u64
-    ensures cost { result ≡ spec.cost (article, row) }
+/// What so many of an article cost, in cents.
+pub fn cost(article: Article, quantity: u8) -> u64
+    ensures cost { result ≡ spec.cost (article, quantity) }
     ensures small { result ≤ 2 ^ 40 }
 {
-    u64::from(article.price) * u64::from(row.quantity)
+    u64::from(article.price) * u64::from(quantity)
 }
 
-/// What the articles of some rows cost, in cents.
-fn total_of(articles: &[Article], rows: &[Row]) -> u64
-    requires { length rows.now ≡ 10 }
-    ensures { result ≡ total articles.now rows.now }
+/// What so many of each article cost, in cents.
+fn total_of(articles: &[Article], quantities: &[u8]) -> u64
+    requires { length quantities.now ≡ 10 }
+    ensures { result ≡ total articles.now quantities.now }
 {
-    let count = articles.len().min(rows.len());
+    let count = articles.len().min(quantities.len());
     let mut total = 0;
     for at in 0..count {
-        total += cost(articles[at], rows[at]);
+        total += cost(articles[at], quantities[at]);
     }
     total
 }
 
+/// The sum of quantities.
+fn count_of(quantities: &[u8]) -> u64
+    requires { length quantities.now ≡ 10 }
+    ensures { result ≡ count quantities.now }
+{
+    let mut count = 0;
+    for quantity in quantities {
+        count += u64::from(*quantity);
+    }
+    count
+}
+
 impl Cart {
-    /// The cart of these rows.
-    pub fn of_rows(rows: Vec<Row>) -> Cart
-        requires { length rows.items ≡ 10 }
-        ensures { result ≡ rows.items }
+    /// The cart of these quantities.
+    pub fn of_quantities(quantities: Vec<u8>) -> Cart
+        requires { length quantities.items ≡ 10 }
+        ensures { result ≡ quantities.items }
     {
-        Cart { rows }
+        Cart { quantities }
     }
 
-    /// A cart with nothing in it, whose forms have the number 0.
+    /// A cart with nothing in it.
     pub fn new(alloc: Global) -> Result<Cart, AllocError>
         ensures { IfOk result (λ cart. cart ≡ new_cart) }
     {
-        let rows = vec![in alloc; Row {
-            quantity: 0,
-            form: 0
-        }; ROWS]?;
-        Ok(Cart { rows })
+        let quantities = vec![in alloc; 0; ROWS]?;
+        Ok(Cart { quantities })
     }
 
-    /// The rows.
-    pub fn rows(&self) -> &[Row]
-        ensures rows { result.now ≡ self.now }
+    /// The quantities; a byte each is also how a cart is kept.
+    pub fn as_slice(&self) -> &[u8]
+        ensures quantities { result.now ≡ self.now }
         ensures ten { length self.now ≡ 10 }
     {
-        self.rows.as_slice()
+        self.quantities.as_slice()
     }
 
-    /// Makes the change that a form asks for, where the form counts; the article's next form has the next number.
-    pub fn post(&mut self, post: Post)
-        ensures { self.new ≡ posted self.old post }
+    /// How many of an article there are; 0 where the shop has no such article.
+    pub fn quantity(&self, article: u8) -> u8
+        ensures { result ≡ spec.quantity self.now article }
     {
-        let Some(&row) = self.rows.get(post.article) else {
-            return;
-        };
-        if is_next(row, post.form) {
-            self.rows[post.article] = Row {
-                quantity: post.change.of(row.quantity),
-                form: row.form + 1,
-            };
+        match self.quantities.get(usize::from(article)) {
+            Some(quantity) => *quantity,
+            None => 0,
+        }
+    }
+
+    /// Makes the change that a form asks for.
+    pub fn change(&mut self, post: Post)
+        ensures { self.new ≡ made self.old post }
+    {
+        let article = usize::from(post.article);
+        if let Some(&quantity) = self.quantities.get(article) {
+            self.quantities[article] = post.change.of(quantity);
         }
     }
 
@@ -112,28 +110,20 @@ impl Cart {
     pub fn total(&self, articles: &[Article]) -> u64
         ensures { result ≡ total articles.now self.now }
     {
-        total_of(articles, self.rows.as_slice())
+        total_of(articles, self.quantities.as_slice())
+    }
+
+    /// How many articles are in it.
+    pub fn count(&self) -> u64
+        ensures { result ≡ count self.now }
+    {
+        count_of(self.quantities.as_slice())
     }
 
     /// There is nothing in it.
     pub fn is_empty(&self) -> bool
         ensures { result ≡ is_empty self.now }
     {
-        self.rows.iter().all(|row| row.quantity == 0)
-    }
-
-    /// The same cart with nothing in it; the numbers of the forms stay.
-    pub fn emptied(&self, alloc: Global) -> Result<Cart, AllocError>
-        ensures { IfOk result (λ cart. cart ≡ map emptied self.now) }
-    {
-        let rows = self
-            .rows
-            .iter()
-            .map(|row| Row {
-                quantity: 0,
-                form: row.form,
-            })
-            .collect(alloc)?;
-        Ok(Cart { rows })
+        self.quantities.iter().all(|quantity| *quantity == 0)
     }
 }

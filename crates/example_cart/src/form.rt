@@ -1,26 +1,38 @@
 //! Forms as they are sent, by the texts of their fields.
 
 ghost use Rattle.std.specs.Prelude.{◌≡◌, option_copied};
-ghost use Rattle.example_cart.specs.Form.{change_in, next_number, number_in, post_in};
+ghost use Rattle.example_cart.specs.Form as spec;
+ghost use Rattle.example_cart.specs.Form.{next_number, number_between, number_in, sent_in};
 
-use crate::post::{Change, Post};
+use crate::post::{Change, Mark, Post};
+use crate::rows::Listing;
 
-/// The number with one digit more; none where it is no digit, or the number would have more than 16 bits.
-fn next_number(number: u16, digit: u8) -> Option<u16>
+/// What a form of an article asks for.
+#[derive(Clone, Copy, Debug)]
+pub enum Sent {
+    Asks(Post),
+    /// A quantity that is none, in the form of an article on the page of a listing.
+    Wrong { listing: Listing, article: u8 },
+    /// It is no form of the shop's.
+    NotOurs,
+}
+
+/// The number with one digit more; none where it is no digit, or the number would have more than 64 bits.
+fn next_number(number: u64, digit: u8) -> Option<u64>
     ensures { result ≡ next_number number digit }
 {
     if digit < b'0' || digit > b'9' {
         return None;
     }
-    let next = u32::from(number) * 10 + u32::from(digit - b'0');
-    if next > 65_535 {
+    let next = u128::from(number) * 10 + u128::from(digit - b'0');
+    if next > 0xffff_ffff_ffff_ffff {
         return None;
     }
-    Some(next as u16)
+    Some(next as u64)
 }
 
-/// The number of decimal digits alone, within 16 bits; leading zeros are taken, and no sign.
-pub fn read_number(text: &str) -> Option<u16>
+/// The number of decimal digits alone, within 64 bits; leading zeros are taken, and no sign.
+pub fn read_number(text: &str) -> Option<u64>
     ensures { result ≡ number_in text.now }
 {
     let digits = text.as_bytes();
@@ -34,29 +46,83 @@ pub fn read_number(text: &str) -> Option<u16>
     Some(number)
 }
 
-/// The change of a word and a quantity.
-fn read_change(word: &str, quantity: Option<u16>) -> Option<Change>
-    ensures { result ≡ change_in word.now quantity }
+/// The number, where it is one from the least to the most.
+pub fn read_between(text: &str, least: u64, most: u64) -> Option<u64>
+    ensures { result ≡ number_between least most text.now }
 {
-    match (word, quantity) {
-        ("add", Some(more)) => Some(Change::Add(more)),
-        ("change", Some(all)) => Some(Change::Put(all)),
-        ("remove", _) => Some(Change::Remove),
+    match read_number(text) {
+        Some(number) if number >= least && number <= most => Some(number),
         _ => None,
     }
 }
 
-/// The form of an article by its fields: the article's number, the form's number, what is to be done (`add`, `change` or
-/// `remove`) and the quantity, which a removal needs none of.
-pub fn read_post(article: &str, form: &str, change: &str, quantity: Option<u16>) -> Option<Post>
-    ensures { result ≡ post_in article.now form.now change.now quantity }
+/// The form of the catalogue, which adds from 1 to 99 of an article.
+fn read_add(mark: Mark, article: u8, quantity: &str) -> Sent
+    ensures { result ≡ spec.sent_add mark article (number_between 1 99 quantity.now) }
 {
-    let article = read_number(article)?;
-    let form = read_number(form)?;
-    let change = read_change(change, quantity)?;
-    Some(Post {
-        article: usize::from(article),
-        form,
-        change,
-    })
+    match read_between(quantity, 1, 99) {
+        Some(more) => Sent::Asks(Post {
+            mark,
+            article,
+            change: Change::Add(more as u8),
+        }),
+        None => Sent::Wrong {
+            listing: Listing::Offers,
+            article,
+        },
+    }
+}
+
+/// The form of the cart, which leaves from 0 to 99 of an article.
+fn read_put(mark: Mark, article: u8, quantity: &str) -> Sent
+    ensures { result ≡ spec.sent_put mark article (number_between 0 99 quantity.now) }
+{
+    match read_between(quantity, 0, 99) {
+        Some(all) => Sent::Asks(Post {
+            mark,
+            article,
+            change: Change::Put(all as u8),
+        }),
+        None => Sent::Wrong {
+            listing: Listing::Lines,
+            article,
+        },
+    }
+}
+
+/// The form of an article on a page, by the word of its button.
+fn read_change(mark: Mark, article: u8, word: &str, quantity: &str) -> Sent
+    ensures { result ≡ spec.sent_of mark article word.now quantity.now }
+{
+    match word {
+        "add" => read_add(mark, article, quantity),
+        "change" => read_put(mark, article, quantity),
+        "remove" => Sent::Asks(Post {
+            mark,
+            article,
+            change: Change::Remove,
+        }),
+        _ => Sent::NotOurs,
+    }
+}
+
+/// The form of an article by its fields: the article's number, the two numbers of the page, what is to be done (`add`, `change` or
+/// `remove`), and the quantity, which a removal needs none of.
+pub fn read_sent(article: &str, visit: &str, page: &str, word: &str, quantity: &str) -> Sent
+    ensures { result ≡ sent_in article.now visit.now page.now word.now quantity.now }
+{
+    let Some(article) = read_between(article, 0, 9) else {
+        return Sent::NotOurs;
+    };
+    let Some(visit) = read_number(visit) else {
+        return Sent::NotOurs;
+    };
+    let Some(page) = read_between(page, 0, 4_294_967_295) else {
+        return Sent::NotOurs;
+    };
+    let mark = Mark {
+        visit,
+        page: page as u32,
+    };
+    read_change(mark, article as u8, word, quantity)
 }

@@ -1,26 +1,35 @@
-//! Laws of carts, of what is kept of them, and of text in HTML. Each function does nothing; its contract is the law.
+//! Laws of carts and their forms, of what is kept of them, and of text in HTML. Each function does nothing; its contract is the law.
 
-ghost use Rattle.std.specs.Prelude.{◌≡◌, true, false, ℕ, List, Some, length};
-ghost use Rattle.std.specs.List.{fold, list_all};
-ghost use Rattle.example_cart.specs.declared.cart.Row.{Row};
+ghost use Rattle.std.specs.Prelude.{◌≡◌, ◌<◌, ◌≤◌, ◌^◌, true, false, ℕ, List, Some, length};
+ghost use Rattle.std.specs.List.{All, fold, list_all, list_any};
 ghost use Rattle.example_cart.specs.declared.order.Order.{Order};
 ghost use Rattle.example_cart.specs.declared.post.Post.{Post};
-ghost use Rattle.example_cart.specs.Cart.{behind, counting, counts, made, posted};
+ghost use Rattle.example_cart.specs.declared.visit.Visit.{Visit};
+ghost use Rattle.example_cart.specs.Forms.{Basket, Remembered, after, age, counted, counting, counts, is_same, none_yet, posted};
 ghost use Rattle.example_cart.specs.Html.{Reads, escaped, is_harmless};
-ghost use Rattle.example_cart.specs.Kept.{cart_in, kept};
+ghost use Rattle.example_cart.specs.Kept.{IsSmall, cart_in, forms_in, kept_forms, kept_visit, visit_in};
 ghost use Rattle.example_cart.specs.Order.{kept_order, order_in};
 
-/// The cart behind a list of forms is what those that count make of it, each once: one that has counted never counts again,
-/// whatever forms come between.
+/// The cart after a list of forms is what those that count make of it, each once: one that has counted never counts again,
+/// whatever forms come between, and however many.
 pub fn each_counts_once()
-    ensures those_that_count { (cart : List Row) (posts : List Post) → behind cart posts ≡ fold made cart (counting cart posts) }
-    ensures once { (cart : List Row) (post : Post) (between : List Post) → counts cart post ≡ true → counts (behind (posted cart post) between) post ≡ false }
+    ensures those_that_count { (visit : ℕ) (basket : Basket) (posts : List Post) → after visit basket posts ≡ fold (counted visit) basket (counting visit basket posts) }
+    ensures once { (visit : ℕ) (basket : Basket) (post : Post) (between : List Post) → counts visit basket post ≡ true → counts visit (after visit (posted visit basket post) between) post ≡ false }
 {}
 
-/// A cart or an order of ten rows is read as it was kept.
+/// A form that was never sent counts. After 48 forms and fewer any does, of whichever page, and of whichever session's; and after
+/// however many, one does whose page is newer than those of all of them.
+pub fn an_unseen_form_counts()
+    ensures unseen { (visit : ℕ) (cart : List ℕ) (posts : List Post) (post : Post) → length posts ≤ 48 → list_any (is_same post) posts ≡ false → counts visit (after visit (record { cart = cart; forms = none_yet }) posts) post ≡ true }
+    ensures newer { (visit : ℕ) (cart : List ℕ) (posts : List Post) (post : Post) → All (λ earlier. age visit earlier < age visit post) posts → counts visit (after visit (record { cart = cart; forms = none_yet }) posts) post ≡ true }
+{}
+
+/// A cart or an order of ten quantities, forms, and a visit are read as they were kept.
 pub fn read_as_kept()
-    ensures cart { (cart : List Row) → length cart ≡ 10 → cart_in (Some (kept cart)) ≡ cart }
+    ensures cart { (cart : List ℕ) → length cart ≡ 10 → cart_in (Some cart) ≡ cart }
     ensures order { (order : Order) → length order.cart ≡ 10 → order_in (Some (kept_order order)) ≡ order }
+    ensures forms { (forms : Remembered) → forms.floor < 2 ^ 64 → All IsSmall forms.posts → forms_in (Some (kept_forms forms)) ≡ forms }
+    ensures visit { (visit : Visit) (node : ℕ) → visit.page < 2 ^ 32 → visit.moves < 2 ^ 32 → visit_in node (Some (kept_visit visit)) ≡ visit }
 {}
 
 /// A text by its references is read as the text, whatever is in it; and none of the bytes that markup begins or ends with is left.

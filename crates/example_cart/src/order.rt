@@ -1,12 +1,11 @@
 //! The last order of a session.
 
-ghost use Rattle.std.specs.Prelude.{◌≡◌, ◌++◌, ◌∷◌, [], IfOk, length, option_copied};
-ghost use Rattle.example_cart.specs.Kept.{kept};
+ghost use Rattle.std.specs.Prelude.{◌≡◌, IfOk, option_copied};
 ghost use Rattle.example_cart.specs.Order as spec;
 ghost use Rattle.example_cart.specs.Order.{kept_order, order_in};
 
 use crate::cart::Cart;
-use crate::kept::{kept_cart, read_cart};
+use crate::kept::read_cart;
 use std::alloc::{AllocError, Global};
 
 /// The last order of a session.
@@ -32,8 +31,7 @@ pub fn kept_order(alloc: Global, order: &Order) -> Result<Vec<u8>, AllocError>
 {
     let mut bytes = Vec::new(alloc);
     bytes.extend_from_slice(&[(order.number / 256) as u8, (order.number % 256) as u8])?;
-    let cart = kept_cart(alloc, &order.cart)?;
-    bytes.extend_from_slice(cart.as_slice())?;
+    bytes.extend_from_slice(order.cart.as_slice())?;
     Ok(bytes)
 }
 

@@ -11,8 +11,10 @@ pub enum ServletKind {
     Catalogue,
     Cart,
     Login,
+    Logout,
     Checkout,
     Style,
+    Icon,
     Error,
 }
 
@@ -40,8 +42,10 @@ impl Kind for ServletKind {
             "catalogue" => Some(ServletKind::Catalogue),
             "cart" => Some(ServletKind::Cart),
             "login" => Some(ServletKind::Login),
+            "logout" => Some(ServletKind::Logout),
             "checkout" => Some(ServletKind::Checkout),
             "style" => Some(ServletKind::Style),
+            "icon" => Some(ServletKind::Icon),
             "error" => Some(ServletKind::Error),
             _ => None,
         }

@@ -12,11 +12,22 @@ mod start;
 
 use start::Shop;
 use std::process::ExitCode;
-use sv_launch::{Fault, words_of};
+use sv_launch::{Fault, Words, read_words, words_of};
+
+/// The node that the words ask for; one alone has the number 0.
+fn node_of(words: &[String]) -> u8 {
+    match read_words(words) {
+        Ok(Words::Node { number, .. }) => number,
+        _ => 0,
+    }
+}
 
 fn run(rt: &HostRuntime) -> Result<(), Fault> {
     let words = words_of(rt)?;
-    sv_launch::run(&Shop, rt, words.as_slice())
+    let shop = Shop {
+        node: node_of(words.as_slice()),
+    };
+    sv_launch::run(&shop, rt, words.as_slice())
 }
 
 fn main(rt: HostRuntime) -> ExitCode {

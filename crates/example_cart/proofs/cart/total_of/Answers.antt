@@ -4,5 +4,5 @@ use Rattle.example_cart.proofs.cart.total_of.Goals as goal
 
 pub returns : goal.returns
 returns c =
-    let over : min (length c.args.articles.now) (length c.args.rows.now) ≤ c.loop-at.at = omega arith in
-    total_ends c.args.articles.now c.args.rows.now c.loop-at.at c.loop-at.total (one_has_ended _ _ _ over) c.loop-at.invariant.sum
+    let over : min (length c.args.articles.now) (length c.args.quantities.now) ≤ c.loop-at.at = omega arith in
+    total_ends c.args.articles.now c.args.quantities.now c.loop-at.at c.loop-at.total (one_has_ended _ _ _ over) c.loop-at.invariant.sum

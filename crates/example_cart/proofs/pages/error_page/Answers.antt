@@ -1,7 +1,7 @@
-use Rattle.example_cart.proofs.JoinLemmas.{page_2}
+use Rattle.example_cart.proofs.JoinLemmas.{page_3}
 use Rattle.example_cart.specs.Pages.{error_page}
 use Rattle.example_cart.proofs.pages.error_page.Goals as goal
 
 pub returns : goal.returns
 unfolding error_page
-returns c = page_2 _ _ _ _ _ c.new-page.ensures c.in_ok-write_head.ensures c.in_ok-write_error.ensures
+returns c = page_3 _ _ _ _ _ _ _ c.new-page.ensures c.in_ok-write_head.ensures c.in_ok-write_error.ensures c.in_ok-write_foot.ensures

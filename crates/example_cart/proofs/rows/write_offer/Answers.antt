@@ -1,7 +1,7 @@
-use Rattle.example_cart.proofs.JoinLemmas.{then_2}
+use Rattle.example_cart.proofs.JoinLemmas.{then_6}
 use Rattle.example_cart.specs.Pages.{offer_html}
 use Rattle.example_cart.proofs.rows.write_offer.Goals as goal
 
 pub returns : goal.returns
 unfolding offer_html
-returns c = then_2 _ _ _ _ _ c.in_ok-write_name.ensures c.in_ok-write_adding.ensures
+returns c = then_6 _ _ _ _ _ _ _ _ _ _ _ _ _ c.in_ok-write_name.ensures c.in_ok-write_price.ensures c.in_ok-write_fields.ensures c.in_ok-write_label.ensures c.in_ok-write_value.ensures c.in_ok-write_add.ensures
