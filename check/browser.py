@@ -7,8 +7,8 @@ import subprocess
 import tempfile
 import time
 
-# Seconds for a page to be there.
-PATIENCE = 60
+from patience import PATIENCE
+
 
 
 def is_here():
@@ -16,21 +16,27 @@ def is_here():
 
 
 class Browser:
-    """One page of a browser that keeps its cookies as long as it runs."""
+    """A browser that keeps its cookies as long as it runs. What is done is done in the tab of `self.session`."""
 
     def __init__(self, width=1280, height=800):
         self.profile = tempfile.TemporaryDirectory(ignore_cleanup_errors=True)
         asked, self.ask = os.pipe()
         self.told, tell = os.pipe()
-        words = ["--headless=new", "--no-sandbox", "--disable-gpu", f"--user-data-dir={self.profile.name}", "--remote-debugging-pipe"]
+        words = ["--headless=new", "--hide-scrollbars", "--no-sandbox", "--disable-gpu", f"--user-data-dir={self.profile.name}", "--remote-debugging-pipe"]
         # The browser reads what it is told from 3, and answers to 4.
         call = ["bash", "-c", f'exec "$0" "$@" 3<&{asked} 4>&{tell}', shutil.which("chromium"), *words, f"--window-size={width},{height}"]
         self.process = subprocess.Popen(call, pass_fds=(asked, tell), stderr=subprocess.DEVNULL)
         os.close(asked)
         os.close(tell)
-        self.number, self.rest, self.session = 0, b"", None
+        self.number, self.rest = 0, b""
+        self.tab()
+
+    def tab(self):
+        """Opens a tab, and goes on in it. Its session leads back there."""
+        self.session = None
         target = self.do("Target.createTarget", url="about:blank")["targetId"]
         self.session = self.do("Target.attachToTarget", targetId=target, flatten=True)["sessionId"]
+        return self.session
 
     def message(self):
         while b"\0" not in self.rest:
@@ -76,11 +82,45 @@ class Browser:
     def do_and_wait(self, code):
         """Does what leads to another page, a click for example, and waits until that is there."""
         self.value(f"window.isOld = true; {code}")
+        self.wait_for_another(code)
+
+    def wait_for_another(self, what):
+        """Waits until another page is there than the one that was marked as old."""
         for _ in range(PATIENCE * 50):
             if self.value("window.isOld === undefined && document.readyState === 'complete'"):
                 return
             time.sleep(0.02)
-        raise OSError(f"no page comes behind {code}")
+        raise OSError(f"no page comes after {what}")
+
+    def back(self):
+        """Goes back as by the button, and waits until the page is there."""
+        history = self.do("Page.getNavigationHistory")
+        entry = history["entries"][history["currentIndex"] - 1]["id"]
+        self.value("window.isOld = true")
+        self.do("Page.navigateToHistoryEntry", entryId=entry)
+        self.wait_for_another("going back")
+
+    def reload(self):
+        """Reloads the page. A form that led to it is sent again."""
+        self.value("window.isOld = true")
+        self.do("Page.reload")
+        self.wait_for_another("a reload")
+
+    def key(self, name, code):
+        """Presses a key."""
+        for kind in ("rawKeyDown", "keyUp"):
+            self.do("Input.dispatchKeyEvent", type=kind, key=name, code=name, windowsVirtualKeyCode=code)
+
+    def click(self, x, y, count=1):
+        """Clicks at a place of the page, so many times in short order."""
+        for number in range(1, count + 1):
+            for kind in ("mousePressed", "mouseReleased"):
+                self.do("Input.dispatchMouseEvent", type=kind, x=x, y=y, button="left", clickCount=number)
+
+    def media(self, **features):
+        """What the page takes its surroundings for, as `prefers_color_scheme="dark"`."""
+        found = [{"name": name.replace("_", "-"), "value": value} for name, value in features.items()]
+        self.do("Emulation.setEmulatedMedia", media="screen", features=found)
 
     def size(self, width, height):
         """The page's width and height in pixels, as on a screen of that size."""
