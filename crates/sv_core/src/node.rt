@@ -14,6 +14,7 @@ ghost use Rattle.sv_core.specs.declared.fault.ApplyFault.TheVariants.{BadRecord}
 ghost use Rattle.sv_model.specs.Step.{left, told};
 ghost use Rattle.sv_core.specs.Decision.{outputs_in, entry_in, told_held, outputs_held};
 ghost use Rattle.sv_core.specs.Snapshot.{snapshot_of};
+ghost use Rattle.sv_core.specs.Waiting.{awaited};
 
 use crate::decision::{Decision, Held};
 use crate::fault::{ApplyFault, Memory};
@@ -21,7 +22,9 @@ use crate::kept::Kept;
 use crate::row;
 use crate::table::Table;
 use std::alloc::Global;
-use sv_model::{Engine, Input, Key, KeyState, Moment, Output, Record, Setting, Stage};
+use sv_model::{
+    Engine, Input, Key, KeyState, Moment, Output, Parked, Record, Request, Setting, Stage,
+};
 
 /// One node of a cluster: what its records give, the requests that wait at it, and its engine.
 #[derive(Drop)]
@@ -124,6 +127,13 @@ impl<E> Core<E> {
         self.kept.keys.get(key)
     }
 
+    /// The requests that wait for their sessions, as they came.
+    pub fn parked(&self) -> &[Parked]
+        ensures { result.now ≡ (node_at self.now).parked }
+    {
+        self.kept.parked.as_slice()
+    }
+
     /// Which node it is.
     pub fn setting(&self) -> Setting
         ensures { result ≡ setting_of self.now }
@@ -141,6 +151,19 @@ impl<E> Core<E> {
 
 impl<E: Engine> Core<E> {
     ghost use Rattle.sv_core.specs.Core.{view_of, node_at, durable_at, setting_of, stage_of, engine_of, decision_at, starts, IsRow, WasDecided};
+
+    /// The session for which a request would wait if it came now; none where it would be served at once. Whether there is room
+    /// for it to wait is another question.
+    pub fn awaited(&self, request: &Request) -> Option<Key>
+        ensures { result ≡ awaited (setting_of self.now) (durable_at self.now) ((E.meaning (engine_of self.now)).names request.now) }
+    {
+        let (key, _) = self.engine.names(request)?;
+        if self.kept.is_settled(key) || self.kept.is_dead(key) {
+            None
+        } else {
+            Some(key)
+        }
+    }
 
     /// What the node does at an input, before anything of it is done.
     ///

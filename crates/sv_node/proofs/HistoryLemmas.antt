@@ -44,14 +44,14 @@ heard_join m heard (t ∷ ts) us = heard_join m (m.hear heard t) ts us
 
 -- ---- numbers
 
-lower_input : (low mid : ℕ) (i : Input) → low ≤ mid → IsAbove mid i → IsAbove low i
+pub lower_input : (low mid : ℕ) (i : Input) → low ≤ mid → IsAbove mid i → IsAbove low i
 lower_input low mid (input.Ask number r) le above = omega (arith, le, above)
 lower_input low mid (input.Packet p) le above = tt
 lower_input low mid input.Poke le above = tt
 lower_input low mid input.Tick le above = tt
 lower_input low mid (input.Move k to) le above = tt
 
-lower_number : (low mid : ℕ) (i : Input) → low ≤ mid → number_in low i ≤ number_in mid i
+pub lower_number : (low mid : ℕ) (i : Input) → low ≤ mid → number_in low i ≤ number_in mid i
 lower_number low mid (input.Ask number r) le = omega arith
 lower_number low mid (input.Packet p) le = le
 lower_number low mid input.Poke le = le
@@ -90,6 +90,10 @@ rise_join : (low mid high : ℕ) (xs ys : List Turn) → Rise low mid xs → Ris
 rise_join low mid high [] ys le rise = lower_rise low mid high ys le rise
 rise_join low mid high (x ∷ xs) ys first rise = (first.0, rise_join (lowest_behind low x.call) mid high xs ys first.1 rise)
 
+rise_wider : (low mid high : ℕ) (ts : List Turn) → mid ≤ high → Rise low mid ts → Rise low high ts
+rise_wider low mid high [] le rise = omega (arith, le, rise)
+rise_wider low mid high (t ∷ ts) le rise = (rise.0, rise_wider (lowest_behind low t.call) mid high ts le rise.1)
+
 -- ---- what they lead to
 
 module _ (m : EngineMeaning) (set : Setting) where
@@ -108,6 +112,9 @@ module _ (m : EngineMeaning) (set : Setting) where
     to_is = behind_join a x.turns y.turns ∙ ap (λ (s : Stand). behind_all s y.turns) x.to_is ∙ y.to_is;
     told_is = flat_map-append (λ (t : Turn). t.after.told) x.turns y.turns ∙ (λ i. x.told_is i ++ y.told_is i);
   }
+
+  leads_wider : (low mid high : ℕ) (a b : Stand) (ts : List Told) → mid ≤ high → Leads m set low mid a b ts → Leads m set low high a b ts
+  leads_wider low mid high a b ts le x = record { turns = x.turns; are = x.are; rise = rise_wider low mid high x.turns le x.rise; to_is = x.to_is; told_is = x.told_is }
 
 -- both disks tell, by either name
 by_names : {D : Type 0} (tells : D → Type 0) (old_on_a new_on_a : Bool) (current other : D) → tells (cond old_on_a (cond new_on_a current other) (cond new_on_a other current)) → tells (cond old_on_a (cond new_on_a other current) (cond new_on_a current other)) → tells current × tells other
@@ -175,6 +182,29 @@ module _ {E D : Type 0} (meaning : E → EngineMeaning) (heard : E → List (Lis
     gone_join (Err fault) (inr y) = inr (fails_join y)
 
   -- by what came of it
+  -- the numbers were below a greater one, too
+  pub goes_wider : (low mid high : ℕ) (old new : Node E D) → mid ≤ high → Goes low mid old new → Goes low high old new
+  goes_wider low mid high old new le g = record {
+    told = g.told;
+    leads = leads_wider (meaning (engine_of old)) (setting_of old) low mid high (stand_of old) (stand_of new) g.told le g.leads;
+    live = g.live;
+    setting = g.setting;
+    meaning_is = g.meaning_is;
+    heard_is = g.heard_is;
+    tells_on = g.tells_on;
+  }
+
+  pub fails_wider : (low mid high : ℕ) (old new : Node E D) → mid ≤ high → Fails meaning heard tells may_leave low mid old new → Fails meaning heard tells may_leave low high old new
+  fails_wider low mid high old new le f = record {
+    told = f.told;
+    before = f.before;
+    after = f.after;
+    leads = λ d either. leads_wider (meaning (engine_of old)) (setting_of old) low mid high (stand_of old) (halted d) f.told le (f.leads d either);
+    left = f.left;
+    meaning_is = f.meaning_is;
+    heard_is = f.heard_is;
+  }
+
   pub gone_on : {T F : Type 0} (low high : ℕ) (old new : Node E D) (answer : Result T F) → Goes low high old new → Gone low high old new answer
   gone_on low high old new (Ok value) x = x
   gone_on low high old new (Err fault) x = inl x

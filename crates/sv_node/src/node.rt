@@ -2,6 +2,7 @@
 
 ghost use Rattle.std.specs.Prelude.{◌≡◌, ◌≢◌, ◌⊎◌, IfOk, IfErr};
 ghost use Rattle.sv_journal.specs.Disk.{TellsOn, HasRisen};
+ghost use Rattle.sv_core.specs.Waiting.{awaited};
 ghost use Rattle.sv_journal.specs.Journal.{disk_a, disk_b};
 ghost use Rattle.sv_model.specs.NodeState.{Durable, last_number};
 ghost use Rattle.sv_model.specs.Ranges.{IsSetting};
@@ -17,7 +18,7 @@ use crate::starting::start;
 use std::alloc::Global;
 use sv_core::Core;
 use sv_journal::{Disk, Journal, JournalFault};
-use sv_model::{Engine, Input, Moment, Output, Setting, Site, StepFault};
+use sv_model::{Engine, Input, Key, Moment, Output, Parked, Request, Setting, Site, StepFault};
 
 /// A node that runs: a core, and the journal in which its records stand.
 #[derive(Drop)]
@@ -99,8 +100,15 @@ impl<E: Engine, D: Disk> Node<E, D> {
 }
 
 impl<E: Engine, D: Disk> Node<E, D> {
-    ghost use Rattle.sv_node.specs.Node.{IsNode};
+    ghost use Rattle.sv_node.specs.Node.{IsNode, engine_of, setting_of, durable_of};
     ghost use Rattle.sv_node.specs.Compaction.{IsCompaction};
+
+    /// The session for which a request would wait if it came now; none where it would be served at once.
+    pub fn awaited(&self, request: &Request) -> Option<Key>
+        ensures { result ≡ awaited (setting_of self.now) (durable_of self.now) ((E.meaning (engine_of self.now)).names request.now) }
+    {
+        self.core.awaited(request)
+    }
 
     /// Writes all that the node keeps durably to the disk that isn't current, which is current from then on. On each fault
     /// the node is as it was; after Device every call but `journal_len` and `stop` answers Failed from then on.
@@ -120,7 +128,14 @@ impl<E: Engine, D: Disk> Node<E, D> {
 }
 
 impl<E, D: Disk> Node<E, D> {
-    ghost use Rattle.sv_node.specs.Node.{engine_of, journal_of};
+    ghost use Rattle.sv_node.specs.Node.{engine_of, journal_of, state_of};
+
+    /// The requests that wait for their sessions, as they came.
+    pub fn parked(&self) -> &[Parked]
+        ensures { result.now ≡ (state_of self.now).parked }
+    {
+        self.core.parked()
+    }
 
     /// The length of the journal's file in bytes when a call last succeeded.
     pub fn journal_len(&self) -> u64
