@@ -1,11 +1,14 @@
--- One input more in a group.
-use Rattle.std.proofs.Common.{◌≡◌, ℕ, List, [], ◌∷◌, ◌++◌, refl}
+-- One input more in a group, or one less.
+use Rattle.std.proofs.Common.{◌≡◌, ◌≤◌, ℕ, zero, suc, List, [], ◌∷◌, ◌++◌, refl, arith}
+use Rattle.std.specs.Prelude.{remove}
 use Rattle.std.specs.List.{AllByRecursion}
 use Rattle.sv_model.specs.declared.input.Input.{Input}
+use Rattle.sv_model.specs.declared.input.Input.TheVariants as input
 use Rattle.sv_model.specs.declared.key.Moment.{Moment}
 use Rattle.sv_model.specs.Ranges.{IsInput}
 use Rattle.sv_node.specs.GroupCalls.{all_given}
 use Rattle.sv_node.specs.History.{IsAbove, number_in, RiseIn, numbers_in}
+use Rattle.sv_node.proofs.HistoryLemmas.{lower_all, lower_numbers}
 
 pub all_within : (is : List (Moment × Input)) (i : Moment × Input) → AllByRecursion (λ x. IsInput x.1) is → IsInput i.1 → AllByRecursion (λ x. IsInput x.1) (is ++ i ∷ [])
 all_within [] i all one = (one, tt)
@@ -18,3 +21,31 @@ rises_on low (x ∷ is) i rise above = (rise.0, rises_on (number_in low x.1) is 
 pub number_on : (low : ℕ) (is : List (Moment × Input)) (i : Moment × Input) → numbers_in low (all_given (is ++ i ∷ [])) ≡ number_in (numbers_in low (all_given is)) i.1
 number_on low [] i = refl
 number_on low (x ∷ is) i = number_on (number_in low x.1) is i
+
+-- ---- one less
+
+pub within_less : (is : List (Moment × Input)) (at : ℕ) → AllByRecursion (λ x. IsInput x.1) is → AllByRecursion (λ x. IsInput x.1) (remove is at)
+within_less [] zero all = tt
+within_less [] (suc at) all = tt
+within_less (x ∷ is) zero all = all.1
+within_less (x ∷ is) (suc at) all = (all.0, within_less is at all.1)
+
+-- an input that may come doesn't lower the number
+not_lower : (low : ℕ) (i : Input) → IsAbove low i → low ≤ number_in low i
+not_lower low (input.Ask number r) above = omega (arith, above)
+not_lower low (input.Packet p) above = omega arith
+not_lower low input.Poke above = omega arith
+not_lower low input.Tick above = omega arith
+not_lower low (input.Move k to) above = omega arith
+
+pub rises_less : (low : ℕ) (is : List (Moment × Input)) (at : ℕ) → RiseIn low (all_given is) → RiseIn low (all_given (remove is at))
+rises_less low [] zero rise = tt
+rises_less low [] (suc at) rise = tt
+rises_less low (x ∷ is) zero rise = lower_all low (number_in low x.1) (all_given is) (not_lower low x.1 rise.0) rise.1
+rises_less low (x ∷ is) (suc at) rise = (rise.0, rises_less (number_in low x.1) is at rise.1)
+
+pub number_less : (low : ℕ) (is : List (Moment × Input)) (at : ℕ) → RiseIn low (all_given is) → numbers_in low (all_given (remove is at)) ≤ numbers_in low (all_given is)
+number_less low [] zero rise = omega arith
+number_less low [] (suc at) rise = omega arith
+number_less low (x ∷ is) zero rise = lower_numbers low (number_in low x.1) (all_given is) (not_lower low x.1 rise.0)
+number_less low (x ∷ is) (suc at) rise = number_less (number_in low x.1) is at rise.1

@@ -1,5 +1,5 @@
 -- What a call that a node was told to make has made of it, whatever its fault becomes.
-use Rattle.std.proofs.Common.{◌≡◌, inr, ℕ, true, false, cond, IsTrue, Result, Ok, Err, Bool, List, subst, arith}
+use Rattle.std.proofs.Common.{◌≡◌, ◌≤◌, inr, ℕ, true, false, cond, IsTrue, Result, Ok, Err, Bool, List, subst, arith}
 use Rattle.std.specs.Prelude.{OnOk}
 use Rattle.sv_journal.specs.declared.journal_fault.JournalFault.{JournalFault}
 use Rattle.sv_journal.specs.declared.journal_fault.JournalFault.TheVariants as journal
@@ -16,7 +16,7 @@ use Rattle.sv_node.specs.History.{RiseIn, numbers_in, GoesOn, HasGone}
 use Rattle.sv_node.specs.Node.{journal_of}
 use Rattle.sv_node.specs.declared.node.Node.{Node}
 use Rattle.sv_node.proofs.GroupCallLemmas.{GroupBy, group_by}
-use Rattle.sv_node.proofs.HistoryLemmas.{CompactedBy, gone_on, compacted_by}
+use Rattle.sv_node.proofs.HistoryLemmas.{CompactedBy, compacted_by, fails_wider, goes_wider, gone_on}
 
 -- both disks tell, by the names of a journal
 pub tell_by_names : {D : Type 0} (tells : D → Type 0) (on_a : Bool) (current other : D) → tells (cond on_a current other) → tells (cond on_a other current) → tells current × tells other
@@ -35,7 +35,7 @@ module _ {E D : Type 0} (meaning : E → EngineMeaning) (heard : E → List (Lis
     pub from_same : {U G : Type 0} (first high : ℕ) (given : Result U G) → first ≡ low → HasGone meaning heard tells may_leave first high old new given → Gone high given
     from_same {U = U} {G = G} first high given is gone = subst (λ (l : ℕ). HasGone {T = U} {F = G} meaning heard tells may_leave l high old new given) is gone
 
-    module _ (high : ℕ) (inputs : List (Moment × Input)) (rise : RiseIn low (all_given inputs)) (is : numbers_in low (all_given inputs) ≡ high) where
+    module _ (high : ℕ) (inputs : List (Moment × Input)) (rise : RiseIn low (all_given inputs)) (is : numbers_in low (all_given inputs) ≤ high) where
       abbrev Grouped : Result (List Answer) StepFault → Type 0
       Grouped answer = IsGroup meaning heard tells seen may_leave moment left_since failed old inputs answer new
 
@@ -45,17 +45,23 @@ module _ {E D : Type 0} (meaning : E → EngineMeaning) (heard : E → List (Lis
       by : (answer : Result (List Answer) StepFault) → Grouped answer → By answer
       by answer g = group_by meaning heard tells seen may_leave moment left_since failed old new inputs live low rise answer g
 
+      abbrev last : ℕ
+      last = numbers_in low (all_given inputs)
+
+      goes : GoesOn meaning heard tells low last old new → GoesOn meaning heard tells low high old new
+      goes g = goes_wider meaning heard tells may_leave moment left_since low last high old new is g
+
       -- a group that was done
       pub group_done : (answers : List Answer) → Grouped (Ok answers) → GoesOn meaning heard tells low high old new
-      group_done answers g = subst (λ (h : ℕ). GoesOn meaning heard tells low h old new) is (by (Ok answers) g)
+      group_done answers g = goes (by (Ok answers) g)
 
       -- one with a fault
       pub group_refused : {U G : Type 0} (fault : StepFault) (given : Result U G) → Grouped (Err fault) → OnOk given (step_ends fault ≡ false) → Gone high given
-      group_refused step.Full given g goes = absurd (by (Err step.Full) g)
-      group_refused step.Failed given g goes = absurd (by (Err step.Failed) g)
-      group_refused {U = U} {G = G} step.Memory given g goes = subst (λ (h : ℕ). Gone {U = U} {G = G} h given) is (on _ given (by (Err step.Memory) g))
-      group_refused step.Device (Ok value) g goes = absurd (let other = goes in cc)
-      group_refused {U = U} {G = G} step.Device (Err f) g goes = subst (λ (h : ℕ). Gone {U = U} {G = G} h (Err f)) is (inr (by (Err step.Device) g))
+      group_refused step.Full given g ok = absurd (by (Err step.Full) g)
+      group_refused step.Failed given g ok = absurd (by (Err step.Failed) g)
+      group_refused step.Memory given g ok = on high given (goes (by (Err step.Memory) g))
+      group_refused step.Device (Ok value) g ok = absurd (let other = ok in cc)
+      group_refused step.Device (Err f) g ok = inr (fails_wider meaning heard tells may_leave moment left_since low last high old new is (by (Err step.Device) g))
 
     module _ {T : Type 0} where
       abbrev CompactedTo : Result T JournalFault → Type 0

@@ -26,6 +26,20 @@ const COMPACTING: u64 = 4_194_304;
 /// So many sessions end in a group, at most.
 const ENDED_TOGETHER: usize = 8;
 
+/// The tick of a second.
+const THE_TICK: Nudges = Nudges {
+    nudge: Nudge::Tick,
+    packets: Packets::InTurn,
+    count: 1,
+};
+
+/// Those that end more sessions. The tick of the second has put out the same packets.
+const MORE_TICKS: Nudges = Nudges {
+    nudge: Nudge::Tick,
+    packets: Packets::Nothing,
+    count: ENDED_TOGETHER,
+};
+
 /// So many groups of them are given to the node in a turn, at most.
 const ENDING: u32 = 8;
 
@@ -51,6 +65,14 @@ impl Nudge {
             Nudge::Tick => Input::Tick,
         }
     }
+}
+
+/// Several of them together, and which of the packets are sent that come of them.
+#[derive(Clone, Copy, Debug, PartialEq, Eq)]
+struct Nudges {
+    nudge: Nudge,
+    packets: Packets,
+    count: usize,
 }
 
 /// The number of the next request; behind the last there is none.
@@ -117,34 +139,29 @@ fn add_nudge<M: Machine>(
     Ok(())
 }
 
-/// Adds so many of them.
 fn add_nudges<M: Machine>(
     machine: &M,
     desk: &mut Desk,
     group: &mut Group,
-    nudge: Nudge,
-    packets: Packets,
-    count: usize,
+    nudges: Nudges,
 ) -> Result<(), Stop>
     requires rising { IsRising group.old }
     ensures rising { IsRising group.new }
     ensures before { before_of group.new ≡ before_of group.old }
 {
-    for _ in 0..count {
-        add_nudge(machine, desk, group, nudge, packets)?;
+    for _ in 0..nudges.count {
+        add_nudge(machine, desk, group, nudges.nudge, nudges.packets)?;
     }
     Ok(())
 }
 
-/// Tells the node so many of them together; what came of the last.
+/// Tells the node several together; what came of the last.
 fn tell<M: Machine, E: Engine, D: Disk>(
     machine: &M,
     desk: &mut Desk,
     node: &mut Node<E, D>,
     group: &mut Group,
-    nudge: Nudge,
-    packets: Packets,
-    count: usize,
+    nudges: Nudges,
 ) -> Result<Taken, Stop>
     requires valid { IsNode E.valid D.tells D.seen D.may_leave node.old }
     requires live { IsTrue (journal_of node.old).live }
@@ -153,7 +170,7 @@ fn tell<M: Machine, E: Engine, D: Disk>(
     ensures rising { IsRising group.new }
     ensures gone { HasGone E.meaning E.heard D.tells D.may_leave (before_of group.old) (before_of group.new) node.old node.new result }
 {
-    match add_nudges(machine, desk, group, nudge, packets, count) {
+    match add_nudges(machine, desk, group, nudges) {
         Ok(()) => desk.step(machine, node, group),
         Err(stop) => Err(stop),
     }
@@ -179,7 +196,12 @@ fn settle<M: Machine, E: Engine, D: Disk>(
     }
     let mut count: usize = 1;
     for _ in 0..POKING {
-        match tell(machine, desk, node, group, Nudge::Poke, Packets::All, count)? {
+        let pokes = Nudges {
+            nudge: Nudge::Poke,
+            packets: Packets::All,
+            count,
+        };
+        match tell(machine, desk, node, group, pokes)? {
             Taken::Quiet | Taken::Refused => return Ok(()),
             Taken::Busy | Taken::MoveRefused(_) => count = GROUP_LIMIT,
         }
@@ -187,14 +209,13 @@ fn settle<M: Machine, E: Engine, D: Disk>(
     Ok(())
 }
 
-/// Has the node look at the time so often; whether a session has ended by that, of which alone a record tells.
+/// Has the node look at the time; whether a session has ended by that, of which alone a record tells.
 fn tick_all<M: Machine, E: Engine, D: Disk>(
     machine: &M,
     desk: &mut Desk,
     node: &mut Node<E, D>,
     group: &mut Group,
-    packets: Packets,
-    count: usize,
+    ticks: Nudges,
 ) -> Result<bool, Stop>
     requires valid { IsNode E.valid D.tells D.seen D.may_leave node.old }
     requires live { IsTrue (journal_of node.old).live }
@@ -204,7 +225,7 @@ fn tick_all<M: Machine, E: Engine, D: Disk>(
     ensures gone { HasGone E.meaning E.heard D.tells D.may_leave (before_of group.old) (before_of group.new) node.old node.new result }
 {
     let before = node.journal_len();
-    match tell(machine, desk, node, group, Nudge::Tick, packets, count) {
+    match tell(machine, desk, node, group, ticks) {
         Ok(_) => Ok(node.journal_len() > before),
         Err(stop) => Err(stop),
     }
@@ -229,7 +250,7 @@ fn tick<M: Machine, E: Engine, D: Disk>(
         return Ok(());
     }
     desk.ticked = now;
-    match tick_all(machine, desk, node, group, Packets::InTurn, 1) {
+    match tick_all(machine, desk, node, group, THE_TICK) {
         Ok(has_ended) => {
             desk.expiry = Expiry::begin(has_ended);
             Ok(())
@@ -252,7 +273,7 @@ fn end_some<M: Machine, E: Engine, D: Disk>(
     ensures rising { IsRising group.new }
     ensures gone { HasGone E.meaning E.heard D.tells D.may_leave (before_of group.old) (before_of group.new) node.old node.new result }
 {
-    match tick_all(machine, desk, node, group, Packets::Nothing, ENDED_TOGETHER) {
+    match tick_all(machine, desk, node, group, MORE_TICKS) {
         Ok(has_ended) => {
             desk.expiry = desk.expiry.next(has_ended);
             Ok(())
@@ -400,6 +421,7 @@ fn step_gathered<M: Machine, E: Engine, D: Disk>(
     ensures rising { IsRising group.new }
     ensures gone { HasGone E.meaning E.heard D.tells D.may_leave (before_of group.old) (before_of group.new) node.old node.new result }
 {
+    desk.keep_shares(node, group);
     if group.is_empty() {
         return Ok(());
     }

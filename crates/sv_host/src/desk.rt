@@ -17,12 +17,13 @@ use crate::lobby::Lobby;
 use crate::machine::Machine;
 use crate::peers::address_of;
 use crate::persistence::Persistence;
+use crate::room::{HOME_LIMIT, Room};
 use crate::round::{Round, Share};
 use crate::secrets::Secrets;
 use crate::time::{Time, read};
 use std::alloc::Global;
 use sv_journal::Disk;
-use sv_model::{Cause, Engine, Moment, MoveRefusal, Output, Packet, Response, StepFault};
+use sv_model::{Cause, Engine, Moment, MoveRefusal, Output, Packet, Request, Response, StepFault};
 use sv_node::Node;
 
 /// What a running node keeps beside its journal.
@@ -341,6 +342,55 @@ impl Desk {
         let taken = refused(fault)?;
         self.refuse_all(ways, fault);
         Ok(taken)
+    }
+
+    /// Whether a request of a group may be given to the node: it wouldn't wait, or the home of its session has places left.
+    fn may_come<E: Engine, D: Disk>(node: &Node<E, D>, room: &mut Room, request: &Request) -> bool {
+        match node.awaited(request) {
+            Some(key) => room.take(key.home),
+            None => true,
+        }
+    }
+
+    /// Refuses the request at a place of a group, where it may not come; whether it stays.
+    fn keep_one<E: Engine, D: Disk>(
+        &mut self,
+        node: &Node<E, D>,
+        room: &mut Room,
+        group: &mut Group,
+        at: usize,
+    ) -> bool
+        requires rising { IsRising group.old }
+        ensures rising { IsRising group.new }
+        ensures before { before_of group.new ≡ before_of group.old }
+    {
+        let Some((token, request)) = group.request(at) else {
+            return true;
+        };
+        if Desk::may_come(node, room, request) {
+            return true;
+        }
+        group.leave_out(at);
+        self.refuse(token, Cause::ParkFull, self.time.seconds());
+        false
+    }
+
+    /// Refuses those requests of a group that would wait for sessions of a home for which as many wait as may.
+    pub fn keep_shares<E: Engine, D: Disk>(&mut self, node: &Node<E, D>, group: &mut Group)
+        requires rising { IsRising group.old }
+        ensures rising { IsRising group.new }
+        ensures before { before_of group.new ≡ before_of group.old }
+    {
+        if self.lobby.len() <= HOME_LIMIT {
+            return;
+        }
+        let mut room = Room::of(node.parked());
+        let mut at: usize = 0;
+        for _ in 0..group.len() {
+            if self.keep_one(node, &mut room, group, at) {
+                at = at.saturating_add(1);
+            }
+        }
     }
 
     /// Gives a group to the node, and hands on what comes of it; what came of the last of them.

@@ -7,7 +7,7 @@ ghost use Rattle.sv_node.specs.History.{IsAbove, number_in};
 use crate::desk::Packets;
 use std::alloc::{AllocError, Global};
 use std::mem::replace;
-use sv_model::{Input, Moment};
+use sv_model::{Input, Moment, Request};
 
 /// So many inputs are made durable together, at most.
 pub const GROUP_LIMIT: usize = 64;
@@ -95,6 +95,10 @@ impl Group {
         self.inputs.is_empty()
     }
 
+    pub fn len(&self) -> usize {
+        self.inputs.len()
+    }
+
     /// The number of the last request.
     pub fn number(&self) -> u64
         ensures { result ≡ number_of self.now }
@@ -129,6 +133,26 @@ impl Group {
         self.inputs.push_reserved((moment, input));
         self.ways.push_reserved(Way { asker, packets });
         true
+    }
+
+    /// The request at a place of them, and the number under which it came; none where it is something else.
+    pub fn request(&self, at: usize) -> Option<(u64, &Request)> {
+        match self.inputs.get(at) {
+            Some((_, Input::Ask { token, request })) => Some((*token, request)),
+            _ => None,
+        }
+    }
+
+    /// Takes the one at a place out, as if it hadn't come. Its number is not given again.
+    pub fn leave_out(&mut self, at: usize)
+        requires rising { IsRising self.old }
+        ensures rising { IsRising self.new }
+        ensures before { before_of self.new ≡ before_of self.old }
+    {
+        if at < self.inputs.len() && at < self.ways.len() {
+            self.inputs.remove(at);
+            self.ways.remove(at);
+        }
     }
 
     /// Takes all of them out; what comes from now on is of the next group.

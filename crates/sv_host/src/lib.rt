@@ -25,6 +25,7 @@ mod persistence;
 mod place;
 mod porch;
 mod queue;
+mod room;
 mod round;
 mod run;
 mod secrets;

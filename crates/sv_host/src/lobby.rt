@@ -38,6 +38,11 @@ impl Lobby {
         is_kept
     }
 
+    /// How many there are.
+    pub fn len(&self) -> usize {
+        self.guests.len()
+    }
+
     /// A request may be waiting at the node.
     pub fn may_wait(&self) -> bool {
         self.has_lost || !self.guests.is_empty()

@@ -8,4 +8,4 @@ returns-then-is_empty-clause-gone g c =
     let e = g.E.Engine in
     let d = g.D.Disk in
     let low = before_of c.args.group.now in
-    goes_nowhere e.meaning e.heard d.tells d.may_leave d.moment d.left_since low low c.args.node.now (omega arith) c.requires.live
+    goes_nowhere e.meaning e.heard d.tells d.may_leave d.moment d.left_since low (before_of c.keep_shares.new.group) c.args.node.now (omega (arith, c.keep_shares.ensures.before)) c.requires.live

@@ -1,4 +1,4 @@
-use Rattle.std.proofs.Common.{List, ap, sym, ◌∙◌, subst}
+use Rattle.std.proofs.Common.{◌≤◌, ℕ, List, ap, sym, subst}
 use Rattle.std.specs.List.{AllByRecursion}
 use Rattle.sv_model.specs.declared.input.Input.{Input}
 use Rattle.sv_model.specs.declared.key.Moment.{Moment}
@@ -27,7 +27,7 @@ returns-in-Ok-clause-gone g c =
     let rising = c.requires.rising in
     group_done e.meaning e.heard d.tells d.seen d.may_leave d.moment d.left_since d.failed c.args.group.now.before c.args.node.now c.step_all.new.self c.requires.live c.take-inputs.new.self.before c.take-inputs.result.0.items
     (subst (λ (xs : List (Moment × Input)). RiseIn c.args.group.now.before (all_given xs)) (sym t.inputs) rising.rises)
-    (ap (λ (xs : List (Moment × Input)). numbers_in c.args.group.now.before (all_given xs)) t.inputs ∙ rising.number ∙ sym t.before) _ c.in-Ok.ensures.group
+    (subst (λ (n : ℕ). n ≤ c.take-inputs.new.self.before) (ap (λ (xs : List (Moment × Input)). numbers_in c.args.group.now.before (all_given xs)) (sym t.inputs)) (subst (λ (n : ℕ). numbers_in c.args.group.now.before (all_given c.args.group.now.inputs.items) ≤ n) (sym t.before) rising.number)) _ c.in-Ok.ensures.group
 
 pub returns-clause-gone : goal.returns-clause-gone
 returns-clause-gone g c =
@@ -37,4 +37,4 @@ returns-clause-gone g c =
     let rising = c.requires.rising in
     group_refused e.meaning e.heard d.tells d.seen d.may_leave d.moment d.left_since d.failed c.args.group.now.before c.args.node.now c.step_all.new.self c.requires.live c.take-inputs.new.self.before c.take-inputs.result.0.items
     (subst (λ (xs : List (Moment × Input)). RiseIn c.args.group.now.before (all_given xs)) (sym t.inputs) rising.rises)
-    (ap (λ (xs : List (Moment × Input)). numbers_in c.args.group.now.before (all_given xs)) t.inputs ∙ rising.number ∙ sym t.before) c.in-Err.fault c.not_taken.result c.in-Err.ensures.group c.not_taken.ensures
+    (subst (λ (n : ℕ). n ≤ c.take-inputs.new.self.before) (ap (λ (xs : List (Moment × Input)). numbers_in c.args.group.now.before (all_given xs)) (sym t.inputs)) (subst (λ (n : ℕ). numbers_in c.args.group.now.before (all_given c.args.group.now.inputs.items) ≤ n) (sym t.before) rising.number)) c.in-Err.fault c.not_taken.result c.in-Err.ensures.group c.not_taken.ensures

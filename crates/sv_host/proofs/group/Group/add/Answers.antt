@@ -1,10 +1,11 @@
-use Rattle.std.proofs.Common.{◌≡◌, ◌++◌, ◌∷◌, [], ℕ, List, ap, sym, ◌∙◌, subst}
+use Rattle.std.proofs.Common.{◌≡◌, ◌≤◌, ◌++◌, ◌∷◌, [], ℕ, List, ap, sym, ◌∙◌, subst}
 use Rattle.std.specs.List.{AllByRecursion}
 use Rattle.sv_model.specs.Ranges.{IsInput}
 use Rattle.sv_model.specs.declared.input.Input.{Input}
 use Rattle.sv_model.specs.declared.key.Moment.{Moment}
 use Rattle.sv_node.specs.GroupCalls.{all_given}
-use Rattle.sv_node.specs.History.{IsAbove, RiseIn, numbers_in, number_in}
+use Rattle.sv_node.specs.History.{RiseIn, numbers_in, number_in}
+use Rattle.sv_node.proofs.HistoryLemmas.{lower_input, lower_number}
 use Rattle.sv_host.proofs.GroupLemmas.{all_within, rises_on, number_on}
 use Rattle.sv_host.proofs.group.Group.add.Goals as goal
 
@@ -15,11 +16,13 @@ returns-clause-rising c =
     let i : Moment × Input = (c.args.moment, c.args.input) in
     let items : c.push_reserved.new.self.items ≡ is ++ i ∷ [] = c.push_reserved.ensures.items ∙ ap (λ (xs : List (Moment × Input)). xs ++ i ∷ []) c.reserve.ensures.same in
     let before = c.reserve.ensures.before in
-    let last : numbers_in old.before (all_given is) ≡ old.number = c.requires.rising.number in
+    let last : numbers_in old.before (all_given is) ≤ old.number = c.requires.rising.number in
+    let number_is : number_in old.number c.args.input ≡ c.number_with-self.result = ap (λ (n : ℕ). number_in n c.args.input) (sym c.reserve.ensures.number) ∙ sym c.number_with-self.ensures in
     record {
       within = subst (λ (xs : List (Moment × Input)). AllByRecursion (λ x. IsInput x.1) xs) (sym items) (all_within is i c.requires.rising.within c.requires.input);
       rises = subst (λ (xs : List (Moment × Input)). RiseIn c.reserve.new.self.before (all_given xs)) (sym items)
           (subst (λ (b : ℕ). RiseIn b (all_given (is ++ i ∷ []))) (sym before)
-          (rises_on old.before is i c.requires.rising.rises (subst (λ (n : ℕ). IsAbove n c.args.input) (sym last) c.requires.above)));
-      number = (λ j. numbers_in (before j) (all_given (items j))) ∙ number_on old.before is i ∙ ap (λ (n : ℕ). number_in n c.args.input) (last ∙ sym c.reserve.ensures.number) ∙ sym c.number_with-self.ensures;
+          (rises_on old.before is i c.requires.rising.rises (lower_input (numbers_in old.before (all_given is)) old.number c.args.input last c.requires.above)));
+      number = subst (λ (n : ℕ). n ≤ c.number_with-self.result) (sym (number_on old.before is i) ∙ (λ j. numbers_in (sym before j) (all_given (sym items j))))
+          (subst (λ (n : ℕ). number_in (numbers_in old.before (all_given is)) c.args.input ≤ n) number_is (lower_number (numbers_in old.before (all_given is)) old.number c.args.input last));
     }

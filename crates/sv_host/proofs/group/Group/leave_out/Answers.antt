@@ -1,0 +1,21 @@
+use Rattle.std.proofs.Common.{◌≤◌, List, sym, subst, arith}
+use Rattle.std.specs.List.{AllByRecursion}
+use Rattle.sv_model.specs.Ranges.{IsInput}
+use Rattle.sv_model.specs.declared.input.Input.{Input}
+use Rattle.sv_model.specs.declared.key.Moment.{Moment}
+use Rattle.sv_node.specs.GroupCalls.{all_given}
+use Rattle.sv_node.specs.History.{RiseIn, numbers_in}
+use Rattle.sv_host.proofs.GroupLemmas.{within_less, rises_less, number_less}
+use Rattle.sv_host.proofs.group.Group.leave_out.Goals as goal
+
+pub returns-then-at-len-2-clause-rising : goal.returns-then-at-len-2-clause-rising
+returns-then-at-len-2-clause-rising c =
+    let old = c.args.self.now in
+    let is = old.inputs.items in
+    let items = sym c.remove.ensures.items in
+    let less = number_less old.before is c.args.at c.requires.rising.rises in
+    record {
+      within = subst (λ (xs : List (Moment × Input)). AllByRecursion (λ x. IsInput x.1) xs) items (within_less is c.args.at c.requires.rising.within);
+      rises = subst (λ (xs : List (Moment × Input)). RiseIn old.before (all_given xs)) items (rises_less old.before is c.args.at c.requires.rising.rises);
+      number = subst (λ (xs : List (Moment × Input)). numbers_in old.before (all_given xs) ≤ old.number) items (omega (arith, less, c.requires.rising.number));
+    }
