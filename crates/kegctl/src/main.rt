@@ -8,6 +8,7 @@ mod cluster;
 mod commands;
 mod draining;
 mod fault;
+mod health;
 mod journal;
 mod limit;
 mod machine;

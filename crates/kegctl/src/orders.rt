@@ -7,10 +7,12 @@ use crate::cluster::{config_fault, read_cluster, read_config, read_deployment};
 use crate::commands::{PATIENCE, halt, hand_over, tick, told};
 use crate::draining::take_out;
 use crate::fault::{DescriptorFault, Fault};
+use crate::health::Health;
 use crate::journal::{entries, kept, records};
 use crate::machine::Machine;
 use crate::stopping::stop;
 use crate::words::{Form, Order};
+use std::net::{Ipv4Addr, SocketAddr, TcpStream};
 use sv_client::{Address, session_named};
 use sv_control::{
     Look, RecordPlace, SessionLine, Shown, ShownRecord, look_at, losses, places_of, session_line,
@@ -142,11 +144,15 @@ fn show_placed<M: Machine>(
     Ok(())
 }
 
+fn show_entries<M: Machine>(machine: &M, entries: &[Vec<u8>]) -> Result<(), Fault> {
+    let records = records(machine, entries)?;
+    let places = places_of(machine.alloc(), entries)?;
+    show_placed(machine, &places, &records)
+}
+
 fn show_records<M: Machine>(machine: &M, journal: &str) -> Result<(), Fault> {
     let entries = entries(machine, journal)?;
-    let records = records(machine, &entries)?;
-    let places = places_of(machine.alloc(), &entries)?;
-    show_placed(machine, &places, &records)
+    show_entries(machine, &entries)
 }
 
 /// Where a node is called.
@@ -199,20 +205,28 @@ fn halt_node<M: Machine>(machine: &M, port: u16) -> Result<(), Fault> {
     say_answer(machine, halt(machine, address(port))?)
 }
 
-/// Whether a node answers; it is asked to do what is due, which it would do by itself.
-fn state_of<M: Machine>(machine: &M, port: u16) -> &'static str {
-    match tick(machine, address(port)) {
-        Ok(0) => "answers",
-        Ok(_) => "answers, and has no room in its journal or no memory",
-        Err(_) => "doesn't answer",
+/// How a node is whose port gave no answer, by another connection to it.
+fn silence_of<M: Machine>(machine: &M, port: u16) -> Health {
+    match TcpStream::connect(machine, SocketAddr::from((Ipv4Addr::LOCALHOST, port))) {
+        Ok(_) => Health::Silent,
+        Err(refused) => Health::Unreached(refused),
     }
 }
 
-/// Says whether a node answers; whether all is well with it.
+/// How a node is; it is asked to do what is due, which it would do by itself.
+fn health_of<M: Machine>(machine: &M, port: u16) -> Health {
+    match tick(machine, address(port)) {
+        Ok(0) => Health::Well,
+        Ok(_) => Health::Short,
+        Err(_) => silence_of(machine, port),
+    }
+}
+
+/// Says how a node is; whether all is well with it.
 fn show_node<M: Machine>(machine: &M, node: usize, port: u16) -> Result<bool, Fault> {
-    let state = state_of(machine, port);
-    match println!(machine; "node {node}, port {port}: {state}") {
-        Ok(()) => Ok(state == "answers"),
+    let health = health_of(machine, port);
+    match println!(machine; "node {node}, port {port}: {health}") {
+        Ok(()) => Ok(health.is_well()),
         Err(_) => Err(Fault::Output),
     }
 }

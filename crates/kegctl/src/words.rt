@@ -316,23 +316,27 @@ fn order_on_cluster<'a>(name: &str, matches: &ArgMatches<'a>) -> Order<'a> {
     }
 }
 
+/// What a command on one node asks for.
+fn order_on_node<'a>(name: &str, matches: &ArgMatches<'a>) -> Result<Order<'a>, Fault> {
+    let port = port(matches)?;
+    match name {
+        "tick" => Ok(Order::Tick { port }),
+        "halt" => Ok(Order::Halt { port }),
+        _ => Ok(Order::Move {
+            port,
+            session: text(matches, "SESSION"),
+            to: node_of(text(matches, "TO"))?,
+        }),
+    }
+}
+
 /// What a command and its words ask for.
 fn order_of<'a>(name: &str, matches: &ArgMatches<'a>) -> Result<Order<'a>, Fault> {
     match name {
         "check" | "sessions" | "records" => Ok(order_on_files(name, matches)),
-        "move" => Ok(Order::Move {
-            port: port(matches)?,
-            session: text(matches, "SESSION"),
-            to: node_of(text(matches, "TO"))?,
-        }),
-        "tick" => Ok(Order::Tick {
-            port: port(matches)?,
-        }),
-        "halt" => Ok(Order::Halt {
-            port: port(matches)?,
-        }),
         "status" | "stop" => Ok(order_on_cluster(name, matches)),
-        _ => drain_of(matches),
+        "drain" => drain_of(matches),
+        _ => order_on_node(name, matches),
     }
 }
 
