@@ -3,7 +3,7 @@ use Rattle.std.specs.Prelude.{ℕ, List, [], ◌∷◌, codes, Option, Some, Non
 use Rattle.std.specs.Str.{bytes_eq}
 use Rattle.sv_host.specs.declared.persistence.Persistence.{Persistence}
 use Rattle.sv_host.specs.declared.persistence.Persistence.TheVariants.{Single, Kept}
-use Rattle.sv_samples.specs.Numeral.{number_in}
+use Rattle.sv_web.specs.Numeral.{number_in}
 use Rattle.sv_launch.specs.declared.words.Words.{Words}
 use Rattle.sv_launch.specs.declared.words.Words.TheVariants.{Once, Node, Help, Version}
 use Rattle.sv_launch.specs.declared.words.Arguments.{Arguments}

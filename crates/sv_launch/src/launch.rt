@@ -18,6 +18,7 @@ use sv_samples::{
     Count, Faulty, Forwarder, Gate, Hello, Includer, Login, Renew, Sample, Snoop, Stamp, Tally,
 };
 use sv_servlet::{Filter, GenericServlet, Servlet};
+use sv_web::Web;
 
 /// Serves the reader's requests to their end by the applications of a deployment, all at `now`.
 pub fn serve<R: Read, W: Write>(
@@ -39,16 +40,16 @@ pub fn serve<R: Read, W: Write>(
 }
 
 /// The sample of a kind.
-fn sample_of(alloc: Global, kind: ServletKind) -> Sample {
+fn sample_of(kind: ServletKind) -> Sample {
     match kind {
-        ServletKind::Hello => Sample::Hello(Hello::new(alloc)),
-        ServletKind::Count => Sample::Count(Count::new(alloc)),
-        ServletKind::Snoop => Sample::Snoop(Snoop::new(alloc)),
-        ServletKind::Login => Sample::Login(Login::new(alloc)),
-        ServletKind::Renew => Sample::Renew(Renew::new(alloc)),
-        ServletKind::Includer => Sample::Includer(Includer::new(alloc)),
-        ServletKind::Forwarder => Sample::Forwarder(Forwarder::new(alloc)),
-        ServletKind::Faulty => Sample::Faulty(Faulty::new(alloc)),
+        ServletKind::Hello => Sample::Hello(Hello),
+        ServletKind::Count => Sample::Count(Count),
+        ServletKind::Snoop => Sample::Snoop(Snoop),
+        ServletKind::Login => Sample::Login(Login),
+        ServletKind::Renew => Sample::Renew(Renew),
+        ServletKind::Includer => Sample::Includer(Includer),
+        ServletKind::Forwarder => Sample::Forwarder(Forwarder),
+        ServletKind::Faulty => Sample::Faulty(Faulty),
     }
 }
 
@@ -56,11 +57,11 @@ fn sample_of(alloc: Global, kind: ServletKind) -> Sample {
 fn servlets_of(
     alloc: Global,
     contexts: &[Context],
-) -> Result<Vec<Named<GenericServlet<Sample>>>, Fault>
-    ensures { IfOk result (λ servlets. AreNamedNew ⟦<GenericServlet<Sample> as Servlet>⟧.servlet_phase servlets.items) }
+) -> Result<Vec<Named<GenericServlet<Web<Sample>>>>, Fault>
+    ensures { IfOk result (λ servlets. AreNamedNew ⟦<GenericServlet<Web<Sample>> as Servlet>⟧.servlet_phase servlets.items) }
 {
     let entries: Vec<Entry<ServletKind>> = entries_of(alloc, contexts)?;
-    let mut servlets: Vec<Named<GenericServlet<Sample>>> = Vec::new(alloc);
+    let mut servlets: Vec<Named<GenericServlet<Web<Sample>>>> = Vec::new(alloc);
     for entry in entries {
         let Entry {
             context,
@@ -70,7 +71,7 @@ fn servlets_of(
         servlets.push(Named {
             context,
             name,
-            object: GenericServlet::new(sample_of(alloc, kind)),
+            object: GenericServlet::new(Web::new(alloc, sample_of(kind))),
         })?;
     }
     Ok(servlets)

@@ -1,11 +1,11 @@
 //! The words of the command line.
 
 ghost use Rattle.std.specs.Prelude.{◌≡◌, map, string_bytes};
-ghost use Rattle.sv_samples.specs.Numeral.{number_in};
+ghost use Rattle.sv_web.specs.Numeral.{number_in};
 ghost use Rattle.sv_launch.specs.Words.{command_of, command_in, once_at, node_at, of_one, of_three, of_four};
 
 use sv_host::Persistence;
-use sv_samples::{read_u8, read_u64};
+use sv_web::{read_u8, read_u64};
 use thiserror::Error;
 
 /// What the program is asked to do.

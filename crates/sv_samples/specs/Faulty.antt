@@ -1,16 +1,13 @@
--- What the servlet answers that fails as it is asked to (Jakarta Servlet 6.0, section 10.9).
+-- What the servlet does that fails as it is asked to (Jakarta Servlet 6.0, section 10.9).
 use Rattle.std.specs.Prelude.{ℕ, Bool, List, codes, Option, Some, None, is_some, option_map, unwrap_or, if◌then◌else◌}
-use Rattle.http_header.specs.FieldValue.{plain_value}
 use Rattle.sv_model.specs.Attributes.{value_of}
-use Rattle.sv_model.specs.declared.field.Field.{Field}
 use Rattle.sv_servlet.specs.Call.{Asked}
-use Rattle.sv_servlet.specs.Reply.{status_result, field_result}
-use Rattle.sv_servlet.specs.Servlet.{Serves, Lent, Answer, answer}
 use Rattle.sv_servlet.specs.declared.servlet.Next.{Next}
 use Rattle.sv_servlet.specs.declared.servlet.Next.TheVariants.{Done, SendError, Fault}
-use Rattle.sv_samples.specs.Numeral.{number_in}
-use Rattle.sv_samples.specs.Parameter.{parameter}
-use Rattle.sv_samples.specs.Refusal.{as_plain_text, on_reply, written}
+use Rattle.sv_web.specs.Numeral.{number_in}
+use Rattle.sv_web.specs.Request.{parameter}
+use Rattle.sv_web.specs.Steps.{plain_text, set_header, set_status, written}
+use Rattle.sv_web.specs.Work.{Work, Ends}
 
 -- it is called as an error page
 abbrev pub is_error_page : Asked → Bool
@@ -31,25 +28,18 @@ error_asked None fault = fault_asked fault
 abbrev pub error_in : Asked → Option Next
 error_in c = if is_error_page c then Some (Fault (codes "again")) else error_asked (parameter c.params (codes "code")) (parameter c.params (codes "fault"))
 
--- `x-faulty: yes`
-abbrev pub faulty_field : Field
-faulty_field = record { name = codes "x-faulty"; value = plain_value (codes "yes") }
-
--- a field and a text
-abbrev pub marked : Lent → Answer
-marked l = on_reply l (field_result l.reply faulty_field) (written (codes "faulty\n") Done)
+-- the field `x-faulty: yes` and a text
+abbrev pub marked : Work Next
+marked = set_header (codes "x-faulty") (codes "yes") (written (codes "faulty\n") Done)
 
 -- and a status of its own
-abbrev pub refused : Lent → Answer
-refused l = on_reply l (status_result l.reply 418) marked
+abbrev pub refused : Work Next
+refused = set_status 418 marked
 
 -- where it is asked for no error it refuses by itself
-abbrev pub failed : Option Next → Lent → Answer
-failed (Some next) l = answer l next
-failed None l = refused l
+abbrev pub failed : Option Next → Work Next
+failed (Some next) = Ends next
+failed None = refused
 
-unfoldable pub faulty_of : Asked → Lent → Answer
-faulty_of c l = as_plain_text (failed (error_in c)) l
-
-abbrev pub faulty_serves : Serves
-faulty_serves call l = faulty_of call l
+abbrev pub faulty : Asked → Work Next
+faulty c = plain_text (failed (error_in c))

@@ -2,10 +2,10 @@
 use Rattle.std.specs.Prelude.{Bool, false, codes, bytes_eq, if◌then◌else◌}
 use Rattle.std.specs.Option.{option_map_or}
 use Rattle.sv_servlet.specs.Call.{Asked}
-use Rattle.sv_servlet.specs.Filter.{Filters, verdict}
 use Rattle.sv_servlet.specs.declared.filter.Before.{Before}
 use Rattle.sv_servlet.specs.declared.filter.Before.TheVariants.{Pass, SendError}
-use Rattle.sv_samples.specs.Parameter.{parameter}
+use Rattle.sv_web.specs.Request.{parameter}
+use Rattle.sv_web.specs.Work.{Ends, FilterWork}
 
 -- the first parameter `key` is `open`
 abbrev pub has_key : Asked → Bool
@@ -14,5 +14,5 @@ has_key c = option_map_or (λ key. bytes_eq key (codes "open")) (parameter c.par
 abbrev pub admitted : Asked → Before
 admitted c = if has_key c then Pass else SendError 403 (codes "closed")
 
-abbrev pub gate_filters : Filters
-gate_filters = record { before = λ call l. verdict l (admitted call); after = λ call l. l }
+abbrev pub gate : FilterWork
+gate = record { before = λ call. Ends (admitted call); after = λ call. Ends tt }

@@ -1,13 +1,11 @@
--- What the servlet that says hello answers.
+-- What the servlet does that says hello.
 use Rattle.std.specs.Prelude.{codes}
-use Rattle.sv_servlet.specs.Servlet.{Serves, Lent, Answer}
+use Rattle.sv_servlet.specs.Call.{Asked}
+use Rattle.sv_servlet.specs.declared.servlet.Next.{Next}
 use Rattle.sv_servlet.specs.declared.servlet.Next.TheVariants.{Done}
-use Rattle.sv_samples.specs.Refusal.{as_plain_text, written}
+use Rattle.sv_web.specs.Steps.{plain_text, written}
+use Rattle.sv_web.specs.Work.{Work}
 
--- `Hello` and a line feed, as plain text
-unfoldable pub hello_of : Lent → Answer
-hello_of l = as_plain_text (written (codes "Hello\n") Done) l
-
--- whatever is asked
-abbrev pub hello_serves : Serves
-hello_serves call l = hello_of l
+-- `Hello` and a line feed, as plain text, whatever is asked
+abbrev pub hello : Asked → Work Next
+hello call = plain_text (written (codes "Hello\n") Done)

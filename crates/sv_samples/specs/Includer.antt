@@ -1,19 +1,16 @@
--- What the servlet answers that puts another one's text between brackets (Jakarta Servlet 6.0, section 9.3).
+-- What the servlet does that puts another one's text between brackets (Jakarta Servlet 6.0, section 9.3).
 use Rattle.std.specs.Prelude.{◌==◌, codes, if◌then◌else◌}
 use Rattle.sv_servlet.specs.Call.{Asked}
-use Rattle.sv_servlet.specs.Servlet.{Serves, Lent, Answer}
+use Rattle.sv_servlet.specs.declared.servlet.Next.{Next}
 use Rattle.sv_servlet.specs.declared.servlet.Next.TheVariants.{Done, Include}
-use Rattle.sv_samples.specs.Parameter.{parameter_or}
-use Rattle.sv_samples.specs.Refusal.{as_plain_text, written}
+use Rattle.sv_web.specs.Request.{parameter_or}
+use Rattle.sv_web.specs.Steps.{plain_text, written}
+use Rattle.sv_web.specs.Work.{Work}
 
 -- a bracket, and the include; resumed, the other bracket
-abbrev pub bracketed : Asked → Lent → Answer
-bracketed c l =
-    if c.resume == 0 then written (codes "[") (Include (parameter_or c.params (codes "path") (codes "/hello")) 1) l
-    else written (codes "]") Done l
+abbrev pub bracketed : Asked → Work Next
+bracketed c =
+    if c.resume == 0 then written (codes "[") (Include (parameter_or c.params (codes "path") (codes "/hello")) 1) else written (codes "]") Done
 
-unfoldable pub includer_of : Asked → Lent → Answer
-includer_of c l = as_plain_text (bracketed c) l
-
-abbrev pub includer_serves : Serves
-includer_serves call l = includer_of call l
+abbrev pub includer : Asked → Work Next
+includer c = plain_text (bracketed c)

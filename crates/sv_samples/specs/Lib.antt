@@ -1,6 +1,3 @@
-pub mod Numeral
-pub mod Parameter
-pub mod Refusal
 pub mod Hello
 pub mod Count
 pub mod Snoop

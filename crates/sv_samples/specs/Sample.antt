@@ -1,22 +1,24 @@
--- What a sample of one of several kinds is, by what those of each kind are.
+-- What a sample of one of several kinds does: what those of its kind do.
+use Rattle.sv_samples.specs.Count.{count}
+use Rattle.sv_samples.specs.Faulty.{faulty}
+use Rattle.sv_samples.specs.Forwarder.{forwarder}
+use Rattle.sv_samples.specs.Hello.{hello}
+use Rattle.sv_samples.specs.Includer.{includer}
+use Rattle.sv_samples.specs.Login.{login}
+use Rattle.sv_samples.specs.Renew.{renew}
+use Rattle.sv_samples.specs.Snoop.{snoop}
 use Rattle.sv_samples.specs.declared.sample.Sample.{Sample}
 use Rattle.sv_samples.specs.declared.sample.Sample.TheVariants.{Hello, Count, Snoop, Login, Renew, Includer, Forwarder, Faulty}
-use Rattle.sv_samples.specs.declared.hello.Hello.{Hello as AHello}
-use Rattle.sv_samples.specs.declared.count.Count.{Count as ACount}
-use Rattle.sv_samples.specs.declared.snoop.Snoop.{Snoop as ASnoop}
-use Rattle.sv_samples.specs.declared.login.Login.{Login as ALogin}
-use Rattle.sv_samples.specs.declared.renew.Renew.{Renew as ARenew}
-use Rattle.sv_samples.specs.declared.includer.Includer.{Includer as AnIncluder}
-use Rattle.sv_samples.specs.declared.forwarder.Forwarder.{Forwarder as AForwarder}
-use Rattle.sv_samples.specs.declared.faulty.Faulty.{Faulty as AFaulty}
+use Rattle.sv_servlet.specs.Call.{Asked}
+use Rattle.sv_servlet.specs.declared.servlet.Next.{Next}
+use Rattle.sv_web.specs.Work.{Work}
 
--- something of a sample, by the same of each kind
-abbrev pub of_each : {X : Type 0} → (AHello → X) → (ACount → X) → (ASnoop → X) → (ALogin → X) → (ARenew → X) → (AnIncluder → X) → (AForwarder → X) → (AFaulty → X) → Sample → X
-of_each hello count snoop login renew includer forwarder faulty (Hello s) = hello s
-of_each hello count snoop login renew includer forwarder faulty (Count s) = count s
-of_each hello count snoop login renew includer forwarder faulty (Snoop s) = snoop s
-of_each hello count snoop login renew includer forwarder faulty (Login s) = login s
-of_each hello count snoop login renew includer forwarder faulty (Renew s) = renew s
-of_each hello count snoop login renew includer forwarder faulty (Includer s) = includer s
-of_each hello count snoop login renew includer forwarder faulty (Forwarder s) = forwarder s
-of_each hello count snoop login renew includer forwarder faulty (Faulty s) = faulty s
+abbrev pub work_of : Sample → Asked → Work Next
+work_of (Hello s) = hello
+work_of (Count s) = count
+work_of (Snoop s) = snoop
+work_of (Login s) = login
+work_of (Renew s) = renew
+work_of (Includer s) = includer
+work_of (Forwarder s) = forwarder
+work_of (Faulty s) = faulty

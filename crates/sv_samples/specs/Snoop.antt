@@ -1,11 +1,12 @@
--- What the servlet answers that shows what it is asked.
+-- What the servlet does that shows what it is asked.
 use Rattle.std.specs.Prelude.{ℕ, List, ◌++◌, codes, Option, unwrap_or}
 use Rattle.std.specs.List.{flat_map}
 use Rattle.sv_model.specs.declared.request.Param.{Param}
 use Rattle.sv_servlet.specs.Call.{Asked}
-use Rattle.sv_servlet.specs.Servlet.{Serves, Lent, Answer}
+use Rattle.sv_servlet.specs.declared.servlet.Next.{Next}
 use Rattle.sv_servlet.specs.declared.servlet.Next.TheVariants.{Done}
-use Rattle.sv_samples.specs.Refusal.{as_plain_text, written}
+use Rattle.sv_web.specs.Steps.{plain_text, written}
+use Rattle.sv_web.specs.Work.{Work}
 
 -- `name=value` on a line of its own
 unfoldable pub line : List ℕ → List ℕ → List ℕ
@@ -33,8 +34,5 @@ attribute_line a = codes "a " ++ line a.0 a.1
 abbrev pub call_text : Asked → List ℕ
 call_text c = line (codes "method") c.method ++ address_lines c.request_uri c.context_path ++ path_lines c ++ flat_map parameter_line c.params ++ flat_map attribute_line c.attributes
 
-unfoldable pub snoop_of : Asked → Lent → Answer
-snoop_of c l = as_plain_text (written (call_text c) Done) l
-
-abbrev pub snoop_serves : Serves
-snoop_serves call l = snoop_of call l
+abbrev pub snoop : Asked → Work Next
+snoop c = plain_text (written (call_text c) Done)

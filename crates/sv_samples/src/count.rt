@@ -1,18 +1,14 @@
 //! A servlet that counts the requests of a session.
 
-ghost use Rattle.std.specs.Prelude.{◌≡◌, Option, option_and_then, option_copied};
+ghost use Rattle.std.specs.Prelude.{◌≡◌};
 ghost use Rattle.sv_servlet.specs.Servlet.{lent};
-ghost use Rattle.sv_samples.specs.Numeral.{number_in};
-ghost use Rattle.sv_samples.specs.Count.{count_in, count_of, counted, kept};
-ghost use Rattle.sv_samples.specs.Refusal.{Ends};
-ghost use Rattle.sv_samples.specs.Count.{count_serves};
+ghost use Rattle.sv_samples.specs.Count.{kept};
+ghost use Rattle.sv_web.specs.Refusal.{Does};
 
-use crate::numeral::read_u64;
-use crate::refusal::{Refusal, next_after};
-use std::alloc::{AllocError, Global};
-use sv_model::plain_type;
-use sv_servlet::{Answers, Call, Next, Reply};
+use std::alloc::Global;
+use sv_servlet::{Call, Next, Reply};
 use sv_session::SessionEdit;
+use sv_web::{HttpServlet, Refusal, get_number, set_number, set_plain_text};
 
 /// The attribute that holds the count.
 const COUNT: &str = "count";
@@ -23,29 +19,7 @@ const COUNT: &str = "count";
 /// The number is kept in the session's attribute `count`; one that is no decimal number of 64 bits counts as 0, and the
 /// greatest stays.
 #[derive(Drop)]
-pub struct Count {
-    alloc: Global,
-}
-
-/// The number of decimal digits in bytes that may be no text.
-fn number_of(bytes: &[u8]) -> Option<u64>
-    ensures { result ≡ number_in 64 bytes.now }
-{
-    match str::from_utf8(bytes) {
-        Ok(text) => read_u64(text),
-        Err(_) => None,
-    }
-}
-
-/// The number that an attribute holds; 0 where there is none, or it is no number.
-fn count_in(value: Option<&[u8]>) -> u64
-    ensures { result ≡ count_in (option_copied value.entry) }
-{
-    match value {
-        Some(bytes) => number_of(bytes).unwrap_or(0),
-        None => 0,
-    }
-}
+pub struct Count;
 
 /// Keeps the number in the session, and writes it.
 fn keep(
@@ -54,48 +28,29 @@ fn keep(
     reply: &mut Reply,
     number: u64,
 ) -> Result<Next, Refusal>
-    ensures { Ends (kept number (lent edit.old reply.old)) (lent edit.new reply.new) result }
+    ensures { Does (kept number) (lent edit.old reply.old) (lent edit.new reply.new) result }
 {
-    let mut text = format!(in alloc; "{number}")?;
-    edit.set(COUNT, Some(text.as_bytes()))?;
-    text.push('\n')?;
+    set_number(alloc, edit, COUNT, number)?;
+    let text = format!(in alloc; "{number}\n")?;
     reply.write(text.as_bytes())?;
     Ok(Next::Done)
 }
 
-/// Counts the request in its session, and writes the number.
-#[tactic(auto, unfolding(crate::specs::Count::count_of))]
-fn count_request(alloc: Global, edit: &mut SessionEdit, reply: &mut Reply) -> Result<Next, Refusal>
-    ensures { Ends (count_of (lent edit.old reply.old)) (lent edit.new reply.new) result }
-{
-    reply.set(plain_type())?;
-    edit.create()?;
-    let number = count_in(edit.get(COUNT)?).saturating_add(1);
-    keep(alloc, edit, reply, number)
-}
+impl HttpServlet for Count {
+    ghost use Rattle.sv_samples.specs.Count.{count};
 
-impl Count {
-    pub fn new(alloc: Global) -> Count
-        ensures { ⟦<Count as Answers>⟧.answers result ≡ count_serves }
-    {
-        Count { alloc }
-    }
-}
+    ghost work = { λ _. count };
 
-impl Answers for Count {
-    ghost use Rattle.sv_samples.specs.Count.{count_serves};
-
-    ghost answers = { λ s. count_serves };
-
-    fn answer(
+    fn serve(
         &mut self,
+        alloc: Global,
         _call: &Call<'_>,
         edit: &mut SessionEdit,
         reply: &mut Reply,
-    ) -> Result<Next, AllocError> {
-        let ended = count_request(self.alloc, edit, reply);
-        next_after(self.alloc, ended)
+    ) -> Result<Next, Refusal> {
+        set_plain_text(reply)?;
+        edit.create()?;
+        let number = get_number(edit, COUNT)?.unwrap_or(0).saturating_add(1);
+        keep(alloc, edit, reply, number)
     }
-
-    fn goes_on(&self) {}
 }

@@ -3,25 +3,19 @@
 ghost use Rattle.std.specs.Prelude.{◌≡◌, codes, IfOk};
 ghost use Rattle.sv_servlet.specs.Servlet.{lent};
 ghost use Rattle.sv_samples.specs.Faulty as spec;
-ghost use Rattle.sv_samples.specs.Parameter.{parameter};
-ghost use Rattle.sv_samples.specs.Refusal.{Ends};
-ghost use Rattle.sv_samples.specs.Faulty.{faulty_serves};
+ghost use Rattle.sv_web.specs.Request.{parameter};
+ghost use Rattle.sv_web.specs.Refusal.{Does};
 
-use crate::numeral::read_u16;
-use crate::parameter::value_of;
-use crate::refusal::{Refusal, next_after};
-use http_header::{HeaderName, HeaderValue};
 use std::alloc::{AllocError, Global};
-use sv_model::{Field, Text, plain_type};
-use sv_servlet::{Answers, Call, Next, Reply};
+use sv_model::Text;
+use sv_servlet::{Call, Next, Reply};
 use sv_session::SessionEdit;
+use sv_web::{HttpServlet, Refusal, parameter, read_u16, send_error, set_header, set_plain_text};
 
 /// Sends the error of its first parameter `code`, or else the fault of its first parameter `fault`; as an error page it
 /// faults with `again`. Asked for no error it answers with status 418 and a field of its own.
 #[derive(Drop)]
-pub struct Faulty {
-    alloc: Global,
-}
+pub struct Faulty;
 
 /// The call is that of an error page.
 fn is_error_page(call: &Call<'_>) -> bool
@@ -42,12 +36,10 @@ fn code_in(text: &str) -> u16
 fn error_asked(alloc: Global, call: &Call<'_>) -> Result<Option<Next>, AllocError>
     ensures { IfOk result (λ next. next ≡ spec.error_asked (parameter call.now.params (codes "code")) (parameter call.now.params (codes "fault"))) }
 {
-    if let Some(code) = value_of(call.params, "code") {
-        let code = code_in(code);
-        let text = Text::from_str(alloc, "asked")?;
-        return Ok(Some(Next::SendError { code, text }));
+    if let Some(code) = parameter(call.params, "code") {
+        return Ok(Some(send_error(alloc, code_in(code), "asked")?));
     }
-    match value_of(call.params, "fault") {
+    match parameter(call.params, "fault") {
         Some(name) => Ok(Some(Next::Fault(Text::from_str(alloc, name)?))),
         None => Ok(None),
     }
@@ -63,28 +55,18 @@ fn error_in(alloc: Global, call: &Call<'_>) -> Result<Option<Next>, AllocError>
     error_asked(alloc, call)
 }
 
-/// `x-faulty: yes`.
-fn faulty_field() -> Field
-    ensures { result ≡ spec.faulty_field }
-{
-    Field {
-        name: HeaderName::from_static("x-faulty"),
-        value: HeaderValue::from_static("yes"),
-    }
-}
-
-/// A field and a text.
+/// The field `x-faulty: yes` and a text.
 fn mark(edit: &SessionEdit, reply: &mut Reply) -> Result<Next, Refusal>
-    ensures { Ends (spec.marked (lent edit.entry.now reply.old)) (lent edit.entry.now reply.new) result }
+    ensures { Does spec.marked (lent edit.entry.now reply.old) (lent edit.entry.now reply.new) result }
 {
-    reply.set(faulty_field())?;
+    set_header(reply, "x-faulty", "yes")?;
     reply.write(b"faulty\n")?;
     Ok(Next::Done)
 }
 
 /// A status of its own, a field and a text.
 fn refuse(edit: &SessionEdit, reply: &mut Reply) -> Result<Next, Refusal>
-    ensures { Ends (spec.refused (lent edit.entry.now reply.old)) (lent edit.entry.now reply.new) result }
+    ensures { Does spec.refused (lent edit.entry.now reply.old) (lent edit.entry.now reply.new) result }
 {
     reply.status(418)?;
     mark(edit, reply)
@@ -97,7 +79,7 @@ fn send(
     edit: &SessionEdit,
     reply: &mut Reply,
 ) -> Result<Next, Refusal>
-    ensures { Ends (spec.failed (spec.error_in call.now) (lent edit.entry.now reply.old)) (lent edit.entry.now reply.new) result }
+    ensures { Does (spec.failed (spec.error_in call.now)) (lent edit.entry.now reply.old) (lent edit.entry.now reply.new) result }
 {
     match error_in(alloc, call)? {
         Some(next) => Ok(next),
@@ -105,42 +87,19 @@ fn send(
     }
 }
 
-/// Fails; the edit of the session is left alone.
-#[tactic(auto, unfolding(crate::specs::Faulty::faulty_of))]
-fn fail(
-    alloc: Global,
-    call: &Call<'_>,
-    edit: &SessionEdit,
-    reply: &mut Reply,
-) -> Result<Next, Refusal>
-    ensures { Ends (spec.faulty_of call.now (lent edit.entry.now reply.old)) (lent edit.entry.now reply.new) result }
-{
-    reply.set(plain_type())?;
-    send(alloc, call, edit, reply)
-}
+impl HttpServlet for Faulty {
+    ghost use Rattle.sv_samples.specs.Faulty.{faulty};
 
-impl Faulty {
-    pub fn new(alloc: Global) -> Faulty
-        ensures { ⟦<Faulty as Answers>⟧.answers result ≡ faulty_serves }
-    {
-        Faulty { alloc }
-    }
-}
+    ghost work = { λ _. faulty };
 
-impl Answers for Faulty {
-    ghost use Rattle.sv_samples.specs.Faulty.{faulty_serves};
-
-    ghost answers = { λ s. faulty_serves };
-
-    fn answer(
+    fn serve(
         &mut self,
+        alloc: Global,
         call: &Call<'_>,
         edit: &mut SessionEdit,
         reply: &mut Reply,
-    ) -> Result<Next, AllocError> {
-        let ended = fail(self.alloc, call, edit, reply);
-        next_after(self.alloc, ended)
+    ) -> Result<Next, Refusal> {
+        set_plain_text(reply)?;
+        send(alloc, call, edit, reply)
     }
-
-    fn goes_on(&self) {}
 }

@@ -3,24 +3,23 @@
 ghost use Rattle.std.specs.Prelude.{◌≡◌, IfOk};
 ghost use Rattle.sv_samples.specs.Gate as spec;
 ghost use Rattle.sv_servlet.specs.declared.servlet.Phase.TheVariants.{New};
-ghost use Rattle.sv_samples.specs.Gate.{gate_filters};
+ghost use Rattle.sv_samples.specs.Gate.{gate};
+ghost use Rattle.sv_web.specs.Work.{surrounding};
 
-use crate::parameter::value_of;
 use std::alloc::{AllocError, Global};
 use sv_model::Text;
-use sv_servlet::{Before, Call, Filter, GenericFilter, Reply, Surrounds};
+use sv_servlet::{Before, Call, Filter, GenericFilter, Reply};
 use sv_session::SessionEdit;
+use sv_web::{HttpFilter, Refusal, Web, parameter};
 
 /// Lets a request through whose first parameter `key` is `open`, and sends the error 403 for any other.
 #[derive(Drop)]
-pub struct Gate {
-    alloc: Global,
-}
+pub struct Gate;
 
 fn has_key(call: &Call<'_>) -> bool
     ensures { result ≡ spec.has_key call.now }
 {
-    match value_of(call.params, "key") {
+    match parameter(call.params, "key") {
         Some(key) => key == "open",
         None => false,
     }
@@ -38,36 +37,36 @@ fn admit(alloc: Global, call: &Call<'_>) -> Result<Before, AllocError>
 
 impl Gate {
     /// A filter that has not been initialised.
-    pub fn new(alloc: Global) -> GenericFilter<Gate>
-        ensures phase { ⟦<GenericFilter<Gate> as Filter>⟧.filter_phase result ≡ New }
-        ensures meaning { ⟦<GenericFilter<Gate> as Filter>⟧.filtering result ≡ gate_filters }
+    pub fn new(alloc: Global) -> GenericFilter<Web<Gate>>
+        ensures phase { ⟦<GenericFilter<Web<Gate>> as Filter>⟧.filter_phase result ≡ New }
+        ensures meaning { ⟦<GenericFilter<Web<Gate>> as Filter>⟧.filtering result ≡ surrounding gate }
     {
-        GenericFilter::new(Gate { alloc })
+        GenericFilter::new(Web::new(alloc, Gate))
     }
 }
 
-impl Surrounds for Gate {
-    ghost use Rattle.sv_samples.specs.Gate.{gate_filters};
+impl HttpFilter for Gate {
+    ghost use Rattle.sv_samples.specs.Gate.{gate};
 
-    ghost surrounds = { λ _. gate_filters };
+    ghost work = { λ _. gate };
 
     fn before(
         &mut self,
+        alloc: Global,
         call: &Call<'_>,
         _edit: &mut SessionEdit,
         _reply: &mut Reply,
-    ) -> Result<Before, AllocError> {
-        admit(self.alloc, call)
+    ) -> Result<Before, Refusal> {
+        Ok(admit(alloc, call)?)
     }
 
     fn after(
         &mut self,
+        _alloc: Global,
         _call: &Call<'_>,
         _edit: &mut SessionEdit,
         _reply: &mut Reply,
     ) -> Result<(), AllocError> {
         Ok(())
     }
-
-    fn goes_on(&self) {}
 }

@@ -1,56 +1,28 @@
 //! A servlet that says hello.
 
-ghost use Rattle.std.specs.Prelude.{◌≡◌};
-ghost use Rattle.sv_session.specs.Edit.{Edit};
-ghost use Rattle.sv_servlet.specs.Servlet.{lent};
-ghost use Rattle.sv_samples.specs.Hello.{hello_of};
-ghost use Rattle.sv_samples.specs.Refusal.{Ends};
-ghost use Rattle.sv_samples.specs.Hello.{hello_serves};
-
-use crate::refusal::{Refusal, next_after};
-use std::alloc::{AllocError, Global};
-use sv_model::plain_type;
-use sv_servlet::{Answers, Call, Next, Reply};
+use std::alloc::Global;
+use sv_servlet::{Call, Next, Reply};
 use sv_session::SessionEdit;
+use sv_web::{HttpServlet, Refusal, set_plain_text};
 
 /// Writes `Hello` and a line feed as plain text.
 #[derive(Drop)]
-pub struct Hello {
-    alloc: Global,
-}
+pub struct Hello;
 
-/// Writes the greeting; the edit of the session is left alone.
-#[tactic(auto, unfolding(crate::specs::Hello::hello_of))]
-fn say_hello(reply: &mut Reply) -> Result<Next, Refusal>
-    ensures { (e : Edit) → Ends (hello_of (lent e reply.old)) (lent e reply.new) result }
-{
-    reply.set(plain_type())?;
-    reply.write(b"Hello\n")?;
-    Ok(Next::Done)
-}
+impl HttpServlet for Hello {
+    ghost use Rattle.sv_samples.specs.Hello.{hello};
 
-impl Hello {
-    pub fn new(alloc: Global) -> Hello
-        ensures { ⟦<Hello as Answers>⟧.answers result ≡ hello_serves }
-    {
-        Hello { alloc }
-    }
-}
+    ghost work = { λ _. hello };
 
-impl Answers for Hello {
-    ghost use Rattle.sv_samples.specs.Hello.{hello_serves};
-
-    ghost answers = { λ s. hello_serves };
-
-    fn answer(
+    fn serve(
         &mut self,
+        _alloc: Global,
         _call: &Call<'_>,
         _edit: &mut SessionEdit,
         reply: &mut Reply,
-    ) -> Result<Next, AllocError> {
-        let ended = say_hello(reply);
-        next_after(self.alloc, ended)
+    ) -> Result<Next, Refusal> {
+        set_plain_text(reply)?;
+        reply.write(b"Hello\n")?;
+        Ok(Next::Done)
     }
-
-    fn goes_on(&self) {}
 }

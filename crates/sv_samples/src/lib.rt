@@ -1,10 +1,9 @@
 //! Sample servlets, filters and a listener, each with a meaning that is written down and proved.
 //!
-//! Stands on servlets, filters and listeners alone. What a sample means is a definition of the file of its name in
-//! `specs/`, and each call is that meaning whatever the object has lived through. A servlet of a sample is a
-//! [`sv_servlet::GenericServlet`] of it, and a filter a [`sv_servlet::GenericFilter`], which count their calls in a number that no
-//! answer shows. Nothing here knows contexts, mappings or which names a descriptor gives. The reading of decimal numbers is here for
-//! others too.
+//! Stands on `sv_web` and on servlets, filters and listeners. What a sample means is a definition of the file of its name in
+//! `specs/`, and each call is that meaning whatever the object has lived through: a servlet of a sample is a
+//! [`sv_servlet::GenericServlet`] of a [`sv_web::Web`] of it, and a filter a [`sv_servlet::GenericFilter`] likewise, which count their
+//! calls in a number that no answer shows. Nothing here knows contexts, mappings or which names a descriptor gives.
 #![tactic(auto)]
 
 mod count;
@@ -14,9 +13,6 @@ mod gate;
 mod hello;
 mod includer;
 mod login;
-mod numeral;
-mod parameter;
-mod refusal;
 mod renew;
 mod sample;
 mod snoop;
@@ -30,7 +26,6 @@ pub use gate::Gate;
 pub use hello::Hello;
 pub use includer::Includer;
 pub use login::Login;
-pub use numeral::{read_u8, read_u16, read_u64};
 pub use renew::Renew;
 pub use sample::Sample;
 pub use snoop::Snoop;

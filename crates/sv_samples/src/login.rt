@@ -5,15 +5,15 @@ ghost use Rattle.sv_session.specs.Fault.{fault_name};
 ghost use Rattle.sv_servlet.specs.Servlet.{lent};
 ghost use Rattle.sv_servlet.specs.declared.servlet.Next.TheVariants.{Done};
 ghost use Rattle.sv_samples.specs.Login as spec;
-ghost use Rattle.sv_samples.specs.Refusal.{Ends, written};
-ghost use Rattle.sv_samples.specs.Login.{login_serves};
+ghost use Rattle.sv_web.specs.Refusal.{Does};
+ghost use Rattle.sv_web.specs.Steps.{written};
 
-use crate::parameter::{value_of, value_or};
-use crate::refusal::{Refusal, next_after};
-use std::alloc::{AllocError, Global};
-use sv_model::plain_type;
-use sv_servlet::{Answers, Call, Next, Reply};
+use std::alloc::Global;
+use sv_servlet::{Call, Next, Reply};
 use sv_session::{SessionEdit, SessionFault};
+use sv_web::{
+    HttpServlet, Refusal, has_session, parameter, parameter_or, set_plain_text, set_text,
+};
 
 /// Ends the session that is held, if one is, begins another for the user of the first parameter `user`, or `anonymous`,
 /// keeps the name in its attribute `user`, and welcomes the user.
@@ -21,19 +21,10 @@ use sv_session::{SessionEdit, SessionFault};
 /// With a parameter `again` it ends that session too and asks for another, which one request can't have, and
 /// writes the fault's name.
 #[derive(Drop)]
-pub struct Login {
-    alloc: Global,
-}
+pub struct Login;
 
 /// The attribute that holds the user's name.
 const USER: &str = "user";
-
-/// A session is held.
-fn has_session(edit: &SessionEdit) -> bool
-    ensures { result ≡ spec.has_session edit.entry.now }
-{
-    edit.key().is_ok()
-}
 
 fn welcome(
     alloc: Global,
@@ -41,7 +32,7 @@ fn welcome(
     edit: &SessionEdit,
     reply: &mut Reply,
 ) -> Result<Next, Refusal>
-    ensures { Ends (spec.welcomed user.now (lent edit.entry.now reply.old)) (lent edit.entry.now reply.new) result }
+    ensures { Does (spec.welcomed user.now) (lent edit.entry.now reply.old) (lent edit.entry.now reply.new) result }
 {
     let text = format!(in alloc; "welcome {user}\n")?;
     reply.write(text.as_bytes())?;
@@ -55,7 +46,7 @@ fn write_fault(
     edit: &SessionEdit,
     reply: &mut Reply,
 ) -> Result<Next, Refusal>
-    ensures { Ends (written (fault_name fault ++ codes "\n") Done (lent edit.entry.now reply.old)) (lent edit.entry.now reply.new) result }
+    ensures { Does (written (fault_name fault ++ codes "\n") Done) (lent edit.entry.now reply.old) (lent edit.entry.now reply.new) result }
 {
     let name = fault.name();
     let text = format!(in alloc; "{name}\n")?;
@@ -66,7 +57,7 @@ fn write_fault(
 /// Asks for another session in the same request.
 #[tactic(auto, unfolding(crate::specs::Login::begun_again))]
 fn begin_again(alloc: Global, edit: &mut SessionEdit, reply: &mut Reply) -> Result<Next, Refusal>
-    ensures { Ends (spec.begun_again (lent edit.old reply.old)) (lent edit.new reply.new) result }
+    ensures { Does spec.begun_again (lent edit.old reply.old) (lent edit.new reply.new) result }
 {
     edit.invalidate()?;
     match edit.create() {
@@ -85,9 +76,9 @@ fn greet(
     edit: &mut SessionEdit,
     reply: &mut Reply,
 ) -> Result<Next, Refusal>
-    ensures { Ends (spec.named call.now user.now (lent edit.old reply.old)) (lent edit.new reply.new) result }
+    ensures { Does (spec.named call.now user.now) (lent edit.old reply.old) (lent edit.new reply.new) result }
 {
-    if value_of(call.params, "again").is_some() {
+    if parameter(call.params, "again").is_some() {
         return begin_again(alloc, edit, reply);
     }
     welcome(alloc, user, edit, reply)
@@ -101,10 +92,10 @@ fn keep_user(
     edit: &mut SessionEdit,
     reply: &mut Reply,
 ) -> Result<Next, Refusal>
-    ensures { Ends (spec.kept call.now (spec.user_of call.now) (lent edit.old reply.old)) (lent edit.new reply.new) result }
+    ensures { Does (spec.kept call.now (spec.user_of call.now)) (lent edit.old reply.old) (lent edit.new reply.new) result }
 {
-    let user = value_or(alloc, call.params, "user", "anonymous")?;
-    edit.set(USER, Some(user.as_str().as_bytes()))?;
+    let user = parameter_or(alloc, call.params, "user", "anonymous")?;
+    set_text(edit, USER, user.as_str())?;
     greet(alloc, call, user.as_str(), edit, reply)
 }
 
@@ -116,7 +107,7 @@ fn make_session(
     edit: &mut SessionEdit,
     reply: &mut Reply,
 ) -> Result<Next, Refusal>
-    ensures { Ends (spec.created call.now (lent edit.old reply.old)) (lent edit.new reply.new) result }
+    ensures { Does (spec.created call.now) (lent edit.old reply.old) (lent edit.new reply.new) result }
 {
     edit.create()?;
     keep_user(alloc, call, edit, reply)
@@ -130,7 +121,7 @@ fn begin(
     edit: &mut SessionEdit,
     reply: &mut Reply,
 ) -> Result<Next, Refusal>
-    ensures { Ends (spec.begun call.now (lent edit.old reply.old)) (lent edit.new reply.new) result }
+    ensures { Does (spec.begun call.now) (lent edit.old reply.old) (lent edit.new reply.new) result }
 {
     if !has_session(edit) {
         return make_session(alloc, call, edit, reply);
@@ -139,42 +130,19 @@ fn begin(
     make_session(alloc, call, edit, reply)
 }
 
-/// Begins the user's session.
-#[tactic(auto, unfolding(crate::specs::Login::login_of))]
-fn log_in(
-    alloc: Global,
-    call: &Call<'_>,
-    edit: &mut SessionEdit,
-    reply: &mut Reply,
-) -> Result<Next, Refusal>
-    ensures { Ends (spec.login_of call.now (lent edit.old reply.old)) (lent edit.new reply.new) result }
-{
-    reply.set(plain_type())?;
-    begin(alloc, call, edit, reply)
-}
+impl HttpServlet for Login {
+    ghost use Rattle.sv_samples.specs.Login.{login};
 
-impl Login {
-    pub fn new(alloc: Global) -> Login
-        ensures { ⟦<Login as Answers>⟧.answers result ≡ login_serves }
-    {
-        Login { alloc }
-    }
-}
+    ghost work = { λ _. login };
 
-impl Answers for Login {
-    ghost use Rattle.sv_samples.specs.Login.{login_serves};
-
-    ghost answers = { λ s. login_serves };
-
-    fn answer(
+    fn serve(
         &mut self,
+        alloc: Global,
         call: &Call<'_>,
         edit: &mut SessionEdit,
         reply: &mut Reply,
-    ) -> Result<Next, AllocError> {
-        let ended = log_in(self.alloc, call, edit, reply);
-        next_after(self.alloc, ended)
+    ) -> Result<Next, Refusal> {
+        set_plain_text(reply)?;
+        begin(alloc, call, edit, reply)
     }
-
-    fn goes_on(&self) {}
 }

@@ -1,29 +1,24 @@
 //! A servlet that changes a session's id.
 
-ghost use Rattle.std.specs.Prelude.{◌≡◌, codes};
+ghost use Rattle.std.specs.Prelude.{◌≡◌};
 ghost use Rattle.sv_servlet.specs.Servlet.{lent};
 ghost use Rattle.sv_samples.specs.Renew as spec;
-ghost use Rattle.sv_samples.specs.Refusal.{Ends};
-ghost use Rattle.sv_samples.specs.Renew.{renew_serves};
+ghost use Rattle.sv_web.specs.Refusal.{Does};
 
-use crate::parameter::value_of;
-use crate::refusal::{Refusal, next_after};
-use std::alloc::{AllocError, Global};
-use sv_model::plain_type;
-use sv_servlet::{Answers, Call, Next, Reply};
+use std::alloc::Global;
+use sv_servlet::{Call, Next, Reply};
 use sv_session::SessionEdit;
+use sv_web::{HttpServlet, Refusal, parameter, set_plain_text};
 
 /// Changes the id of the session that is held, and says so.
 ///
 /// With a parameter `make` it makes a session before, with a parameter `twice` it changes the id a second time: neither
 /// goes with a change in the same request, and the answer is then the error page of the fault.
 #[derive(Drop)]
-pub struct Renew {
-    alloc: Global,
-}
+pub struct Renew;
 
 fn confirm(edit: &SessionEdit, reply: &mut Reply) -> Result<Next, Refusal>
-    ensures { Ends (spec.confirmed (lent edit.entry.now reply.old)) (lent edit.entry.now reply.new) result }
+    ensures { Does spec.confirmed (lent edit.entry.now reply.old) (lent edit.entry.now reply.new) result }
 {
     reply.write(b"renewed\n")?;
     Ok(Next::Done)
@@ -32,7 +27,7 @@ fn confirm(edit: &SessionEdit, reply: &mut Reply) -> Result<Next, Refusal>
 /// Changes the id a second time.
 #[tactic(auto, unfolding(crate::specs::Renew::changed_again))]
 fn change_again(edit: &mut SessionEdit, reply: &mut Reply) -> Result<Next, Refusal>
-    ensures { Ends (spec.changed_again (lent edit.old reply.old)) (lent edit.new reply.new) result }
+    ensures { Does spec.changed_again (lent edit.old reply.old) (lent edit.new reply.new) result }
 {
     edit.change_id()?;
     confirm(edit, reply)
@@ -40,9 +35,9 @@ fn change_again(edit: &mut SessionEdit, reply: &mut Reply) -> Result<Next, Refus
 
 /// Changes the id a second time where that is asked for.
 fn repeat(call: &Call<'_>, edit: &mut SessionEdit, reply: &mut Reply) -> Result<Next, Refusal>
-    ensures { Ends (spec.repeated call.now (lent edit.old reply.old)) (lent edit.new reply.new) result }
+    ensures { Does (spec.repeated call.now) (lent edit.old reply.old) (lent edit.new reply.new) result }
 {
-    if value_of(call.params, "twice").is_some() {
+    if parameter(call.params, "twice").is_some() {
         return change_again(edit, reply);
     }
     confirm(edit, reply)
@@ -51,7 +46,7 @@ fn repeat(call: &Call<'_>, edit: &mut SessionEdit, reply: &mut Reply) -> Result<
 /// Changes the id.
 #[tactic(auto, unfolding(crate::specs::Renew::changed))]
 fn change(call: &Call<'_>, edit: &mut SessionEdit, reply: &mut Reply) -> Result<Next, Refusal>
-    ensures { Ends (spec.changed call.now (lent edit.old reply.old)) (lent edit.new reply.new) result }
+    ensures { Does (spec.changed call.now) (lent edit.old reply.old) (lent edit.new reply.new) result }
 {
     edit.change_id()?;
     repeat(call, edit, reply)
@@ -60,7 +55,7 @@ fn change(call: &Call<'_>, edit: &mut SessionEdit, reply: &mut Reply) -> Result<
 /// Makes a session before the change.
 #[tactic(auto, unfolding(crate::specs::Renew::made))]
 fn make(call: &Call<'_>, edit: &mut SessionEdit, reply: &mut Reply) -> Result<Next, Refusal>
-    ensures { Ends (spec.made call.now (lent edit.old reply.old)) (lent edit.new reply.new) result }
+    ensures { Does (spec.made call.now) (lent edit.old reply.old) (lent edit.new reply.new) result }
 {
     edit.create()?;
     change(call, edit, reply)
@@ -68,49 +63,27 @@ fn make(call: &Call<'_>, edit: &mut SessionEdit, reply: &mut Reply) -> Result<Ne
 
 /// Makes a session before the change where that is asked for.
 fn prepare(call: &Call<'_>, edit: &mut SessionEdit, reply: &mut Reply) -> Result<Next, Refusal>
-    ensures { Ends (spec.prepared call.now (lent edit.old reply.old)) (lent edit.new reply.new) result }
+    ensures { Does (spec.prepared call.now) (lent edit.old reply.old) (lent edit.new reply.new) result }
 {
-    if value_of(call.params, "make").is_some() {
+    if parameter(call.params, "make").is_some() {
         return make(call, edit, reply);
     }
     change(call, edit, reply)
 }
 
-/// Changes the id, and answers as plain text.
-#[tactic(auto, unfolding(crate::specs::Renew::renew_of))]
-fn renew_session(
-    call: &Call<'_>,
-    edit: &mut SessionEdit,
-    reply: &mut Reply,
-) -> Result<Next, Refusal>
-    ensures { Ends (spec.renew_of call.now (lent edit.old reply.old)) (lent edit.new reply.new) result }
-{
-    reply.set(plain_type())?;
-    prepare(call, edit, reply)
-}
+impl HttpServlet for Renew {
+    ghost use Rattle.sv_samples.specs.Renew.{renew};
 
-impl Renew {
-    pub fn new(alloc: Global) -> Renew
-        ensures { ⟦<Renew as Answers>⟧.answers result ≡ renew_serves }
-    {
-        Renew { alloc }
-    }
-}
+    ghost work = { λ _. renew };
 
-impl Answers for Renew {
-    ghost use Rattle.sv_samples.specs.Renew.{renew_serves};
-
-    ghost answers = { λ s. renew_serves };
-
-    fn answer(
+    fn serve(
         &mut self,
+        _alloc: Global,
         call: &Call<'_>,
         edit: &mut SessionEdit,
         reply: &mut Reply,
-    ) -> Result<Next, AllocError> {
-        let ended = renew_session(call, edit, reply);
-        next_after(self.alloc, ended)
+    ) -> Result<Next, Refusal> {
+        set_plain_text(reply)?;
+        prepare(call, edit, reply)
     }
-
-    fn goes_on(&self) {}
 }

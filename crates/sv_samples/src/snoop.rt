@@ -2,25 +2,19 @@
 
 ghost use Rattle.std.specs.Prelude.{◌≡◌, ◌++◌, codes, option_copied, IfOk, OnOk};
 ghost use Rattle.std.specs.List.{flat_map};
-ghost use Rattle.sv_session.specs.Edit.{Edit};
-ghost use Rattle.sv_servlet.specs.Servlet.{lent};
-ghost use Rattle.sv_samples.specs.Refusal.{Ends};
 ghost use Rattle.sv_samples.specs.Snoop as spec;
-ghost use Rattle.sv_samples.specs.Snoop.{snoop_serves};
 
-use crate::refusal::{Refusal, next_after};
 use http::Method;
 use std::alloc::{AllocError, Global};
-use sv_model::{Param, plain_type};
-use sv_servlet::{Answers, Call, Next, Reply, RequestAttributes};
+use sv_model::Param;
+use sv_servlet::{Call, Next, Reply, RequestAttributes};
 use sv_session::SessionEdit;
+use sv_web::{HttpServlet, Refusal, set_plain_text};
 
 /// Writes as plain text, a line each: the method, the paths and the query of the call, with `-` for what is absent; then
 /// its parameters in order, and its attributes in order of their names.
 #[derive(Drop)]
-pub struct Snoop {
-    alloc: Global,
-}
+pub struct Snoop;
 
 /// `name=value` on a line of its own.
 #[tactic(auto, unfolding(crate::specs::Snoop::line))]
@@ -101,39 +95,21 @@ fn call_text(alloc: Global, call: &Call<'_>) -> Result<Vec<u8>, AllocError>
     Ok(text)
 }
 
-/// Shows the call; the edit of the session is left alone.
-#[tactic(auto, unfolding(crate::specs::Snoop::snoop_of))]
-fn show(alloc: Global, call: &Call<'_>, reply: &mut Reply) -> Result<Next, Refusal>
-    ensures { (e : Edit) → Ends (spec.snoop_of call.now (lent e reply.old)) (lent e reply.new) result }
-{
-    reply.set(plain_type())?;
-    let text = call_text(alloc, call)?;
-    reply.write(text.as_slice())?;
-    Ok(Next::Done)
-}
+impl HttpServlet for Snoop {
+    ghost use Rattle.sv_samples.specs.Snoop.{snoop};
 
-impl Snoop {
-    pub fn new(alloc: Global) -> Snoop
-        ensures { ⟦<Snoop as Answers>⟧.answers result ≡ snoop_serves }
-    {
-        Snoop { alloc }
-    }
-}
+    ghost work = { λ _. snoop };
 
-impl Answers for Snoop {
-    ghost use Rattle.sv_samples.specs.Snoop.{snoop_serves};
-
-    ghost answers = { λ s. snoop_serves };
-
-    fn answer(
+    fn serve(
         &mut self,
+        alloc: Global,
         call: &Call<'_>,
         _edit: &mut SessionEdit,
         reply: &mut Reply,
-    ) -> Result<Next, AllocError> {
-        let ended = show(self.alloc, call, reply);
-        next_after(self.alloc, ended)
+    ) -> Result<Next, Refusal> {
+        set_plain_text(reply)?;
+        let text = call_text(alloc, call)?;
+        reply.write(text.as_slice())?;
+        Ok(Next::Done)
     }
-
-    fn goes_on(&self) {}
 }

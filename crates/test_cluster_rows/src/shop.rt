@@ -13,12 +13,13 @@ use sv_samples::{
     Count, Faulty, Forwarder, Gate, Hello, Includer, Login, Renew, Sample, Snoop, Tally,
 };
 use sv_servlet::{GenericFilter, GenericServlet, Servlet};
+use sv_web::Web;
 
 /// A servlet of the samples.
-type Served = GenericServlet<Sample>;
+type Served = GenericServlet<Web<Sample>>;
 
 /// The applications, started.
-pub type Shop = Container<Served, GenericFilter<Gate>, Tally>;
+pub type Shop = Container<Served, GenericFilter<Web<Gate>>, Tally>;
 
 const HEAD: &str = r#"[[context]]
 path = "/shop"
@@ -76,16 +77,16 @@ fn descriptor(alloc: Global, name: &str) -> Result<String, RowFault> {
 }
 
 /// The sample of a name; none where the name is that of no sample.
-fn sample_of(alloc: Global, name: &str) -> Option<Sample> {
+fn sample_of(name: &str) -> Option<Sample> {
     match name {
-        "hello" => Some(Sample::Hello(Hello::new(alloc))),
-        "count" => Some(Sample::Count(Count::new(alloc))),
-        "snoop" => Some(Sample::Snoop(Snoop::new(alloc))),
-        "login" => Some(Sample::Login(Login::new(alloc))),
-        "renew" => Some(Sample::Renew(Renew::new(alloc))),
-        "includer" => Some(Sample::Includer(Includer::new(alloc))),
-        "forwarder" => Some(Sample::Forwarder(Forwarder::new(alloc))),
-        "faulty" => Some(Sample::Faulty(Faulty::new(alloc))),
+        "hello" => Some(Sample::Hello(Hello)),
+        "count" => Some(Sample::Count(Count)),
+        "snoop" => Some(Sample::Snoop(Snoop)),
+        "login" => Some(Sample::Login(Login)),
+        "renew" => Some(Sample::Renew(Renew)),
+        "includer" => Some(Sample::Includer(Includer)),
+        "forwarder" => Some(Sample::Forwarder(Forwarder)),
+        "faulty" => Some(Sample::Faulty(Faulty)),
         _ => None,
     }
 }
@@ -96,14 +97,14 @@ fn servlets(alloc: Global, names: &[String]) -> Result<Vec<Named<Served>>, RowFa
 {
     let mut all = Vec::new(alloc);
     for name in names {
-        let Some(sample) = sample_of(alloc, name.as_str()) else {
+        let Some(sample) = sample_of(name.as_str()) else {
             return Err(RowFault::Start);
         };
         let name = String::from_str(alloc, name.as_str())?;
         all.push(Named {
             context: 0,
             name,
-            object: GenericServlet::new(sample),
+            object: GenericServlet::new(Web::new(alloc, sample)),
         })?;
     }
     Ok(all)

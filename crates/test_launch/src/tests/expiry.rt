@@ -9,6 +9,7 @@ use sv_launch::deployment_in;
 use sv_model::Moment;
 use sv_samples::{Count, Gate, Tally};
 use sv_servlet::{GenericFilter, GenericServlet};
+use sv_web::Web;
 
 /// A shop whose sessions expire after a minute.
 const SHORT: &str =
@@ -44,9 +45,9 @@ fn written(alloc: Global, moments: [u64; 2], input: &str) -> Result<Vec<u8>, Fai
     servlets.push(Named {
         context: 0,
         name: String::from_str(alloc, "count")?,
-        object: GenericServlet::new(Count::new(alloc)),
+        object: GenericServlet::new(Web::new(alloc, Count)),
     })?;
-    let filters: Vec<Named<GenericFilter<Gate>>> = Vec::new(alloc);
+    let filters: Vec<Named<GenericFilter<Web<Gate>>>> = Vec::new(alloc);
     let listeners: Vec<Named<Tally>> = Vec::new(alloc);
     let deployment = deployment_in(alloc, SHORT)?;
     let Ok(container) = Container::start(alloc, deployment, servlets, filters, listeners) else {

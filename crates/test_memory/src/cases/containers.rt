@@ -11,12 +11,13 @@ use sv_container::{Container, Named, StartFault};
 use sv_model::{Engine, Key, Outcome, Request, Secret};
 use sv_samples::{Faulty, Stamp, Tally};
 use sv_servlet::{Filter, GenericFilter, GenericServlet, Servlet};
+use sv_web::Web;
 
 type Shown = Result<String, Unshown>;
 
-type Erring = GenericServlet<Faulty>;
+type Erring = GenericServlet<Web<Faulty>>;
 
-type Shop = Container<Erring, GenericFilter<Stamp>, Tally>;
+type Shop = Container<Erring, GenericFilter<Web<Stamp>>, Tally>;
 
 const FRESH: (Key, Secret) = (Key { home: 0, serial: 2 }, Secret([2; 16]));
 
@@ -38,13 +39,13 @@ fn servlets(alloc: Global) -> Result<Vec<Named<Erring>>, AllocError>
     all.push(Named {
         context: 0,
         name,
-        object: GenericServlet::new(Faulty::new(alloc)),
+        object: GenericServlet::new(Web::new(alloc, Faulty)),
     })?;
     Ok(all)
 }
 
-fn filters(alloc: Global) -> Result<Vec<Named<GenericFilter<Stamp>>>, AllocError>
-    ensures { IfOk result (λ all. AreNamedNew ⟦<GenericFilter<Stamp> as Filter>⟧.filter_phase all.items) }
+fn filters(alloc: Global) -> Result<Vec<Named<GenericFilter<Web<Stamp>>>>, AllocError>
+    ensures { IfOk result (λ all. AreNamedNew ⟦<GenericFilter<Web<Stamp>> as Filter>⟧.filter_phase all.items) }
 {
     let name = String::from_str(alloc, "stamp-b")?;
     let object = Stamp::new(alloc, "stamp-b")?;

@@ -16,6 +16,7 @@ use sv_model::{Param, Sequence, Text};
 use sv_samples::{Includer, Stamp};
 use sv_servlet::{Call, Filter, GenericServlet, Reply, RequestAttributes, Servlet};
 use sv_session::SessionEdit;
+use sv_web::Web;
 
 type Shown = Result<String, Unshown>;
 
@@ -209,7 +210,7 @@ fn reply_of<S: Servlet, F: Filter>(stage: Stage<S, F>) -> Reply {
 /// The calls grow by the chains of filters, by those that have passed, by the text that is written, by the dispatch that waits for
 /// the one that it includes, and by the latter's path, parameters and attributes.
 pub fn dispatched(alloc: Global, refusals: &mut Refusals) -> Shown {
-    let servlet = ready(GenericServlet::new(Includer::new(alloc)))?;
+    let servlet = ready(GenericServlet::new(Web::new(alloc, Includer)))?;
     let filter = ready_filter(Stamp::new(alloc, "stamp-b")?)?;
     let mut stage = stage(alloc, servlet, filter)?;
     let ended = dispatch_again(alloc, refusals, &mut stage)?;

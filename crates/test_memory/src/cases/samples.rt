@@ -9,8 +9,9 @@ use http::Method;
 use std::alloc::{AllocError, Global};
 use sv_model::Param;
 use sv_samples::{Count, Faulty, Forwarder, Gate, Hello, Includer, Login, Renew, Snoop, Stamp};
-use sv_servlet::{Answers, Call, Filter, GenericServlet, Reply, RequestAttributes, Servlet};
+use sv_servlet::{Call, Filter, GenericServlet, Reply, RequestAttributes, Servlet};
 use sv_session::SessionEdit;
+use sv_web::{HttpServlet, Web};
 
 type Shown = Result<String, Unshown>;
 
@@ -66,8 +67,8 @@ fn serve<S: Servlet>(
 }
 
 /// A servlet that was just made serves twice.
-fn served<A: Answers>(alloc: Global, refusals: &mut Refusals, sample: A) -> Shown {
-    let mut servlet = GenericServlet::new(sample);
+fn served<S: HttpServlet>(alloc: Global, refusals: &mut Refusals, sample: S) -> Shown {
+    let mut servlet = GenericServlet::new(Web::new(alloc, sample));
     let params = given::params(alloc)?;
     let attributes = RequestAttributes::new(alloc);
     if servlet.init().is_err() {
@@ -84,35 +85,35 @@ fn served<A: Answers>(alloc: Global, refusals: &mut Refusals, sample: A) -> Show
 }
 
 pub fn hello(alloc: Global, refusals: &mut Refusals) -> Shown {
-    served(alloc, refusals, Hello::new(alloc))
+    served(alloc, refusals, Hello)
 }
 
 pub fn count(alloc: Global, refusals: &mut Refusals) -> Shown {
-    served(alloc, refusals, Count::new(alloc))
+    served(alloc, refusals, Count)
 }
 
 pub fn snoop(alloc: Global, refusals: &mut Refusals) -> Shown {
-    served(alloc, refusals, Snoop::new(alloc))
+    served(alloc, refusals, Snoop)
 }
 
 pub fn login(alloc: Global, refusals: &mut Refusals) -> Shown {
-    served(alloc, refusals, Login::new(alloc))
+    served(alloc, refusals, Login)
 }
 
 pub fn renew(alloc: Global, refusals: &mut Refusals) -> Shown {
-    served(alloc, refusals, Renew::new(alloc))
+    served(alloc, refusals, Renew)
 }
 
 pub fn includer(alloc: Global, refusals: &mut Refusals) -> Shown {
-    served(alloc, refusals, Includer::new(alloc))
+    served(alloc, refusals, Includer)
 }
 
 pub fn forwarder(alloc: Global, refusals: &mut Refusals) -> Shown {
-    served(alloc, refusals, Forwarder::new(alloc))
+    served(alloc, refusals, Forwarder)
 }
 
 pub fn faulty(alloc: Global, refusals: &mut Refusals) -> Shown {
-    served(alloc, refusals, Faulty::new(alloc))
+    served(alloc, refusals, Faulty)
 }
 
 /// A filter comes before a servlet and behind it; the reply's body.

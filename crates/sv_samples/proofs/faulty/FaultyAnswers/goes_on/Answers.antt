@@ -1,8 +1,0 @@
-use Rattle.sv_samples.proofs.FaultyLemmas.{faulty_keeps}
-use Rattle.sv_samples.proofs.faulty.FaultyAnswers.goes_on.Goals as goal
-
-pub returns-clause-keeps_edits : goal.returns-clause-keeps_edits
-returns-clause-keeps_edits c call l = (faulty_keeps call l).edit
-
-pub returns-clause-keeps_replies : goal.returns-clause-keeps_replies
-returns-clause-keeps_replies c call l = (faulty_keeps call l).reply

@@ -1,0 +1,99 @@
+-- Work goes on with what was lent, whatever it is put together of.
+use Rattle.std.proofs.Common.{◌≡◌, ℕ, List, Option, Some, Result, Ok, Err, sym, subst}
+use Rattle.std.proofs.lemmas.Result.{IfOk-weaker}
+use Rattle.std.specs.Prelude.{IfOk, IfSome}
+use Rattle.sv_session.specs.Edit.{KeepsEdit}
+use Rattle.sv_session.specs.Calls.{Expected, after, change_id_result, create_result, interval_result, invalidate_result, set_result}
+use Rattle.sv_session.specs.declared.fault.SessionFault.{SessionFault}
+use Rattle.sv_session.proofs.EditLemmas.{KeepsEdit-refl, change_id_keeps, create_keeps, interval_keeps, invalidate_keeps, set_keeps}
+use Rattle.sv_servlet.specs.Filter.{FilterKeeps, Verdict, verdict}
+use Rattle.sv_servlet.specs.ReplyState.{ReplyState}
+use Rattle.sv_servlet.specs.Servlet.{Answer, KeepsLent, KeepsReply, Lent, answer, lent}
+use Rattle.sv_servlet.specs.declared.filter.Before.{Before}
+use Rattle.sv_servlet.specs.Reply.{field_result, status_result}
+use Rattle.sv_servlet.specs.declared.reply.ReplyFault.{ReplyFault}
+use Rattle.sv_servlet.specs.declared.servlet.Next.{Next}
+use Rattle.sv_servlet.proofs.KeepsLemmas.{KeepsLent-refl, KeepsLent-trans, KeepsReply-refl, KeepsReply-trans, field_keeps, status_keeps, write_keeps}
+use Rattle.sv_web.specs.Redirect.{location, redirect_result, see_other}
+use Rattle.sv_web.specs.Refusal.{Does, DoesBefore, before_after, next_after}
+use Rattle.sv_web.specs.Work.{EditCall, Create, ChangeId, SetValue, SetInterval, Invalidate, FilterWork, ReplyCall, SetField, SetStatus, Write, Redirect, Work, Ends, Editing, Looking, Replying, answered, done, judged, left, on_edit, on_edit_call, on_reply, only_lent, reply_result, surrounding}
+use Rattle.sv_web.specs.declared.refusal.Refusal.{Refusal}
+
+-- what is lent is gone on with where the edit and the reply are
+lent_keeps : (l m : Lent) → KeepsEdit l.edit m.edit → KeepsReply l.reply m.reply → KeepsLent l m
+lent_keeps l m edit reply = record { edit = edit; reply = reply }
+
+-- a redirect, taken or refused
+see_other_keeps : (r : ReplyState) (set : Result ReplyState ReplyFault) → IfOk set (KeepsReply r) → IfOk (see_other set) (KeepsReply r)
+see_other_keeps r (Ok m) keeps = IfOk-weaker (status_result m 303) _ _ (λ n then. KeepsReply-trans r m n keeps then) (status_keeps m 303)
+see_other_keeps r (Err fault) keeps = tt
+
+redirect_keeps : (r : ReplyState) (to : List ℕ) → IfOk (redirect_result r to) (KeepsReply r)
+redirect_keeps r to = see_other_keeps r (field_result r (location to)) (field_keeps r (location to))
+
+-- a call of the reply, taken or refused
+call_keeps : (call : ReplyCall) (r : ReplyState) → IfOk (reply_result call r) (KeepsReply r)
+call_keeps (SetStatus code) r = status_keeps r code
+call_keeps (SetField f) r = field_keeps r f
+call_keeps (Write text) r = write_keeps r text
+call_keeps (Redirect to) r = redirect_keeps r to
+
+module _ {X : Type 0} (of : X → Lent) (l : Lent) where
+  -- before what goes on with what was lent
+  reply_keeps : (x : Result ReplyState ReplyFault) (more : Lent → X) (refused : ReplyFault → X) → IfOk x (KeepsReply l.reply)
+      → ((m : Lent) → KeepsLent m (of (more m)))
+      → ((fault : ReplyFault) → KeepsLent l (of (refused fault)))
+      → KeepsLent l (of (on_reply l x more refused))
+  reply_keeps (Ok reply) more refused first keeps otherwise =
+      KeepsLent-trans l (lent l.edit reply) (of (more (lent l.edit reply))) (lent_keeps l (lent l.edit reply) (KeepsEdit-refl l.edit) first) (keeps (lent l.edit reply))
+  reply_keeps (Err fault) more refused first keeps otherwise = otherwise fault
+
+  edit_keeps : {A : Type 0} (x : Expected A) (more : Lent → X) (refused : SessionFault → X) → KeepsEdit l.edit (after l.edit x)
+      → ((m : Lent) → KeepsLent m (of (more m)))
+      → ((fault : SessionFault) → KeepsLent l (of (refused fault)))
+      → KeepsLent l (of (on_edit l x more refused))
+  edit_keeps (Ok r) more refused first keeps otherwise =
+      KeepsLent-trans l (lent r.1 l.reply) (of (more (lent r.1 l.reply))) (lent_keeps l (lent r.1 l.reply) first (KeepsReply-refl l.reply)) (keeps (lent r.1 l.reply))
+  edit_keeps (Err fault) more refused first keeps otherwise = otherwise fault
+
+  edit_call_keeps : (call : EditCall) (more : Lent → X) (refused : SessionFault → X)
+      → ((m : Lent) → KeepsLent m (of (more m)))
+      → ((fault : SessionFault) → KeepsLent l (of (refused fault)))
+      → KeepsLent l (of (on_edit_call call l more refused))
+  edit_call_keeps Create more refused keeps otherwise = edit_keeps (create_result l.edit) more refused (create_keeps l.edit) keeps otherwise
+  edit_call_keeps ChangeId more refused keeps otherwise = edit_keeps (change_id_result l.edit) more refused (change_id_keeps l.edit) keeps otherwise
+  edit_call_keeps (SetValue name value) more refused keeps otherwise = edit_keeps (set_result l.edit name value) more refused (set_keeps l.edit name value) keeps otherwise
+  edit_call_keeps (SetInterval seconds) more refused keeps otherwise = edit_keeps (interval_result l.edit seconds) more refused (interval_keeps l.edit seconds) keeps otherwise
+  edit_call_keeps Invalidate more refused keeps otherwise = edit_keeps (invalidate_result l.edit) more refused (invalidate_keeps l.edit) keeps otherwise
+
+-- whatever the work is
+module _ {R X : Type 0} (end : Lent → R → X) (of : X → Lent) (ends : (l : Lent) (r : R) → KeepsLent l (of (end l r))) where
+  pub done_keeps : (w : Work R) (l : Lent) → KeepsLent l (of (done end w l))
+  done_keeps (Ends r) l = ends l r
+  done_keeps (Replying call more refused) l =
+      reply_keeps of l (reply_result call l.reply) (λ m. done end more m) (λ fault. done end (refused fault) l) (call_keeps call l.reply) (λ m. done_keeps more m)
+      (λ fault. done_keeps (refused fault) l)
+  done_keeps (Editing call more refused) l =
+      edit_call_keeps of l call (λ m. done end more m) (λ fault. done end (refused fault) l) (λ m. done_keeps more m) (λ fault. done_keeps (refused fault) l)
+  done_keeps (Looking look) l = done_keeps (look l.edit) l
+
+pub answered_keeps : (w : Work Next) (l : Lent) → KeepsLent l (answered w l).lent
+answered_keeps w l = done_keeps answer (λ (a : Answer). a.lent) (λ m next. KeepsLent-refl m) w l
+
+judged_keeps : (w : Work Before) (l : Lent) → KeepsLent l (judged w l).lent
+judged_keeps w l = done_keeps verdict (λ (v : Verdict). v.lent) (λ m before. KeepsLent-refl m) w l
+
+left_keeps : (w : Work (Unit {0})) (l : Lent) → KeepsLent l (left w l)
+left_keeps w l = done_keeps only_lent (λ (m : Lent). m) (λ m u. KeepsLent-refl m) w l
+
+pub surrounding_keeps : (work : FilterWork) → FilterKeeps (surrounding work)
+surrounding_keeps work = record { before = λ call l. judged_keeps (work.before call) l; after = λ call l. left_keeps (work.after call) l }
+
+-- ---- what is said of a refusal is said of the page that follows it
+
+pub does_with : (w : Work Next) (old new : Lent) (ended : Result Next Refusal) (next : Next) → Does w old new ended → Some next ≡ next_after ended → answer new next ≡ answered w old
+does_with w old new ended next does is = subst (λ (o : Option Next). IfSome o (λ n. answer new n ≡ answered w old)) (sym is) does
+
+pub does_before_with : (w : Work Before) (old new : Lent) (ended : Result Before Refusal) (before : Before) → DoesBefore w old new ended → Some before ≡ before_after ended
+    → verdict new before ≡ judged w old
+does_before_with w old new ended before does is = subst (λ (o : Option Before). IfSome o (λ b. verdict new b ≡ judged w old)) (sym is) does

@@ -1,0 +1,33 @@
+-- Text in HTML (HTML Living Standard, section "Character references").
+use Rattle.std.specs.Prelude.{◌≡◌, ℕ, ◌==◌, Result, Ok, Err, List, [], ◌∷◌, codes, if◌then◌else◌}
+use Rattle.std.specs.List.{flat_map}
+use Rattle.sv_servlet.specs.ReplyState.{ReplyState}
+use Rattle.sv_servlet.specs.declared.reply.ReplyFault.{ReplyFault}
+use Rattle.sv_servlet.specs.declared.reply.ReplyFault.TheVariants.{BadStatus, BadHeader, Reserved, TooMany, TooLong, Memory}
+use Rattle.sv_servlet.specs.declared.servlet.Next.{Next}
+use Rattle.sv_web.specs.Steps.{write}
+use Rattle.sv_web.specs.Work.{Work}
+
+-- `<`, `>`, `&`, `"` and `'` by a reference, and every other byte as it is
+abbrev pub escaped_byte : ℕ → List ℕ
+escaped_byte c =
+    if c == 60 then codes "&lt;" else if c == 62 then codes "&gt;" else if c == 38 then codes "&amp;" else if c == 34 then codes "&quot;" else if c == 39 then codes "&#39;" else c ∷ []
+
+-- a text, byte by byte
+unfoldable pub escaped : List ℕ → List ℕ
+escaped text = flat_map escaped_byte text
+
+-- a text is shown, whatever is in it
+abbrev pub write_escaped : List ℕ → Work Next → Work Next
+write_escaped text more = write (escaped text) more
+
+-- what is answered where an escaped text is written, and what is left: what is expected, or Memory, which may be refused for the
+-- references; after a fault the reply is as it was
+abbrev pub WritesEscaped : ReplyState → Result ReplyState ReplyFault → Result (Unit {0}) ReplyFault → ReplyState → Type 0
+WritesEscaped old expected (Ok u) new = expected ≡ Ok new
+WritesEscaped old expected (Err Memory) new = new ≡ old
+WritesEscaped old expected (Err BadStatus) new = (expected ≡ Err BadStatus) × (new ≡ old)
+WritesEscaped old expected (Err BadHeader) new = (expected ≡ Err BadHeader) × (new ≡ old)
+WritesEscaped old expected (Err Reserved) new = (expected ≡ Err Reserved) × (new ≡ old)
+WritesEscaped old expected (Err TooMany) new = (expected ≡ Err TooMany) × (new ≡ old)
+WritesEscaped old expected (Err TooLong) new = (expected ≡ Err TooLong) × (new ≡ old)

@@ -1,0 +1,9 @@
+pub mod Header
+pub mod Redirect
+pub mod Work
+pub mod Refusal
+pub mod Steps
+pub mod Request
+pub mod Numeral
+pub mod Attributes
+pub mod Html

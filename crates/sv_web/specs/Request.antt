@@ -1,0 +1,19 @@
+-- What a request asks (Jakarta Servlet 6.0, section 3.1).
+use Rattle.std.specs.Prelude.{ℕ, Bool, List, bytes_eq, codes, Option, option_map, unwrap_or}
+use Rattle.std.specs.List.{find}
+use Rattle.sv_model.specs.declared.request.Param.{Param}
+
+-- the method is POST (RFC 9110, section 9.3.3)
+abbrev pub is_post : List ℕ → Bool
+is_post method = bytes_eq method (codes "POST")
+
+abbrev pub has_name : List ℕ → Param → Bool
+has_name name p = bytes_eq p.name name
+
+-- the value of the first parameter of a name
+abbrev pub parameter : List Param → List ℕ → Option (List ℕ)
+parameter params name = option_map (λ p. p.value) (find (has_name name) params)
+
+-- the same, or another text where there is none
+abbrev pub parameter_or : List Param → List ℕ → List ℕ → List ℕ
+parameter_or params name other = unwrap_or (parameter params name) other

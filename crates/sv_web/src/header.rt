@@ -1,0 +1,51 @@
+//! The fields of a reply (RFC 9110, section 5), of texts that are the program's own.
+
+ghost use Rattle.std.specs.Prelude.{◌≡◌, IsTrue};
+ghost use Rattle.http_header.specs.FieldName.{is_header_name};
+ghost use Rattle.http_header.specs.FieldValue.{is_visible_text};
+ghost use Rattle.sv_model.specs.Field.{plain_type};
+ghost use Rattle.sv_servlet.specs.Reply.{Answers, field_result};
+ghost use Rattle.sv_web.specs.Header.{header, html_type};
+
+use http_header::{HeaderName, HeaderValue};
+use sv_model::{Field, plain_type};
+use sv_servlet::{Reply, ReplyFault};
+
+/// The field of a name in lower case and a value of visible ASCII.
+fn header(name: &'static str, value: &'static str) -> Field
+    requires name { IsTrue (is_header_name name.now) }
+    requires value { IsTrue (is_visible_text value.now) }
+    ensures { result ≡ header name.now value.now }
+{
+    Field {
+        name: HeaderName::from_static(name),
+        value: HeaderValue::from_static(value),
+    }
+}
+
+/// Sets a field of a name in lower case and a value of visible ASCII (`setHeader`); refused as [`Reply::set`] refuses it.
+pub fn set_header(
+    reply: &mut Reply,
+    name: &'static str,
+    value: &'static str,
+) -> Result<(), ReplyFault>
+    requires name { IsTrue (is_header_name name.now) }
+    requires value { IsTrue (is_visible_text value.now) }
+    ensures { Answers reply.old (field_result reply.old (header name.now value.now)) result reply.new }
+{
+    reply.set(header(name, value))
+}
+
+/// Says that the body is plain text: `content-type: text/plain` (`setContentType`).
+pub fn set_plain_text(reply: &mut Reply) -> Result<(), ReplyFault>
+    ensures { Answers reply.old (field_result reply.old plain_type) result reply.new }
+{
+    reply.set(plain_type())
+}
+
+/// Says that the body is HTML in UTF-8: `content-type: text/html; charset=utf-8` (`setContentType`).
+pub fn set_html(reply: &mut Reply) -> Result<(), ReplyFault>
+    ensures { Answers reply.old (field_result reply.old html_type) result reply.new }
+{
+    set_header(reply, "content-type", "text/html; charset=utf-8")
+}

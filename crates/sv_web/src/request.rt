@@ -1,0 +1,45 @@
+//! What a request asks (Jakarta Servlet 6.0, section 3.1).
+
+ghost use Rattle.std.specs.Prelude.{◌≡◌, option_copied, IfOk};
+ghost use Rattle.std.specs.List.{find};
+ghost use Rattle.sv_web.specs.Request as spec;
+
+use http::Method;
+use std::alloc::{AllocError, Global};
+use sv_model::{Param, Text};
+
+/// Whether the method is POST (RFC 9110, section 9.3.3).
+pub fn is_post(method: &Method) -> bool
+    ensures { result ≡ spec.is_post method.now }
+{
+    method.as_str() == "POST"
+}
+
+/// The first parameter of a name.
+fn first<'a>(params: &'a [Param], name: &str) -> Option<&'a Param>
+    ensures { option_copied result ≡ find (spec.has_name name.now) params.now }
+{
+    params.iter().find(|param| param.name.as_str() == name)
+}
+
+/// The value of the first parameter of a name (`getParameter`).
+pub fn parameter<'a>(params: &'a [Param], name: &str) -> Option<&'a str>
+    ensures { option_copied result ≡ spec.parameter params.now name.now }
+{
+    match first(params, name) {
+        Some(param) => Some(param.value.as_str()),
+        None => None,
+    }
+}
+
+/// The value of the first parameter of a name, or another text where there is none.
+pub fn parameter_or(
+    alloc: Global,
+    params: &[Param],
+    name: &str,
+    other: &str,
+) -> Result<Text, AllocError>
+    ensures { IfOk result (λ text. text ≡ spec.parameter_or params.now name.now other.now) }
+{
+    Text::from_str(alloc, parameter(params, name).unwrap_or(other))
+}
