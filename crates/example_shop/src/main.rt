@@ -1,6 +1,6 @@
 //! A small web shop, served by the nodes of a cluster.
 //!
-//! `example_shop [--keep-alive] CONFIG JOURNAL NUMBER` runs the node of that number, and `example_shop --once CONFIG NOW` serves
+//! `example_shop [OPTION ..] CONFIG JOURNAL NUMBER` runs the node of that number, and `example_shop --once CONFIG NOW` serves
 //! standard input to its end; the words mean what they mean to the program `node`. A descriptor's names stand for the shop's own
 //! servlets, its filter and its listener.
 //!
@@ -17,7 +17,7 @@ use sv_launch::{Fault, Words, read_words, words_of};
 /// The node that the words ask for; one alone has the number 0.
 fn node_of(words: &[String]) -> u8 {
     match read_words(words) {
-        Ok(Words::Node { number, .. }) => number,
+        Ok(Words::Node(node)) => node.number,
         _ => 0,
     }
 }

@@ -17,6 +17,7 @@ use crate::serve::{PIECE, greet, serve};
 use crate::stage::Open;
 use crate::time::steady;
 use sv_journal::{Disk, JournalFault};
+use sv_log::Event;
 use sv_model::{Engine, Input};
 use sv_node::Node;
 
@@ -325,15 +326,19 @@ fn compact<E: Engine, D: Disk>(desk: &mut Desk, node: &mut Node<E, D>) -> Result
     ensures gone { (low : ℕ) → HasGone E.meaning E.heard D.tells D.may_leave low low node.old node.new result }
 {
     let len = node.journal_len();
+    desk.hall.report.measure(len);
     if len <= COMPACTING || len <= desk.compacted.saturating_mul(2) {
         return Ok(());
     }
     match node.compact() {
         Ok(()) => {
-            desk.compacted = node.journal_len();
+            desk.was_compacted(len, node.journal_len());
             Ok(())
         }
-        Err(fault) => not_compacted(fault),
+        Err(fault) => {
+            desk.hall.report.note(Event::NotCompacted { bytes: len });
+            not_compacted(fault)
+        }
     }
 }
 
@@ -521,6 +526,7 @@ fn admit<M: Machine>(machine: &M, desk: &mut Desk, porch: &mut Porch) -> Option<
     }
     match porch.accept() {
         Arrival::Somebody(line) => {
+            desk.hall.report.note(Event::Accepted);
             desk.hall.look_at_clock(machine);
             match desk.hall.make_place() {
                 Some(place) => Some((place, Open::new(line, desk.hall.clock()))),
@@ -529,6 +535,7 @@ fn admit<M: Machine>(machine: &M, desk: &mut Desk, porch: &mut Porch) -> Option<
         }
         Arrival::Nobody => None,
         Arrival::NoRoom => {
+            desk.hall.report.note(Event::NoRoom);
             if desk.hall.make_room() {
                 porch.try_again();
             }
@@ -555,6 +562,7 @@ fn gather<M: Machine>(
 
 /// Waits until somebody is to be looked after, and looks who has taken too long.
 fn wait<M: Machine>(machine: &M, desk: &mut Desk, porch: &mut Porch) {
+    desk.tell_operator(machine);
     porch.wait(&mut desk.hall, desk.expiry.is_due());
     desk.is_spared = porch.is_spared();
     if !desk.hall.is_empty() && !desk.is_spared {

@@ -15,7 +15,7 @@ use crate::group::{Asker, Group, Way};
 use crate::hall::Hall;
 use crate::lobby::Lobby;
 use crate::machine::Machine;
-use crate::peers::address_of;
+use crate::peers::{address_of, addressee, port_of};
 use crate::persistence::Persistence;
 use crate::room::{HOME_LIMIT, Room};
 use crate::round::{Round, Share};
@@ -23,6 +23,7 @@ use crate::secrets::Secrets;
 use crate::time::{Time, read};
 use std::alloc::Global;
 use sv_journal::Disk;
+use sv_log::{Event, Level, Loss, Milestone, Report};
 use sv_model::{Cause, Engine, Moment, MoveRefusal, Output, Packet, Request, Response, StepFault};
 use sv_node::Node;
 
@@ -176,7 +177,9 @@ impl Desk {
     /// What is taken for the time, in seconds since 1970.
     pub fn now(&mut self, machine: &impl Machine) -> u64 {
         self.time = self.time.next(read(machine));
-        self.time.seconds()
+        let now = self.time.seconds();
+        self.hall.report.at(now);
+        now
     }
 
     /// The second in which a turn ends.
@@ -196,13 +199,54 @@ impl Desk {
         })
     }
 
+    /// The journal was written anew; its lengths in bytes.
+    pub fn was_compacted(&mut self, before: u64, after: u64) {
+        self.compacted = after;
+        self.hall.report.measure(after);
+        self.hall.report.note(Event::Compacted { before, after });
+    }
+
+    /// Has what happens told to the operator.
+    pub fn report_by(&mut self, report: Report) {
+        self.hall.report_by(report);
+    }
+
+    /// Tells the operator that the node of this number serves.
+    pub fn say_ready(&mut self, node: u8) {
+        let port = port_of(self.ports.as_slice(), node);
+        self.hall
+            .report
+            .say(Level::Info, Milestone::Ready { node, port });
+    }
+
+    /// Why the node has stopped, if not by a command; and whatever is still to be told to the operator.
+    pub fn say_stopped(&mut self, machine: &impl Machine, stop: Stop) -> Option<HostFault> {
+        let open = self.hall.len();
+        let fault = match stop {
+            Stop::Done => {
+                self.hall.report.say(Level::Info, Milestone::Stopped);
+                None
+            }
+            Stop::Fault(fault) => Some(fault),
+        };
+        self.hall.report.end(machine, open);
+        fault
+    }
+
+    /// Writes what is to be told to the operator.
+    pub fn tell_operator(&mut self, machine: &impl Machine) {
+        let (waiting, open) = (self.lobby.len(), self.hall.len());
+        self.hall.report.turn(machine, waiting, open);
+    }
+
     /// Sends a packet to its node.
     fn send(&mut self, machine: &impl Machine, packet: Packet)
         requires { IsPacket packet }
     {
-        match address_of(self.ports.as_slice(), &packet) {
-            Some(addr) => self.hall.send(machine, addr, packet),
-            None => {}
+        let to = addressee(&packet);
+        match address_of(self.ports.as_slice(), to) {
+            Some(addr) => self.hall.send(machine, to, addr, packet),
+            None => self.hall.report.lost(to, Loss::NoPeer),
         }
     }
 
@@ -217,6 +261,10 @@ impl Desk {
     /// Refuses the client that waits under a token.
     fn refuse(&mut self, token: u64, cause: Cause, now: u64) {
         if let Some(place) = self.lobby.take(token) {
+            self.hall.report.note(Event::Refused {
+                cause,
+                number: token,
+            });
             self.hall.refuse(place, token, cause, now, &mut self.text);
         }
     }
@@ -229,7 +277,8 @@ impl Desk {
             Output::Send(packet) => self.send(machine, packet),
             Output::Answer { token, response } => self.answer(token, &response, now),
             Output::Refuse { token, cause } => self.refuse(token, cause, now),
-            Output::Moved | Output::MoveRefused(_) => {}
+            Output::Moved => self.hall.report.note(Event::Moved),
+            Output::MoveRefused(why) => self.hall.report.note(Event::MoveRefused { why }),
         }
     }
 
@@ -277,8 +326,15 @@ impl Desk {
     fn conclude_refused(&mut self, asker: Asker, fault: StepFault, now: u64) {
         match asker {
             Asker::Client { token, .. } => self.refuse(token, cause_of(fault), now),
-            Asker::Command(place) => self.hall.obeyed(place, answer_byte(Taken::Refused)),
-            Asker::Nobody => {}
+            Asker::Command(place) => {
+                self.hall.report.note(Event::OrderRefused {
+                    cause: cause_of(fault),
+                });
+                self.hall.obeyed(place, answer_byte(Taken::Refused));
+            }
+            Asker::Nobody => self.hall.report.note(Event::LeftOut {
+                cause: cause_of(fault),
+            }),
         }
     }
 
@@ -317,6 +373,9 @@ impl Desk {
         requires { AllByRecursion (λ a. IsHandedOn a) answers.items }
     {
         let now = self.time.seconds();
+        self.hall.report.note(Event::Group {
+            steps: answers.len() as u64,
+        });
         let mut taken = Taken::Quiet;
         let mut place: usize = 0;
         for answer in answers {

@@ -1,5 +1,6 @@
 //! Why a node ends before it is told to.
 
+use sv_log::ReportFault;
 use sv_node::OpenFault;
 use thiserror::Error;
 
@@ -27,6 +28,21 @@ pub enum HostFault {
     /// Memory was refused while the journal was opened.
     #[error("Memory")]
     Memory,
+    /// The log can't be opened.
+    #[error("Log")]
+    Log,
+    /// The figures can't be written.
+    #[error("Metrics")]
+    Metrics,
+}
+
+impl From<ReportFault> for HostFault {
+    fn from(fault: ReportFault) -> Self {
+        match fault {
+            ReportFault::Log => HostFault::Log,
+            ReportFault::Metrics => HostFault::Metrics,
+        }
+    }
 }
 
 impl From<OpenFault> for HostFault {

@@ -14,6 +14,7 @@ use std::mem::replace;
 use std::net::SocketAddr;
 use std::time::Duration;
 use sv_connection::{memory_lines, refusal};
+use sv_log::{Event, Loss, Report};
 use sv_model::{Cause, Packet, Response};
 use sv_record::{Frame, write_frame};
 
@@ -46,6 +47,8 @@ pub struct Hall {
     due: Vec<usize>,
     /// Where the last packet is still being sent.
     calling: Option<usize>,
+    /// What is told to the operator.
+    pub report: Report,
     alloc: Global,
 }
 
@@ -61,6 +64,7 @@ impl Drop for Hall {
             looked: _,
             due: _,
             calling: _,
+            report: _,
             alloc: _,
         } = self;
     }
@@ -75,6 +79,35 @@ fn spelled(alloc: Global, packet: Packet) -> Option<Vec<u8>>
     Some(frame)
 }
 
+/// Why a connection is ended that isn't at its end.
+#[derive(Clone, Copy)]
+enum Ending {
+    /// It has taken too long.
+    Late,
+    /// Somebody has come for whom there was no room.
+    GaveWay,
+}
+
+impl Ending {
+    /// Why a packet is lost that was on its way.
+    fn loss(self) -> Loss {
+        match self {
+            Ending::Late => Loss::Late,
+            Ending::GaveWay => Loss::GaveWay,
+        }
+    }
+
+    /// What is told of a client that was at a stage; nothing where the client had nothing more to say.
+    fn event(self, stage: &Stage) -> Option<Event> {
+        let phase = stage.phase();
+        match self {
+            Ending::Late if phase.is_over() => None,
+            Ending::Late => Some(Event::Late { phase }),
+            Ending::GaveWay => Some(Event::GaveWay { phase }),
+        }
+    }
+}
+
 impl Hall {
     pub fn new(registry: Registry, alloc: Global) -> Hall {
         Hall {
@@ -86,8 +119,19 @@ impl Hall {
             looked: Duration::ZERO,
             due: Vec::new(alloc),
             calling: None,
+            report: Report::none(),
             alloc,
         }
+    }
+
+    /// Has what happens told to the operator.
+    pub fn report_by(&mut self, report: Report) {
+        self.report = report;
+    }
+
+    /// How many connections are open.
+    pub fn len(&self) -> usize {
+        self.count
     }
 
     /// Nobody is here.
@@ -252,7 +296,7 @@ impl Hall {
         let Some(place) = self.first_to_go() else {
             return false;
         };
-        self.end(place);
+        self.end(place, Ending::GaveWay);
         true
     }
 
@@ -329,6 +373,7 @@ impl Hall {
     /// Says a text at a place. What isn't taken of it is kept, and leaves `text`.
     pub fn say(&mut self, place: usize, line: Line, text: &mut Vec<u8>, next: Next) {
         let begun = self.clock;
+        self.report.answered(text.as_slice());
         self.say_on(place, line, text, next, begun, begun);
     }
 
@@ -365,32 +410,48 @@ impl Hall {
         }
     }
 
-    /// Sends a packet as the only frame of a connection of its own. What isn't sent is a packet that is lost.
-    pub fn send(&mut self, machine: &impl Machine, addr: SocketAddr, packet: Packet)
+    /// Sends a packet to a node as the only frame of a connection of its own. What isn't sent is a packet that is lost.
+    pub fn send(&mut self, machine: &impl Machine, to: u8, addr: SocketAddr, packet: Packet)
         requires { IsPacket packet }
     {
-        if let Some(frame) = spelled(self.alloc, packet)
-            && let Ok(stream) = TcpStream::connect(machine, addr)
-        {
-            self.call(Line::from(stream), frame);
+        match spelled(self.alloc, packet) {
+            Some(frame) => self.send_frame(machine, to, addr, frame),
+            None => self.report.lost(to, Loss::Memory),
         }
     }
 
     /// Sends a frame on a connection of its own.
-    fn call(&mut self, line: Line, frame: Vec<u8>) {
+    fn send_frame(&mut self, machine: &impl Machine, to: u8, addr: SocketAddr, frame: Vec<u8>) {
+        match TcpStream::connect(machine, addr) {
+            Ok(stream) => self.call(Line::from(stream), to, frame),
+            Err(_) => self.report.lost(to, Loss::NoSocket),
+        }
+    }
+
+    /// Sends a frame on a connection, which is kept as long as the frame isn't taken whole.
+    fn call(&mut self, line: Line, to: u8, frame: Vec<u8>) {
         let mut line = line;
         let mut frame = frame;
-        if line.write(&mut frame) == Written::Part {
-            self.calling = self.admit_call(
-                line,
-                Stage::Calling {
-                    frame,
-                    holder: None,
-                },
-            );
-            if let Some(place) = self.calling {
-                self.watch_call(place);
-            }
+        match line.write(&mut frame) {
+            Written::All => self.report.sent(to),
+            Written::Part => self.keep_call(line, to, frame),
+            Written::Broken => self.report.lost(to, Loss::Broken),
+        }
+    }
+
+    /// Keeps a connection on which the rest of a frame is to be sent.
+    fn keep_call(&mut self, line: Line, to: u8, frame: Vec<u8>) {
+        self.calling = self.admit_call(
+            line,
+            Stage::Calling {
+                to,
+                frame,
+                holder: None,
+            },
+        );
+        match self.calling {
+            Some(place) => self.watch_call(place),
+            None => self.report.lost(to, Loss::NoPlace),
         }
     }
 
@@ -612,21 +673,23 @@ impl Hall {
                 self.say_on(place, line, &mut text, next, begun, heard);
             }
             Stage::Parting { bytes } => self.part(place, line, bytes, begun),
-            Stage::Calling { frame, holder } => {
+            Stage::Calling { to, frame, holder } => {
                 let mut frame = frame;
                 let mut line = line;
-                if line.write(&mut frame) == Written::Part {
+                let written = line.write(&mut frame);
+                if written == Written::Part {
                     self.keep(
                         place,
                         Open {
                             line,
-                            stage: Stage::Calling { frame, holder },
+                            stage: Stage::Calling { to, frame, holder },
                             begun,
                             heard,
                         },
                     );
                 } else {
                     self.leave(place);
+                    self.called(to, written);
                     self.release(holder);
                 }
             }
@@ -639,6 +702,15 @@ impl Hall {
                     heard,
                 },
             ),
+        }
+    }
+
+    /// A packet to a node was sent, or was lost as its connection has broken.
+    fn called(&mut self, to: u8, written: Written) {
+        if written == Written::All {
+            self.report.sent(to);
+        } else {
+            self.report.lost(to, Loss::Broken);
         }
     }
 
@@ -678,14 +750,17 @@ impl Hall {
         }
     }
 
-    /// Ends a connection that has taken too long.
-    fn end(&mut self, place: usize) {
+    /// Ends a connection that isn't at its end.
+    fn end(&mut self, place: usize, ending: Ending) {
         let Some(open) = self.take(place) else {
             return;
         };
         self.leave(place);
-        if let Stage::Calling { holder, .. } = open.stage {
+        if let Stage::Calling { to, holder, .. } = open.stage {
+            self.report.lost(to, ending.loss());
             self.release(holder);
+        } else if let Some(event) = ending.event(&open.stage) {
+            self.report.note(event);
         }
     }
 
@@ -701,7 +776,7 @@ impl Hall {
                 _ => false,
             };
             if is_late {
-                self.end(place);
+                self.end(place, Ending::Late);
             }
         }
     }

@@ -22,10 +22,11 @@ use crate::place::Place;
 use crate::porch::Porch;
 use crate::round::Round;
 use crate::secrets::Secrets;
-use crate::time::{Time, read};
+use crate::time::{Time, read, steady};
 use mio::Registry;
 use std::alloc::Global;
 use sv_journal::Disk;
+use sv_log::Report;
 use sv_model::{Engine, Setting};
 use sv_node::{Node, NotOpened};
 
@@ -81,8 +82,18 @@ fn open_both(
     Ok((secrets, porch, registry))
 }
 
+/// Says that the node of this number is ready, whose journal has so many bytes; false where that can't be said.
+fn announce<M: Machine + Print>(machine: &M, desk: &mut Desk, number: u8, bytes: u64) -> bool {
+    desk.hall.report.opened(bytes, steady(machine));
+    if println!(machine; "ready {number}").is_err() {
+        return false;
+    }
+    desk.say_ready(number);
+    true
+}
+
 /// Says that the node of this number is ready, and serves until it is told to stop.
-fn serve_all<M: Machine, E: Engine, D: Disk>(
+fn serve_all<M: Machine + Print, E: Engine, D: Disk>(
     machine: &M,
     desk: &mut Desk,
     node: &mut Node<E, D>,
@@ -94,13 +105,12 @@ fn serve_all<M: Machine, E: Engine, D: Disk>(
     ensures valid { IsNode E.valid D.tells D.seen D.may_leave node.new }
     ensures ended { HasEnded E.meaning E.heard D.tells D.may_leave node.old node.new }
 {
-    if println!(machine; "ready {number}").is_err() {
-        return Some(HostFault::Output);
+    let bytes = node.journal_len();
+    if !announce(machine, desk, number, bytes) {
+        return desk.say_stopped(machine, Stop::Fault(HostFault::Output));
     }
-    match attend(machine, desk, node, porch) {
-        Stop::Done => None,
-        Stop::Fault(fault) => Some(fault),
-    }
+    let stop = attend(machine, desk, node, porch);
+    desk.say_stopped(machine, stop)
 }
 
 impl Host {
@@ -145,9 +155,16 @@ impl Host {
         })
     }
 
+    /// Has what happens told to the operator.
+    pub fn reporting(self, report: Report) -> Host {
+        let mut host = self;
+        host.desk.report_by(report);
+        host
+    }
+
     /// Runs the node over its disks A and B: opens them, says by the line `ready` with the node's number that it listens, and
     /// serves until a command stops it, or a fault does. The engine and the disks come back.
-    pub fn run<M: Machine, E: Engine, D: Disk>(
+    pub fn run<M: Machine + Print, E: Engine, D: Disk>(
         self,
         machine: &M,
         engine: E,

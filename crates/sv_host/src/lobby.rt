@@ -38,7 +38,7 @@ impl Lobby {
         is_kept
     }
 
-    /// How many there are.
+    /// How many clients wait.
     pub fn len(&self) -> usize {
         self.guests.len()
     }

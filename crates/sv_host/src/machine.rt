@@ -4,11 +4,11 @@ use std::fs::File;
 use std::net::{Net, TcpListener, TcpStream};
 use std::rt::{Clock, Files};
 
-/// The network, files, clock and standard output of a machine, and memory.
+/// The network, files, clock and standard error of a machine, and memory.
 pub trait Machine: Net<Listener = TcpListener, Stream = TcpStream>
     + Files<File = File>
     + Clock
-    + Print
+    + Eprint
     + AllocGlobal {}
 
 impl<R> Machine for R
@@ -16,6 +16,6 @@ where
     R: Net<Listener = TcpListener, Stream = TcpStream>
         + Files<File = File>
         + Clock
-        + Print
+        + Eprint
         + AllocGlobal,
 {}

@@ -4,7 +4,7 @@ use std::net::{Ipv4Addr, SocketAddr};
 use sv_model::Packet;
 
 /// The node that a packet goes to.
-fn addressee(packet: &Packet) -> u8 {
+pub fn addressee(packet: &Packet) -> u8 {
     match packet {
         Packet::Want { to, .. }
         | Packet::Grant { to, .. }
@@ -18,8 +18,13 @@ pub fn loopback(port: u16) -> SocketAddr {
     SocketAddr::from((Ipv4Addr::LOCALHOST, port))
 }
 
-/// Where the node listens that a packet goes to.
-pub fn address_of(ports: &[u16], packet: &Packet) -> Option<SocketAddr> {
-    let port = ports.get(usize::from(addressee(packet)))?;
+/// The port of a node; 0 where there is no such node.
+pub fn port_of(ports: &[u16], node: u8) -> u16 {
+    ports.get(usize::from(node)).copied().unwrap_or(0)
+}
+
+/// Where the node of a number listens.
+pub fn address_of(ports: &[u16], node: u8) -> Option<SocketAddr> {
+    let port = ports.get(usize::from(node))?;
     Some(loopback(*port))
 }

@@ -3,9 +3,13 @@
 use crate::fault::HostFault;
 use crate::host::{Ended, Host};
 use crate::machine::Machine;
+use crate::paths::Paths;
+use crate::peers::port_of;
 use crate::persistence::Persistence;
 use crate::place::Place;
+use crate::time::read;
 use sv_journal::FileDisk;
+use sv_log::{Level, Milestone, Report, ReportFault};
 use sv_model::Engine;
 
 /// The journal's file, and the second one beside it.
@@ -22,15 +26,60 @@ fn open_files<M: Machine>(machine: &M, journal: &str) -> Result<(FileDisk, FileD
     }
 }
 
+/// Opens the log and the figures, those that are wanted.
+fn open_report<M: Machine>(machine: &M, node: u8, paths: Paths<'_>) -> Result<Report, ReportFault> {
+    let mut report = Report::none();
+    let reading = read(machine);
+    report.begin(reading.steady);
+    if let Some(path) = paths.log {
+        report.log_to(machine.alloc(), machine, path)?;
+    }
+    report.at(reading.clock / 1_000);
+    if let Some(path) = paths.metrics {
+        report.count_to(machine.alloc(), machine, path, node)?;
+    }
+    Ok(report)
+}
+
+/// The same, with the first line.
+fn report_of<M: Machine>(
+    machine: &M,
+    place: &Place,
+    paths: Paths<'_>,
+) -> Result<Report, HostFault> {
+    let node = place.setting.node;
+    let mut report = open_report(machine, node, paths)?;
+    let starting = Milestone::Starting {
+        node,
+        port: port_of(place.ports.as_slice(), node),
+        journal: paths.journal,
+    };
+    report.say(Level::Info, starting);
+    report.turn(machine, 0, 0);
+    Ok(report)
+}
+
+/// What a node has of its machine, and what it tells.
+fn open_host<M: Machine>(
+    machine: &M,
+    place: Place,
+    persistence: Persistence,
+    paths: Paths<'_>,
+) -> Result<Host, HostFault> {
+    let report = report_of(machine, &place, paths)?;
+    let host = Host::at(machine, place, persistence)?;
+    Ok(host.reporting(report))
+}
+
 /// What a node has of its machine, and the files of its journal.
 fn open<M: Machine>(
     machine: &M,
     place: Place,
     persistence: Persistence,
-    journal: &str,
+    paths: Paths<'_>,
 ) -> Result<(Host, FileDisk, FileDisk), HostFault> {
-    let host = Host::at(machine, place, persistence)?;
-    let (a, b) = open_files(machine, journal)?;
+    let host = open_host(machine, place, persistence, paths)?;
+    let (a, b) = open_files(machine, paths.journal)?;
     Ok((host, a, b))
 }
 
@@ -42,20 +91,20 @@ fn how_ended<E: Drop>(ended: Ended<E, FileDisk>) -> Result<(), HostFault> {
     }
 }
 
-/// Runs the node at a place of a cluster over the journal's file, and a second one beside it whose name ends in `.b`. Once it
-/// listens at its port it says so by the line `ready` with its number, and serves until a command stops it.
+/// Runs the node at a place of a cluster over its files. Once it listens at its port it says so by the line `ready` with its number,
+/// and serves until a command stops it.
 ///
-/// Faults are found in this order: the file of secrets, the port, the journal.
-pub fn run_node<M: Machine, E: Engine + Drop>(
+/// Faults are found in this order: the log, the figures, the file of secrets, the port, the journal.
+pub fn run_node<M: Machine + Print, E: Engine + Drop>(
     machine: &M,
     engine: E,
     place: Place,
     persistence: Persistence,
-    journal: &str,
+    paths: Paths<'_>,
 ) -> Result<(), HostFault>
     requires { E.valid engine }
 {
-    let (host, a, b) = open(machine, place, persistence, journal)?;
+    let (host, a, b) = open(machine, place, persistence, paths)?;
     match host.run(machine, engine, a, b) {
         Ok(ended) => how_ended(ended),
         Err(refused) => Err(refused.fault.into()),

@@ -16,8 +16,10 @@ use crate::line::{Line, comes_later};
 use crate::lobby::Guest;
 use crate::machine::Machine;
 use crate::stage::{Next, Open, Stage, Turn};
+use crate::unread::name_of;
 use std::time::Duration;
 use sv_connection::{Received, RequestFault};
+use sv_log::Event;
 use sv_model::{Input, Packet, Request, is_head};
 use sv_record::Frame;
 
@@ -165,6 +167,9 @@ fn refuse(
     let _ = client
         .connection
         .refuse(&mut desk.text, fault, head_only, now);
+    desk.hall.report.note(Event::BadRequest {
+        fault: name_of(fault),
+    });
     desk.hall.say(place, line, &mut desk.text, Next::Part);
 }
 
@@ -211,11 +216,13 @@ fn take_frame(desk: &mut Desk, place: usize, line: Line, frame: Frame) -> Result
     match frame {
         Frame::Peer(packet) => Ok(receive(desk, place, packet)),
         Frame::Move { key, to } => {
+            desk.hall.report.note(Event::MoveOrdered { key, to });
             Ok(obey(desk, place, line, Input::Move { key, to }, Packets::All))
         }
         Frame::Tick => Ok(obey(desk, place, line, Input::Tick, Packets::InTurn)),
         Frame::Halt => {
             let mut line = line;
+            desk.hall.report.note(Event::HaltOrdered);
             tell(desk, &mut line, 0);
             Err(Stop::Done)
         }

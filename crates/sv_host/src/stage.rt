@@ -6,6 +6,7 @@ use crate::persistence::Persistence;
 use mio::Interest;
 use std::alloc::Global;
 use std::time::Duration;
+use sv_log::Phase;
 use sv_record::{CONTROL, PEER};
 
 /// What is done with a connection once a text is written.
@@ -57,6 +58,7 @@ pub enum Stage {
     },
     /// The rest of a packet to a peer, and the place of the command that waits until it is sent or lost.
     Calling {
+        to: u8,
         frame: Vec<u8>,
         holder: Option<usize>,
     },
@@ -179,6 +181,21 @@ impl Stage {
             | Stage::Parting { .. } => Some(Interest::READABLE),
             Stage::Saying { .. } | Stage::Calling { .. } => Some(Interest::WRITABLE),
             Stage::Ordering | Stage::Holding(_) => None,
+        }
+    }
+
+    /// How far it has come, as the log has it.
+    pub fn phase(&self) -> Phase {
+        match self {
+            Stage::New => Phase::New,
+            Stage::Asking(_) | Stage::Asked(_) => Phase::Asking,
+            Stage::Resting(_) => Phase::Resting,
+            Stage::Framing(_) | Stage::Ordering | Stage::Holding(_) | Stage::Calling { .. } => {
+                Phase::Framing
+            }
+            Stage::Waiting { .. } => Phase::Waiting,
+            Stage::Saying { .. } => Phase::Saying,
+            Stage::Parting { .. } => Phase::Parting,
         }
     }
 

@@ -1,3 +1,4 @@
 mod OnceLemmas
 pub mod HistoryLemmas
 pub mod ObjectLemmas
+pub mod WordLemmas

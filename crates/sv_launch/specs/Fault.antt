@@ -5,7 +5,7 @@ use Rattle.sv_config.specs.declared.fault.ConfigFault.TheVariants as config
 use Rattle.sv_container.specs.declared.named.StartFault.{StartFault}
 use Rattle.sv_container.specs.declared.named.StartFault.TheVariants as start
 use Rattle.sv_launch.specs.declared.fault.Fault.{Fault}
-use Rattle.sv_launch.specs.declared.fault.Fault.TheVariants.{Arguments, Unreadable, NotToml, MissingField, WrongKind, UnknownName, BadPattern, Duplicate, LimitExceeded, MissingObject, ExtraObject, Ports, Device, Damaged, Full, JournalMemory, Secrets, Socket, Input, Output, Memory}
+use Rattle.sv_launch.specs.declared.fault.Fault.TheVariants.{Arguments, Unreadable, NotToml, MissingField, WrongKind, UnknownName, BadPattern, Duplicate, LimitExceeded, MissingObject, ExtraObject, Ports, Device, Damaged, Full, JournalMemory, Secrets, Socket, Log, Metrics, Input, Output, Memory}
 use Rattle.sv_host.specs.declared.fault.HostFault.{HostFault}
 use Rattle.sv_host.specs.declared.fault.HostFault.TheVariants as host
 use Rattle.sv_host.specs.declared.place.PlaceFault.{PlaceFault}
@@ -50,6 +50,8 @@ host_fault host.Device = Device
 host_fault host.Damaged = Damaged
 host_fault host.Full = Full
 host_fault host.Memory = JournalMemory
+host_fault host.Log = Log
+host_fault host.Metrics = Metrics
 
 -- the exit status: of the words, of the descriptor and its objects, of the journal, of the machine
 abbrev pub status_of : Fault → ℕ
@@ -71,6 +73,8 @@ status_of Full = 4
 status_of JournalMemory = 4
 status_of Secrets = 5
 status_of Socket = 5
+status_of Log = 5
+status_of Metrics = 5
 status_of Input = 5
 status_of Output = 5
 status_of Memory = 5

@@ -1,17 +1,22 @@
 -- The words of the command line.
-use Rattle.std.specs.Prelude.{ℕ, List, [], ◌∷◌, codes, Option, Some, None, Result, Ok, Err, if◌then◌else◌, ◌||◌}
+use Rattle.std.specs.Prelude.{ℕ, List, [], ◌∷◌, codes, Option, Some, None, option_map, Result, Ok, Err, if◌then◌else◌, ◌||◌}
 use Rattle.std.specs.Str.{bytes_eq}
 use Rattle.sv_host.specs.declared.persistence.Persistence.{Persistence}
 use Rattle.sv_host.specs.declared.persistence.Persistence.TheVariants.{Single, Kept}
 use Rattle.sv_web.specs.Numeral.{number_in}
 use Rattle.sv_launch.specs.declared.words.Words.{Words}
 use Rattle.sv_launch.specs.declared.words.Words.TheVariants.{Once, Node, Help, Version}
+use Rattle.sv_launch.specs.declared.words.Options.{Options}
 use Rattle.sv_launch.specs.declared.words.Arguments.{Arguments}
+
+-- how a node runs: whether its clients' connections are kept, where its log goes, and where its figures
+pub data Manner : Type 0 where
+  Runs : (persistence : Persistence) (log metrics : Option (List ℕ)) → Manner
 
 -- what the program is asked to do
 pub data Command : Type 0 where
   ServeOnce : (config : List ℕ) (now : ℕ) → Command
-  RunNode : (persistence : Persistence) (config journal : List ℕ) (number : ℕ) → Command
+  RunNode : (manner : Manner) (config journal : List ℕ) (number : ℕ) → Command
   ShowHelp : Command
   ShowVersion : Command
 
@@ -19,9 +24,13 @@ abbrev pub once_at : List ℕ → Option ℕ → Option Command
 once_at config None = None
 once_at config (Some now) = Some (ServeOnce config now)
 
-abbrev pub node_at : Persistence → List ℕ → List ℕ → Option ℕ → Option Command
-node_at persistence config journal None = None
-node_at persistence config journal (Some number) = Some (RunNode persistence config journal number)
+abbrev pub node_at : Manner → List ℕ → List ℕ → Option ℕ → Option Command
+node_at manner config journal None = None
+node_at manner config journal (Some number) = Some (RunNode manner config journal number)
+
+-- where no option says otherwise
+abbrev pub plain : Manner
+plain = Runs Single None None
 
 -- one word: its help or its version, by its long name or its short one
 abbrev pub of_one : List ℕ → Option Command
@@ -32,24 +41,50 @@ of_one word =
 -- three words: `--once`, a CONFIG and a NOW within 64 bits, or a CONFIG, a JOURNAL and a NUMBER within 8 bits
 abbrev pub of_three : List ℕ → List ℕ → List ℕ → Option Command
 of_three first second third =
-    if bytes_eq first (codes "--once") then once_at second (number_in 64 third) else node_at Single first second (number_in 8 third)
+    if bytes_eq first (codes "--once") then once_at second (number_in 64 third) else node_at plain first second (number_in 8 third)
 
--- four words: `--keep-alive`, and those of a node
-abbrev pub of_four : List ℕ → List ℕ → List ℕ → List ℕ → Option Command
-of_four first second third fourth = if bytes_eq first (codes "--keep-alive") then node_at Kept second third (number_in 8 fourth) else None
+-- with the option at the front of the words, and the words behind it: `--keep-alive`, `--log FILE` or `--metrics FILE`
+abbrev pub with_option : Manner → List ℕ → List ℕ → List (List ℕ) → Manner × List (List ℕ)
+with_option (Runs persistence log metrics) first second rest =
+    if bytes_eq first (codes "--keep-alive") then (Runs Kept log metrics, second ∷ rest) else
+    if bytes_eq first (codes "--log") then (Runs persistence (Some second) metrics, rest) else
+    if bytes_eq first (codes "--metrics") then (Runs persistence log (Some second), rest) else (Runs persistence log metrics, first ∷ second ∷ rest)
+
+abbrev pub option_of : Manner → List (List ℕ) → Manner × List (List ℕ)
+option_of manner [] = (manner, [])
+option_of manner (first ∷ []) = (manner, first ∷ [])
+option_of manner (first ∷ second ∷ rest) = with_option manner first second rest
+
+-- a CONFIG, a JOURNAL and a NUMBER within 8 bits, and nothing else
+abbrev pub last_of : Manner → List (List ℕ) → Option Command
+last_of manner [] = None
+last_of manner (first ∷ []) = None
+last_of manner (first ∷ second ∷ []) = None
+last_of manner (config ∷ journal ∷ number ∷ []) = node_at manner config journal (number_in 8 number)
+last_of manner (first ∷ second ∷ third ∷ fourth ∷ more) = None
+
+-- up to three options, and the words of a node
+abbrev pub of_more : List (List ℕ) → Option Command
+of_more words =
+    let one = option_of plain words in
+    let two = option_of one.0 one.1 in
+    let three = option_of two.0 two.1 in
+    last_of three.0 three.1
 
 abbrev pub command_in : List (List ℕ) → Option Command
 command_in [] = None
 command_in (word ∷ []) = of_one word
 command_in (first ∷ second ∷ []) = None
 command_in (first ∷ second ∷ third ∷ []) = of_three first second third
-command_in (first ∷ second ∷ third ∷ fourth ∷ []) = of_four first second third fourth
-command_in (first ∷ second ∷ third ∷ fourth ∷ fifth ∷ more) = None
+command_in (first ∷ second ∷ third ∷ fourth ∷ more) = of_more (first ∷ second ∷ third ∷ fourth ∷ more)
+
+abbrev pub options_of : Options → Manner
+options_of options = Runs options.persistence (option_map (λ text. text.now) options.log) (option_map (λ text. text.now) options.metrics)
 
 -- what was read
 abbrev pub command_of : Result Words Arguments → Option Command
 command_of (Ok (Once config now)) = Some (ServeOnce config.now now)
-command_of (Ok (Node persistence config journal number)) = Some (RunNode persistence config.now journal.now number)
+command_of (Ok (Node node)) = Some (RunNode (options_of node.options) node.config.now node.journal.now node.number)
 command_of (Ok Help) = Some ShowHelp
 command_of (Ok Version) = Some ShowVersion
 command_of (Err fault) = None

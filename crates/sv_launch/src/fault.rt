@@ -68,6 +68,12 @@ pub enum Fault {
     /// Status 5: the node's port can't be listened at.
     #[error("Socket")]
     Socket,
+    /// Status 5: the log can't be opened.
+    #[error("Log")]
+    Log,
+    /// Status 5: the figures can't be written.
+    #[error("Metrics")]
+    Metrics,
     /// Status 5: standard input can't be read.
     #[error("Input")]
     Input,
@@ -87,7 +93,13 @@ impl Fault {
         match self {
             Fault::Arguments => 2,
             Fault::Device | Fault::Damaged | Fault::Full | Fault::JournalMemory => 4,
-            Fault::Secrets | Fault::Socket | Fault::Input | Fault::Output | Fault::Memory => 5,
+            Fault::Secrets
+            | Fault::Socket
+            | Fault::Log
+            | Fault::Metrics
+            | Fault::Input
+            | Fault::Output
+            | Fault::Memory => 5,
             _ => 3,
         }
     }
@@ -162,6 +174,8 @@ impl From<HostFault> for Fault {
             HostFault::Damaged => Fault::Damaged,
             HostFault::Full => Fault::Full,
             HostFault::Memory => Fault::JournalMemory,
+            HostFault::Log => Fault::Log,
+            HostFault::Metrics => Fault::Metrics,
         }
     }
 }

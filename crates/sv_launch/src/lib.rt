@@ -8,6 +8,7 @@
 #![tactic(auto)]
 
 mod descriptor;
+mod failure;
 mod fault;
 mod kinds;
 mod launch;
@@ -25,4 +26,4 @@ pub use objects::{Entry, entries_of};
 pub use program::{Applications, Samples, run, words_of};
 pub use purpose::{Purpose, Running, Stream};
 pub use stream::{OnceFault, once};
-pub use words::{Arguments, Words, read_words};
+pub use words::{Arguments, NodeWords, Options, Words, read_words};

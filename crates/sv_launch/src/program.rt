@@ -1,10 +1,11 @@
 //! What a program of nodes does: as the words of its command line ask for, with applications of its own.
 
 use crate::descriptor::read_config;
+use crate::failure::log_failure;
 use crate::fault::Fault;
 use crate::launch::start;
 use crate::purpose::{Purpose, Running, Stream};
-use crate::words::{Words, read_words};
+use crate::words::{NodeWords, Words, read_words};
 use std::alloc::Global;
 use std::fs::File;
 use std::io::ErrorKind;
@@ -12,7 +13,7 @@ use std::net::{Net, TcpListener, TcpStream};
 use std::rt::{Clock, Env, Files};
 use std::{env, io};
 use sv_config::Deployment;
-use sv_host::{Machine, Persistence, Place};
+use sv_host::{Machine, Place};
 use sv_version::version;
 
 /// The words behind the program's name. One that is no UTF-8 text is [`Fault::Arguments`].
@@ -76,32 +77,42 @@ fn serve_input<A: Applications, R: Files + Input + Print + AllocGlobal>(
     )
 }
 
-/// Runs the node of a number in the cluster of the descriptor at a path, over the journal at a path, until a command stops it.
-fn run_in_cluster<A: Applications, M: Machine>(
+/// Runs a node in the cluster of its descriptor, over its files, until a command stops it.
+fn serve_in_cluster<A: Applications, M: Machine + Print>(
     applications: &A,
     machine: &M,
-    persistence: Persistence,
-    config: &str,
-    journal: &str,
-    number: u8,
+    node: &NodeWords<'_>,
 ) -> Result<(), Fault> {
-    let deployment = read_config(machine, config)?;
-    let place = Place::new(machine.alloc(), &deployment.cluster, number)?;
+    let deployment = read_config(machine, node.config)?;
+    let place = Place::new(machine.alloc(), &deployment.cluster, node.number)?;
     let running = Running {
         machine,
         place,
-        persistence,
-        journal,
+        persistence: node.options.persistence,
+        paths: node.paths(),
     };
     applications.start(machine.alloc(), deployment, running)
+}
+
+/// The same; why it ends otherwise than by a command is the last line of its log, where it has one.
+fn run_in_cluster<A: Applications, M: Machine + Print>(
+    applications: &A,
+    machine: &M,
+    node: &NodeWords<'_>,
+) -> Result<(), Fault> {
+    let served = serve_in_cluster(applications, machine, node);
+    if let Err(fault) = served {
+        log_failure(machine, node, fault);
+    }
+    served
 }
 
 /// What the words may be, behind the program's name.
 const HELP: &str = " serves web applications over HTTP/1.1, and keeps their sessions in a journal.
 
-    [--keep-alive] CONFIG JOURNAL NUMBER   runs a node of a cluster until it is told to halt; it says `ready` and its
-                                           number once it serves
-    --once CONFIG NOW                      serves the requests of standard input, to standard output
+    [OPTION ..] CONFIG JOURNAL NUMBER   runs a node of a cluster until it is told to halt; it says `ready` and its
+                                        number once it serves
+    --once CONFIG NOW                   serves the requests of standard input, to standard output
     --help, --version
 
     CONFIG        the descriptor of the nodes and their applications, in TOML; with --once also -, for the one that is
@@ -110,10 +121,15 @@ const HELP: &str = " serves web applications over HTTP/1.1, and keeps their sess
                   where they aren't there
     NUMBER        which node of the descriptor it is, from 0
     NOW           the moment of all requests, in whole seconds since 1970
-    --keep-alive  lets each connection of a client bring many requests, else one
+
+    --keep-alive    lets each connection of a client bring many requests, else one
+    --log FILE      adds a line to FILE, or writes it to standard error where FILE is -, for each thing that may be
+                    asked about afterwards: what was opened, refused, lost or ordered, and the fault that ends the node
+    --metrics FILE  writes the node's figures to FILE every 5 seconds, as Prometheus reads them
 
 Status 0: halted, or served to the end. 2: words. 3: the descriptor, or an object that it names. 4: the journal. 5: a
-socket, secrets, standard input or output. A fault prints one line with its name on standard error.
+socket, secrets, the log, the figures, standard input or output. A fault prints one line with its name on standard
+error.
 ";
 
 /// What the program's file is called, as it was called.
@@ -154,19 +170,13 @@ where
         + Clock
         + Env
         + Print
+        + Eprint
         + Input
         + AllocGlobal,
 {
     match read_words(words) {
         Ok(Words::Once { config, now }) => serve_input(applications, rt, config, now),
-        Ok(
-            Words::Node {
-                persistence,
-                config,
-                journal,
-                number,
-            },
-        ) => run_in_cluster(applications, rt, persistence, config, journal, number),
+        Ok(Words::Node(node)) => run_in_cluster(applications, rt, &node),
         Ok(Words::Help) => say(rt, HELP),
         Ok(Words::Version) => say_version(rt),
         Err(_) => Err(Fault::Arguments),

@@ -4,7 +4,7 @@ use crate::fault::Fault;
 use crate::stream::once;
 use std::alloc::Global;
 use std::io::{Read, Write};
-use sv_host::{Machine, Persistence, Place, run_node};
+use sv_host::{Machine, Paths, Persistence, Place, run_node};
 use sv_model::Engine;
 
 /// What an engine is made for.
@@ -34,24 +34,24 @@ impl<R: Read, W: Write> Purpose for Stream<'_, R, W> {
     }
 }
 
-/// A node of a cluster, over the journal at a path.
+/// A node of a cluster, over its files.
 #[derive(Drop)]
-pub struct Running<'a, M: Machine> {
+pub struct Running<'a, M: Machine + Print> {
     pub machine: &'a M,
     pub place: Place,
     pub persistence: Persistence,
-    pub journal: &'a str,
+    pub paths: Paths<'a>,
 }
 
-impl<M: Machine> Purpose for Running<'_, M> {
+impl<M: Machine + Print> Purpose for Running<'_, M> {
     fn serve<E: Engine + Drop>(self, _alloc: Global, engine: E) -> Result<(), Fault> {
         let Running {
             machine,
             place,
             persistence,
-            journal,
+            paths,
         } = self;
-        run_node(machine, engine, place, persistence, journal)?;
+        run_node(machine, engine, place, persistence, paths)?;
         Ok(())
     }
 }

@@ -2,9 +2,9 @@
 
 ghost use Rattle.std.specs.Prelude.{◌≡◌, map, string_bytes};
 ghost use Rattle.sv_web.specs.Numeral.{number_in};
-ghost use Rattle.sv_launch.specs.Words.{command_of, command_in, once_at, node_at, of_one, of_three, of_four};
+ghost use Rattle.sv_launch.specs.Words.{command_of, command_in, once_at, node_at, of_one, of_three, of_more, option_of, options_of, last_of};
 
-use sv_host::Persistence;
+use sv_host::{Paths, Persistence};
 use sv_web::{read_u8, read_u64};
 use thiserror::Error;
 
@@ -12,26 +12,58 @@ use thiserror::Error;
 #[derive(Clone, Copy, Debug, PartialEq, Eq)]
 pub enum Words<'a> {
     /// `--once CONFIG NOW`: serves standard input, at a moment in whole seconds since 1970.
-    Once {
-        config: &'a str,
-        now: u64,
-    },
-    /// `CONFIG JOURNAL NUMBER`: runs the node of that number; with `--keep-alive` before them its clients' connections are kept.
-    Node {
-        persistence: Persistence,
-        config: &'a str,
-        journal: &'a str,
-        number: u8,
-    },
+    Once { config: &'a str, now: u64 },
+    /// `CONFIG JOURNAL NUMBER`, and options before them: runs the node of that number.
+    Node(NodeWords<'a>),
     /// `--help` or `-h`: says what the words may be.
     Help,
     /// `--version` or `-V`: says which version it is.
     Version,
 }
 
+/// What a node is started with.
+#[derive(Clone, Copy, Debug, PartialEq, Eq)]
+pub struct NodeWords<'a> {
+    pub options: Options<'a>,
+    pub config: &'a str,
+    pub journal: &'a str,
+    pub number: u8,
+}
+
+impl<'a> NodeWords<'a> {
+    /// The files that the node writes.
+    pub fn paths(&self) -> Paths<'a> {
+        Paths {
+            journal: self.journal,
+            log: self.options.log,
+            metrics: self.options.metrics,
+        }
+    }
+}
+
+/// How a node runs.
+#[derive(Clone, Copy, Debug, PartialEq, Eq)]
+pub struct Options<'a> {
+    /// `--keep-alive`: its clients' connections are kept.
+    pub persistence: Persistence,
+    /// `--log FILE`: what happens is written there, or to standard error where FILE is `-`.
+    pub log: Option<&'a str>,
+    /// `--metrics FILE`: its figures are written there.
+    pub metrics: Option<&'a str>,
+}
+
+impl Options<'_> {
+    /// Those of a node whose words have none.
+    pub const NONE: Options<'static> = Options {
+        persistence: Persistence::Single,
+        log: None,
+        metrics: None,
+    };
+}
+
 /// The words ask for nothing.
 #[derive(Clone, Copy, Debug, PartialEq, Eq, Error)]
-#[error("the words are neither `--once CONFIG NOW` nor `[--keep-alive] CONFIG JOURNAL NUMBER`")]
+#[error("the words are neither `--once CONFIG NOW` nor `[OPTION ..] CONFIG JOURNAL NUMBER`")]
 pub struct Arguments;
 
 /// `--once CONFIG NOW`.
@@ -46,20 +78,20 @@ fn read_once<'a>(config: &'a str, now: &str) -> Result<Words<'a>, Arguments>
 
 /// `CONFIG JOURNAL NUMBER`.
 fn read_node<'a>(
-    persistence: Persistence,
+    options: Options<'a>,
     config: &'a str,
     journal: &'a str,
     number: &str,
 ) -> Result<Words<'a>, Arguments>
-    ensures { command_of result ≡ node_at persistence config.now journal.now (number_in 8 number.now) }
+    ensures { command_of result ≡ node_at (options_of options.entry) config.now journal.now (number_in 8 number.now) }
 {
     match read_u8(number) {
-        Some(number) => Ok(Words::Node {
-            persistence,
+        Some(number) => Ok(Words::Node(NodeWords {
+            options,
             config,
             journal,
             number,
-        }),
+        })),
         None => Err(Arguments),
     }
 }
@@ -84,24 +116,67 @@ fn read_three<'a>(first: &'a str, second: &'a str, third: &str) -> Result<Words<
     if first == "--once" {
         read_once(second, third)
     } else {
-        read_node(Persistence::Single, first, second, third)
+        read_node(Options::NONE, first, second, third)
     }
 }
 
-/// Four words.
-fn read_four<'a>(
-    first: &str,
-    second: &'a str,
-    third: &'a str,
-    fourth: &str,
-) -> Result<Words<'a>, Arguments>
-    ensures { command_of result ≡ of_four first.now second.now third.now fourth.now }
+/// The options, with the one that stands at the front of the words, and the words behind it; as they are where none stands there.
+fn read_option<'a>(options: Options<'a>, words: &'a [String]) -> (Options<'a>, &'a [String])
+    ensures options { options_of result.0 ≡ (option_of (options_of options.entry) (map string_bytes words.now)).0 }
+    ensures words { map string_bytes result.1.now ≡ (option_of (options_of options.entry) (map string_bytes words.now)).1 }
 {
-    if first == "--keep-alive" {
-        read_node(Persistence::Kept, second, third, fourth)
-    } else {
-        Err(Arguments)
+    let [first, second, rest @ ..] = words else {
+        return (options, words);
+    };
+    match first.as_str() {
+        "--keep-alive" => (
+            Options {
+                persistence: Persistence::Kept,
+                ..options
+            },
+            &words[1..],
+        ),
+        "--log" => (
+            Options {
+                log: Some(second.as_str()),
+                ..options
+            },
+            rest,
+        ),
+        "--metrics" => (
+            Options {
+                metrics: Some(second.as_str()),
+                ..options
+            },
+            rest,
+        ),
+        _ => (options, words),
     }
+}
+
+/// The words of a node, behind its options.
+fn read_last<'a>(options: Options<'a>, words: &'a [String]) -> Result<Words<'a>, Arguments>
+    ensures { command_of result ≡ last_of (options_of options.entry) (map string_bytes words.now) }
+{
+    match words {
+        [config, journal, number] => read_node(
+            options,
+            config.as_str(),
+            journal.as_str(),
+            number.as_str(),
+        ),
+        _ => Err(Arguments),
+    }
+}
+
+/// Up to three options, and the words of a node. Of two equal options the last one counts.
+fn read_more(words: &[String]) -> Result<Words<'_>, Arguments>
+    ensures { command_of result ≡ of_more (map string_bytes words.now) }
+{
+    let (options, words) = read_option(Options::NONE, words);
+    let (options, words) = read_option(options, words);
+    let (options, words) = read_option(options, words);
+    read_last(options, words)
 }
 
 /// What the words behind the program's name ask for.
@@ -113,12 +188,7 @@ pub fn read_words(words: &[String]) -> Result<Words<'_>, Arguments>
     match words {
         [word] => read_one(word.as_str()),
         [first, second, third] => read_three(first.as_str(), second.as_str(), third.as_str()),
-        [first, second, third, fourth] => read_four(
-            first.as_str(),
-            second.as_str(),
-            third.as_str(),
-            fourth.as_str(),
-        ),
+        [_, _, _, _, ..] => read_more(words),
         _ => Err(Arguments),
     }
 }

@@ -5,9 +5,10 @@
 //! names stand for the samples of `sv_samples`, or `-` for the built-in one: the context `/shop` with each sample
 //! servlet.
 //!
-//! `node [--keep-alive] CONFIG JOURNAL NUMBER` runs the node of that number in the cluster of the descriptor: it listens at its
+//! `node [OPTION ..] CONFIG JOURNAL NUMBER` runs the node of that number in the cluster of the descriptor: it listens at its
 //! port on the loopback address, keeps its sessions in the files JOURNAL and JOURNAL with `.b`, and serves until a command stops
-//! it. With `--keep-alive` a client's connection brings many requests, else one.
+//! it. With `--keep-alive` a client's connection brings many requests, else one. With `--log FILE` it tells there what happens, and
+//! with `--metrics FILE` how often.
 //!
 //! A fault prints one line `node: ` and its name on standard error and ends the program with its status.
 #![tactic(auto)]

@@ -4,7 +4,7 @@ use super::NOW;
 use std::alloc::Global;
 use std::test::Fail;
 use sv_host::Persistence;
-use sv_launch::{Arguments, Words, read_words};
+use sv_launch::{Arguments, NodeWords, Options, Words, read_words};
 
 /// Three words, and what they ask for.
 struct Line([&'static str; 3], Result<Words<'static>, Arguments>);
@@ -30,12 +30,12 @@ const LINES: [Line; 8] = [
     Line(["--once", "-", "1 "], Err(Arguments)),
     Line(
         ["c", "j", "7"],
-        Ok(Words::Node {
-            persistence: Persistence::Single,
+        Ok(Words::Node(NodeWords {
+            options: Options::NONE,
             config: "c",
             journal: "j",
             number: 7,
-        }),
+        })),
     ),
     Line(["c", "j", "256"], Err(Arguments)),
 ];
@@ -86,12 +86,16 @@ fn one_word(rt: HostRuntime) -> Result<(), Fail> {
 const FRONTS: [(&str, Result<Words<'static>, Arguments>); 2] = [
     (
         "--keep-alive",
-        Ok(Words::Node {
-            persistence: Persistence::Kept,
+        Ok(Words::Node(NodeWords {
+            options: Options {
+                persistence: Persistence::Kept,
+                log: None,
+                metrics: None,
+            },
             config: "c",
             journal: "j",
             number: 7,
-        }),
+        })),
     ),
     ("--once", Err(Arguments)),
 ];
@@ -104,6 +108,68 @@ fn a_word_in_front(rt: HostRuntime) -> Result<(), Fail> {
         assert!(rt; read_words(list.as_slice()) == *meant, "{front}");
         list.push(String::from_str(rt.alloc(), "8")?)?;
         assert!(rt; read_words(list.as_slice()) == Err(Arguments));
+    }
+    Ok(())
+}
+
+/// Options before the words `c j 7`, and how the node then runs; none where the words ask for nothing.
+struct Before(&'static [&'static str], Option<Options<'static>>);
+
+const LOGGED: Option<Options<'static>> = Some(Options {
+    persistence: Persistence::Single,
+    log: Some("l"),
+    metrics: None,
+});
+
+const COUNTED: Option<Options<'static>> = Some(Options {
+    persistence: Persistence::Single,
+    log: None,
+    metrics: Some("m"),
+});
+
+const ALL: Option<Options<'static>> = Some(Options {
+    persistence: Persistence::Kept,
+    log: Some("l"),
+    metrics: Some("m"),
+});
+
+/// In any order, three at most, and of two equal ones the last one counts. What stands behind `--log` and `--metrics` is a path,
+/// whatever it is.
+const OPTIONS: [Before; 8] = [
+    Before(&["--log", "l"], LOGGED),
+    Before(&["--metrics", "m"], COUNTED),
+    Before(&["--log", "l", "--metrics", "m", "--keep-alive"], ALL),
+    Before(&["--keep-alive", "--metrics", "m", "--log", "l"], ALL),
+    Before(&["--log", "--log", "--log", "l"], LOGGED),
+    Before(&["--log"], None),
+    Before(&["l", "--log"], None),
+    Before(
+        &["--log", "x", "--log", "x", "--log", "x", "--log", "l"],
+        None,
+    ),
+];
+
+/// These words, and `c j 7` behind them.
+fn with_node(alloc: Global, before: &[&str]) -> Result<Vec<String>, Fail> {
+    let mut list = Vec::new(alloc);
+    for word in before {
+        list.push(String::from_str(alloc, *word)?)?;
+    }
+    for word in ["c", "j", "7"] {
+        list.push(String::from_str(alloc, word)?)?;
+    }
+    Ok(list)
+}
+
+#[test]
+fn options(rt: HostRuntime) -> Result<(), Fail> {
+    for Before(before, meant) in &OPTIONS {
+        let list = with_node(rt.alloc(), *before)?;
+        let found = match read_words(list.as_slice()) {
+            Ok(Words::Node(node)) => Some(node.options),
+            _ => None,
+        };
+        assert!(rt; found == *meant, "{before:?}");
     }
     Ok(())
 }

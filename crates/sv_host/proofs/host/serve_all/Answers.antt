@@ -2,8 +2,8 @@ use Rattle.std.proofs.Common.{inl, arith}
 use Rattle.sv_node.proofs.HistoryLemmas.{goes_nowhere}
 use Rattle.sv_host.proofs.host.serve_all.Goals as goal
 
-pub returns-then-is_err-clause-ended : goal.returns-then-is_err-clause-ended
-returns-then-is_err-clause-ended g c =
+pub returns-then-not-announce-clause-ended : goal.returns-then-not-announce-clause-ended
+returns-then-not-announce-clause-ended g c =
     let e = g.E.Engine in
     let d = g.D.Disk in
     (0, inl (goes_nowhere e.meaning e.heard d.tells d.may_leave d.moment d.left_since 0 0 c.args.node.now (omega arith) c.requires.live))

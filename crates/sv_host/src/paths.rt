@@ -1,0 +1,12 @@
+//! The files that a node writes.
+
+/// The paths of the files that a node writes.
+#[derive(Clone, Copy)]
+pub struct Paths<'a> {
+    /// The journal's file; a second one stands beside it, whose name ends in `.b`.
+    pub journal: &'a str,
+    /// The log, to which lines are added; `-` for standard error.
+    pub log: Option<&'a str>,
+    /// The figures, which are written anew every few seconds.
+    pub metrics: Option<&'a str>,
+}

@@ -1,0 +1,119 @@
+//! The last line of the log of a node that ends before it is told to.
+
+use crate::descriptor::read_config;
+use crate::fault::Fault;
+use crate::words::NodeWords;
+use std::fs::{File, OpenOptions};
+use std::io;
+use std::net::{Ipv4Addr, OpenListener, SocketAddr, TcpListener};
+use sv_config::Cluster;
+use sv_host::Machine;
+use sv_log::{Failure, Level, Log, Site};
+
+/// What the system says where a file is opened to be written and locked, as a journal is.
+fn refused_file<M: Machine>(machine: &M, path: &str) -> io::Result<()> {
+    let file = OpenOptions::new()
+        .read(true)
+        .write(true)
+        .open(machine, path)?;
+    file.try_lock()?;
+    Ok(())
+}
+
+/// What the system says of a port that is to be listened at.
+fn refused_port<M: Machine>(machine: &M, port: u16) -> io::Result<()> {
+    let addr = SocketAddr::from((Ipv4Addr::LOCALHOST, port));
+    let _listener: TcpListener = TcpListener::bind(machine, addr)?;
+    Ok(())
+}
+
+/// What the system says of a file that is to be read.
+fn unread_file<M: Machine>(machine: &M, path: &str) -> io::Result<()> {
+    let _file = File::open(machine, path)?;
+    Ok(())
+}
+
+/// Where a fault of what the cluster's descriptor names was found, its port or its file of secrets, and what the system says there when it
+/// is asked once more.
+fn found_in_cluster<'a, M: Machine>(
+    machine: &M,
+    cluster: &'a Cluster,
+    number: u8,
+    fault: Fault,
+) -> (Site<'a>, io::Result<()>) {
+    match &cluster.secrets {
+        Some(path) if fault == Fault::Secrets => {
+            let path = path.as_str();
+            (Site::Path(path), unread_file(machine, path))
+        }
+        _ => {
+            let port = cluster.ports.get(usize::from(number)).copied().unwrap_or(0);
+            (Site::Port(port), refused_port(machine, port))
+        }
+    }
+}
+
+/// The same of a fault of one of the node's files, or of none.
+fn found_in_files<'a, M: Machine>(
+    machine: &M,
+    node: &NodeWords<'a>,
+    fault: Fault,
+) -> (Site<'a>, io::Result<()>) {
+    match fault {
+        Fault::Device => (
+            Site::Path(node.journal),
+            refused_file(machine, node.journal),
+        ),
+        Fault::Damaged | Fault::Full | Fault::JournalMemory => (Site::Path(node.journal), Ok(())),
+        Fault::Unreadable => (Site::Path(node.config), unread_file(machine, node.config)),
+        Fault::Metrics => (Site::Path(node.options.metrics.unwrap_or("")), Ok(())),
+        Fault::Input | Fault::Output | Fault::Memory => (Site::None, Ok(())),
+        _ => (Site::Path(node.config), Ok(())),
+    }
+}
+
+/// Puts down a fault.
+fn put_down<M: Machine>(
+    machine: &M,
+    log: &mut Log,
+    fault: Fault,
+    found: (Site<'_>, io::Result<()>),
+) {
+    let (site, asked) = found;
+    if let Ok(name) = fault.to_string(machine.alloc()) {
+        let failure = Failure {
+            fault: name.as_str(),
+            status: fault.status(),
+            site,
+            error: asked.as_ref().err(),
+        };
+        log.say(Level::Error, failure);
+    }
+}
+
+/// Puts down why a node ends.
+fn put_down_any<M: Machine>(machine: &M, log: &mut Log, node: &NodeWords<'_>, fault: Fault) {
+    if matches!(fault, Fault::Socket | Fault::Secrets)
+        && let Ok(deployment) = read_config(machine, node.config)
+    {
+        let found = found_in_cluster(machine, &deployment.cluster, node.number, fault);
+        put_down(machine, log, fault, found);
+    } else {
+        put_down(machine, log, fault, found_in_files(machine, node, fault));
+    }
+}
+
+/// Adds the line to the log of a node, where it has one that can be opened.
+pub fn log_failure<M: Machine>(machine: &M, node: &NodeWords<'_>, fault: Fault) {
+    let Some(path) = node.options.log else {
+        return;
+    };
+    let Ok(mut log) = Log::open(machine.alloc(), machine, path) else {
+        return;
+    };
+    if let Ok(now) = machine.since_1970() {
+        log.at(now.as_secs());
+    }
+    put_down_any(machine, &mut log, node, fault);
+    log.flush(machine);
+}

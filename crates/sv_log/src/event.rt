@@ -1,0 +1,224 @@
+//! What happens at a node that an operator may ask about afterwards.
+
+use crate::level::Level;
+use crate::loss::Loss;
+use crate::phase::Phase;
+use std::fmt;
+use sv_model::{Cause, Key, MoveRefusal};
+
+/// What happens at a node. It has no text but names of this repository's own.
+#[derive(Clone, Copy)]
+pub enum Event {
+    /// Somebody was accepted.
+    Accepted,
+    /// A text was said to a client, whose status is of this class, 1 to 5 (RFC 9110, section 15).
+    Answered { class: u8 },
+    /// The request of this number, counted from the start, is answered 503.
+    Refused { cause: Cause, number: u64 },
+    /// What a client has sent is no request that is served; it is answered with a page of this fault's name.
+    BadRequest { fault: &'static str },
+    /// A connection was closed for somebody who has come.
+    GaveWay { phase: Phase },
+    /// A connection was closed which took too long.
+    Late { phase: Phase },
+    /// Somebody who has come can't be accepted: no file is left to the process, or no connection gives way.
+    NoRoom,
+    /// A packet was sent.
+    PacketSent { to: u8 },
+    /// A packet was lost, and is sent again.
+    PacketLost { to: u8, why: Loss },
+    /// A node that was reached before can't be reached.
+    PeerSilent { node: u8 },
+    /// It is reached again.
+    PeerAnswers { node: u8 },
+    /// A session is to be handed to a node.
+    MoveOrdered { key: Key, to: u8 },
+    /// It was.
+    Moved,
+    /// It wasn't.
+    MoveRefused { why: MoveRefusal },
+    /// The node is to stop.
+    HaltOrdered,
+    /// A packet of a peer, or what the node was to do by itself, was left out; it comes again.
+    LeftOut { cause: Cause },
+    /// A command was left out; who gave it was told so.
+    OrderRefused { cause: Cause },
+    /// So many steps were taken together.
+    Group { steps: u64 },
+    /// The journal was written anew; its lengths in bytes.
+    Compacted { before: u64, after: u64 },
+    /// The journal couldn't be written anew, and goes on as it is.
+    NotCompacted { bytes: u64 },
+    /// The figures couldn't be written.
+    NoFigures,
+}
+
+/// The name of a cause, as the body of the answer has it.
+pub fn cause_name(cause: Cause) -> &'static str {
+    match cause {
+        Cause::ParkFull => "ParkFull",
+        Cause::Deadline => "Deadline",
+        Cause::TableFull => "TableFull",
+        Cause::SerialsSpent => "SerialsSpent",
+        Cause::WantsSpent => "WantsSpent",
+        Cause::JournalFull => "JournalFull",
+        Cause::Memory => "Memory",
+    }
+}
+
+/// The name of a reason for which a session isn't moved.
+fn refusal_name(why: MoveRefusal) -> &'static str {
+    match why {
+        MoveRefusal::UnknownKey => "UnknownKey",
+        MoveRefusal::NotActive => "NotActive",
+        MoveRefusal::BadPeer => "BadPeer",
+        MoveRefusal::EpochsSpent => "EpochsSpent",
+    }
+}
+
+/// A key and its value, with a blank before it.
+#[derive(Clone, Copy)]
+enum Field {
+    None,
+    Word(&'static str, &'static str),
+    Number(&'static str, u64),
+    Session(Key),
+}
+
+impl fmt::Display for Field {
+    fn fmt<W: fmt::Write>(&self, f: &mut fmt::Formatter<W>) -> fmt::Result {
+        match *self {
+            Field::None => Ok(()),
+            Field::Word(key, value) => write!(f, " {key}={value}"),
+            Field::Number(key, value) => write!(f, " {key}={value}"),
+            Field::Session(Key { home, serial }) => write!(f, " key={home}.{serial}"),
+        }
+    }
+}
+
+fn to(node: u8) -> Field {
+    Field::Number("to", u64::from(node))
+}
+
+/// What lines of a second are equal by.
+#[derive(Clone, Copy, PartialEq, Eq)]
+pub struct Sort {
+    what: &'static str,
+    word: &'static str,
+    node: u8,
+}
+
+impl Event {
+    /// How much it matters; none where the log has no line for it, as it happens all the time.
+    pub fn level(self) -> Option<Level> {
+        match self {
+            Event::Accepted
+            | Event::Answered { .. }
+            | Event::PacketSent { .. }
+            | Event::Group { .. } => None,
+            Event::PeerAnswers { .. }
+            | Event::MoveOrdered { .. }
+            | Event::Moved
+            | Event::HaltOrdered
+            | Event::Compacted { .. } => Some(Level::Info),
+            _ => Some(Level::Warn),
+        }
+    }
+
+    /// What the line says that has happened.
+    fn what(self) -> &'static str {
+        match self {
+            Event::Accepted => "accepted",
+            Event::Answered { .. } => "answered",
+            Event::Refused { .. } => "request_refused",
+            Event::BadRequest { .. } => "bad_request",
+            Event::GaveWay { .. } => "client_gave_way",
+            Event::Late { .. } => "client_late",
+            Event::NoRoom => "no_room",
+            Event::PacketSent { .. } => "packet_sent",
+            Event::PacketLost { .. } => "packet_lost",
+            Event::PeerSilent { .. } => "peer_silent",
+            Event::PeerAnswers { .. } => "peer_answers",
+            Event::MoveOrdered { .. } => "move_ordered",
+            Event::Moved => "moved",
+            Event::MoveRefused { .. } => "move_refused",
+            Event::HaltOrdered => "halt_ordered",
+            Event::LeftOut { .. } => "input_left_out",
+            Event::OrderRefused { .. } => "order_refused",
+            Event::Group { .. } => "group",
+            Event::Compacted { .. } => "compacted",
+            Event::NotCompacted { .. } => "not_compacted",
+            Event::NoFigures => "figures_unwritten",
+        }
+    }
+
+    /// What the line says of it.
+    fn fields(self) -> (Field, Field) {
+        match self {
+            Event::Refused { cause, number } => (
+                Field::Word("cause", cause_name(cause)),
+                Field::Number("number", number),
+            ),
+            Event::LeftOut { cause } | Event::OrderRefused { cause } => {
+                (Field::Word("cause", cause_name(cause)), Field::None)
+            }
+            Event::BadRequest { fault } => (Field::Word("fault", fault), Field::None),
+            Event::GaveWay { phase } | Event::Late { phase } => {
+                (Field::Word("phase", phase.name()), Field::None)
+            }
+            Event::PacketSent { to: node } => (to(node), Field::None),
+            Event::PacketLost { to: node, why } => (to(node), Field::Word("why", why.name())),
+            Event::PeerSilent { node } | Event::PeerAnswers { node } => {
+                (Field::Number("node", u64::from(node)), Field::None)
+            }
+            Event::MoveOrdered { key, to: node } => (Field::Session(key), to(node)),
+            Event::MoveRefused { why } => (Field::Word("why", refusal_name(why)), Field::None),
+            Event::Compacted { before, after } => (
+                Field::Number("before", before),
+                Field::Number("after", after),
+            ),
+            Event::NotCompacted { bytes } => (Field::Number("bytes", bytes), Field::None),
+            Event::Answered { class } => { (Field::Number("class", u64::from(class)), Field::None) }
+            Event::Group { steps } => (Field::Number("steps", steps), Field::None),
+            Event::Accepted
+            | Event::NoRoom
+            | Event::Moved
+            | Event::HaltOrdered
+            | Event::NoFigures => { (Field::None, Field::None) }
+        }
+    }
+
+    /// What its line is known again by.
+    pub fn sort(self) -> Sort {
+        let (word, node) = self.known_by();
+        Sort {
+            what: self.what(),
+            word,
+            node,
+        }
+    }
+
+    /// What its line is known again by beside what has happened: the event without the numbers that differ each time.
+    fn known_by(self) -> (&'static str, u8) {
+        match self {
+            Event::Refused { cause, .. }
+            | Event::LeftOut { cause }
+            | Event::OrderRefused { cause } => (cause_name(cause), 0),
+            Event::BadRequest { fault } => (fault, 0),
+            Event::GaveWay { phase } | Event::Late { phase } => (phase.name(), 0),
+            Event::PacketLost { to, why } => (why.name(), to),
+            Event::PeerSilent { node } | Event::PeerAnswers { node } => ("", node),
+            Event::MoveOrdered { to, .. } => ("", to),
+            Event::MoveRefused { why } => (refusal_name(why), 0),
+            _ => ("", 0),
+        }
+    }
+}
+
+impl fmt::Display for Event {
+    fn fmt<W: fmt::Write>(&self, f: &mut fmt::Formatter<W>) -> fmt::Result {
+        let what = self.what();
+        let (first, second) = self.fields();
+        write!(f, "{what}{first}{second}")
+    }
+}

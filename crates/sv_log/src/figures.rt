@@ -1,0 +1,195 @@
+//! What has happened at a node since its start, in numbers.
+
+use crate::event::{Event, cause_name};
+use crate::family::{Family, Label};
+use crate::loss::Loss;
+use crate::names::{
+    ACCEPTED, BAD_REQUESTS, COMPACTIONS, CONNECTIONS, GAVE_WAY, GROUPS, JOURNAL, LATE, LOST, MOVED,
+    NO_ROOM, ORDERED, REFUSED, REQUESTS, SENT, STEPS, TIME, WAITING,
+};
+use std::alloc::AllocError;
+use sv_model::Cause;
+
+/// The causes of a refusal, in the order in which figures have them.
+const CAUSES: [Cause; 7] = [
+    Cause::ParkFull,
+    Cause::Deadline,
+    Cause::TableFull,
+    Cause::SerialsSpent,
+    Cause::WantsSpent,
+    Cause::JournalFull,
+    Cause::Memory,
+];
+
+/// The classes of a status (RFC 9110, section 15).
+const CLASSES: [&str; 5] = ["1xx", "2xx", "3xx", "4xx", "5xx"];
+
+/// What has happened at a node since its start, in numbers.
+#[derive(Clone, Copy, Default)]
+pub struct Figures {
+    answered: [u64; 5],
+    refused: [u64; 7],
+    bad: u64,
+    accepted: u64,
+    gave_way: u64,
+    late: u64,
+    no_room: u64,
+    sent: u64,
+    lost: [u64; 7],
+    ordered: u64,
+    moved: u64,
+    groups: u64,
+    steps: u64,
+    compactions: u64,
+}
+
+/// What there is at a node at a moment.
+#[derive(Clone, Copy, Default)]
+pub struct Gauges {
+    /// Clients whose requests wait.
+    pub waiting: u64,
+    /// Connections that are open, packets on their way among them.
+    pub connections: u64,
+    /// The length of the journal in bytes.
+    pub journal: u64,
+    /// In seconds since 1970.
+    pub now: u64,
+}
+
+/// Writes figures that have one number each.
+fn write_plain(out: &mut String, node: u8, list: &[(Family, u64)]) -> Result<(), AllocError> {
+    for (family, value) in list {
+        family.head(out)?;
+        family.sample(out, node, *value)?;
+    }
+    Ok(())
+}
+
+fn rise(counter: &mut u64, by: u64) {
+    *counter = counter.saturating_add(by);
+}
+
+/// Adds one to a counter of several, where there is such a one.
+fn rise_at(counters: &mut [u64], place: Option<usize>) {
+    if let Some(place) = place
+        && let Some(counter) = counters.get_mut(place)
+    {
+        rise(counter, 1);
+    }
+}
+
+impl Figures {
+    /// Counts an event.
+    pub fn count(&mut self, event: Event) {
+        match event {
+            Event::Answered { class } => {
+                rise_at(&mut self.answered, usize::from(class).checked_sub(1));
+            }
+            Event::Refused { cause, .. } => rise_at(
+                &mut self.refused,
+                CAUSES.iter().position(|one| *one == cause),
+            ),
+            Event::PacketLost { why, .. } => rise_at(
+                &mut self.lost,
+                Loss::ALL.iter().position(|one| *one == why),
+            ),
+            Event::Group { steps } => {
+                rise(&mut self.groups, 1);
+                rise(&mut self.steps, steps);
+            }
+            other => self.count_plain(other),
+        }
+    }
+
+    /// Counts an event that is one of a single counter, if of any.
+    fn count_plain(&mut self, event: Event) {
+        match event {
+            Event::BadRequest { .. } => rise(&mut self.bad, 1),
+            Event::Accepted => rise(&mut self.accepted, 1),
+            Event::GaveWay { .. } => rise(&mut self.gave_way, 1),
+            Event::Late { .. } => rise(&mut self.late, 1),
+            Event::NoRoom => rise(&mut self.no_room, 1),
+            Event::PacketSent { .. } => rise(&mut self.sent, 1),
+            Event::MoveOrdered { .. } => rise(&mut self.ordered, 1),
+            Event::Moved => rise(&mut self.moved, 1),
+            Event::Compacted { .. } => rise(&mut self.compactions, 1),
+            _ => {}
+        }
+    }
+
+    /// The counters that have one number each.
+    fn counters(&self) -> [(Family, u64); 11] {
+        [
+            (BAD_REQUESTS, self.bad),
+            (ACCEPTED, self.accepted),
+            (GAVE_WAY, self.gave_way),
+            (LATE, self.late),
+            (NO_ROOM, self.no_room),
+            (SENT, self.sent),
+            (ORDERED, self.ordered),
+            (MOVED, self.moved),
+            (GROUPS, self.groups),
+            (STEPS, self.steps),
+            (COMPACTIONS, self.compactions),
+        ]
+    }
+
+    /// Writes the answers by their class.
+    fn write_answered(&self, out: &mut String, node: u8) -> Result<(), AllocError> {
+        REQUESTS.head(out)?;
+        for (class, count) in CLASSES.iter().zip(&self.answered) {
+            let label = Label {
+                key: "class",
+                value: *class,
+            };
+            REQUESTS.labelled(out, node, label, *count)?;
+        }
+        Ok(())
+    }
+
+    /// Writes the refusals by their cause.
+    fn write_refused(&self, out: &mut String, node: u8) -> Result<(), AllocError> {
+        REFUSED.head(out)?;
+        for (cause, count) in CAUSES.iter().zip(&self.refused) {
+            let label = Label {
+                key: "cause",
+                value: cause_name(*cause),
+            };
+            REFUSED.labelled(out, node, label, *count)?;
+        }
+        Ok(())
+    }
+
+    /// Writes the lost packets by their cause.
+    fn write_lost(&self, out: &mut String, node: u8) -> Result<(), AllocError> {
+        LOST.head(out)?;
+        for (why, count) in Loss::ALL.iter().zip(&self.lost) {
+            let label = Label {
+                key: "cause",
+                value: why.name(),
+            };
+            LOST.labelled(out, node, label, *count)?;
+        }
+        Ok(())
+    }
+
+    /// Writes all figures of a node, each name with its lines `# HELP` and `# TYPE` once.
+    pub fn write(&self, out: &mut String, node: u8, gauges: Gauges) -> Result<(), AllocError> {
+        self.write_answered(out, node)?;
+        self.write_refused(out, node)?;
+        self.write_lost(out, node)?;
+        write_plain(out, node, &self.counters())?;
+        write_plain(out, node, &gauges.all())
+    }
+}
+
+impl Gauges {
+    fn all(self) -> [(Family, u64); 4] {
+        [
+            (WAITING, self.waiting),
+            (CONNECTIONS, self.connections),
+            (JOURNAL, self.journal),
+            (TIME, self.now),
+        ]
+    }
+}

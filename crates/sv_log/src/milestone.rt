@@ -1,0 +1,53 @@
+//! What happens once in the life of a node.
+
+use crate::quoted::Quoted;
+use std::fmt;
+
+/// What happens once in the life of a node.
+#[derive(Clone, Copy)]
+pub enum Milestone<'a> {
+    /// It is to be the node of this number, at this port, over the journal at this path.
+    Starting {
+        node: u8,
+        port: u16,
+        journal: &'a str,
+    },
+    /// The journal was read, which has so many bytes now; so long that took, with the port and all.
+    Opened {
+        bytes: u64,
+        milliseconds: u64,
+    },
+    /// It serves.
+    Ready {
+        node: u8,
+        port: u16,
+    },
+    /// It was told to stop, and has.
+    Stopped,
+}
+
+impl fmt::Display for Milestone<'_> {
+    fn fmt<W: fmt::Write>(&self, f: &mut fmt::Formatter<W>) -> fmt::Result {
+        match *self {
+            Milestone::Starting {
+                node,
+                port,
+                journal,
+            } => {
+                let journal = Quoted(journal);
+                write!(f, "starting node={node} port={port} journal={journal}")
+            }
+            Milestone::Opened {
+                bytes,
+                milliseconds,
+            } => {
+                let (seconds, rest) = (milliseconds / 1_000, milliseconds % 1_000);
+                write!(f, "opened bytes={bytes} seconds={seconds}.{rest:03}")
+            }
+            Milestone::Ready { node, port } => {
+                write!(f, "ready node={node} address=127.0.0.1:{port}")
+            }
+            Milestone::Stopped => f.write_str("stopped"),
+        }
+    }
+}

@@ -1,0 +1,111 @@
+//! The names of all figures.
+
+use crate::family::{Family, Kind};
+
+pub const REQUESTS: Family = Family {
+    name: "requests_total",
+    kind: Kind::Counter,
+    help: "Requests that were answered, by the class of their status.",
+};
+
+pub const REFUSED: Family = Family {
+    name: "requests_refused_total",
+    kind: Kind::Counter,
+    help: "Requests that were answered 503, by the cause in the body.",
+};
+
+pub const LOST: Family = Family {
+    name: "packets_lost_total",
+    kind: Kind::Counter,
+    help: "Packets to other nodes that were lost, by the cause. A lost packet is sent again.",
+};
+
+pub const BAD_REQUESTS: Family = Family {
+    name: "bad_requests_total",
+    kind: Kind::Counter,
+    help: "Requests that could not be read, answered with the page of their fault.",
+};
+
+pub const ACCEPTED: Family = Family {
+    name: "connections_accepted_total",
+    kind: Kind::Counter,
+    help: "Connections that were accepted.",
+};
+
+pub const GAVE_WAY: Family = Family {
+    name: "connections_gave_way_total",
+    kind: Kind::Counter,
+    help: "Connections that were closed for somebody who had come.",
+};
+
+pub const LATE: Family = Family {
+    name: "connections_late_total",
+    kind: Kind::Counter,
+    help: "Connections that were closed because they took too long.",
+};
+
+pub const NO_ROOM: Family = Family {
+    name: "connections_no_room_total",
+    kind: Kind::Counter,
+    help: "Times that somebody could not be accepted.",
+};
+
+pub const SENT: Family = Family {
+    name: "packets_sent_total",
+    kind: Kind::Counter,
+    help: "Packets that were sent to other nodes.",
+};
+
+pub const ORDERED: Family = Family {
+    name: "moves_ordered_total",
+    kind: Kind::Counter,
+    help: "Orders to hand a session to another node.",
+};
+
+pub const MOVED: Family = Family {
+    name: "moves_total",
+    kind: Kind::Counter,
+    help: "Sessions that were handed to another node by an order.",
+};
+
+pub const GROUPS: Family = Family {
+    name: "groups_total",
+    kind: Kind::Counter,
+    help: "Groups of steps that were taken and made durable together.",
+};
+
+pub const STEPS: Family = Family {
+    name: "steps_total",
+    kind: Kind::Counter,
+    help: "Steps that were taken.",
+};
+
+pub const COMPACTIONS: Family = Family {
+    name: "compactions_total",
+    kind: Kind::Counter,
+    help: "Times that the journal was written anew.",
+};
+
+pub const WAITING: Family = Family {
+    name: "waiting_requests",
+    kind: Kind::Gauge,
+    help: "Requests that wait for their sessions.",
+};
+
+pub const CONNECTIONS: Family = Family {
+    name: "connections",
+    kind: Kind::Gauge,
+    help: "Connections that are open, packets on their way among them.",
+};
+
+pub const JOURNAL: Family = Family {
+    name: "journal_bytes",
+    kind: Kind::Gauge,
+    help: "The length of the journal.",
+};
+
+pub const TIME: Family = Family {
+    name: "time_seconds",
+    kind: Kind::Gauge,
+    help: "What the node took for the time when it wrote this, in seconds since 1970.",
+};

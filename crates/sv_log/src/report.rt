@@ -1,0 +1,237 @@
+//! What a node tells its operator: a log and figures, either or none.
+
+use crate::event::Event;
+use crate::figures::Gauges;
+use crate::level::Level;
+use crate::log::Log;
+use crate::loss::Loss;
+use crate::metrics::Metrics;
+use crate::milestone::Milestone;
+use std::alloc::Global;
+use std::fmt;
+use std::fs::{File, Files};
+
+/// So many nodes may be in a cluster.
+const NODES: usize = 8;
+
+/// Why a report can't be begun.
+#[derive(Clone, Copy, Debug, PartialEq, Eq)]
+pub enum ReportFault {
+    /// The log can't be opened.
+    Log,
+    /// The figures can't be written.
+    Metrics,
+}
+
+/// What a node tells its operator: a log and figures, either or none.
+pub struct Report {
+    log: Option<Log>,
+    metrics: Option<Metrics>,
+    /// By its number, whether a node can't be reached.
+    is_silent: [bool; NODES],
+    now: u64,
+    journal: u64,
+    /// When it was begun, by the clock that nobody sets, in milliseconds.
+    begun: u64,
+}
+
+/// By hand, so that the proof of a caller has one step for it.
+impl Drop for Report {
+    fn drop(self) {
+        let Report {
+            log: _,
+            metrics: _,
+            is_silent: _,
+            now: _,
+            journal: _,
+            begun: _,
+        } = self;
+    }
+}
+
+impl Report {
+    /// Neither.
+    pub fn none() -> Report {
+        Report {
+            log: None,
+            metrics: None,
+            is_silent: [false; NODES],
+            now: 0,
+            journal: 0,
+            begun: 0,
+        }
+    }
+
+    /// Has events written to the log at a path, or to standard error where it is `-`.
+    pub fn log_to<R: Files<File = File>>(
+        &mut self,
+        alloc: Global,
+        files: &R,
+        path: &str,
+    ) -> Result<(), ReportFault> {
+        let Ok(log) = Log::open(alloc, files, path) else {
+            return Err(ReportFault::Log);
+        };
+        self.log = Some(log);
+        Ok(())
+    }
+
+    /// Has the figures of a node written to a file at a path, the first of them now.
+    pub fn count_to<R: Files<File = File>>(
+        &mut self,
+        alloc: Global,
+        files: &R,
+        path: &str,
+        node: u8,
+    ) -> Result<(), ReportFault> {
+        let Ok(mut metrics) = Metrics::new(alloc, path, node) else {
+            return Err(ReportFault::Metrics);
+        };
+        if metrics.write(files, Gauges::default()).is_err() {
+            return Err(ReportFault::Metrics);
+        }
+        self.metrics = Some(metrics);
+        Ok(())
+    }
+
+    /// What the time is, in seconds since 1970.
+    pub fn at(&mut self, now: u64) {
+        self.now = now;
+        if let Some(log) = &mut self.log {
+            log.at(now);
+        }
+    }
+
+    /// When the node begins to be opened, by the clock that nobody sets, in milliseconds.
+    pub fn begin(&mut self, milliseconds: u64) {
+        self.begun = milliseconds;
+    }
+
+    /// The journal was opened, and has so many bytes.
+    pub fn opened(&mut self, bytes: u64, milliseconds: u64) {
+        self.journal = bytes;
+        let milliseconds = milliseconds.saturating_sub(self.begun);
+        self.say(
+            Level::Info,
+            Milestone::Opened {
+                bytes,
+                milliseconds,
+            },
+        );
+    }
+
+    /// Something has happened.
+    pub fn note(&mut self, event: Event) {
+        if let Some(metrics) = &mut self.metrics {
+            metrics.figures.count(event);
+        }
+        if let Some(log) = &mut self.log {
+            log.note(event);
+        }
+    }
+
+    /// Puts a line down that comes once.
+    pub fn say<T: fmt::Display + Drop>(&mut self, level: Level, text: T) {
+        if let Some(log) = &mut self.log {
+            log.say(level, text);
+        }
+    }
+
+    /// A text was said to a client: the first digit of the status that it begins with is the status's class (RFC 9112, section 4).
+    pub fn answered(&mut self, text: &[u8]) {
+        if self.metrics.is_some()
+            && let Some(digit @ b'1'..=b'5') = text.get(9).copied()
+        {
+            self.note(Event::Answered {
+                class: digit - b'0',
+            });
+        }
+    }
+
+    /// A packet was sent to a node.
+    pub fn sent(&mut self, to: u8) {
+        self.note(Event::PacketSent { to });
+        self.hear(to, false);
+    }
+
+    /// A packet to a node was lost.
+    pub fn lost(&mut self, to: u8, why: Loss) {
+        self.note(Event::PacketLost { to, why });
+        if why.is_silence() {
+            self.hear(to, true);
+        }
+    }
+
+    /// Whether a node can be reached is known: said where it was otherwise before.
+    fn hear(&mut self, node: u8, is_silent: bool) {
+        let Some(before) = self.is_silent.get_mut(usize::from(node)) else {
+            return;
+        };
+        if *before == is_silent {
+            return;
+        }
+        *before = is_silent;
+        self.note(if is_silent {
+            Event::PeerSilent { node }
+        } else {
+            Event::PeerAnswers { node }
+        });
+    }
+
+    /// The length of the journal, in bytes.
+    pub fn measure(&mut self, journal: u64) {
+        self.journal = journal;
+    }
+
+    /// What there is at a node at which so many clients wait, and so many connections are open.
+    fn gauges(&self, waiting: usize, connections: usize) -> Gauges {
+        Gauges {
+            waiting: waiting as u64,
+            connections: connections as u64,
+            journal: self.journal,
+            now: self.now,
+        }
+    }
+
+    /// Writes the figures.
+    fn write_figures<R: Files<File = File>>(&mut self, files: &R, gauges: Gauges) {
+        if let Some(metrics) = &mut self.metrics
+            && metrics.write(files, gauges).is_err()
+        {
+            self.note(Event::NoFigures);
+        }
+    }
+
+    /// Whether it is time to write the figures.
+    fn is_due(&self) -> bool {
+        match &self.metrics {
+            Some(metrics) => metrics.is_due(self.now),
+            None => false,
+        }
+    }
+
+    /// Writes the lines that were put down, and the figures where they are due: so many clients wait, and so many connections are
+    /// open.
+    pub fn turn<R: Files<File = File> + Eprint>(
+        &mut self,
+        machine: &R,
+        waiting: usize,
+        connections: usize,
+    ) {
+        if self.is_due() {
+            self.write_figures(machine, self.gauges(waiting, connections));
+        }
+        if let Some(log) = &mut self.log {
+            log.flush(machine);
+        }
+    }
+
+    /// The same at the end, with what was counted and not said yet, and the figures as they are then.
+    pub fn end<R: Files<File = File> + Eprint>(&mut self, machine: &R, connections: usize) {
+        self.write_figures(machine, self.gauges(0, connections));
+        if let Some(log) = &mut self.log {
+            log.say_counted();
+            log.flush(machine);
+        }
+    }
+}

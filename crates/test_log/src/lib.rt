@@ -1,0 +1,16 @@
+//! Tests of what a node tells its operator, line by line.
+//!
+//! On top of `sv_log`; it proves nothing of its own. Expected lines are written by hand, from what docs/OPERATING.md says of the log and of
+//! the figures. 784111777 is the example date of RFC 9110, section 5.6.7: Sun, 06 Nov 1994 08:49:37 GMT.
+#![tactic(auto)]
+
+#[cfg(test)]
+mod events;
+#[cfg(test)]
+mod figures;
+#[cfg(test)]
+mod files;
+#[cfg(test)]
+mod lines;
+#[cfg(test)]
+mod texts;
