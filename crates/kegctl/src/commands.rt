@@ -1,6 +1,7 @@
 //! The commands of a node, with what it answers in words.
 
 ghost use Rattle.sv_model.specs.Keys.{IsKey};
+ghost use Rattle.sv_record.specs.Frame.{IsFrame};
 
 use crate::fault::Fault;
 use crate::machine::Machine;
@@ -25,6 +26,16 @@ pub fn told(answer: u8) -> &'static str {
     }
 }
 
+/// Gives a command to the node at an address; its answer.
+fn give<M: Machine>(machine: &M, address: Address, frame: &Frame) -> Result<u8, Fault>
+    requires { IsFrame frame.now }
+{
+    match command(machine, address, frame) {
+        Ok(answer) => Ok(answer),
+        Err(_) => Err(Fault::Unanswered(address.port)),
+    }
+}
+
 /// Has the node at an address hand a session over to another; its answer.
 pub fn hand_over<M: Machine>(
     machine: &M,
@@ -34,16 +45,15 @@ pub fn hand_over<M: Machine>(
 ) -> Result<u8, Fault>
     requires { IsKey key }
 {
-    let frame = Frame::Move { key, to: to.value };
-    Ok(command(machine, address, &frame)?)
+    give(machine, address, &Frame::Move { key, to: to.value })
 }
 
 /// Has the node at an address do what is due; its answer.
 pub fn tick<M: Machine>(machine: &M, address: Address) -> Result<u8, Fault> {
-    Ok(command(machine, address, &Frame::Tick)?)
+    give(machine, address, &Frame::Tick)
 }
 
 /// Halts the node at an address; its answer.
 pub fn halt<M: Machine>(machine: &M, address: Address) -> Result<u8, Fault> {
-    Ok(command(machine, address, &Frame::Halt)?)
+    give(machine, address, &Frame::Halt)
 }

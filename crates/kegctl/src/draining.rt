@@ -223,7 +223,7 @@ fn go_on<M: Machine>(
         done = wait(machine, route);
     }
     match done {
-        Err(Fault::Unanswered) if route.limit.is_over(machine) => Ok(()),
+        Err(Fault::Unanswered(_)) if route.limit.is_over(machine) => Ok(()),
         done => done,
     }
 }

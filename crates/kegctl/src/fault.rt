@@ -1,7 +1,6 @@
 //! Why the program ends before its work is done, and how it says so.
 
 use std::alloc::{AllocError, AllocFailed};
-use sv_client::Unanswered;
 use sv_config::ConfigFault;
 use sv_control::FoundFault;
 use thiserror::Error;
@@ -38,9 +37,9 @@ pub enum Fault {
     /// Status 4: what the files hold isn't shown.
     #[error("the journal: {0}")]
     Journal(FoundFault),
-    /// Status 5: a node doesn't answer.
-    #[error("the node doesn't answer")]
-    Unanswered,
+    /// Status 5: the node at a port doesn't answer.
+    #[error("the node at port {0} doesn't answer")]
+    Unanswered(u16),
     /// Status 5: standard output can't be written.
     #[error("standard output can't be written")]
     Output,
@@ -59,7 +58,7 @@ impl Fault {
             Fault::Arguments(_) => 2,
             Fault::Descriptor(_) => 3,
             Fault::Unreadable | Fault::Journal(_) => 4,
-            Fault::Unanswered | Fault::Output | Fault::Memory => 5,
+            Fault::Unanswered(_) | Fault::Output | Fault::Memory => 5,
             Fault::NotDone => 6,
         }
     }
@@ -74,12 +73,6 @@ impl From<AllocError> for Fault {
 impl<T: Drop> From<AllocFailed<T>> for Fault {
     fn from(_: AllocFailed<T>) -> Self {
         Fault::Memory
-    }
-}
-
-impl From<Unanswered> for Fault {
-    fn from(_: Unanswered) -> Self {
-        Fault::Unanswered
     }
 }
 
