@@ -14,5 +14,6 @@ pub mod ReplayLemmas
 pub mod WithinLemmas
 pub mod KeptLemmas
 pub mod SoundLemmas
+pub mod CensusLemmas
 pub mod SnapshotLemmas
 pub mod RangeLemmas

@@ -15,7 +15,9 @@ ghost use Rattle.sv_model.specs.Step.{left, told};
 ghost use Rattle.sv_core.specs.Decision.{outputs_in, entry_in, told_held, outputs_held};
 ghost use Rattle.sv_core.specs.Snapshot.{snapshot_of};
 ghost use Rattle.sv_core.specs.Waiting.{awaited};
+ghost use Rattle.sv_core.specs.Census.{census_of};
 
+use crate::census::Census;
 use crate::decision::{Decision, Held};
 use crate::fault::{ApplyFault, Memory};
 use crate::kept::Kept;
@@ -125,6 +127,13 @@ impl<E> Core<E> {
         ensures { option_copied result ≡ get (durable_at self.now).keys key }
     {
         self.kept.keys.get(key)
+    }
+
+    /// How many keys it knows, by what it knows of them: a walk over all of them.
+    pub fn census(&self) -> Census
+        ensures { result ≡ census_of (durable_at self.now) }
+    {
+        self.kept.census()
     }
 
     /// The requests that wait for their sessions, as they came.

@@ -2,6 +2,7 @@
 
 ghost use Rattle.std.specs.Prelude.{◌≡◌, ◌≢◌, ◌⊎◌, IfOk, IfErr};
 ghost use Rattle.sv_journal.specs.Disk.{TellsOn, HasRisen};
+ghost use Rattle.sv_core.specs.Census.{census_of};
 ghost use Rattle.sv_core.specs.Waiting.{awaited};
 ghost use Rattle.sv_journal.specs.Journal.{disk_a, disk_b};
 ghost use Rattle.sv_model.specs.NodeState.{Durable, last_number};
@@ -16,7 +17,7 @@ use crate::ledger::{keep, read};
 use crate::not_opened::NotOpened;
 use crate::starting::start;
 use std::alloc::Global;
-use sv_core::Core;
+use sv_core::{Census, Core};
 use sv_journal::{Disk, Journal, JournalFault};
 use sv_model::{Engine, Input, Key, Moment, Output, Parked, Request, Setting, Site, StepFault};
 
@@ -128,13 +129,20 @@ impl<E: Engine, D: Disk> Node<E, D> {
 }
 
 impl<E, D: Disk> Node<E, D> {
-    ghost use Rattle.sv_node.specs.Node.{engine_of, journal_of, state_of};
+    ghost use Rattle.sv_node.specs.Node.{engine_of, journal_of, state_of, durable_of};
 
     /// The requests that wait for their sessions, as they came.
     pub fn parked(&self) -> &[Parked]
         ensures { result.now ≡ (state_of self.now).parked }
     {
         self.core.parked()
+    }
+
+    /// How many keys it knows, by what it knows of them: a walk over all of them.
+    pub fn census(&self) -> Census
+        ensures { result ≡ census_of (durable_of self.now) }
+    {
+        self.core.census()
     }
 
     /// The length of the journal's file in bytes when a call last succeeded.

@@ -4,7 +4,7 @@ use crate::member::{NOW, SECRET, recovered, setting};
 use std::alloc::Global;
 use std::process::Abort;
 use std::test::Fail;
-use sv_core::{ApplyFault, Core};
+use sv_core::{ApplyFault, Census, Core};
 use sv_model::{
     Attributes, Change, Input, KEY_LIMIT, Key, KeyState, Moment, Packet, Record, Request, Session,
 };
@@ -87,6 +87,55 @@ fn wanted(core: &mut Core<Counter>, alloc: Global) -> Result<String, Fail> {
         want: 1,
     };
     taken(core, alloc, Input::Packet(want))
+}
+
+fn state(home: u8, serial: u64, state: KeyState) -> Record {
+    Record::State {
+        key: key((home, serial)),
+        state,
+    }
+}
+
+/// Two keys of the node's own, and four of the nodes behind it.
+fn mixed(alloc: Global) -> Result<Vec<Record>, Fail> {
+    let here = KeyState::Active {
+        epoch: 1,
+        session: session(alloc),
+    };
+    let away = KeyState::Sent {
+        epoch: 2,
+        session: session(alloc),
+        to: 2,
+    };
+    let mut records = Vec::new(alloc);
+    records.push(counters(1, 3))?;
+    records.push(state(0, 1, here))?;
+    records.push(ended(0, 2))?;
+    records.push(state(1, 1, KeyState::Gone { epoch: 3 }))?;
+    records.push(state(1, 2, away))?;
+    records.push(state(1, 7, KeyState::Gone { epoch: 5 }))?;
+    records.push(ended(2, 1))?;
+    Ok(records)
+}
+
+#[test]
+fn keys_are_counted_by_what_is_known_of_them(rt: HostRuntime) -> Result<(), Fail> {
+    let alloc = rt.alloc();
+    let none = Census {
+        active: 0,
+        sent: 0,
+        gone: 0,
+        ended: 0,
+    };
+    let of_each = Census {
+        active: 1,
+        sent: 1,
+        gone: 2,
+        ended: 2,
+    };
+    assert_eq!(&rt; recovered(alloc, 0, &[])?.census(), none);
+    assert_eq!(&rt; recovered(alloc, 0, &mixed(alloc)?)?.census(), of_each);
+    Ok(())
 }
 
 /// As many keys as a node may know, all ended.

@@ -1,0 +1,7 @@
+use Rattle.std.proofs.Common.{◌≡◌, take}
+use Rattle.sv_core.specs.Places.{seen}
+use Rattle.sv_core.specs.Census.{with_all}
+use Rattle.sv_core.proofs.kept.Kept.with_all.Given as goal
+
+abbrev pub invariant-loop-place : goal.invariant-loop-place
+invariant-loop-place l = l.census ≡ with_all (seen l.self.keys.states.items (take l.place-index l.places)) l.initial.census
