@@ -20,7 +20,7 @@ with_all-requires c =
     let high = c.high.ensures ∙ ap (λ (d : Directory). d.high.items) c.places-2.ensures in
     record {
       within = subst (AreWithin (length t.states.items)) (sym high) (back_within (length t.states.items) t.places.low.items t.places.high.items t.within);
-      room = omega (arith, ap total (c.with_all-low.ensures ∙ ap (λ l. with_all (seen t.states.items l) c.nobody.result) low ∙ ap (with_all (seen t.states.items t.places.low.items)) c.nobody.ensures), total_seen t.states.items t.places.low.items nobody, ap length high, t.places.low.ok, t.places.low.small, t.places.high.ok, t.places.high.small)
+      room = omega (arith, ap total (c.with_all-low.ensures ∙ ap (λ l. with_all (seen t.states.items l) c.nobody.result) low ∙ ap (with_all (seen t.states.items t.places.low.items)) c.nobody.ensures), total_seen t.states.items t.places.low.items nobody, ap length high, t.places.low.ok, t.places.low.small, t.places.high.ok, t.places.high.small);
     }
 
 pub returns : goal.returns
