@@ -71,7 +71,7 @@ fn ask_named<E: Engine>(
 {
     let (key, _) = named;
     if kept.is_settled(key) || kept.is_dead(key) {
-        return serve(engine, kept, moment, token, &request, Some(named), None);
+        return serve(engine, kept, moment, token, request, Some(named), None);
     }
     kept.wait(moment, token, request, key)
 }
@@ -92,7 +92,7 @@ fn ask<E: Engine>(
 {
     match engine.names(&request) {
         Some(named) => ask_named(engine, kept, moment, token, request, named),
-        None => serve(engine, kept, moment, token, &request, None, None),
+        None => serve(engine, kept, moment, token, request, None, None),
     }
 }
 
@@ -114,16 +114,9 @@ fn serve_parked<E: Engine>(
         return Ok(Decision::nothing(kept.alloc));
     };
     let parked = &kept.parked[at];
-    let named = engine.names(&parked.request);
-    serve(
-        engine,
-        kept,
-        moment,
-        parked.token,
-        &parked.request,
-        named,
-        place,
-    )
+    let request = parked.request.copy(kept.alloc)?;
+    let named = engine.names(&request);
+    serve(engine, kept, moment, parked.token, request, named, place)
 }
 
 /// A parked request may be served by now.

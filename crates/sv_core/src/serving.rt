@@ -158,18 +158,18 @@ impl Kept {
         &self,
         moment: Moment,
         token: u64,
-        request: &Request,
+        request: Request,
         named: Option<(Key, Secret)>,
         handed: bool,
         outcome: Outcome,
         leaving: Option<usize>,
     ) -> Result<Decision, Memory>
-        ensures { (m : EngineMeaning) → named ≡ m.names request.now → handed ≡ is_some (held_in (keys_of self.now.keys) named) → IfOk result (λ d. decision_of self.now.setting (node_of self.now) d ≡ answered m self.now.setting (node_of self.now) moment token request.now outcome (parked_without leaving self.now.parked.items)) }
+        ensures { (m : EngineMeaning) → named ≡ m.names request → handed ≡ is_some (held_in (keys_of self.now.keys) named) → IfOk result (λ d. decision_of self.now.setting (node_of self.now) d ≡ answered m self.now.setting (node_of self.now) moment token request outcome (parked_without leaving self.now.parked.items)) }
     {
         let fresh = self.fresh(moment);
         let commit = Commit::Served {
             token: self.token(token),
-            request: request.copy(self.alloc)?,
+            request,
             now: moment.now,
             handed,
             fresh,
@@ -193,20 +193,20 @@ pub fn serve<E: Engine>(
     kept: &Kept,
     moment: Moment,
     token: u64,
-    request: &Request,
+    request: Request,
     named: Option<(Key, Secret)>,
     leaving: Option<usize>,
 ) -> Result<Decision, Memory>
     requires valid { E.valid engine.old }
-    requires named { named ≡ (E.meaning engine.old).names request.now }
+    requires named { named ≡ (E.meaning engine.old).names request }
     ensures valid { E.valid engine.new }
     ensures meaning { E.meaning engine.new ≡ E.meaning engine.old }
     ensures heard { E.heard engine.new ≡ E.heard engine.old }
-    ensures decision { IfOk result (λ d. decision_of kept.now.setting (node_of kept.now) d ≡ served (E.meaning engine.old) kept.now.setting (node_of kept.now) moment token request.now (parked_without leaving kept.now.parked.items)) }
+    ensures decision { IfOk result (λ d. decision_of kept.now.setting (node_of kept.now) d ≡ served (E.meaning engine.old) kept.now.setting (node_of kept.now) moment token request (parked_without leaving kept.now.parked.items)) }
 {
     let held = kept.held(named);
     let handed = held.is_some();
-    let outcome = engine.serve(request, held, moment.now, kept.fresh(moment))?;
+    let outcome = engine.serve(&request, held, moment.now, kept.fresh(moment))?;
     if let Some(cause) = kept.no_birth(&outcome.birth) {
         return kept.refuse(token, cause, leaving);
     }
