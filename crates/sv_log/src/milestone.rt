@@ -12,9 +12,12 @@ pub enum Milestone<'a> {
         port: u16,
         journal: &'a str,
     },
-    /// The journal was read, which has so many bytes now; so long that took, with the port and all.
+    /// The journal was read, which has so many bytes now, and sessions that are here, of so many keys that are known; so long that
+    /// took, with the port and all.
     Opened {
         bytes: u64,
+        sessions: u64,
+        keys: u64,
         milliseconds: u64,
     },
     /// It serves.
@@ -39,10 +42,13 @@ impl fmt::Display for Milestone<'_> {
             }
             Milestone::Opened {
                 bytes,
+                sessions,
+                keys,
                 milliseconds,
             } => {
                 let (seconds, rest) = (milliseconds / 1_000, milliseconds % 1_000);
-                write!(f, "opened bytes={bytes} seconds={seconds}.{rest:03}")
+                write!(f, "opened bytes={bytes} sessions={sessions} keys={keys} ")?;
+                write!(f, "seconds={seconds}.{rest:03}")
             }
             Milestone::Ready { node, port } => {
                 write!(f, "ready node={node} address=127.0.0.1:{port}")

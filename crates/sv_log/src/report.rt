@@ -111,7 +111,7 @@ impl Report {
         self.begun = milliseconds;
     }
 
-    /// The journal was opened, and has so many bytes.
+    /// The journal was opened, and has so many bytes; its keys were counted.
     pub fn opened(&mut self, bytes: u64, milliseconds: u64) {
         self.journal = bytes;
         let milliseconds = milliseconds.saturating_sub(self.begun);
@@ -119,6 +119,8 @@ impl Report {
             Level::Info,
             Milestone::Opened {
                 bytes,
+                sessions: self.keys.active,
+                keys: self.keys.known(),
                 milliseconds,
             },
         );
@@ -185,6 +187,11 @@ impl Report {
     /// The length of the journal, in bytes.
     pub fn measure(&mut self, journal: u64) {
         self.journal = journal;
+    }
+
+    /// Whether figures are written.
+    pub fn is_counting(&self) -> bool {
+        self.metrics.is_some()
     }
 
     /// A group was written to the journal and synced, which took so long.
