@@ -9,8 +9,8 @@ setting_of h = h.setting
 
 -- the port of each node, by its number
 abbrev pub ports_of : Host → List ℕ
-ports_of h = h.desk.ports.items
+ports_of h = h.server.ports.items
 
 -- how many requests a client's connection brings
 abbrev pub persistence_of : Host → Persistence
-persistence_of h = h.desk.persistence
+persistence_of h = h.server.persistence

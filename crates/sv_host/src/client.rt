@@ -1,7 +1,7 @@
 //! A client's connection among those that are open.
 
 use crate::persistence::Persistence;
-use crate::stage::Next;
+use crate::state::Next;
 use std::alloc::Global;
 use sv_connection::Connection;
 

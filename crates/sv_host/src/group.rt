@@ -4,7 +4,7 @@ ghost use Rattle.std.specs.Prelude.{◌≡◌, ◌<◌, OnOk, vec_len, vec_capac
 ghost use Rattle.sv_model.specs.Ranges.{IsInput};
 ghost use Rattle.sv_node.specs.History.{IsAbove, number_in};
 
-use crate::desk::Packets;
+use crate::packets::Packets;
 use std::alloc::{AllocError, Global};
 use std::mem::replace;
 use sv_model::{Input, Moment, Request};
@@ -97,6 +97,11 @@ impl Group {
 
     pub fn len(&self) -> usize {
         self.inputs.len()
+    }
+
+    /// There is room for one more alone, who is to come.
+    pub fn is_full(&self) -> bool {
+        self.inputs.len() >= GROUP_LIMIT - 1
     }
 
     /// The number of the last request.

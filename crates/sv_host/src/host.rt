@@ -8,20 +8,20 @@ ghost use Rattle.sv_node.specs.Node.{IsNode, journal_of};
 ghost use Rattle.sv_node.specs.Opened.{LeavesStart};
 ghost use Rattle.sv_node.specs.Stops.{Restores};
 
-use crate::attend::attend;
+use crate::acceptor::Acceptor;
+use crate::connections::Connections;
 use crate::deadline::listen;
-use crate::desk::Desk;
+use crate::event_loop::run;
 use crate::expiry::Expiry;
 use crate::fault::{HostFault, Stop};
-use crate::hall::Hall;
-use crate::lobby::Lobby;
 use crate::machine::Machine;
+use crate::parked::ParkedClients;
 use crate::peers::loopback;
 use crate::persistence::Persistence;
 use crate::place::Place;
-use crate::porch::Porch;
 use crate::round::Round;
 use crate::secrets::Secrets;
+use crate::server::Server;
 use crate::time::{Time, read, steady};
 use mio::Registry;
 use std::alloc::Global;
@@ -33,8 +33,8 @@ use sv_node::{Node, NotOpened};
 /// What a node has of its machine beside its disks: the port at which it listens, and its secrets.
 pub struct Host {
     setting: Setting,
-    porch: Porch,
-    desk: Desk,
+    acceptor: Acceptor,
+    server: Server,
     ghost inside: { IsSetting setting },
 }
 
@@ -43,8 +43,8 @@ impl Drop for Host {
     fn drop(self) {
         let Host {
             setting: _,
-            porch: _,
-            desk: _,
+            acceptor: _,
+            server: _,
         } = self;
     }
 }
@@ -60,14 +60,14 @@ pub struct Ended<E, D> {
 }
 
 /// Listens at the node's port.
-fn open_door(machine: &impl Machine, place: &Place) -> Result<(Porch, Registry), HostFault> {
+fn open_door(machine: &impl Machine, place: &Place) -> Result<(Acceptor, Registry), HostFault> {
     let port = place
         .ports
         .get(usize::from(place.setting.node))
         .copied()
         .unwrap_or(0);
     match listen(machine, loopback(port)) {
-        Ok(listener) => Porch::new(machine, listener),
+        Ok(listener) => Acceptor::new(machine, listener),
         Err(_) => Err(HostFault::Socket),
     }
 }
@@ -76,28 +76,28 @@ fn open_door(machine: &impl Machine, place: &Place) -> Result<(Porch, Registry),
 fn open_both(
     machine: &impl Machine,
     place: &Place,
-) -> Result<(Secrets, Porch, Registry), HostFault> {
+) -> Result<(Secrets, Acceptor, Registry), HostFault> {
     let secrets = Secrets::open(machine, place.secrets.as_ref())?;
-    let (porch, registry) = open_door(machine, place)?;
-    Ok((secrets, porch, registry))
+    let (acceptor, registry) = open_door(machine, place)?;
+    Ok((secrets, acceptor, registry))
 }
 
 /// Says that the node of this number is ready, whose journal has so many bytes; false where that can't be said.
-fn announce<M: Machine + Print>(machine: &M, desk: &mut Desk, number: u8, bytes: u64) -> bool {
-    desk.hall.report.opened(bytes, steady(machine));
+fn announce<M: Machine + Print>(machine: &M, server: &mut Server, number: u8, bytes: u64) -> bool {
+    server.connections.report.opened(bytes, steady(machine));
     if println!(machine; "ready {number}").is_err() {
         return false;
     }
-    desk.say_ready(number);
+    server.say_ready(number);
     true
 }
 
 /// Says that the node of this number is ready, and serves until it is told to stop.
 fn serve_all<M: Machine + Print, E: Engine, D: Disk>(
     machine: &M,
-    desk: &mut Desk,
+    server: &mut Server,
     node: &mut Node<E, D>,
-    porch: &mut Porch,
+    acceptor: &mut Acceptor,
     number: u8,
 ) -> Option<HostFault>
     requires valid { IsNode E.valid D.tells D.seen D.may_leave node.old }
@@ -105,12 +105,13 @@ fn serve_all<M: Machine + Print, E: Engine, D: Disk>(
     ensures valid { IsNode E.valid D.tells D.seen D.may_leave node.new }
     ensures ended { HasEnded E.meaning E.heard D.tells D.may_leave node.old node.new }
 {
+    server.count_keys(node);
     let bytes = node.journal_len();
-    if !announce(machine, desk, number, bytes) {
-        return desk.say_stopped(machine, Stop::Fault(HostFault::Output));
+    if !announce(machine, server, number, bytes) {
+        return server.say_stopped(machine, Stop::Fault(HostFault::Output));
     }
-    let stop = attend(machine, desk, node, porch);
-    desk.say_stopped(machine, stop)
+    let stop = run(machine, server, node, acceptor);
+    server.say_stopped(machine, stop)
 }
 
 impl Host {
@@ -126,7 +127,7 @@ impl Host {
         ensures ports { IfOk result (λ h. ports_of h ≡ place.ports.items) }
         ensures persistence { IfOk result (λ h. persistence_of h ≡ persistence) }
     {
-        let (secrets, porch, registry) = open_both(machine, &place)?;
+        let (secrets, acceptor, registry) = open_both(machine, &place)?;
         let alloc: Global = machine.alloc();
         let Place {
             setting,
@@ -136,12 +137,12 @@ impl Host {
         let time = Time::new(read(machine));
         Ok(Host {
             setting,
-            porch,
-            desk: Desk {
+            acceptor,
+            server: Server {
                 ports,
                 secrets,
-                hall: Hall::new(registry, alloc),
-                lobby: Lobby::new(alloc),
+                connections: Connections::new(registry, persistence, alloc),
+                parked: ParkedClients::new(alloc),
                 text: Vec::new(alloc),
                 persistence,
                 time,
@@ -158,7 +159,7 @@ impl Host {
     /// Has what happens told to the operator.
     pub fn reporting(self, report: Report) -> Host {
         let mut host = self;
-        host.desk.report_by(report);
+        host.server.report_by(report);
         host
     }
 
@@ -180,11 +181,11 @@ impl Host {
     {
         let Host {
             setting,
-            mut porch,
-            mut desk,
+            mut acceptor,
+            mut server,
         } = self;
-        let mut node = Node::open(desk.alloc, engine, a, b, setting)?;
-        let fault = serve_all(machine, &mut desk, &mut node, &mut porch, setting.node);
+        let mut node = Node::open(server.alloc, engine, a, b, setting)?;
+        let fault = serve_all(machine, &mut server, &mut node, &mut acceptor, setting.node);
         let (engine, a, b) = node.stop();
         Ok(Ended {
             engine,

@@ -7,31 +7,45 @@
 //! ranges of the formats, and each packet that is put out can be sent.
 #![tactic(auto)]
 
-mod attend;
+mod acceptor;
+mod answers;
+mod calls;
 mod client;
+mod compaction;
+mod connections;
 mod deadline;
-mod desk;
+mod ending;
+mod event_loop;
 mod expiry;
 mod fault;
 mod frames;
+mod gathering;
 mod group;
-mod hall;
+mod handing_out;
+mod hearing;
 mod host;
-mod line;
-mod lobby;
+mod intake;
+mod lingering;
+mod links;
 mod machine;
+mod nudges;
+mod open;
+mod outcome;
+mod packets;
+mod parked;
 mod paths;
 mod peers;
 mod persistence;
 mod place;
-mod porch;
 mod queue;
 mod room;
 mod round;
 mod run;
 mod secrets;
 mod serve;
-mod stage;
+mod server;
+mod socket;
+mod state;
 mod time;
 mod unread;
 

@@ -13,6 +13,16 @@ pub fn addressee(packet: &Packet) -> u8 {
     }
 }
 
+/// The node that a packet comes from.
+pub fn sender(packet: &Packet) -> u8 {
+    match packet {
+        Packet::Want { from, .. }
+        | Packet::Grant { from, .. }
+        | Packet::Ack { from, .. }
+        | Packet::No { from, .. } => *from,
+    }
+}
+
 /// The loopback address of a port.
 pub fn loopback(port: u16) -> SocketAddr {
     SocketAddr::from((Ipv4Addr::LOCALHOST, port))

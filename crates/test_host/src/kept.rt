@@ -1,6 +1,6 @@
 //! Clients whose connections are kept.
 
-use crate::scene::{Said, play};
+use crate::scene::{GRANT, Said, play};
 use crate::town::{HALT, Town};
 use std::test::Fail;
 use sv_host::Persistence;
@@ -30,10 +30,6 @@ fn requests_in_pieces_are_answered_once_and_in_order(rt: HostRuntime) -> Result<
 /// What node 1 answers to the third want, since each request that waits has its own: it has no second session.
 const NO: &[u8] = b"\xE1\0\0\0\x1D\x02\x04\x01\0\x01\0\0\0\0\0\0\0\x02\
     \0\0\0\0\0\0\0\x01\0\0\0\0\0\0\0\x03";
-
-/// What node 1 sends for the first: its first session, at epoch 2, with secret 1, a count of 5, and kept for ever.
-const GRANT: &[u8] = b"\xE1\0\0\0\x3D\x02\x02\x01\0\x01\0\0\0\0\0\0\0\x01\0\0\0\0\0\0\0\x02\
-    \0\0\0\0\0\0\0\0\0\0\0\0\0\0\0\x01\0\0\0\0\0\0\0\0\x05\0\0\0\0\0\0\0\0\xFF\xFF\xFF\xFF\0\0\0";
 
 /// Only a Poke serves those whose session a Grant has brought. The first of them has gone away, and is counted all the same; the
 /// second has sent one more request along, which waits behind it; and nobody else is held up.

@@ -14,6 +14,8 @@ mod kept;
 #[cfg(test)]
 mod lives;
 #[cfg(test)]
+mod peers;
+#[cfg(test)]
 mod rounds;
 #[cfg(test)]
 mod scene;

@@ -11,6 +11,14 @@ use sv_host::{Host, Persistence};
 /// The head of a request that is counted, and whose body of 20,000 bytes names no session: one is made.
 const LARGE: &[u8] = b"POST /count HTTP/1.1\r\nHost: h\r\nContent-Length: 20000\r\n\r\n";
 
+/// Node 1 has no session that this node has asked for.
+const NO: &[u8] = b"\xE1\0\0\0\x1D\x02\x04\x01\0\x01\0\0\0\0\0\0\0\x02\
+    \0\0\0\0\0\0\0\x01\0\0\0\0\0\0\0\x09";
+
+/// Its first session comes at epoch 2, with secret 1, a count of 5, and kept for ever.
+pub const GRANT: &[u8] = b"\xE1\0\0\0\x3D\x02\x02\x01\0\x01\0\0\0\0\0\0\0\x01\0\0\0\0\0\0\0\x02\
+    \0\0\0\0\0\0\0\0\0\0\0\0\0\0\0\x01\0\0\0\0\0\0\0\0\x05\0\0\0\0\0\0\0\0\xFF\xFF\xFF\xFF\0\0\0";
+
 /// What a caller says.
 #[derive(Clone, Copy)]
 pub enum Said {
@@ -18,6 +26,8 @@ pub enum Said {
     Nothing,
     /// A frame or a part of one, and no more.
     Frame(&'static [u8]),
+    /// So many packets of node 1 on one connection that change nothing, and then its first session with a count of 5.
+    Packets(usize),
     /// Requests that are counted, one behind the other.
     Counts(&'static [[u8; 2]]),
     /// One such request, and goes away.
@@ -50,11 +60,21 @@ fn say_frame(rt: &HostRuntime, town: &Town, frame: &[u8]) -> io::Result<TcpStrea
     Ok(caller)
 }
 
+/// Packets that change nothing, and one that brings a session.
+fn say_packets(rt: &HostRuntime, town: &Town, count: usize) -> Result<TcpStream, Fail> {
+    let caller = town.call(rt, NO.repeat(rt.alloc(), count)?.as_slice())?;
+    let mut writer = &caller;
+    writer.write_all(GRANT)?;
+    caller.shutdown(Shutdown::Write)?;
+    Ok(caller)
+}
+
 /// Somebody who has said that; none who has gone away.
 fn caller_of(rt: &HostRuntime, town: &Town, said: Said) -> Result<Option<TcpStream>, Fail> {
     match said {
         Said::Nothing => Ok(Some(town.call(rt, b"")?)),
         Said::Frame(frame) => Ok(Some(say_frame(rt, town, frame)?)),
+        Said::Packets(count) => Ok(Some(say_packets(rt, town, count)?)),
         Said::Counts(named) => Ok(Some(town.ask_all(rt, named)?)),
         Said::Gone(named) => {
             town.ask_all(rt, &[named])?;
@@ -79,7 +99,7 @@ fn answers(alloc: Global, client: &TcpStream) -> Result<Vec<u8>, Fail> {
 /// What a caller was told: the first byte of each answer, or all bytes where no request was said.
 fn told(alloc: Global, said: Said, caller: &TcpStream) -> Result<Vec<u8>, Fail> {
     match said {
-        Said::Nothing | Said::Frame(_) => Ok(heard(alloc, caller)?),
+        Said::Nothing | Said::Frame(_) | Said::Packets(_) => Ok(heard(alloc, caller)?),
         Said::Counts(_) | Said::Gone(_) | Said::Pieces => answers(alloc, caller),
     }
 }

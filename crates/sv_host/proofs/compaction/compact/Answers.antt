@@ -1,0 +1,15 @@
+use Rattle.sv_host.proofs.LifeLemmas.{compaction_done, compaction_refused}
+use Rattle.sv_host.proofs.compaction.compact.Goals as goal
+
+pub returns-in-Ok-clause-gone : goal.returns-in-Ok-clause-gone
+returns-in-Ok-clause-gone g c = λ low.
+    let e = g.E.Engine in
+    let d = g.D.Disk in
+    compaction_done e.meaning e.heard d.tells d.seen d.may_leave d.moment d.left_since d.failed low c.args.node.now c.compact.new.self c.requires.live _ c.in-Ok.ensures.compaction
+
+pub returns-in-Err-clause-gone : goal.returns-in-Err-clause-gone
+returns-in-Err-clause-gone g c = λ low.
+    let e = g.E.Engine in
+    let d = g.D.Disk in
+    compaction_refused e.meaning e.heard d.tells d.seen d.may_leave d.moment d.left_since d.failed low c.args.node.now c.compact.new.self c.requires.live c.in-Err.fault c.not_compacted.result
+    c.in-Err.ensures.compaction c.not_compacted.ensures

@@ -1,0 +1,40 @@
+use Rattle.std.proofs.Common.{Err, inl, arith}
+use Rattle.std.specs.Prelude.{⊤}
+use Rattle.sv_host.specs.Group.{before_of}
+use Rattle.sv_node.proofs.HistoryLemmas.{goes_nowhere, goes_join, gone_join}
+use Rattle.sv_host.proofs.event_loop.run.Goals as goal
+
+pub take_turn-requires-clause-live : goal.take_turn-requires-clause-live
+take_turn-requires-clause-live g c = c.loop.invariant.goes.live
+
+pub returns-in-Err-clause-ended : goal.returns-in-Err-clause-ended
+returns-in-Err-clause-ended g c =
+    let e = g.E.Engine in
+    let d = g.D.Disk in
+    let l = c.loop in
+    let more = before_of c.take_turn.new.group in
+    (more, gone_join e.meaning e.heard d.tells d.may_leave d.moment d.left_since 0 (before_of l.group) more c.args.node.now l.node c.take_turn.new.node l.invariant.goes {T = ⊤} {F = ⊤} (Err tt) c.in-Err.ensures.gone)
+
+pub loop-preserved : goal.loop-preserved
+loop-preserved g c =
+    let e = g.E.Engine in
+    let d = g.D.Disk in
+    let l = c.loop in
+    record {
+      valid = c.take_turn.ensures.valid;
+      rising = c.take_turn.ensures.rising;
+      goes = goes_join e.meaning e.heard d.tells d.may_leave d.moment d.left_since 0 (before_of l.group) (before_of c.take_turn.new.group) c.args.node.now l.node c.take_turn.new.node l.invariant.goes c.in_default.ensures.gone;
+    }
+
+pub loop-init : goal.loop-init
+loop-init g c =
+    let e = g.E.Engine in
+    let d = g.D.Disk in
+    record {
+      valid = c.requires.valid;
+      rising = c.new-group.ensures.rising;
+      goes = goes_nowhere e.meaning e.heard d.tells d.may_leave d.moment d.left_since 0 (before_of c.new-group.result) c.args.node.now (omega arith) c.requires.live;
+    }
+
+pub returns-clause-ended : goal.returns-clause-ended
+returns-clause-ended g c = (before_of c.loop.group, inl c.loop.invariant.goes)

@@ -1,0 +1,12 @@
+use Rattle.sv_host.specs.Group.{before_of, IsRising}
+use Rattle.sv_node.specs.History.{GoesOn}
+use Rattle.sv_node.specs.Node.{IsNode}
+use Rattle.sv_host.proofs.event_loop.run.Given as goal
+
+-- groups have been given to the node
+abbrev pub invariant-loop : goal.invariant-loop
+invariant-loop g l = record {
+  valid : IsNode g.E.Engine.valid g.D.Disk.tells g.D.Disk.seen g.D.Disk.may_leave l.node;
+  rising : IsRising l.group;
+  goes : GoesOn g.E.Engine.meaning g.E.Engine.heard g.D.Disk.tells 0 (before_of l.group) l.initial.node l.node;
+}

@@ -1,0 +1,12 @@
+use Rattle.std.proofs.Common.{◌≡◌, length}
+use Rattle.std.specs.List.{AllByRecursion}
+use Rattle.std.specs.Vec.Iter.{into_iter_items, into_iter_len}
+use Rattle.sv_host.specs.Outputs.{IsHandedOn}
+use Rattle.sv_host.proofs.server.Server.hand_out.Given as goal
+
+-- what is left can be sent
+abbrev pub invariant-loop-answer : goal.invariant-loop-answer
+invariant-loop-answer g l = record {
+  sendable : AllByRecursion (λ a. IsHandedOn a) (into_iter_items l.answer-iterator);
+  long : into_iter_len l.answer-iterator ≡ length (into_iter_items l.answer-iterator);
+}

@@ -1,0 +1,258 @@
+//! Where those stand who connect, and where a node waits.
+
+use crate::connections::Connections;
+use crate::deadline::TURN;
+use crate::fault::HostFault;
+use crate::group::GROUP_LIMIT;
+use crate::hearing::PIECE;
+use crate::machine::Machine;
+use crate::queue::Queue;
+use crate::socket::Socket;
+use mio::unix::SourceFd;
+use mio::{Events, Interest, Poll, Registry, Token};
+use std::alloc::Global;
+use std::io;
+use std::io::ErrorKind;
+use std::net::{OpenListener, OpenStream, TcpListener, TcpStream};
+use std::os::fd::{AsRawFd, RawFd};
+use std::time::Duration;
+
+/// In milliseconds: so long a node waits before it tries again to accept somebody for whom there was no room.
+const RETRY: u64 = 50;
+
+/// So many connections are gone on with in a turn, before somebody who has come is let in: with that one they make a whole group.
+const TURN_LIMIT: usize = GROUP_LIMIT - 1;
+
+/// So many events are told in one turn.
+const EVENTS: usize = 256;
+
+/// What the poll calls the listener.
+const DOOR: usize = usize::MAX;
+
+/// Who has come.
+#[derive(Drop)]
+pub enum Arrival {
+    Somebody(Socket),
+    Nobody,
+    /// Somebody may stand at the door, and can't be accepted: the process has as many files open as it may have, or worse.
+    NoRoom,
+}
+
+/// Where a node waits.
+pub struct Acceptor {
+    listener: TcpListener,
+    poll: Poll,
+    events: Events,
+    /// The places that are to be gone on with.
+    queue: Queue,
+    /// So many of them were gone on with in this turn.
+    done: usize,
+    /// The poll was asked in this turn.
+    polled: bool,
+    /// `accept` waits.
+    waits: bool,
+    /// Somebody may stand at the door.
+    door: bool,
+    /// There was no room for the last one who came.
+    is_full: bool,
+    /// What is read of a connection.
+    piece: [u8; PIECE],
+}
+
+/// By hand, so that the proof of a caller has one step for it and not one for each state of its parts.
+impl Drop for Acceptor {
+    fn drop(self) {
+        let Acceptor {
+            listener: _,
+            poll: _,
+            events: _,
+            queue: _,
+            done: _,
+            polled: _,
+            waits: _,
+            door: _,
+            is_full: _,
+            piece: _,
+        } = self;
+    }
+}
+
+/// A poll that reports who comes to a listener of this number.
+fn poll_of(machine: &impl Machine, listener: RawFd) -> io::Result<(Poll, Registry)> {
+    let poll = Poll::new(machine)?;
+    let registry = poll.registry().try_clone()?;
+    registry.register(&mut SourceFd(&listener), Token(DOOR), Interest::READABLE)?;
+    Ok((poll, registry))
+}
+
+impl Acceptor {
+    /// Has a poll report who comes to a listener, and all who are registered with it.
+    pub fn new(
+        machine: &impl Machine,
+        listener: TcpListener,
+    ) -> Result<(Acceptor, Registry), HostFault> {
+        let alloc: Global = machine.alloc();
+        let Ok((poll, registry)) = poll_of(machine, listener.as_raw_fd()) else {
+            return Err(HostFault::Socket);
+        };
+        let Ok(events) = Events::with_capacity(alloc, EVENTS) else {
+            return Err(HostFault::Socket);
+        };
+        Ok((
+            Acceptor {
+                listener,
+                poll,
+                events,
+                queue: Queue::new(alloc),
+                done: 0,
+                polled: false,
+                waits: true,
+                door: true,
+                is_full: false,
+                piece: [0; PIECE],
+            },
+            registry,
+        ))
+    }
+
+    /// How long the poll may wait for somebody to be looked after, where nothing else is to be done.
+    fn patience(&self) -> Duration {
+        if self.is_full {
+            Duration::from_millis(RETRY)
+        } else {
+            Duration::from_secs(TURN)
+        }
+    }
+
+    /// Has the poll report who is to be looked after, and waits for that.
+    fn ask_poll(&mut self, timeout: Duration) {
+        let _ = self.poll.poll(&mut self.events, Some(timeout));
+        for event in &self.events {
+            let Token(place) = event.token();
+            if place == DOOR {
+                self.door = true;
+            } else {
+                self.queue.add(place);
+            }
+        }
+        if self.is_full {
+            self.door = true;
+        }
+    }
+
+    /// Waits until somebody is to be looked after, a turn at most; not at all where something else is to be done. While nobody is in
+    /// the connections it doesn't wait here, but at the door: that needs no call of the poll.
+    ///
+    /// Else the door is gone to only where the poll says that somebody stands there, who then stays there until accepted, or
+    /// where nobody could be accepted before, which never waits: so `accept`, which would wait for a turn, doesn't, and the
+    /// listener needn't be switched to and fro.
+    ///
+    /// Who was put down in the turn before is gone on with before the poll is asked again: mostly nothing has come of them, and
+    /// they cost no call of the poll then.
+    pub fn wait(&mut self, connections: &mut Connections, is_busy: bool) {
+        self.queue.forget(self.done);
+        self.done = 0;
+        connections.hand_over(&mut self.queue);
+        self.waits = connections.is_empty() && !is_busy && !self.is_full;
+        if self.waits {
+            self.door = true;
+            return;
+        }
+        let count = self.queue.len();
+        self.polled = !(self.polled && 0 < count && count <= TURN_LIMIT);
+        if self.polled {
+            let is_idle = count == 0 && !self.door && !is_busy;
+            self.ask_poll(if is_idle {
+                self.patience()
+            } else {
+                Duration::ZERO
+            });
+        }
+    }
+
+    /// Has the poll report the door again where somebody stands there. It costs a tenth of an `accept` that finds nobody.
+    fn watch_door(&mut self) {
+        let number = self.listener.as_raw_fd();
+        let again = self
+            .poll
+            .registry()
+            .reregister(&mut SourceFd(&number), Token(DOOR), Interest::READABLE);
+        if again.is_err() {
+            self.door = true;
+        }
+    }
+
+    /// The places that are gone on with in this turn, and the piece that they are read into.
+    pub fn turn(&mut self) -> (&[usize], &mut [u8; PIECE]) {
+        (self.queue.front(TURN_LIMIT), &mut self.piece)
+    }
+
+    /// The piece that a connection is read into.
+    pub fn piece(&mut self) -> &mut [u8; PIECE] {
+        &mut self.piece
+    }
+
+    /// So many of them were gone on with; the others are the first of the next turn.
+    pub fn went_on(&mut self, count: usize) {
+        self.done = count;
+    }
+
+    /// This turn goes on with what was put down in the one before, and no time has passed since.
+    pub fn is_spared(&self) -> bool {
+        !self.waits && !self.polled
+    }
+
+    /// Somebody may stand at the door.
+    pub fn may_accept(&self) -> bool {
+        self.door
+    }
+
+    /// Accepts a connection. Whatever keeps it out, the node goes on, and tries again.
+    pub fn accept(&mut self) -> Arrival {
+        self.door = false;
+        match self.listener.accept() {
+            Ok((stream, _)) => {
+                self.is_full = false;
+                if !self.waits {
+                    self.watch_door();
+                }
+                self.introduce(stream)
+            }
+            Err(fault) => match fault.kind() {
+                ErrorKind::Interrupted => {
+                    self.door = true;
+                    Arrival::Nobody
+                }
+                ErrorKind::WouldBlock | ErrorKind::ConnectionAborted => {
+                    self.is_full = false;
+                    self.watch_door();
+                    Arrival::Nobody
+                }
+                _ => {
+                    self.is_full = true;
+                    Arrival::NoRoom
+                }
+            },
+        }
+    }
+
+    /// Somebody who has come. While nobody else is here, what comes first of them is waited for a moment: that costs less than to
+    /// ask the poll for it, and most requests come at once.
+    fn introduce(&self, stream: TcpStream) -> Arrival {
+        let socket = if self.waits {
+            Socket::patient(stream)
+        } else {
+            Socket::quick(stream)
+        };
+        match socket {
+            Ok(socket) => Arrival::Somebody(socket),
+            Err(_) => Arrival::Nobody,
+        }
+    }
+
+    /// A connection has given way: who stands at the door may be accepted.
+    pub fn try_again(&mut self) {
+        self.is_full = false;
+        self.door = true;
+    }
+}

@@ -1,0 +1,165 @@
+//! What clients are told.
+
+use crate::connections::Connections;
+use crate::open::Open;
+use crate::socket::{Socket, Written};
+use crate::state::{Next, State};
+use std::mem::replace;
+use std::time::Duration;
+use sv_connection::{memory_lines, refusal};
+use sv_model::{Cause, Response};
+
+impl Connections {
+    /// Says a text at a place. What isn't taken of it is kept, and leaves `text`.
+    pub fn say(&mut self, place: usize, socket: Socket, text: &mut Vec<u8>, next: Next) {
+        let mut socket = socket;
+        self.report.answered(text.as_slice());
+        match socket.write(text) {
+            Written::All => self.follow(place, socket, next),
+            Written::Part => {
+                let text = replace(text, Vec::new(self.alloc));
+                let open = Open::at(socket, State::Saying { text, next }, self.clock);
+                self.keep(place, open);
+            }
+            Written::Broken => self.leave(place),
+        }
+    }
+
+    /// Says more of a text that was begun.
+    pub fn say_on(&mut self, place: usize, open: Open) {
+        let (mut socket, state, begun, heard) = open.into_parts();
+        let State::Saying { mut text, next } = state else {
+            self.leave(place);
+            return;
+        };
+        let before = text.len();
+        match socket.write(&mut text) {
+            Written::All => self.follow(place, socket, next),
+            Written::Part => {
+                let heard = self.taken_at(heard, before, text.len());
+                let state = State::Saying { text, next };
+                self.keep(
+                    place,
+                    Open {
+                        socket,
+                        state,
+                        begun,
+                        heard,
+                    },
+                );
+            }
+            Written::Broken => self.leave(place),
+        }
+    }
+
+    /// When something was last taken of a text, of which so many bytes were left before, and so many are.
+    fn taken_at(&self, heard: Duration, before: usize, left: usize) -> Duration {
+        if left < before { self.clock } else { heard }
+    }
+
+    /// What follows once a text is written. A client that is listened to further is gone on with in the next turn, so that each has
+    /// one request a turn.
+    pub fn follow(&mut self, place: usize, socket: Socket, next: Next) {
+        match next {
+            Next::Close => self.leave(place),
+            Next::Part => self.half_close(place, socket),
+            Next::Listen(client) => {
+                self.begin(place, socket, State::Asked(client));
+                self.put_down(place);
+            }
+        }
+    }
+
+    /// Says one byte, and closes the connection.
+    pub fn tell(&mut self, place: usize, socket: Socket, byte: u8) {
+        let mut text = Vec::new(self.alloc);
+        if text.push(byte).is_ok() {
+            self.say(place, socket, &mut text, Next::Close);
+        } else {
+            self.leave(place);
+        }
+    }
+
+    /// How the client that waits at a place for the answer under a token wants a refusal: the head alone, and whether its connection
+    /// closes; none where no such client is there, be the place another's by now.
+    fn manner_at(&self, place: usize, token: u64) -> Option<(bool, bool)> {
+        match self.places.get(place) {
+            Some(
+                Some(
+                    Open {
+                        state: State::Waiting {
+                            head_only,
+                            close,
+                            token: own,
+                            ..
+                        },
+                        ..
+                    },
+                ),
+            ) if *own == token => Some((*head_only, *close)),
+            _ => None,
+        }
+    }
+
+    /// Whether a client waits at a place for the answer under a token.
+    pub fn waits_at(&self, place: usize, token: u64) -> bool {
+        self.manner_at(place, token).is_some()
+    }
+
+    /// Answers the client that waits at a place for the answer under a token. The text is made in `text`.
+    pub fn answer(
+        &mut self,
+        place: usize,
+        token: u64,
+        response: &Response,
+        now: u64,
+        text: &mut Vec<u8>,
+    ) {
+        if !self.waits_at(place, token) {
+            return;
+        }
+        let Some(open) = self.take(place) else {
+            return;
+        };
+        let (socket, state, _begun, _heard) = open.into_parts();
+        let State::Waiting { mut client, .. } = state else {
+            self.leave(place);
+            return;
+        };
+        text.clear();
+        let _ = client.connection.answer(text, response, now);
+        self.say(place, socket, text, client.next());
+    }
+
+    /// Says to a client that memory was refused, and parts from it.
+    fn refuse_for_memory(&mut self, place: usize, socket: Socket) {
+        match Vec::from_slice(self.alloc, memory_lines()) {
+            Ok(lines) => {
+                let mut text = lines;
+                self.say(place, socket, &mut text, Next::Part);
+            }
+            Err(_) => self.leave(place),
+        }
+    }
+
+    /// Refuses the client that waits at a place for the answer under a token. The connection of one that has waited in vain closes.
+    pub fn refuse(&mut self, place: usize, token: u64, cause: Cause, now: u64, text: &mut Vec<u8>) {
+        let Some((head_only, close)) = self.manner_at(place, token) else {
+            return;
+        };
+        match refusal(
+            self.alloc,
+            cause,
+            head_only,
+            close || cause == Cause::Deadline,
+        ) {
+            Ok(response) => self.answer(place, token, &response, now, text),
+            Err(_) => {
+                if let Some(open) = self.take(place) {
+                    let (socket, _stage, _begun, _heard) = open.into_parts();
+                    self.refuse_for_memory(place, socket);
+                }
+            }
+        }
+    }
+}

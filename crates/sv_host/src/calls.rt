@@ -1,0 +1,206 @@
+//! Packets on their way to other nodes, and the commands that wait until they are sent.
+
+ghost use Rattle.sv_model.specs.Ranges.{IsPacket};
+
+use crate::connections::Connections;
+use crate::machine::Machine;
+use crate::open::Open;
+use crate::socket::{Socket, Written};
+use crate::state::State;
+use std::alloc::Global;
+use std::net::SocketAddr;
+use sv_log::Loss;
+use sv_model::Packet;
+use sv_record::{Frame, write_frame};
+
+/// So many of them are packets on their way to other nodes. One more is lost, and sent again.
+const CALL_LIMIT: usize = 128;
+
+/// A packet as a frame; none where memory is refused.
+fn spelled(alloc: Global, packet: Packet) -> Option<Vec<u8>>
+    requires { IsPacket packet }
+{
+    let mut frame = Vec::new(alloc);
+    write_frame(&Frame::Peer(packet), &mut frame).ok()?;
+    Some(frame)
+}
+
+impl Connections {
+    /// How many packets are on their way.
+    pub fn calls(&self) -> usize {
+        let mut count: usize = 0;
+        for slot in &self.places {
+            if let Some(
+                Open {
+                    state: State::Calling { .. },
+                    ..
+                },
+            ) = slot
+            {
+                count = count.saturating_add(1);
+            }
+        }
+        count
+    }
+
+    /// Gives a packet on its way a place. Where there is none, or no memory for it, the packet is lost: nobody gives way for it.
+    fn admit_call(&mut self, socket: Socket, state: State) -> Option<usize> {
+        if self.calls() >= CALL_LIMIT {
+            return None;
+        }
+        let place = self.free_place()?;
+        self.begin(place, socket, state);
+        Some(place)
+    }
+
+    /// A packet is sent or lost: the command that waits for that is answered.
+    pub fn release(&mut self, holder: Option<usize>) {
+        let Some(place) = holder else {
+            return;
+        };
+        let Some(open) = self.take(place) else {
+            return;
+        };
+        match open.state {
+            State::Holding(byte) => {
+                let (socket, _state, _begun, _heard) = open.into_parts();
+                self.tell(place, socket, byte);
+            }
+            _ => self.keep(place, open),
+        }
+    }
+
+    /// Sends a packet to a node. What isn't sent is a packet that is lost.
+    pub fn send(&mut self, machine: &impl Machine, to: u8, addr: SocketAddr, packet: Packet)
+        requires { IsPacket packet }
+    {
+        match spelled(self.alloc, packet) {
+            Some(frame) => self.send_frame(machine, to, addr, frame),
+            None => self.report.lost(to, Loss::Memory),
+        }
+    }
+
+    /// Sends a frame.
+    fn send_frame(&mut self, machine: &impl Machine, to: u8, addr: SocketAddr, frame: Vec<u8>) {
+        match self.links.line_to(machine, to, addr) {
+            Some(socket) => self.call(socket, to, frame),
+            None => self.report.lost(to, Loss::NoSocket),
+        }
+    }
+
+    /// Sends a frame on a connection. It stays there as long as the frame isn't taken whole; one on which it was is kept for the next.
+    fn call(&mut self, socket: Socket, to: u8, frame: Vec<u8>) {
+        let mut socket = socket;
+        let mut frame = frame;
+        match socket.write(&mut frame) {
+            Written::All => {
+                self.report.sent(to);
+                self.links.keep(to, socket);
+            }
+            Written::Part => self.keep_call(socket, to, frame),
+            Written::Broken => self.report.lost(to, Loss::Broken),
+        }
+    }
+
+    /// Keeps a connection on which the rest of a frame is to be sent.
+    fn keep_call(&mut self, socket: Socket, to: u8, frame: Vec<u8>) {
+        self.calling = self.admit_call(
+            socket,
+            State::Calling {
+                to,
+                frame,
+                holder: None,
+            },
+        );
+        match self.calling {
+            Some(place) => self.watch_call(place),
+            None => self.report.lost(to, Loss::NoPlace),
+        }
+    }
+
+    /// Has the poll report when more of a packet can be sent.
+    fn watch_call(&mut self, place: usize) {
+        if let Some(open) = self.take(place) {
+            self.keep(place, open);
+        }
+    }
+
+    /// Forgets the last packet, before a step.
+    pub fn forget_call(&mut self) {
+        self.calling = None;
+    }
+
+    /// Answers the command at a place by a byte, once the packet is sent or lost that it has put out.
+    pub fn obeyed(&mut self, place: usize, byte: u8) {
+        let Some(open) = self.take(place) else {
+            return;
+        };
+        let (socket, _stage, _begun, _heard) = open.into_parts();
+        if self.hold(place) {
+            self.begin(place, socket, State::Holding(byte));
+        } else {
+            self.tell(place, socket, byte);
+        }
+    }
+
+    /// Keeps a command's connection until the packet is sent or lost that its step has put out; false where none is on its way.
+    fn hold(&mut self, place: usize) -> bool {
+        let Some(call) = self.calling else {
+            return false;
+        };
+        match self.places.get_mut(call) {
+            Some(
+                Some(
+                    Open {
+                        state: State::Calling { holder, .. },
+                        ..
+                    },
+                ),
+            ) => {
+                *holder = Some(place);
+                true
+            }
+            _ => false,
+        }
+    }
+
+    /// Sends more of a packet.
+    pub fn call_on(&mut self, place: usize, open: Open) {
+        let (mut socket, state, begun, heard) = open.into_parts();
+        let State::Calling {
+            to,
+            mut frame,
+            holder,
+        } = state
+        else {
+            self.leave(place);
+            return;
+        };
+        let written = socket.write(&mut frame);
+        if written == Written::Part {
+            let state = State::Calling { to, frame, holder };
+            self.keep(
+                place,
+                Open {
+                    socket,
+                    state,
+                    begun,
+                    heard,
+                },
+            );
+            return;
+        }
+        self.leave(place);
+        self.called(to, written);
+        self.release(holder);
+    }
+
+    /// A packet to a node was sent, or was lost as its connection has broken.
+    fn called(&mut self, to: u8, written: Written) {
+        if written == Written::All {
+            self.report.sent(to);
+        } else {
+            self.report.lost(to, Loss::Broken);
+        }
+    }
+}

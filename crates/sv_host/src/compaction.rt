@@ -1,0 +1,72 @@
+//! The journal, written anew once it has grown enough.
+
+ghost use Rattle.std.specs.Prelude.{IsTrue, OnOk, ℕ, ◌<◌, ◌≡◌, false};
+ghost use Rattle.sv_node.specs.Call.{compaction_ends};
+ghost use Rattle.sv_node.specs.History.{HasGone};
+ghost use Rattle.sv_node.specs.Node.{IsNode, journal_of};
+ghost use Rattle.sv_host.specs.Group.{IsRising, before_of};
+
+use crate::fault::{HostFault, Stop};
+use crate::group::Group;
+use crate::server::Server;
+use sv_journal::{Disk, JournalFault};
+use sv_log::Event;
+use sv_model::Engine;
+use sv_node::Node;
+
+/// The journal is written anew where it is longer than this, and twice as long as when it was last written anew.
+const COMPACTING: u64 = 4_194_304;
+
+/// What comes of a compaction that was refused: a node goes on, unless its disk has failed, and tries again behind the next
+/// connection.
+fn not_compacted(fault: JournalFault) -> Result<(), Stop>
+    ensures { OnOk result (compaction_ends fault ≡ false) }
+{
+    match fault {
+        JournalFault::Full | JournalFault::Memory | JournalFault::Damaged => Ok(()),
+        JournalFault::Device | JournalFault::Failed => Err(Stop::Fault(HostFault::Device)),
+    }
+}
+
+/// Writes the journal anew, where it has grown enough.
+fn compact<E: Engine, D: Disk>(server: &mut Server, node: &mut Node<E, D>) -> Result<(), Stop>
+    requires valid { IsNode E.valid D.tells D.seen D.may_leave node.old }
+    requires live { IsTrue (journal_of node.old).live }
+    ensures valid { IsNode E.valid D.tells D.seen D.may_leave node.new }
+    ensures gone { (low : ℕ) → HasGone E.meaning E.heard D.tells D.may_leave low low node.old node.new result }
+{
+    let len = node.journal_len();
+    server.connections.report.measure(len);
+    if len <= COMPACTING || len <= server.compacted.saturating_mul(2) {
+        return Ok(());
+    }
+    match node.compact() {
+        Ok(()) => {
+            server.was_compacted(len, node.journal_len());
+            Ok(())
+        }
+        Err(fault) => {
+            server
+                .connections
+                .report
+                .note(Event::NotCompacted { bytes: len });
+            not_compacted(fault)
+        }
+    }
+}
+
+/// The same of the journal, which no request has to do with.
+pub fn compact_in_turn<E: Engine, D: Disk>(
+    server: &mut Server,
+    node: &mut Node<E, D>,
+    group: &mut Group,
+) -> Result<(), Stop>
+    requires valid { IsNode E.valid D.tells D.seen D.may_leave node.old }
+    requires live { IsTrue (journal_of node.old).live }
+    requires rising { IsRising group.old }
+    ensures valid { IsNode E.valid D.tells D.seen D.may_leave node.new }
+    ensures rising { IsRising group.new }
+    ensures gone { HasGone E.meaning E.heard D.tells D.may_leave (before_of group.old) (before_of group.new) node.old node.new result }
+{
+    compact(server, node)
+}

@@ -1,0 +1,252 @@
+//! The connections that are open.
+
+use crate::links::Links;
+use crate::machine::Machine;
+use crate::open::Open;
+use crate::persistence::Persistence;
+use crate::queue::Queue;
+use crate::socket::Socket;
+use crate::state::State;
+use mio::{Interest, Registry};
+use std::alloc::{AllocFailed, Global};
+use std::time::Duration;
+use sv_log::Report;
+
+/// So many connections are open at once. Behind that one that has been silent for longest is closed for a new one.
+const OPEN_LIMIT: usize = 1_000;
+
+/// The connections that are open, each at a place.
+pub struct Connections {
+    pub places: Vec<Option<Open>>,
+    pub free: Vec<usize>,
+    pub count: usize,
+    pub registry: Registry,
+    /// The clock that never goes back, when it was last looked at.
+    pub clock: Duration,
+    /// When it was last looked who has taken too long.
+    pub looked: Duration,
+    /// Where something is to be done that the poll may not report.
+    pub due: Vec<usize>,
+    /// Where the last packet is still being sent.
+    pub calling: Option<usize>,
+    pub links: Links,
+    /// What is told to the operator.
+    pub report: Report,
+    pub alloc: Global,
+}
+
+/// By hand, so that the proof of a caller has one step for it.
+impl Drop for Connections {
+    fn drop(self) {
+        let Connections {
+            places: _,
+            free: _,
+            count: _,
+            registry: _,
+            clock: _,
+            looked: _,
+            due: _,
+            calling: _,
+            links: _,
+            report: _,
+            alloc: _,
+        } = self;
+    }
+}
+
+impl Connections {
+    pub fn new(registry: Registry, persistence: Persistence, alloc: Global) -> Connections {
+        Connections {
+            places: Vec::new(alloc),
+            free: Vec::new(alloc),
+            count: 0,
+            registry,
+            clock: Duration::ZERO,
+            looked: Duration::ZERO,
+            due: Vec::new(alloc),
+            calling: None,
+            links: Links::new(alloc, persistence),
+            report: Report::none(),
+            alloc,
+        }
+    }
+
+    /// Has what happens told to the operator.
+    pub fn report_by(&mut self, report: Report) {
+        self.report = report;
+    }
+
+    /// How many connections are open.
+    pub fn len(&self) -> usize {
+        self.count
+    }
+
+    /// Nobody is here.
+    pub fn is_empty(&self) -> bool {
+        self.count == 0
+    }
+
+    /// The clock that never goes back, when it was last looked at.
+    pub fn clock(&self) -> Duration {
+        self.clock
+    }
+
+    /// Looks at the clock.
+    pub fn look_at_clock(&mut self, machine: &impl Machine) {
+        if let Ok(now) = machine.monotonic() {
+            self.clock = now;
+        }
+    }
+
+    /// What stands at a place, which keeps the place.
+    pub fn take(&mut self, place: usize) -> Option<Open> {
+        match self.places.get_mut(place) {
+            Some(slot) => slot.take(),
+            None => None,
+        }
+    }
+
+    /// Puts a connection to its place.
+    pub fn put(&mut self, place: usize, socket: Socket, state: State, begun: Duration) {
+        let heard = self.clock;
+        self.seat(
+            place,
+            Open {
+                socket,
+                state,
+                begun,
+                heard,
+            },
+        );
+    }
+
+    /// Sets a connection at its place.
+    fn seat(&mut self, place: usize, open: Open) {
+        if let Some(slot) = self.places.get_mut(place) {
+            *slot = Some(open);
+        }
+    }
+
+    /// Puts a connection that begins a state to its place.
+    pub fn begin(&mut self, place: usize, socket: Socket, state: State) {
+        let begun = self.clock;
+        self.put(place, socket, state, begun);
+    }
+
+    /// Puts a connection back as it was, and has the poll report it. Where that can't be, it is closed.
+    pub fn keep(&mut self, place: usize, open: Open) {
+        let mut open = open;
+        if self.watch(place, &mut open) {
+            self.seat(place, open);
+        } else {
+            self.leave(place);
+        }
+    }
+
+    /// Has the poll report what the state of a connection waits for. False where it can't.
+    fn watch(&self, place: usize, open: &mut Open) -> bool {
+        match open.state.interest() {
+            Some(interest) => open.socket.watch(&self.registry, place, interest),
+            None => true,
+        }
+    }
+
+    /// Has a connection gone on with again, of which more may be there.
+    pub fn call_again(&mut self, place: usize) {
+        match self.places.get_mut(place) {
+            Some(
+                Some(
+                    Open {
+                        state: State::Asked(_) | State::Taken(_) | State::Peer(_),
+                        ..
+                    },
+                ),
+            ) => self.put_down(place),
+            Some(Some(open)) => {
+                let _ = open
+                    .socket
+                    .watch_anew(&self.registry, place, Interest::READABLE);
+            }
+            _ => {}
+        }
+    }
+
+    /// Puts a place down as one where something is to be done. Where there is no memory for it the connection is closed.
+    pub fn put_down(&mut self, place: usize) {
+        let put: Result<(), AllocFailed<usize>> = self.due.push(place);
+        if put.is_err() {
+            let _closed = self.take(place);
+            self.leave(place);
+        }
+    }
+
+    /// Hands over the places where something is to be done that the poll may not report.
+    pub fn hand_over(&mut self, queue: &mut Queue) {
+        for place in &self.due {
+            queue.add(*place);
+        }
+        self.due.clear();
+    }
+
+    /// When that began which a connection now brings: for one that has rested it is what comes next.
+    pub fn since(&self, state: &State, begun: Duration) -> Duration {
+        if state.is_between() {
+            self.clock
+        } else {
+            begun
+        }
+    }
+
+    /// A node is at a place, whose packets were taken.
+    pub fn is_peer(&self, place: usize) -> bool {
+        match self.places.get(place) {
+            Some(Some(open)) => open.state.is_peer(),
+            _ => false,
+        }
+    }
+
+    /// Gives a place up whose connection was taken.
+    pub fn leave(&mut self, place: usize) {
+        self.count = self.count.saturating_sub(1);
+        let _: Result<(), AllocFailed<usize>> = self.free.push(place);
+    }
+
+    /// A place where nobody is; none where memory is refused.
+    fn vacant(&mut self) -> Option<usize> {
+        if let Some(place) = self.free.pop() {
+            return Some(place);
+        }
+        let place = self.places.len();
+        self.places.push(None).ok()?;
+        Some(place)
+    }
+
+    /// A place for one more connection, which is kept for it; none where as many are open as may be, or there is no memory for it.
+    pub fn free_place(&mut self) -> Option<usize> {
+        if self.count >= OPEN_LIMIT {
+            return None;
+        }
+        let place = self.vacant()?;
+        self.count = self.count.saturating_add(1);
+        Some(place)
+    }
+
+    /// The same for somebody who has come, for whom another gives way.
+    pub fn make_place(&mut self) -> Option<usize> {
+        if self.count >= OPEN_LIMIT && !self.make_room() {
+            return None;
+        }
+        self.free_place()
+    }
+
+    /// Goes on with a connection that was taken, where no more than its socket is needed.
+    pub fn go_on(&mut self, place: usize, open: Open) {
+        match open.state {
+            State::Waiting { .. } => self.look_at_client(place, open),
+            State::Saying { .. } => self.say_on(place, open),
+            State::Parting { bytes } => self.part(place, open, bytes),
+            State::Calling { .. } => self.call_on(place, open),
+            _ => self.keep(place, open),
+        }
+    }
+}

@@ -1,0 +1,106 @@
+//! Connections that are closed before their end.
+
+use crate::connections::Connections;
+use crate::state::{State, Yielding};
+use std::time::Duration;
+use sv_log::{Event, Loss};
+
+/// In milliseconds: so often is looked who has taken too long.
+const LOOKING: u64 = 500;
+
+/// Why a connection is ended that isn't at its end.
+#[derive(Clone, Copy)]
+enum Ending {
+    /// It has taken too long.
+    Late,
+    /// Somebody has come for whom there was no room.
+    GaveWay,
+}
+
+impl Ending {
+    /// Why a packet is lost that was on its way.
+    fn loss(self) -> Loss {
+        match self {
+            Ending::Late => Loss::Late,
+            Ending::GaveWay => Loss::GaveWay,
+        }
+    }
+
+    /// What is told of a client that was at a state; nothing where the client had nothing more to say.
+    fn event(self, state: &State) -> Option<Event> {
+        let phase = state.phase();
+        match self {
+            Ending::Late if phase.is_over() => None,
+            Ending::Late => Some(Event::Late { phase }),
+            Ending::GaveWay => Some(Event::GaveWay { phase }),
+        }
+    }
+}
+
+impl Connections {
+    /// The one that has been silent for longest, of those that give way like this.
+    fn most_silent(&self, yielding: Yielding) -> Option<usize> {
+        let mut oldest: Option<(usize, Duration)> = None;
+        for (place, slot) in self.places.iter().enumerate() {
+            if let Some(open) = slot {
+                let is_older = match oldest {
+                    Some((_, heard)) => open.heard < heard,
+                    None => true,
+                };
+                if is_older && open.state.yielding() == yielding {
+                    oldest = Some((place, open.heard));
+                }
+            }
+        }
+        let (place, _) = oldest?;
+        Some(place)
+    }
+
+    /// The one that gives way first: a packet on its way, which is sent again, before a client is closed.
+    fn first_to_go(&self) -> Option<usize> {
+        match self.most_silent(Yielding::First) {
+            Some(place) => Some(place),
+            None => self.most_silent(Yielding::BySilence),
+        }
+    }
+
+    /// Closes the connection that gives way first; false where none does.
+    pub fn make_room(&mut self) -> bool {
+        let Some(place) = self.first_to_go() else {
+            return false;
+        };
+        self.end(place, Ending::GaveWay);
+        true
+    }
+
+    /// Ends a connection that isn't at its end.
+    fn end(&mut self, place: usize, ending: Ending) {
+        let Some(open) = self.take(place) else {
+            return;
+        };
+        self.leave(place);
+        if let State::Calling { to, holder, .. } = open.state {
+            self.report.lost(to, ending.loss());
+            self.release(holder);
+        } else if let Some(event) = ending.event(&open.state) {
+            self.report.note(event);
+        }
+    }
+
+    /// Ends the connections that have taken too long, once in a while.
+    pub fn look_round(&mut self) {
+        if self.clock < self.looked.saturating_add(Duration::from_millis(LOOKING)) {
+            return;
+        }
+        self.looked = self.clock;
+        for place in 0..self.places.len() {
+            let is_late = match self.places.get(place) {
+                Some(Some(open)) => open.is_late(self.clock),
+                _ => false,
+            };
+            if is_late {
+                self.end(place, Ending::Late);
+            }
+        }
+    }
+}

@@ -1,0 +1,171 @@
+//! A node's turns: what has come on its connections is gathered, given to the node together, and handed out.
+
+ghost use Rattle.std.specs.Prelude.{IsTrue, ◌<◌};
+ghost use Rattle.sv_node.specs.History.{HasEnded, HasGone};
+ghost use Rattle.sv_node.specs.Node.{IsNode, journal_of};
+ghost use Rattle.sv_host.specs.Group.{IsRising, before_of};
+
+use crate::acceptor::Acceptor;
+use crate::compaction::compact_in_turn;
+use crate::fault::Stop;
+use crate::gathering::gather;
+use crate::group::Group;
+use crate::machine::Machine;
+use crate::nudges::{expire, settle, tick};
+use crate::server::Server;
+use sv_journal::Disk;
+use sv_model::Engine;
+use sv_node::Node;
+
+/// What is done at the end of each turn as time passes.
+fn keep_time<M: Machine, E: Engine, D: Disk>(
+    machine: &M,
+    server: &mut Server,
+    node: &mut Node<E, D>,
+    group: &mut Group,
+) -> Result<(), Stop>
+    requires valid { IsNode E.valid D.tells D.seen D.may_leave node.old }
+    requires live { IsTrue (journal_of node.old).live }
+    requires rising { IsRising group.old }
+    ensures valid { IsNode E.valid D.tells D.seen D.may_leave node.new }
+    ensures rising { IsRising group.new }
+    ensures gone { HasGone E.meaning E.heard D.tells D.may_leave (before_of group.old) (before_of group.new) node.old node.new result }
+{
+    tick(machine, server, node, group)?;
+    expire(machine, server, node, group)
+}
+
+/// What is done at the end of each turn as sessions come.
+fn look_after<M: Machine, E: Engine, D: Disk>(
+    machine: &M,
+    server: &mut Server,
+    node: &mut Node<E, D>,
+    group: &mut Group,
+) -> Result<(), Stop>
+    requires valid { IsNode E.valid D.tells D.seen D.may_leave node.old }
+    requires live { IsTrue (journal_of node.old).live }
+    requires rising { IsRising group.old }
+    ensures valid { IsNode E.valid D.tells D.seen D.may_leave node.new }
+    ensures rising { IsRising group.new }
+    ensures gone { HasGone E.meaning E.heard D.tells D.may_leave (before_of group.old) (before_of group.new) node.old node.new result }
+{
+    settle(machine, server, node, group)?;
+    compact_in_turn(server, node, group)
+}
+
+/// What is done at the end of each turn.
+fn end_turn<M: Machine, E: Engine, D: Disk>(
+    machine: &M,
+    server: &mut Server,
+    node: &mut Node<E, D>,
+    group: &mut Group,
+) -> Result<(), Stop>
+    requires valid { IsNode E.valid D.tells D.seen D.may_leave node.old }
+    requires live { IsTrue (journal_of node.old).live }
+    requires rising { IsRising group.old }
+    ensures valid { IsNode E.valid D.tells D.seen D.may_leave node.new }
+    ensures rising { IsRising group.new }
+    ensures gone { HasGone E.meaning E.heard D.tells D.may_leave (before_of group.old) (before_of group.new) node.old node.new result }
+{
+    keep_time(machine, server, node, group)?;
+    look_after(machine, server, node, group)
+}
+
+/// Gives what was gathered to the node.
+fn step_gathered<M: Machine, E: Engine, D: Disk>(
+    machine: &M,
+    server: &mut Server,
+    node: &mut Node<E, D>,
+    group: &mut Group,
+) -> Result<(), Stop>
+    requires valid { IsNode E.valid D.tells D.seen D.may_leave node.old }
+    requires live { IsTrue (journal_of node.old).live }
+    requires rising { IsRising group.old }
+    ensures valid { IsNode E.valid D.tells D.seen D.may_leave node.new }
+    ensures rising { IsRising group.new }
+    ensures gone { HasGone E.meaning E.heard D.tells D.may_leave (before_of group.old) (before_of group.new) node.old node.new result }
+{
+    server.keep_shares(node, group);
+    if group.is_empty() {
+        return Ok(());
+    }
+    match server.step(machine, node, group) {
+        Ok(_) => Ok(()),
+        Err(stop) => Err(stop),
+    }
+}
+
+/// Ends a turn in which all was gathered; else the node stops, now that what was gathered has been given to it.
+fn finish_turn<M: Machine, E: Engine, D: Disk>(
+    machine: &M,
+    server: &mut Server,
+    node: &mut Node<E, D>,
+    group: &mut Group,
+    gathered: Result<(), Stop>,
+) -> Result<(), Stop>
+    requires valid { IsNode E.valid D.tells D.seen D.may_leave node.old }
+    requires live { IsTrue (journal_of node.old).live }
+    requires rising { IsRising group.old }
+    ensures valid { IsNode E.valid D.tells D.seen D.may_leave node.new }
+    ensures rising { IsRising group.new }
+    ensures gone { HasGone E.meaning E.heard D.tells D.may_leave (before_of group.old) (before_of group.new) node.old node.new result }
+{
+    match gathered {
+        Ok(()) => end_turn(machine, server, node, group),
+        Err(stop) => Err(stop),
+    }
+}
+
+/// Waits until somebody is to be looked after, and looks who has taken too long.
+fn wait<M: Machine>(machine: &M, server: &mut Server, acceptor: &mut Acceptor) {
+    server.tell_operator(machine);
+    acceptor.wait(&mut server.connections, server.expiry.is_due());
+    server.is_spared = acceptor.is_spared();
+    if !server.connections.is_empty() && !server.is_spared {
+        server.connections.look_at_clock(machine);
+        server.connections.look_round();
+    }
+}
+
+/// Waits until somebody is to be looked after, gives what has come to the node, and hands on what comes of it.
+fn take_turn<M: Machine, E: Engine, D: Disk>(
+    machine: &M,
+    server: &mut Server,
+    node: &mut Node<E, D>,
+    group: &mut Group,
+    acceptor: &mut Acceptor,
+) -> Result<(), Stop>
+    requires valid { IsNode E.valid D.tells D.seen D.may_leave node.old }
+    requires live { IsTrue (journal_of node.old).live }
+    requires rising { IsRising group.old }
+    ensures valid { IsNode E.valid D.tells D.seen D.may_leave node.new }
+    ensures rising { IsRising group.new }
+    ensures gone { HasGone E.meaning E.heard D.tells D.may_leave (before_of group.old) (before_of group.new) node.old node.new result }
+{
+    server.count_keys_in_time(node);
+    wait(machine, server, acceptor);
+    let gathered = gather(machine, server, group, acceptor);
+    step_gathered(machine, server, node, group)?;
+    finish_turn(machine, server, node, group, gathered)
+}
+
+/// Serves whoever connects, until the node is to stop.
+pub fn run<M: Machine, E: Engine, D: Disk>(
+    machine: &M,
+    server: &mut Server,
+    node: &mut Node<E, D>,
+    acceptor: &mut Acceptor,
+) -> Stop
+    requires valid { IsNode E.valid D.tells D.seen D.may_leave node.old }
+    requires live { IsTrue (journal_of node.old).live }
+    ensures valid { IsNode E.valid D.tells D.seen D.may_leave node.new }
+    ensures ended { HasEnded E.meaning E.heard D.tells D.may_leave node.old node.new }
+{
+    let mut group = Group::new(server.alloc);
+    for _ in 0..u64::MAX {
+        if let Err(stop) = take_turn(machine, server, node, &mut group, acceptor) {
+            return stop;
+        }
+    }
+    Stop::Done
+}

@@ -1,0 +1,229 @@
+//! What has come on the connections, gathered as the next group.
+
+ghost use Rattle.std.specs.Prelude.{IfOk, ◌<◌, ◌≡◌, false};
+ghost use Rattle.sv_host.specs.Group.{Comes, IsRising, before_of, number_of};
+
+use crate::acceptor::{Acceptor, Arrival};
+use crate::fault::Stop;
+use crate::group::{Came, Group};
+use crate::hearing::PIECE;
+use crate::machine::Machine;
+use crate::open::Open;
+use crate::serve::{serve, serve_newcomer};
+use crate::server::Server;
+use sv_log::Event;
+use sv_model::Input;
+
+/// So many packets of one connection are gathered in a turn, at most.
+const PACKETS: u32 = 16;
+
+/// The number of the next request; behind the last there is none.
+fn next_number(group: &Group) -> Result<u64, Stop>
+    ensures { IfOk result (λ number. number_of group.now < number) }
+{
+    let number = group.number();
+    if number == u64::MAX {
+        return Err(Stop::Done);
+    }
+    Ok(number + 1)
+}
+
+/// Drops an input that no step has had, as one step of a proof.
+fn let_go(_input: Input) {}
+
+/// Adds what has come on a connection to a group. Where memory is refused who asks is told.
+fn add<M: Machine>(
+    machine: &M,
+    server: &mut Server,
+    group: &mut Group,
+    came: Came,
+    number: u64,
+) -> Result<(), Stop>
+    requires comes { Comes number came }
+    requires above { number_of group.old < number }
+    requires rising { IsRising group.old }
+    ensures rising { IsRising group.new }
+    ensures before { before_of group.new ≡ before_of group.old }
+{
+    let Came {
+        input,
+        asker,
+        packets,
+    } = came;
+    match server.moment(machine) {
+        Ok(moment) => {
+            if !group.add(moment, input, asker, packets) {
+                server.turn_away(asker);
+            }
+            Ok(())
+        }
+        Err(stop) => {
+            let_go(input);
+            Err(stop)
+        }
+    }
+}
+
+/// Gathers what has come first on a connection; whether more may have come there for the node: a peer sends packet after packet.
+fn gather_one<M: Machine>(
+    machine: &M,
+    server: &mut Server,
+    group: &mut Group,
+    place: usize,
+    piece: &mut [u8; PIECE],
+) -> Result<bool, Stop>
+    requires rising { IsRising group.old }
+    ensures rising { IsRising group.new }
+    ensures before { before_of group.new ≡ before_of group.old }
+{
+    let number = next_number(group)?;
+    match serve(server, place, piece, number) {
+        Ok(Some(came)) => match add(machine, server, group, came, number) {
+            Ok(()) => Ok(server.connections.is_peer(place)),
+            Err(stop) => Err(stop),
+        },
+        Ok(None) => Ok(false),
+        Err(stop) => Err(stop),
+    }
+}
+
+/// Gathers what has come on a connection: one request, or some packets.
+fn gather_some<M: Machine>(
+    machine: &M,
+    server: &mut Server,
+    group: &mut Group,
+    place: usize,
+    piece: &mut [u8; PIECE],
+) -> Result<(), Stop>
+    requires rising { IsRising group.old }
+    ensures rising { IsRising group.new }
+    ensures before { before_of group.new ≡ before_of group.old }
+{
+    for _ in 0..PACKETS {
+        if !gather_one(machine, server, group, place, piece)? {
+            return Ok(());
+        }
+        if group.is_full() {
+            break;
+        }
+    }
+    server.connections.call_again(place);
+    Ok(())
+}
+
+/// Gathers what has come on the connections whose turn it is.
+fn gather_reported<M: Machine>(
+    machine: &M,
+    server: &mut Server,
+    group: &mut Group,
+    acceptor: &mut Acceptor,
+) -> Result<(), Stop>
+    requires rising { IsRising group.old }
+    ensures rising { IsRising group.new }
+    ensures before { before_of group.new ≡ before_of group.old }
+{
+    let mut count: usize = 0;
+    let (places, piece) = acceptor.turn();
+    for place in places {
+        if group.is_full() {
+            break;
+        }
+        gather_some(machine, server, group, *place, piece)?;
+        count = count.saturating_add(1);
+    }
+    acceptor.went_on(count);
+    Ok(())
+}
+
+/// Accepts somebody who may stand at the door, and says at which place; none where nobody stands there, or there is no memory.
+/// Where there is no room for them, one that is open gives way.
+fn admit<M: Machine>(
+    machine: &M,
+    server: &mut Server,
+    acceptor: &mut Acceptor,
+) -> Option<(usize, Open)> {
+    if !acceptor.may_accept() {
+        return None;
+    }
+    match acceptor.accept() {
+        Arrival::Somebody(socket) => {
+            server.connections.report.note(Event::Accepted);
+            server.connections.look_at_clock(machine);
+            match server.connections.make_place() {
+                Some(place) => Some((place, Open::new(socket, server.connections.clock()))),
+                None => None,
+            }
+        }
+        Arrival::Nobody => None,
+        Arrival::NoRoom => {
+            server.connections.report.note(Event::NoRoom);
+            if server.connections.make_room() {
+                acceptor.try_again();
+            }
+            None
+        }
+    }
+}
+
+/// Gathers what else has come on a connection, where it is a peer's.
+fn gather_behind<M: Machine>(
+    machine: &M,
+    server: &mut Server,
+    group: &mut Group,
+    place: usize,
+    piece: &mut [u8; PIECE],
+) -> Result<(), Stop>
+    requires rising { IsRising group.old }
+    ensures rising { IsRising group.new }
+    ensures before { before_of group.new ≡ before_of group.old }
+{
+    if !server.connections.is_peer(place) {
+        return Ok(());
+    }
+    if group.is_full() {
+        server.connections.call_again(place);
+        return Ok(());
+    }
+    gather_some(machine, server, group, place, piece)
+}
+
+/// Accepts one who stands at the door, and gathers what has come of that one.
+fn gather_new<M: Machine>(
+    machine: &M,
+    server: &mut Server,
+    group: &mut Group,
+    acceptor: &mut Acceptor,
+) -> Result<(), Stop>
+    requires rising { IsRising group.old }
+    ensures rising { IsRising group.new }
+    ensures before { before_of group.new ≡ before_of group.old }
+{
+    let number = next_number(group)?;
+    let Some((place, open)) = admit(machine, server, acceptor) else {
+        return Ok(());
+    };
+    let piece = acceptor.piece();
+    match serve_newcomer(server, place, open, piece, number) {
+        Ok(Some(came)) => match add(machine, server, group, came, number) {
+            Ok(()) => gather_behind(machine, server, group, place, piece),
+            Err(stop) => Err(stop),
+        },
+        Ok(None) => Ok(()),
+        Err(stop) => Err(stop),
+    }
+}
+
+/// Gathers what has come of all whose turn it is, and of one who has come.
+pub fn gather<M: Machine>(
+    machine: &M,
+    server: &mut Server,
+    group: &mut Group,
+    acceptor: &mut Acceptor,
+) -> Result<(), Stop>
+    requires rising { IsRising group.old }
+    ensures rising { IsRising group.new }
+    ensures before { before_of group.new ≡ before_of group.old }
+{
+    gather_reported(machine, server, group, acceptor)?;
+    gather_new(machine, server, group, acceptor)
+}

@@ -1,0 +1,191 @@
+//! What a group has put out, handed to whom it is for.
+
+ghost use Rattle.std.specs.Prelude.{OnOk, ◌≡◌, false};
+ghost use Rattle.sv_model.specs.Ranges.{IsPacket};
+ghost use Rattle.sv_node.specs.Call.{step_ends};
+ghost use Rattle.std.specs.List.{AllByRecursion};
+ghost use Rattle.sv_host.specs.Outputs.{AreSendable, IsHandedOn, IsSendable};
+
+use crate::fault::Stop;
+use crate::group::{Asker, Group, Way};
+use crate::machine::Machine;
+use crate::outcome::{Taken, answer_byte, cause_of, refused, sum_up};
+use crate::packets::{Packets, Sending};
+use crate::peers::{address_of, addressee};
+use crate::round::Share;
+use crate::server::Server;
+use sv_log::{Event, Loss};
+use sv_model::{Cause, Output, Packet, Response, StepFault};
+
+/// Where what comes of an input goes that nobody asked for.
+const NO_WAY: Way = Way {
+    asker: Asker::Nobody,
+    packets: Packets::All,
+};
+
+impl Server {
+    /// Sends a packet to its node.
+    fn send(&mut self, machine: &impl Machine, packet: Packet)
+        requires { IsPacket packet }
+    {
+        let to = addressee(&packet);
+        match address_of(self.ports.as_slice(), to) {
+            Some(addr) => self.connections.send(machine, to, addr, packet),
+            None => self.connections.report.lost(to, Loss::NoPeer),
+        }
+    }
+
+    /// Answers the client that waits under a token.
+    fn answer(&mut self, token: u64, response: &Response, now: u64) {
+        if let Some(place) = self.parked.take(token) {
+            self.connections
+                .answer(place, token, response, now, &mut self.text);
+        }
+    }
+
+    /// Refuses the client that waits under a token.
+    pub fn refuse(&mut self, token: u64, cause: Cause, now: u64) {
+        if let Some(place) = self.parked.take(token) {
+            self.connections.report.note(Event::Refused {
+                cause,
+                number: token,
+            });
+            self.connections
+                .refuse(place, token, cause, now, &mut self.text);
+        }
+    }
+
+    /// Hands on one output.
+    fn hand_on_one(&mut self, machine: &impl Machine, output: Output, now: u64)
+        requires { IsSendable output }
+    {
+        match output {
+            Output::Send(packet) => self.send(machine, packet),
+            Output::Answer { token, response } => self.answer(token, &response, now),
+            Output::Refuse { token, cause } => self.refuse(token, cause, now),
+            Output::Moved => self.connections.report.note(Event::Moved),
+            Output::MoveRefused(why) => self.connections.report.note(Event::MoveRefused { why }),
+        }
+    }
+
+    /// Hands on what a step has put out, in order: packets to their nodes, answers to the clients that wait for them.
+    pub fn hand_on(
+        &mut self,
+        machine: &impl Machine,
+        outputs: Vec<Output>,
+        now: u64,
+        packets: Packets,
+    )
+        requires { AreSendable outputs.items }
+    {
+        let mut sending = Sending::of(packets, self.round, outputs.as_slice());
+        for output in outputs {
+            if sending.takes(&output) {
+                self.hand_on_one(machine, output, now);
+            }
+        }
+        if let Sending::Share(share) = sending {
+            self.round = share.end();
+        }
+    }
+
+    /// Refuses whoever asked for what memory was refused for.
+    pub fn turn_away(&mut self, asker: Asker) {
+        let now = self.time.seconds();
+        self.conclude_refused(asker, StepFault::Memory, now);
+    }
+
+    /// What came of a command, told to whoever gave it; a client that waits from now on is watched.
+    fn conclude(&mut self, asker: Asker, taken: Taken) {
+        match asker {
+            Asker::Client { place, token } => {
+                if self.connections.waits_at(place, token) {
+                    self.connections.call_again(place);
+                }
+            }
+            Asker::Command(place) => self.connections.obeyed(place, answer_byte(taken)),
+            Asker::Nobody => {}
+        }
+    }
+
+    /// The step of an input was refused.
+    fn conclude_refused(&mut self, asker: Asker, fault: StepFault, now: u64) {
+        match asker {
+            Asker::Client { token, .. } => self.refuse(token, cause_of(fault), now),
+            Asker::Command(place) => {
+                self.connections.report.note(Event::OrderRefused {
+                    cause: cause_of(fault),
+                });
+                self.connections.obeyed(place, answer_byte(Taken::Refused));
+            }
+            Asker::Nobody => self.connections.report.note(Event::LeftOut {
+                cause: cause_of(fault),
+            }),
+        }
+    }
+
+    /// Hands on what came of one input.
+    fn hand_out_one(
+        &mut self,
+        machine: &impl Machine,
+        way: Way,
+        answer: Result<Vec<Output>, StepFault>,
+        now: u64,
+    ) -> Taken
+        requires { IsHandedOn answer }
+    {
+        match answer {
+            Ok(outputs) => {
+                let taken = sum_up(outputs.as_slice());
+                self.connections.forget_call();
+                self.hand_on(machine, outputs, now, way.packets);
+                self.conclude(way.asker, taken);
+                taken
+            }
+            Err(fault) => {
+                self.conclude_refused(way.asker, fault, now);
+                Taken::Refused
+            }
+        }
+    }
+
+    /// Hands on what came of a group, in order; what came of the last of them.
+    pub fn hand_out(
+        &mut self,
+        machine: &impl Machine,
+        ways: &[Way],
+        answers: Vec<Result<Vec<Output>, StepFault>>,
+    ) -> Taken
+        requires { AllByRecursion (λ a. IsHandedOn a) answers.items }
+    {
+        let now = self.time.seconds();
+        self.connections.report.note(Event::Group {
+            steps: answers.len() as u64,
+        });
+        let mut taken = Taken::Quiet;
+        let mut place: usize = 0;
+        for answer in answers {
+            let way = ways.get(place).copied().unwrap_or(NO_WAY);
+            place = place.saturating_add(1);
+            taken = self.hand_out_one(machine, way, answer, now);
+        }
+        taken
+    }
+
+    /// Refuses all of a group, of which no step was taken.
+    fn refuse_all(&mut self, ways: &[Way], fault: StepFault) {
+        let now = self.time.seconds();
+        for way in ways {
+            self.conclude_refused(way.asker, fault, now);
+        }
+    }
+
+    /// What comes of a group of which no step was taken. Where a disk has failed nobody is told: its records may be there.
+    pub fn not_taken(&mut self, ways: &[Way], fault: StepFault) -> Result<Taken, Stop>
+        ensures { OnOk result (step_ends fault ≡ false) }
+    {
+        let taken = refused(fault)?;
+        self.refuse_all(ways, fault);
+        Ok(taken)
+    }
+}

@@ -1,0 +1,130 @@
+//! What has come on a connection: a request, a frame, or a part of one.
+
+ghost use Rattle.std.specs.Prelude.{◌<◌};
+ghost use Rattle.sv_host.specs.Serve.{IsHeard};
+
+use crate::client::Client;
+use crate::frames::take_in;
+use crate::open::Open;
+use crate::peers::sender;
+use crate::server::Server;
+use crate::socket::Socket;
+use crate::state::{Peer, State};
+use std::time::Duration;
+use sv_connection::{Received, RequestFault};
+use sv_model::Request;
+use sv_record::Frame;
+
+/// So many bytes of a connection are read at once: more than most requests and packets have.
+pub const PIECE: usize = 16_384;
+
+/// What has come on a connection.
+#[derive(Drop)]
+pub enum Heard {
+    /// Less than a request or a frame.
+    More(State),
+    /// A request.
+    Request {
+        client: Client,
+        request: Request,
+    },
+    /// A fault, whose page is to be written.
+    Refused {
+        client: Client,
+        fault: RequestFault,
+        head_only: bool,
+    },
+    /// A frame, and what has come behind it.
+    Frame {
+        frame: Frame,
+        rest: Vec<u8>,
+    },
+    /// Nothing that is served: it is closed.
+    Nothing,
+}
+
+/// Takes what stands at the front of a client's bytes.
+fn hear_client(client: Client, piece: &[u8]) -> Heard
+    ensures { IsHeard result }
+{
+    let mut client = client;
+    if client.connection.waiting() {
+        return Heard::Nothing;
+    }
+    match client.connection.receive(piece) {
+        Received::Request(request) => Heard::Request {
+            client: client.with_piece(piece.len() == PIECE),
+            request,
+        },
+        Received::Refused { fault, head_only } => Heard::Refused {
+            client,
+            fault,
+            head_only,
+        },
+        // Behind no bytes it has begun no request.
+        Received::More if piece.is_empty() => Heard::More(State::Resting(client)),
+        Received::More => Heard::More(State::Asking(client)),
+        Received::Closed => Heard::Nothing,
+    }
+}
+
+/// Puts a piece behind what came before it of a connection's first frame, and takes the frame that is then whole.
+fn hear_framer(server: &Server, bytes: Vec<u8>, piece: &[u8]) -> Heard
+    ensures { IsHeard result }
+{
+    let mut bytes = bytes;
+    match take_in(server.alloc, &mut bytes, piece) {
+        Ok(Some(frame)) => Heard::Frame { frame, rest: bytes },
+        Ok(None) => Heard::More(State::Framing(bytes)),
+        Err(_) => Heard::Nothing,
+    }
+}
+
+/// It is a packet of the node of this number.
+fn is_of(frame: &Frame, node: u8) -> bool {
+    match frame {
+        Frame::Peer(packet) => sender(packet) == node,
+        Frame::Move { .. } | Frame::Tick | Frame::Halt => false,
+    }
+}
+
+/// The same of a connection that has brought a packet: what else it brings is of the same node, or it is closed.
+fn hear_peer(server: &Server, peer: Peer, piece: &[u8]) -> Heard
+    ensures { IsHeard result }
+{
+    let Peer { node, mut bytes } = peer;
+    match take_in(server.alloc, &mut bytes, piece) {
+        Ok(Some(frame)) if is_of(&frame, node) => Heard::Frame { frame, rest: bytes },
+        Ok(None) => Heard::More(State::Peer(Peer { node, bytes })),
+        Ok(Some(_)) | Err(_) => Heard::Nothing,
+    }
+}
+
+/// Takes what has come on a connection that is at a state.
+pub fn hear(server: &Server, state: State, piece: &[u8]) -> Heard
+    ensures { IsHeard result }
+{
+    match state {
+        State::Asking(client) | State::Asked(client) | State::Resting(client) => {
+            hear_client(client, piece)
+        }
+        State::Framing(bytes) => hear_framer(server, bytes, piece),
+        State::Taken(peer) | State::Peer(peer) => hear_peer(server, peer, piece),
+        other => Heard::More(other),
+    }
+}
+
+/// The state of a connection on which this comes.
+fn state_at(server: &Server, state: State, piece: &[u8]) -> State {
+    match (state, piece) {
+        (State::New, [first, ..]) => State::begin(server.alloc, server.persistence, *first),
+        (other, _) => other,
+    }
+}
+
+/// A connection on which this comes: its socket, its state, and when that began.
+pub fn begun(server: &Server, open: Open, piece: &[u8]) -> (Socket, State, Duration) {
+    let (socket, state, since, _) = open.into_parts();
+    let since = server.connections.since(&state, since);
+    (socket, state_at(server, state, piece), since)
+}

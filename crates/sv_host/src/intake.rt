@@ -1,0 +1,158 @@
+//! What is done with what has come on a connection.
+
+ghost use Rattle.std.specs.Prelude.{IfOk, IfSome, ℕ, ◌<◌};
+ghost use Rattle.sv_model.specs.Ranges.{IsInput, IsPacket};
+ghost use Rattle.sv_node.specs.History.{IsAbove};
+ghost use Rattle.sv_record.specs.Frame.{IsFrame};
+ghost use Rattle.sv_host.specs.Group.{Comes};
+
+use crate::client::Client;
+use crate::fault::Stop;
+use crate::group::{Asker, Came};
+use crate::packets::Packets;
+use crate::parked::ParkedClient;
+use crate::peers::sender;
+use crate::server::Server;
+use crate::socket::Socket;
+use crate::state::{Next, Peer, State};
+use crate::unread::name_of;
+use sv_connection::RequestFault;
+use sv_log::Event;
+use sv_model::{Input, Packet, Request, is_head};
+use sv_record::Frame;
+
+/// A connection that was taken from its place, which is kept for it.
+#[derive(Drop)]
+pub struct Lifted {
+    pub place: usize,
+    pub socket: Socket,
+}
+
+/// Keeps a client for the answer to its request, which is to be given to the node. Where there is no memory to keep it, its
+/// connection is closed, and the node isn't asked.
+pub fn ask(
+    server: &mut Server,
+    from: Lifted,
+    client: Client,
+    request: Request,
+    token: u64,
+) -> Option<Came>
+    ensures { IfSome result (λ came. Comes token came) }
+{
+    let Lifted { place, socket } = from;
+    if !server.parked.add(ParkedClient { token, place }) {
+        server.connections.leave(place);
+        return None;
+    }
+    let head_only = is_head(&request.method);
+    let close = request.close;
+    server.connections.begin(
+        place,
+        socket,
+        State::Waiting {
+            client,
+            head_only,
+            close,
+            token,
+            silent: false,
+        },
+    );
+    Some(Came {
+        input: Input::Ask { token, request },
+        asker: Asker::Client { place, token },
+        packets: Packets::All,
+    })
+}
+
+/// Writes the page of a fault, and parts from the client.
+pub fn refuse(
+    server: &mut Server,
+    from: Lifted,
+    client: Client,
+    fault: RequestFault,
+    head_only: bool,
+) {
+    let Lifted { place, socket } = from;
+    let mut client = client;
+    server.text.clear();
+    let now = server.time.seconds();
+    let _ = client
+        .connection
+        .refuse(&mut server.text, fault, head_only, now);
+    server.connections.report.note(Event::BadRequest {
+        fault: name_of(fault),
+    });
+    server
+        .connections
+        .say(place, socket, &mut server.text, Next::Part);
+}
+
+/// Tells a byte at once. Whoever gave the command may have gone away.
+fn tell(server: &Server, socket: &mut Socket, byte: u8) {
+    let mut text = Vec::new(server.alloc);
+    if text.push(byte).is_ok() {
+        let _ = socket.write(&mut text);
+    }
+}
+
+/// Keeps the connection of a node for what it sends behind its packet, which is to be given to the node here.
+fn receive(server: &mut Server, from: Lifted, packet: Packet, rest: Vec<u8>) -> Option<Came>
+    requires { IsPacket packet }
+    ensures { (number : ℕ) → IfSome result (λ came. Comes number came) }
+{
+    let Lifted { place, socket } = from;
+    let peer = Peer {
+        node: sender(&packet),
+        bytes: rest,
+    };
+    server.connections.begin(place, socket, peer.taken());
+    Some(Came {
+        input: Input::Packet(packet),
+        asker: Asker::Nobody,
+        packets: Packets::All,
+    })
+}
+
+/// Keeps whoever gave a command for the answer to it.
+fn obey(server: &mut Server, from: Lifted, input: Input, packets: Packets) -> Option<Came>
+    requires input { IsInput input }
+    requires no_request { (low : ℕ) → IsAbove low input }
+    ensures { (number : ℕ) → IfSome result (λ came. Comes number came) }
+{
+    let Lifted { place, socket } = from;
+    server.connections.begin(place, socket, State::Ordering);
+    Some(Came {
+        input,
+        asker: Asker::Command(place),
+        packets,
+    })
+}
+
+/// What a frame has for the node.
+pub fn take_frame(
+    server: &mut Server,
+    from: Lifted,
+    frame: Frame,
+    rest: Vec<u8>,
+) -> Result<Option<Came>, Stop>
+    requires { IsFrame frame }
+    ensures { (number : ℕ) → IfOk result (λ came. IfSome came (λ came. Comes number came)) }
+{
+    match frame {
+        Frame::Peer(packet) => Ok(receive(server, from, packet, rest)),
+        Frame::Move { key, to } => {
+            server
+                .connections
+                .report
+                .note(Event::MoveOrdered { key, to });
+            Ok(obey(server, from, Input::Move { key, to }, Packets::All))
+        }
+        Frame::Tick => Ok(obey(server, from, Input::Tick, Packets::InTurn)),
+        Frame::Halt => {
+            let mut socket = from.socket;
+            server.connections.report.note(Event::HaltOrdered);
+            tell(server, &mut socket, 0);
+            Err(Stop::Done)
+        }
+    }
+}

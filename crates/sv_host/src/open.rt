@@ -1,0 +1,82 @@
+//! An open connection.
+
+use crate::socket::Socket;
+use crate::state::State;
+use std::time::Duration;
+
+/// An open connection.
+pub struct Open {
+    pub socket: Socket,
+    pub state: State,
+    /// When the state began, and when something was last read, by the clock that never goes back.
+    pub begun: Duration,
+    pub heard: Duration,
+}
+
+/// By hand, so that the proof of a caller has one step for it and not one for each state.
+impl Drop for Open {
+    fn drop(self) {
+        let Open {
+            socket: _,
+            state: _,
+            begun: _,
+            heard: _,
+        } = self;
+    }
+}
+
+impl Open {
+    /// A connection that has come at a moment, and on which nothing has come yet.
+    pub fn new(socket: Socket, begun: Duration) -> Open {
+        Open {
+            socket,
+            state: State::New,
+            begun,
+            heard: begun,
+        }
+    }
+
+    /// A connection that begins a state at a moment.
+    pub fn at(socket: Socket, state: State, begun: Duration) -> Open {
+        Open {
+            socket,
+            state,
+            begun,
+            heard: begun,
+        }
+    }
+
+    /// Its socket, its state, when that began, and when something was last read.
+    pub fn into_parts(self) -> (Socket, State, Duration, Duration) {
+        let Open {
+            socket,
+            state,
+            begun,
+            heard,
+        } = self;
+        (socket, state, begun, heard)
+    }
+
+    /// A client whose request waits, and that sends no more: it has been silent for longer than any other.
+    pub fn silenced(self) -> Open {
+        let Open {
+            socket,
+            state,
+            begun,
+            heard: _,
+        } = self;
+        Open {
+            socket,
+            state: state.silenced(),
+            begun,
+            heard: Duration::ZERO,
+        }
+    }
+
+    /// It has taken longer than it may.
+    pub fn is_late(&self, clock: Duration) -> bool {
+        let (whole, silence) = self.state.patience();
+        clock >= self.begun.saturating_add(Duration::from_secs(whole))
+            || clock >= self.heard.saturating_add(Duration::from_secs(silence))
+    }
+}

@@ -1,0 +1,215 @@
+//! What a running node keeps beside its journal: its clients, its peers, its secrets, and the time.
+
+ghost use Rattle.std.specs.Prelude.{IsTrue};
+ghost use Rattle.sv_node.specs.History.{HasGone};
+ghost use Rattle.sv_node.specs.Node.{IsNode, journal_of};
+ghost use Rattle.sv_host.specs.Group.{IsRising, before_of};
+
+use crate::connections::Connections;
+use crate::expiry::Expiry;
+use crate::fault::{HostFault, Stop};
+use crate::group::Group;
+use crate::machine::Machine;
+use crate::outcome::Taken;
+use crate::parked::ParkedClients;
+use crate::peers::port_of;
+use crate::persistence::Persistence;
+use crate::round::Round;
+use crate::secrets::Secrets;
+use crate::time::{Time, read};
+use std::alloc::Global;
+use std::time::Duration;
+use sv_core::Census;
+use sv_journal::Disk;
+use sv_log::{Event, Level, Milestone, Report};
+use sv_model::{Engine, Moment};
+use sv_node::Node;
+
+/// What a running node keeps beside its journal.
+pub struct Server {
+    /// The port of each node, by its number.
+    pub ports: Vec<u16>,
+    pub secrets: Secrets,
+    pub connections: Connections,
+    pub parked: ParkedClients,
+    /// A text on its way to whom it is for; empty between two steps.
+    pub text: Vec<u8>,
+    /// How many requests a client's connection brings.
+    pub persistence: Persistence,
+    pub time: Time,
+    /// When the node last looked at the time, in seconds since 1970.
+    pub ticked: u64,
+    /// No time has passed since it looked.
+    pub is_spared: bool,
+    pub expiry: Expiry,
+    pub round: Round,
+    /// The length of the journal behind its last compaction; 0 before the first.
+    pub compacted: u64,
+    pub alloc: Global,
+}
+
+/// By hand, so that the proof of a caller has one step for it and not one for each state of its parts.
+impl Drop for Server {
+    fn drop(self) {
+        let Server {
+            ports: _,
+            secrets: _,
+            connections: _,
+            parked: _,
+            text: _,
+            persistence: _,
+            time: _,
+            ticked: _,
+            is_spared: _,
+            expiry: _,
+            round: _,
+            compacted: _,
+            alloc: _,
+        } = self;
+    }
+}
+
+/// A group that is given to the node.
+#[derive(Clone, Copy)]
+struct Write {
+    /// When, by the clock that never goes back; none where nobody asks how long it takes.
+    begun: Option<Duration>,
+    /// The length of the journal before.
+    len: u64,
+}
+
+impl Server {
+    /// What is taken for the time, in seconds since 1970.
+    pub fn now(&mut self, machine: &impl Machine) -> u64 {
+        self.time = self.time.next(read(machine));
+        let now = self.time.seconds();
+        self.connections.report.at(now);
+        now
+    }
+
+    /// The second in which a turn ends.
+    pub fn second(&mut self, machine: &impl Machine) -> u64 {
+        if self.is_spared {
+            self.ticked
+        } else {
+            self.now(machine)
+        }
+    }
+
+    /// The moment of a step: the time, and a secret that no step has had.
+    pub fn moment(&mut self, machine: &impl Machine) -> Result<Moment, Stop> {
+        Ok(Moment {
+            now: self.now(machine),
+            secret: self.secrets.next()?,
+        })
+    }
+
+    /// The journal was written anew; its lengths in bytes.
+    pub fn was_compacted(&mut self, before: u64, after: u64) {
+        self.compacted = after;
+        self.connections.report.measure(after);
+        self.connections
+            .report
+            .note(Event::Compacted { before, after });
+    }
+
+    /// Counts the keys that the node knows, for the figures.
+    pub fn count_keys<E, D: Disk>(&mut self, node: &Node<E, D>) {
+        let Census {
+            active,
+            sent,
+            gone,
+            ended,
+        } = node.census();
+        self.connections
+            .report
+            .census(active as u64, sent as u64, gone as u64, ended as u64);
+    }
+
+    /// The same where the figures are about to be written.
+    pub fn count_keys_in_time<E, D: Disk>(&mut self, node: &Node<E, D>) {
+        if self.connections.report.wants_census() {
+            self.count_keys(node);
+        }
+    }
+
+    /// When a group is given to the node whose journal has so many bytes.
+    fn begin_write(&self, machine: &impl Machine, len: u64) -> Write {
+        let begun = if self.connections.report.is_counting() {
+            machine.monotonic().ok()
+        } else {
+            None
+        };
+        Write { begun, len }
+    }
+
+    /// The group was taken, and the journal has so many bytes: where it has grown it was written and synced.
+    fn end_write(&mut self, machine: &impl Machine, write: Write, len: u64) {
+        if let Some(begun) = write.begun
+            && len != write.len
+            && let Ok(now) = machine.monotonic()
+        {
+            self.connections
+                .report
+                .written(now.saturating_sub(begun).as_nanos() as u64);
+        }
+    }
+
+    /// Has what happens told to the operator.
+    pub fn report_by(&mut self, report: Report) {
+        self.connections.report_by(report);
+    }
+
+    /// Tells the operator that the node of this number serves.
+    pub fn say_ready(&mut self, node: u8) {
+        let port = port_of(self.ports.as_slice(), node);
+        self.connections
+            .report
+            .say(Level::Info, Milestone::Ready { node, port });
+    }
+
+    /// Why the node has stopped, if not by a command; and whatever is still to be told to the operator.
+    pub fn say_stopped(&mut self, machine: &impl Machine, stop: Stop) -> Option<HostFault> {
+        let open = self.connections.len();
+        let fault = match stop {
+            Stop::Done => {
+                self.connections.report.say(Level::Info, Milestone::Stopped);
+                None
+            }
+            Stop::Fault(fault) => Some(fault),
+        };
+        self.connections.report.end(machine, open);
+        fault
+    }
+
+    /// Writes what is to be told to the operator.
+    pub fn tell_operator(&mut self, machine: &impl Machine) {
+        let (waiting, open) = (self.parked.len(), self.connections.len());
+        self.connections.report.turn(machine, waiting, open);
+    }
+
+    /// Gives a group to the node, and hands on what comes of it; what came of the last of them.
+    pub fn step<E: Engine, D: Disk>(
+        &mut self,
+        machine: &impl Machine,
+        node: &mut Node<E, D>,
+        group: &mut Group,
+    ) -> Result<Taken, Stop>
+        requires valid { IsNode E.valid D.tells D.seen D.may_leave node.old }
+        requires live { IsTrue (journal_of node.old).live }
+        requires rising { IsRising group.old }
+        ensures valid { IsNode E.valid D.tells D.seen D.may_leave node.new }
+        ensures rising { IsRising group.new }
+        ensures gone { HasGone E.meaning E.heard D.tells D.may_leave (before_of group.old) (before_of group.new) node.old node.new result }
+    {
+        let (inputs, ways) = group.take();
+        let write = self.begin_write(machine, node.journal_len());
+        match node.step_all(inputs) {
+            Ok(answers) => {
+                self.end_write(machine, write, node.journal_len());
+                Ok(self.hand_out(machine, ways.as_slice(), answers))
+            }
+            Err(fault) => self.not_taken(ways.as_slice(), fault),
+        }
+    }
+}

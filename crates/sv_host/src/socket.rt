@@ -1,0 +1,201 @@
+//! A connection's socket, which waits at most for a moment, and only for what comes first.
+
+ghost use Rattle.std.specs.Io.{ReadsAtMost, WritesAtMost};
+
+use mio::unix::SourceFd;
+use mio::{Interest, Registry, Token};
+use std::io;
+use std::io::{ErrorKind, Read, Write};
+use std::net::{OpenStream, Shutdown, TcpStream};
+use std::os::fd::AsRawFd;
+use std::time::Duration;
+
+/// Writes of one text in turn, at most, before it counts as one that isn't taken.
+const WRITES: u32 = 64;
+
+/// In milliseconds: so long a patient socket waits for what comes first. Linux makes one tick of its clock of it.
+const MOMENT: u64 = 1;
+
+/// The longest text that is written to a socket that waits: a socket that has taken nothing yet has room for it, however little
+/// memory there is for sockets, as Linux keeps a page for each (`tcp_wmem` of tcp(7)).
+const AT_ONCE: usize = 2_048;
+
+/// What a socket may still wait for.
+#[derive(Clone, Copy, Debug, PartialEq, Eq)]
+enum Patience {
+    /// For what comes first, a moment.
+    Hearing,
+    /// For room for a first short text, which is there.
+    Saying,
+    /// For nothing: it is to be made one that never waits before it is used again.
+    Spent,
+    /// For nothing: it never waits.
+    None,
+}
+
+/// A connection's socket.
+pub struct Socket {
+    stream: TcpStream,
+    patience: Patience,
+    /// What the poll reports of it, once it was registered.
+    watched: Option<Interest>,
+}
+
+/// By hand, so that the proof of a caller has one step for it.
+impl Drop for Socket {
+    fn drop(self) {
+        let Socket {
+            stream: _,
+            patience: _,
+            watched: _,
+        } = self;
+    }
+}
+
+/// How much of a text was written.
+#[derive(Clone, Copy, Debug, PartialEq, Eq)]
+pub enum Written {
+    All,
+    /// The rest is still there, and waits until the other end takes more.
+    Part,
+    /// The connection has broken.
+    Broken,
+}
+
+/// What can be told of the other end of a connection that isn't read.
+#[derive(Clone, Copy, Debug, PartialEq, Eq)]
+pub enum Sign {
+    Open,
+    /// It sends no more. It may have gone away, or still want its answer.
+    Ended,
+    /// The connection has broken.
+    Broken,
+}
+
+/// Whether what couldn't be read may still come: nothing is there yet, or a wait for it was cut short, as where the process was
+/// stopped and goes on (signal(7)).
+pub fn comes_later(fault: &io::Error) -> bool {
+    matches!(fault.kind(), ErrorKind::WouldBlock | ErrorKind::Interrupted)
+}
+
+impl From<mio::net::TcpStream> for Socket {
+    fn from(stream: mio::net::TcpStream) -> Socket {
+        Socket::new(TcpStream::from(stream), Patience::None)
+    }
+}
+
+impl Socket {
+    fn new(stream: TcpStream, patience: Patience) -> Socket {
+        Socket {
+            stream,
+            patience,
+            watched: None,
+        }
+    }
+
+    /// A socket that never waits.
+    pub fn quick(stream: TcpStream) -> io::Result<Socket> {
+        stream.set_nonblocking(true)?;
+        Ok(Socket::new(stream, Patience::None))
+    }
+
+    /// A socket that waits for what comes first, a moment.
+    pub fn patient(stream: TcpStream) -> io::Result<Socket> {
+        stream.set_read_timeout(Some(Duration::from_millis(MOMENT)))?;
+        Ok(Socket::new(stream, Patience::Hearing))
+    }
+
+    /// Has the socket never wait again.
+    fn hurry(&mut self) -> io::Result<()> {
+        if self.patience != Patience::None {
+            self.stream.set_nonblocking(true)?;
+            self.patience = Patience::None;
+        }
+        Ok(())
+    }
+
+    /// Reads what is there. Where nothing is, `comes_later` says whether something may still come.
+    pub fn read(&mut self, piece: &mut [u8]) -> io::Result<usize>
+        ensures { ReadsAtMost result piece.new }
+    {
+        if self.patience == Patience::Hearing {
+            self.patience = Patience::Saying;
+        } else {
+            self.hurry()?;
+        }
+        self.stream.read(piece)
+    }
+
+    /// Writes as much of a text as the other end takes now.
+    fn put(&mut self, text: &[u8]) -> io::Result<usize>
+        ensures { WritesAtMost result text.now }
+    {
+        if self.patience == Patience::Saying && text.len() <= AT_ONCE {
+            self.patience = Patience::Spent;
+        } else {
+            self.hurry()?;
+        }
+        self.stream.write(text)
+    }
+
+    /// Writes what the other end takes now, and cuts it off.
+    pub fn write(&mut self, text: &mut Vec<u8>) -> Written {
+        for _ in 0..WRITES {
+            if text.is_empty() {
+                return Written::All;
+            }
+            match self.put(text.as_slice()) {
+                Ok(0) => return Written::Broken,
+                Ok(count) if count == text.len() => text.clear(),
+                Ok(count) => {
+                    text.drain(..count);
+                }
+                Err(fault) if fault.kind() == ErrorKind::WouldBlock => return Written::Part,
+                Err(_) => return Written::Broken,
+            }
+        }
+        Written::Broken
+    }
+
+    /// Says that nothing more is written.
+    pub fn end_writing(&mut self) -> io::Result<()> {
+        self.hurry()?;
+        self.stream.shutdown(Shutdown::Write)
+    }
+
+    /// What the other end does meanwhile, as far as that can be told without taking what it has sent.
+    pub fn sign(&mut self) -> Sign {
+        if self.hurry().is_err() {
+            return Sign::Broken;
+        }
+        let mut piece = [0u8; 1];
+        match self.stream.peek(&mut piece) {
+            Ok(0) => Sign::Ended,
+            Ok(_) => Sign::Open,
+            Err(fault) if fault.kind() == ErrorKind::WouldBlock => Sign::Open,
+            Err(_) => Sign::Broken,
+        }
+    }
+
+    /// Has the poll report under a place when the socket becomes ready. False where it can't.
+    pub fn watch(&mut self, registry: &Registry, place: usize, interest: Interest) -> bool {
+        self.watched == Some(interest) || self.watch_anew(registry, place, interest)
+    }
+
+    /// Has the poll report the socket again, also where it has been ready for long.
+    pub fn watch_anew(&mut self, registry: &Registry, place: usize, interest: Interest) -> bool {
+        if self.hurry().is_err() {
+            return false;
+        }
+        let number = self.stream.as_raw_fd();
+        let mut source = SourceFd(&number);
+        let is_known = self.watched.is_some();
+        self.watched = Some(interest);
+        let done = if is_known {
+            registry.reregister(&mut source, Token(place), interest)
+        } else {
+            registry.register(&mut source, Token(place), interest)
+        };
+        done.is_ok()
+    }
+}
