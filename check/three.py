@@ -89,6 +89,8 @@ class Machines:
         self.names, self.front = self.wire.names[:3], "front"
         self.nodes, self.proxies, self.nginx = {}, {}, None
         self.link = "tls"
+        # As deploy/machines/node.conf has it.
+        self.words = ["--keep-alive"]
         self.log = open(f"{ROOM}/log", "a", encoding="utf-8")
         script("certificates", "make", self.certs, "3")
 
@@ -106,7 +108,8 @@ class Machines:
         return self.own(number, "journal")
 
     def start_node(self, number):
-        node = self.spawn(self.names[number], self.node, CONFIG, self.journal(number), str(number), stdout=subprocess.PIPE, text=True)
+        words = [self.node, *self.words, CONFIG, self.journal(number), str(number)]
+        node = self.spawn(self.names[number], *words, stdout=subprocess.PIPE, text=True)
         expect(f"the first line of node {number}", node.stdout.readline(), f"ready {number}\n")
         self.nodes[number] = node
 
