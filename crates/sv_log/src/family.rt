@@ -50,6 +50,16 @@ impl Family {
         writeln!(out, "kegbramble_{name}{{node=\"{node}\"}} {value}")
     }
 
+    /// A figure of a node in seconds.
+    pub fn seconds(&self, out: &mut String, node: u8, nanoseconds: u64) -> Result<(), AllocError> {
+        let name = self.name;
+        let (seconds, rest) = (nanoseconds / 1_000_000_000, nanoseconds % 1_000_000_000);
+        writeln!(
+            out,
+            "kegbramble_{name}{{node=\"{node}\"}} {seconds}.{rest:09}"
+        )
+    }
+
     /// One of several figures of a node.
     pub fn labelled(
         &self,

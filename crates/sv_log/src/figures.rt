@@ -1,14 +1,16 @@
 //! What has happened at a node since its start, in numbers.
 
+use crate::census::Census;
 use crate::event::{Event, cause_name};
 use crate::family::{Family, Label};
 use crate::loss::Loss;
 use crate::names::{
-    ACCEPTED, BAD_REQUESTS, COMPACTIONS, CONNECTIONS, GAVE_WAY, GROUPS, JOURNAL, LATE, LOST, MOVED,
-    NO_ROOM, ORDERED, REFUSED, REQUESTS, SENT, STEPS, TIME, WAITING,
+    ACCEPTED, BAD_REQUESTS, COMPACTIONS, CONNECTIONS, ENDED, GAVE_WAY, GONE, GROUPS, JOURNAL,
+    KNOWN, KNOWN_LIMIT, LATE, LOST, MOVED, NO_ROOM, ORDERED, REFUSED, REQUESTS, SENT, SESSIONS,
+    STEPS, TIME, WAITING, WRITE_SECONDS, WRITES,
 };
 use std::alloc::AllocError;
-use sv_model::Cause;
+use sv_model::{Cause, KEY_LIMIT};
 
 /// The causes of a refusal, in the order in which figures have them.
 const CAUSES: [Cause; 7] = [
@@ -41,6 +43,9 @@ pub struct Figures {
     groups: u64,
     steps: u64,
     compactions: u64,
+    writes: u64,
+    /// What those took together.
+    write_nanoseconds: u64,
 }
 
 /// What there is at a node at a moment.
@@ -54,6 +59,7 @@ pub struct Gauges {
     pub journal: u64,
     /// In seconds since 1970.
     pub now: u64,
+    pub keys: Census,
 }
 
 /// Writes figures that have one number each.
@@ -61,6 +67,19 @@ fn write_plain(out: &mut String, node: u8, list: &[(Family, u64)]) -> Result<(),
     for (family, value) in list {
         family.head(out)?;
         family.sample(out, node, *value)?;
+    }
+    Ok(())
+}
+
+/// Writes how many sessions a node has, by their state.
+fn write_sessions(out: &mut String, node: u8, keys: Census) -> Result<(), AllocError> {
+    SESSIONS.head(out)?;
+    for (state, count) in [("active", keys.active), ("sent", keys.sent)] {
+        let label = Label {
+            key: "state",
+            value: state,
+        };
+        SESSIONS.labelled(out, node, label, count)?;
     }
     Ok(())
 }
@@ -117,8 +136,14 @@ impl Figures {
         }
     }
 
+    /// Counts a group that was written to the journal and synced, which took so long.
+    pub fn count_write(&mut self, nanoseconds: u64) {
+        rise(&mut self.writes, 1);
+        rise(&mut self.write_nanoseconds, nanoseconds);
+    }
+
     /// The counters that have one number each.
-    fn counters(&self) -> [(Family, u64); 11] {
+    fn counters(&self) -> [(Family, u64); 12] {
         [
             (BAD_REQUESTS, self.bad),
             (ACCEPTED, self.accepted),
@@ -131,6 +156,7 @@ impl Figures {
             (GROUPS, self.groups),
             (STEPS, self.steps),
             (COMPACTIONS, self.compactions),
+            (WRITES, self.writes),
         ]
     }
 
@@ -179,13 +205,21 @@ impl Figures {
         self.write_refused(out, node)?;
         self.write_lost(out, node)?;
         write_plain(out, node, &self.counters())?;
+        WRITE_SECONDS.head(out)?;
+        WRITE_SECONDS.seconds(out, node, self.write_nanoseconds)?;
+        write_sessions(out, node, gauges.keys)?;
         write_plain(out, node, &gauges.all())
     }
 }
 
 impl Gauges {
-    fn all(self) -> [(Family, u64); 4] {
+    fn all(self) -> [(Family, u64); 8] {
+        let keys = self.keys;
         [
+            (KNOWN, keys.known()),
+            (KNOWN_LIMIT, KEY_LIMIT as u64),
+            (GONE, keys.gone),
+            (ENDED, keys.ended),
             (WAITING, self.waiting),
             (CONNECTIONS, self.connections),
             (JOURNAL, self.journal),

@@ -7,6 +7,7 @@
 //! nothing but the look whether there is one.
 #![tactic(auto)]
 
+mod census;
 mod event;
 mod failure;
 mod family;
@@ -23,6 +24,7 @@ mod report;
 mod stamp;
 mod tally;
 
+pub use census::Census;
 pub use event::Event;
 pub use failure::{Failure, Site};
 pub use figures::{Figures, Gauges};

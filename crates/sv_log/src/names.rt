@@ -86,6 +86,48 @@ pub const COMPACTIONS: Family = Family {
     help: "Times that the journal was written anew.",
 };
 
+pub const WRITES: Family = Family {
+    name: "journal_writes_total",
+    kind: Kind::Counter,
+    help: "Groups that were written to the journal and synced.",
+};
+
+pub const WRITE_SECONDS: Family = Family {
+    name: "journal_write_seconds_total",
+    kind: Kind::Counter,
+    help: "How long those writes took, their syncs included.",
+};
+
+pub const SESSIONS: Family = Family {
+    name: "sessions",
+    kind: Kind::Gauge,
+    help: "Sessions that the node has: active here, or sent to another node that has not acknowledged them.",
+};
+
+pub const KNOWN: Family = Family {
+    name: "known_keys",
+    kind: Kind::Gauge,
+    help: "Keys of sessions that the node knows: those it has, those that have gone, and those that have ended.",
+};
+
+pub const KNOWN_LIMIT: Family = Family {
+    name: "known_keys_limit",
+    kind: Kind::Gauge,
+    help: "So many keys the node knows at most; then it makes no session and takes none.",
+};
+
+pub const GONE: Family = Family {
+    name: "gone_keys",
+    kind: Kind::Gauge,
+    help: "Keys of sessions that have gone to another node, and are known here.",
+};
+
+pub const ENDED: Family = Family {
+    name: "ended_keys",
+    kind: Kind::Gauge,
+    help: "Keys of sessions that have ended here.",
+};
+
 pub const WAITING: Family = Family {
     name: "waiting_requests",
     kind: Kind::Gauge,

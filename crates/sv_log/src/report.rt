@@ -1,5 +1,6 @@
 //! What a node tells its operator: a log and figures, either or none.
 
+use crate::census::Census;
 use crate::event::Event;
 use crate::figures::Gauges;
 use crate::level::Level;
@@ -31,6 +32,7 @@ pub struct Report {
     is_silent: [bool; NODES],
     now: u64,
     journal: u64,
+    keys: Census,
     /// When it was begun, by the clock that nobody sets, in milliseconds.
     begun: u64,
 }
@@ -44,6 +46,7 @@ impl Drop for Report {
             is_silent: _,
             now: _,
             journal: _,
+            keys: _,
             begun: _,
         } = self;
     }
@@ -58,6 +61,7 @@ impl Report {
             is_silent: [false; NODES],
             now: 0,
             journal: 0,
+            keys: Census::default(),
             begun: 0,
         }
     }
@@ -183,6 +187,28 @@ impl Report {
         self.journal = journal;
     }
 
+    /// A group was written to the journal and synced, which took so long.
+    pub fn written(&mut self, nanoseconds: u64) {
+        if let Some(metrics) = &mut self.metrics {
+            metrics.figures.count_write(nanoseconds);
+        }
+    }
+
+    /// How many keys the node knows, by what has become of their sessions, as [`Census`] has them.
+    pub fn census(&mut self, active: u64, sent: u64, gone: u64, ended: u64) {
+        self.keys = Census {
+            active,
+            sent,
+            gone,
+            ended,
+        };
+    }
+
+    /// Whether the figures are about to be written, so that the keys are to be counted for them.
+    pub fn wants_census(&self) -> bool {
+        self.is_due()
+    }
+
     /// What there is at a node at which so many clients wait, and so many connections are open.
     fn gauges(&self, waiting: usize, connections: usize) -> Gauges {
         Gauges {
@@ -190,6 +216,7 @@ impl Report {
             connections: connections as u64,
             journal: self.journal,
             now: self.now,
+            keys: self.keys,
         }
     }
 
