@@ -3,6 +3,7 @@
 use std::alloc::{AllocError, AllocFailed};
 use sv_config::ConfigFault;
 use sv_control::FoundFault;
+use sv_watch::FiguresFault;
 use thiserror::Error;
 
 /// Why a descriptor isn't used.
@@ -37,6 +38,9 @@ pub enum Fault {
     /// Status 4: what the files hold isn't shown.
     #[error("the journal: {0}")]
     Journal(FoundFault),
+    /// Status 4: a file of figures.
+    #[error("a file of figures {0}")]
+    Figures(FiguresFault),
     /// Status 5: the node at a port doesn't answer.
     #[error("the node at port {0} doesn't answer")]
     Unanswered(u16),
@@ -57,7 +61,7 @@ impl Fault {
         match self {
             Fault::Arguments(_) => 2,
             Fault::Descriptor(_) => 3,
-            Fault::Unreadable | Fault::Journal(_) => 4,
+            Fault::Unreadable | Fault::Journal(_) | Fault::Figures(_) => 4,
             Fault::Unanswered(_) | Fault::Output | Fault::Memory => 5,
             Fault::NotDone => 6,
         }

@@ -12,8 +12,11 @@ mod health;
 mod journal;
 mod limit;
 mod machine;
+mod offered;
 mod orders;
+mod status;
 mod stopping;
+mod watching;
 mod words;
 
 use fault::Fault;
