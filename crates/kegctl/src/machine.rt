@@ -1,6 +1,7 @@
 //! What the program asks of the machine that it runs on.
 
 use std::io::IsTerminal;
+use std::process::Processes;
 use std::rt::{Clock, Files};
 use sv_client::Network;
 
@@ -16,10 +17,10 @@ impl Screen for HostRuntime {
     }
 }
 
-/// The network, the clock, files, standard output, and memory.
-pub trait Machine: Network + Clock + Files + Print + Screen + AllocGlobal {}
+/// The network, the clock, files, programs, standard output, and memory.
+pub trait Machine: Network + Clock + Files + Processes + Print + Screen + AllocGlobal {}
 
 impl<R> Machine for R
 where
-    R: Network + Clock + Files + Print + Screen + AllocGlobal,
+    R: Network + Clock + Files + Processes + Print + Screen + AllocGlobal,
 {}

@@ -14,9 +14,11 @@ mod limit;
 mod machine;
 mod offered;
 mod orders;
+mod program;
 mod status;
 mod stopping;
 mod watching;
+mod whose;
 mod words;
 
 use fault::Fault;

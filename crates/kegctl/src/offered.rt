@@ -27,6 +27,17 @@ fn choice<'a>(alloc: Global, id: &'a str, help: &'a str) -> Arg<'a> {
 }
 
 fn check<'a>(alloc: Global) -> Result<Command<'a>, AllocError> {
+    let journal = Arg::new(alloc, "journal")
+        .long("journal")
+        .num_args(2)
+        .value_names(&["JOURNAL", "NODE"])
+        .help("says whether JOURNAL can be that of the node with this number, by its records");
+    let program = Arg::new(alloc, "program")
+        .long("program")
+        .value_name("PROGRAM")
+        .help(
+            "a node's program, such as kegbramble-node: is asked whether it has all that CONFIG names",
+        );
     let against = Arg::new(alloc, "against")
         .long("against")
         .value_name("OLD")
@@ -36,7 +47,9 @@ fn check<'a>(alloc: Global) -> Result<Command<'a>, AllocError> {
     Command::new(alloc, "check")
         .about("says what a descriptor has, or where it is at fault and what to write there")
         .arg(word(alloc, "CONFIG", "the descriptor of the nodes"))?
-        .arg(against)
+        .arg(against)?
+        .arg(program)?
+        .arg(journal)
 }
 
 fn sessions<'a>(alloc: Global) -> Result<Command<'a>, AllocError> {
@@ -88,7 +101,7 @@ fn at_port<'a>(alloc: Global, name: &'a str, about: &'a str) -> Result<Command<'
 
 fn status<'a>(alloc: Global) -> Result<Command<'a>, AllocError> {
     Command::new(alloc, "status")
-        .about("says which nodes of a cluster answer")
+        .about("says which nodes of a cluster answer, and how long each takes")
         .arg(word(alloc, "CONFIG", "the descriptor of the nodes"))
 }
 

@@ -9,10 +9,12 @@ use crate::draining::take_out;
 use crate::fault::{DescriptorFault, Fault};
 use crate::journal::{entries, kept, records};
 use crate::machine::Machine;
+use crate::program::ask_program;
 use crate::status::show_status;
 use crate::stopping::stop;
 use crate::watching::watch;
-use crate::words::{Form, Order};
+use crate::whose::check_claim;
+use crate::words::{Check, Form, Order};
 use sv_client::session_named;
 use sv_config::Deployment;
 use sv_control::{
@@ -48,6 +50,18 @@ fn check_text<M: Machine>(machine: &M, text: &str) -> Result<(), Fault> {
 fn check_config<M: Machine>(machine: &M, config: &str) -> Result<(), Fault> {
     let text = read_config(machine, config)?;
     check_text(machine, text.as_str())
+}
+
+/// The same, and whether a program would start with it, and a journal can be a node's.
+fn check<M: Machine>(machine: &M, order: Check<'_>) -> Result<(), Fault> {
+    check_config(machine, order.config)?;
+    if let Some(program) = order.program {
+        ask_program(machine, program, order.config)?;
+    }
+    match order.claim {
+        Some(claim) => check_claim(machine, claim),
+        None => Ok(()),
+    }
 }
 
 /// Says which sessions are lost, where any are.
@@ -220,7 +234,7 @@ fn halt_node<M: Machine>(machine: &M, port: u16) -> Result<(), Fault> {
 /// Does what is asked for.
 pub fn carry_out<M: Machine>(machine: &M, order: Order<'_>) -> Result<(), Fault> {
     match order {
-        Order::Check { config } => check_config(machine, config),
+        Order::Check(order) => check(machine, order),
         Order::Compare { old, new } => compare_configs(machine, old, new),
         Order::Sessions {
             journal,

@@ -2,6 +2,7 @@
 
 use crate::fault::Fault;
 use crate::offered::program;
+use crate::whose::Claim;
 use clap::ArgMatches;
 use clap::error::Error;
 use std::alloc::Global;
@@ -25,9 +26,7 @@ pub enum Form {
 /// What the program is asked to do.
 #[derive(Drop)]
 pub enum Order<'a> {
-    Check {
-        config: &'a str,
-    },
+    Check(Check<'a>),
     /// Two descriptors: which sessions of the first the second loses.
     Compare {
         old: &'a str,
@@ -61,6 +60,16 @@ pub enum Order<'a> {
     },
     Drain(Drain<'a>),
     Watch(Watch<'a>),
+}
+
+/// A descriptor that is to be looked at.
+#[derive(Clone, Copy, Debug, PartialEq, Eq)]
+pub struct Check<'a> {
+    pub config: &'a str,
+    /// A node's program, which is asked whether it has all that is named.
+    pub program: Option<&'a str>,
+    /// A journal that is looked at, too.
+    pub claim: Option<Claim<'a>>,
 }
 
 /// Figures that are to be shown.
@@ -178,18 +187,32 @@ fn sessions_of<'a>(matches: &ArgMatches<'a>) -> Order<'a> {
     }
 }
 
-fn check_of<'a>(matches: &ArgMatches<'a>) -> Order<'a> {
+/// The journal that is to be looked at, and the node whose it is said to be.
+fn claim<'a>(matches: &ArgMatches<'a>) -> Result<Option<Claim<'a>>, Fault> {
+    match matches.get_strs("journal") {
+        Some([journal, node]) => Ok(Some(Claim {
+            journal,
+            node: node_of(node)?,
+        })),
+        _ => Ok(None),
+    }
+}
+
+fn check_of<'a>(matches: &ArgMatches<'a>) -> Result<Order<'a>, Fault> {
     let config = text(matches, "CONFIG");
     match matches.get_str("against") {
-        Some(old) => Order::Compare { old, new: config },
-        None => Order::Check { config },
+        Some(old) => Ok(Order::Compare { old, new: config }),
+        None => Ok(Order::Check(Check {
+            config,
+            program: matches.get_str("program"),
+            claim: claim(matches)?,
+        })),
     }
 }
 
 /// What a command on files asks for.
 fn order_on_files<'a>(name: &str, matches: &ArgMatches<'a>) -> Order<'a> {
     match name {
-        "check" => check_of(matches),
         "records" => Order::Records {
             journal: text(matches, "JOURNAL"),
         },
@@ -223,7 +246,8 @@ fn order_on_node<'a>(name: &str, matches: &ArgMatches<'a>) -> Result<Order<'a>, 
 /// What a command and its words ask for.
 fn order_of<'a>(alloc: Global, name: &str, matches: &ArgMatches<'a>) -> Result<Order<'a>, Fault> {
     match name {
-        "check" | "sessions" | "records" => Ok(order_on_files(name, matches)),
+        "check" => check_of(matches),
+        "sessions" | "records" => Ok(order_on_files(name, matches)),
         "status" | "stop" => Ok(order_on_cluster(name, matches)),
         "drain" => drain_of(matches),
         "watch" => watch_of(alloc, matches),
