@@ -1,5 +1,8 @@
 //! A line that has a figure.
 
+ghost use Rattle.std.specs.Prelude.{◌≡◌, ℕ, List, IfSome, IsSome};
+ghost use Rattle.sv_watch.specs.Exposition.{IsFigure};
+
 /// A line that has a figure, in its parts.
 #[derive(Clone, Copy, Debug, PartialEq, Eq)]
 pub struct Figure<'a> {
@@ -11,14 +14,21 @@ pub struct Figure<'a> {
     pub value: &'a str,
 }
 
-/// The parts of a line `NAME{LABELS} VALUE`.
-pub fn figure_of(line: &str) -> Option<Figure<'_>> {
+/// The parts of a line `NAME{LABELS} VALUE`; none of any other line.
+pub fn figure_of(line: &str) -> Option<Figure<'_>>
+    ensures parts { IfSome result (λ figure. IsFigure line.now figure.name.now figure.labels.now figure.value.now) }
+    ensures each { (name : List ℕ) → (labels : List ℕ) → (value : List ℕ) → IsFigure line.now name labels value → IsSome result }
+{
     let (name, rest) = line.split_once('{')?;
     let (labels, rest) = rest.split_once('}')?;
-    let value = rest.strip_prefix(' ')?;
-    Some(Figure {
-        name,
-        labels,
-        value,
-    })
+    let (between, value) = rest.split_once(' ')?;
+    if between.is_empty() {
+        Some(Figure {
+            name,
+            labels,
+            value,
+        })
+    } else {
+        None
+    }
 }

@@ -131,7 +131,7 @@ pub const ROWS: [Row; 22] = [
         shown: Shown::Level,
     },
     Row {
-        title: "moves",
+        title: "ordered moves",
         name: "moves_total",
         label: None,
         shown: Shown::Counter,
