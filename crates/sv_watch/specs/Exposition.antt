@@ -24,9 +24,9 @@ closed line = after_first is_close (opened line)
 -- right behind that, before the value
 pub record IsFigure (line name labels value : List ℕ) : Type 0 where
   pub opens : position_or_len is_open line < length line
-  pub name : name ≡ before_first is_open line
+  pub named : name ≡ before_first is_open line
   pub closes : position_or_len is_close (opened line) < length (opened line)
-  pub labels : labels ≡ before_first is_close (opened line)
+  pub labelled : labels ≡ before_first is_close (opened line)
   pub spaced : position_or_len is_blank (closed line) < length (closed line)
   pub at_once : before_first is_blank (closed line) ≡ []
-  pub value : value ≡ after_first is_blank (closed line)
+  pub valued : value ≡ after_first is_blank (closed line)
