@@ -13,6 +13,14 @@ use sv_script::NodeNumber;
 /// How long a node may take for a command, in seconds: what it sends to a peer that doesn't answer takes one.
 pub const PATIENCE: u64 = 10;
 
+/// Where a node is called.
+pub fn address(port: u16) -> Address {
+    Address {
+        port,
+        patience: PATIENCE,
+    }
+}
+
 /// What a node's answer to a command means; a tick and a halt have no other refusal than the fifth.
 pub fn told(answer: u8) -> &'static str {
     match answer {

@@ -3,6 +3,7 @@
 use std::alloc::{AllocError, AllocFailed};
 use sv_config::ConfigFault;
 use sv_control::FoundFault;
+use sv_watch::FiguresFault;
 use thiserror::Error;
 
 /// Why a descriptor isn't used.
@@ -14,6 +15,9 @@ pub enum DescriptorFault {
     /// A node would refuse it.
     #[error("the CONFIG: {0}")]
     Refused(ConfigFault),
+    /// A node's program would; why, it has said.
+    #[error("the program refuses the CONFIG")]
+    Program,
     /// Sessions that nodes have under another one are lost under it.
     #[error("the CONFIG loses sessions of the one before")]
     Loses,
@@ -37,9 +41,18 @@ pub enum Fault {
     /// Status 4: what the files hold isn't shown.
     #[error("the journal: {0}")]
     Journal(FoundFault),
+    /// Status 4: by a record that the program has said.
+    #[error("the journal is another node's")]
+    Anothers,
+    /// Status 4: a file of figures.
+    #[error("a file of figures {0}")]
+    Figures(FiguresFault),
     /// Status 5: the node at a port doesn't answer.
     #[error("the node at port {0} doesn't answer")]
     Unanswered(u16),
+    /// Status 5: the program of `check` can't be run, or is none of a node's.
+    #[error("the PROGRAM can't be run, or is none of a node's")]
+    Program,
     /// Status 5: standard output can't be written.
     #[error("standard output can't be written")]
     Output,
@@ -57,8 +70,8 @@ impl Fault {
         match self {
             Fault::Arguments(_) => 2,
             Fault::Descriptor(_) => 3,
-            Fault::Unreadable | Fault::Journal(_) => 4,
-            Fault::Unanswered(_) | Fault::Output | Fault::Memory => 5,
+            Fault::Unreadable | Fault::Journal(_) | Fault::Anothers | Fault::Figures(_) => 4,
+            Fault::Unanswered(_) | Fault::Program | Fault::Output | Fault::Memory => 5,
             Fault::NotDone => 6,
         }
     }

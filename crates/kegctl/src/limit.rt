@@ -10,8 +10,8 @@ pub struct Limit {
     end: Duration,
 }
 
-/// What that clock shows; its end where it can't be read.
-fn clock<M: Machine>(machine: &M) -> Duration {
+/// What the clock that nobody sets shows; its end where it can't be read.
+pub fn clock<M: Machine>(machine: &M) -> Duration {
     match machine.monotonic() {
         Ok(now) => now,
         Err(_) => Duration::MAX,

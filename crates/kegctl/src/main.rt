@@ -12,8 +12,13 @@ mod health;
 mod journal;
 mod limit;
 mod machine;
+mod offered;
 mod orders;
+mod program;
+mod status;
 mod stopping;
+mod watching;
+mod whose;
 mod words;
 
 use fault::Fault;

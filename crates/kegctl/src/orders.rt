@@ -3,17 +3,20 @@
 ghost use Rattle.std.specs.Prelude.{IfOk};
 ghost use Rattle.sv_model.specs.Keys.{IsKey};
 
-use crate::cluster::{config_fault, read_cluster, read_config, read_deployment};
-use crate::commands::{PATIENCE, halt, hand_over, tick, told};
+use crate::cluster::{config_fault, read_config, read_deployment};
+use crate::commands::{address, halt, hand_over, tick, told};
 use crate::draining::take_out;
 use crate::fault::{DescriptorFault, Fault};
-use crate::health::Health;
 use crate::journal::{entries, kept, records};
 use crate::machine::Machine;
+use crate::program::ask_program;
+use crate::status::show_status;
 use crate::stopping::stop;
-use crate::words::{Form, Order};
-use std::net::{Ipv4Addr, SocketAddr, TcpStream};
-use sv_client::{Address, session_named};
+use crate::watching::watch;
+use crate::whose::check_claim;
+use crate::words::{Check, Form, Order};
+use sv_client::session_named;
+use sv_config::Deployment;
 use sv_control::{
     Look, RecordPlace, SessionLine, Shown, ShownRecord, look_at, losses, places_of, session_line,
     shown_key,
@@ -49,16 +52,47 @@ fn check_config<M: Machine>(machine: &M, config: &str) -> Result<(), Fault> {
     check_text(machine, text.as_str())
 }
 
-/// Says which sessions of a descriptor another one loses.
-fn compare_configs<M: Machine>(machine: &M, old: &str, new: &str) -> Result<(), Fault> {
-    let old = read_deployment(machine, old)?;
-    let new = read_deployment(machine, new)?;
-    let lost = losses(machine.alloc(), &old, &new)?;
+/// The same, and whether a program would start with it, and a journal can be a node's.
+fn check<M: Machine>(machine: &M, order: Check<'_>) -> Result<(), Fault> {
+    check_config(machine, order.config)?;
+    if let Some(program) = order.program {
+        ask_program(machine, program, order.config)?;
+    }
+    match order.claim {
+        Some(claim) => check_claim(machine, claim),
+        None => Ok(()),
+    }
+}
+
+/// Says which sessions are lost, where any are.
+fn say_lost<M: Machine>(machine: &M, lost: &str) -> Result<(), Fault> {
     if lost.is_empty() {
         return say(machine, "no session is lost");
     }
     say(machine, lost.trim_end())?;
     Err(Fault::Descriptor(DescriptorFault::Loses))
+}
+
+fn compare<M: Machine>(machine: &M, old: &Deployment, new: &Deployment) -> Result<(), Fault> {
+    match losses(machine.alloc(), old, new) {
+        Ok(lost) => say_lost(machine, lost.as_str()),
+        Err(_) => Err(Fault::Memory),
+    }
+}
+
+fn compare_with<M: Machine>(machine: &M, old: &Deployment, new: &str) -> Result<(), Fault> {
+    match read_deployment(machine, new) {
+        Ok(new) => compare(machine, old, &new),
+        Err(fault) => Err(fault),
+    }
+}
+
+/// Says which sessions of a descriptor another one loses.
+fn compare_configs<M: Machine>(machine: &M, old: &str, new: &str) -> Result<(), Fault> {
+    match read_deployment(machine, old) {
+        Ok(old) => compare_with(machine, &old, new),
+        Err(fault) => Err(fault),
+    }
 }
 
 /// A session in the form that is asked for.
@@ -155,14 +189,6 @@ fn show_records<M: Machine>(machine: &M, journal: &str) -> Result<(), Fault> {
     show_entries(machine, &entries)
 }
 
-/// Where a node is called.
-fn address(port: u16) -> Address {
-    Address {
-        port,
-        patience: PATIENCE,
-    }
-}
-
 /// Says what a node's answer means.
 fn say_answer<M: Machine>(machine: &M, answer: u8) -> Result<(), Fault> {
     say(machine, told(answer))?;
@@ -205,50 +231,10 @@ fn halt_node<M: Machine>(machine: &M, port: u16) -> Result<(), Fault> {
     say_answer(machine, halt(machine, address(port))?)
 }
 
-/// How a node is whose port gave no answer, by another connection to it.
-fn silence_of<M: Machine>(machine: &M, port: u16) -> Health {
-    match TcpStream::connect(machine, SocketAddr::from((Ipv4Addr::LOCALHOST, port))) {
-        Ok(_) => Health::Silent,
-        Err(refused) => Health::Unreached(refused),
-    }
-}
-
-/// How a node is; it is asked to do what is due, which it would do by itself.
-fn health_of<M: Machine>(machine: &M, port: u16) -> Health {
-    match tick(machine, address(port)) {
-        Ok(0) => Health::Well,
-        Ok(_) => Health::Short,
-        Err(_) => silence_of(machine, port),
-    }
-}
-
-/// Says how a node is; whether all is well with it.
-fn show_node<M: Machine>(machine: &M, node: usize, port: u16) -> Result<bool, Fault> {
-    let health = health_of(machine, port);
-    match println!(machine; "node {node}, port {port}: {health}") {
-        Ok(()) => Ok(health.is_well()),
-        Err(_) => Err(Fault::Output),
-    }
-}
-
-fn show_nodes<M: Machine>(machine: &M, ports: &[u16]) -> Result<(), Fault> {
-    let mut is_well = true;
-    for (node, port) in ports.iter().enumerate() {
-        is_well = show_node(machine, node, *port)? && is_well;
-    }
-    if is_well { Ok(()) } else { Err(Fault::NotDone) }
-}
-
-/// Says which nodes of a cluster answer.
-fn show_status<M: Machine>(machine: &M, config: &str) -> Result<(), Fault> {
-    let cluster = read_cluster(machine, config)?;
-    show_nodes(machine, &cluster.ports)
-}
-
 /// Does what is asked for.
 pub fn carry_out<M: Machine>(machine: &M, order: Order<'_>) -> Result<(), Fault> {
     match order {
-        Order::Check { config } => check_config(machine, config),
+        Order::Check(order) => check(machine, order),
         Order::Compare { old, new } => compare_configs(machine, old, new),
         Order::Sessions {
             journal,
@@ -262,5 +248,6 @@ pub fn carry_out<M: Machine>(machine: &M, order: Order<'_>) -> Result<(), Fault>
         Order::Status { config } => show_status(machine, config),
         Order::Stop { config } => stop(machine, config),
         Order::Drain(order) => take_out(machine, order),
+        Order::Watch(order) => watch(machine, order),
     }
 }

@@ -1,16 +1,14 @@
 //! The words of the command line, by the kit's `clap`.
 
 use crate::fault::Fault;
+use crate::offered::program;
+use crate::whose::Claim;
+use clap::ArgMatches;
 use clap::error::Error;
-use clap::{Arg, ArgAction, ArgMatches, Command};
-use std::alloc::{AllocError, Global};
+use std::alloc::Global;
 use sv_control::Shown;
 use sv_model::NODE_LIMIT;
 use sv_script::NodeNumber;
-use sv_version::version;
-
-/// The program's name in what it prints, whatever its file is called.
-const NAME: &str = "kegctl";
 
 /// So many seconds a drain takes at most, if it isn't said; and it is never told to take longer than a day.
 const SECONDS: &str = "10";
@@ -26,11 +24,9 @@ pub enum Form {
 }
 
 /// What the program is asked to do.
-#[derive(Clone, Copy, Debug, PartialEq, Eq)]
+#[derive(Drop)]
 pub enum Order<'a> {
-    Check {
-        config: &'a str,
-    },
+    Check(Check<'a>),
     /// Two descriptors: which sessions of the first the second loses.
     Compare {
         old: &'a str,
@@ -63,6 +59,27 @@ pub enum Order<'a> {
         config: &'a str,
     },
     Drain(Drain<'a>),
+    Watch(Watch<'a>),
+}
+
+/// A descriptor that is to be looked at.
+#[derive(Clone, Copy, Debug, PartialEq, Eq)]
+pub struct Check<'a> {
+    pub config: &'a str,
+    /// A node's program, which is asked whether it has all that is named.
+    pub program: Option<&'a str>,
+    /// A journal that is looked at, too.
+    pub claim: Option<Claim<'a>>,
+}
+
+/// Figures that are to be shown.
+#[derive(Drop)]
+pub struct Watch<'a> {
+    pub config: &'a str,
+    /// The files that nodes write, a column of the table each.
+    pub files: Vec<&'a str>,
+    /// So many tables; none where it wasn't said.
+    pub count: Option<u64>,
 }
 
 /// A node that is to be taken out of use.
@@ -77,158 +94,6 @@ pub struct Drain<'a> {
     pub seconds: u64,
     /// It is halted once it has none left.
     pub halts: bool,
-}
-
-/// A word that has to be there.
-fn word<'a>(alloc: Global, id: &'a str, help: &'a str) -> Arg<'a> {
-    Arg::new(alloc, id)
-        .required(true)
-        .action(ArgAction::Set)
-        .help(help)
-}
-
-/// A choice that may be there.
-fn choice<'a>(alloc: Global, id: &'a str, help: &'a str) -> Arg<'a> {
-    Arg::new(alloc, id)
-        .long(id)
-        .action(ArgAction::SetTrue)
-        .help(help)
-}
-
-fn check<'a>(alloc: Global) -> Result<Command<'a>, AllocError> {
-    let against = Arg::new(alloc, "against")
-        .long("against")
-        .value_name("OLD")
-        .help(
-            "the descriptor that the nodes had until now: says which of their sessions CONFIG would lose",
-        );
-    Command::new(alloc, "check")
-        .about("says what a descriptor has, or where it is at fault and what to write there")
-        .arg(word(alloc, "CONFIG", "the descriptor of the nodes"))?
-        .arg(against)
-}
-
-fn sessions<'a>(alloc: Global) -> Result<Command<'a>, AllocError> {
-    Command::new(alloc, "sessions")
-        .about("lists the sessions that a node keeps, by its journal, which is only read")
-        .arg(word(
-            alloc,
-            "JOURNAL",
-            "the first file of the journal; the other has .b behind its name",
-        ))?
-        .arg(choice(
-            alloc,
-            "values",
-            "shows values of attributes, which may be secrets",
-        ))?
-        .arg(choice(alloc, "json", "a line of JSON for each session"))
-}
-
-fn records<'a>(alloc: Global) -> Result<Command<'a>, AllocError> {
-    Command::new(alloc, "records")
-        .about(
-            "lists the records of a journal, the oldest first; behind a compaction from its snapshot on",
-        )
-        .arg(word(
-            alloc,
-            "JOURNAL",
-            "the first file of the journal; the other has .b behind its name",
-        ))
-}
-
-fn to_move<'a>(alloc: Global) -> Result<Command<'a>, AllocError> {
-    Command::new(alloc, "move")
-        .about("has a node hand a session over to another")
-        .arg(word(alloc, "PORT", "the port of the node that has the session"))?
-        .arg(word(
-            alloc,
-            "SESSION",
-            "the value of the session's cookie, or its HOME.SERIAL",
-        ))?
-        .arg(word(alloc, "TO", "the number of the node that takes it"))
-}
-
-/// A command that needs the node's port alone.
-fn at_port<'a>(alloc: Global, name: &'a str, about: &'a str) -> Result<Command<'a>, AllocError> {
-    Command::new(alloc, name)
-        .about(about)
-        .arg(word(alloc, "PORT", "the node's port"))
-}
-
-fn status<'a>(alloc: Global) -> Result<Command<'a>, AllocError> {
-    Command::new(alloc, "status")
-        .about("says which nodes of a cluster answer")
-        .arg(word(alloc, "CONFIG", "the descriptor of the nodes"))
-}
-
-fn stop<'a>(alloc: Global) -> Result<Command<'a>, AllocError> {
-    Command::new(alloc, "stop")
-        .about("halts all nodes of a cluster at once; their sessions stay in their journals")
-        .arg(word(alloc, "CONFIG", "the descriptor of the nodes"))
-}
-
-/// The words that a drain has to have.
-fn drained<'a>(alloc: Global) -> Result<Command<'a>, AllocError> {
-    Command::new(alloc, "drain")
-        .about(
-            "takes a node out of use: moves its sessions to the others, and waits until they have them",
-        )
-        .arg(word(alloc, "CONFIG", "the descriptor of the nodes"))?
-        .arg(word(alloc, "NODE", "the number of the node"))?
-        .arg(word(alloc, "JOURNAL", "the first file of its journal"))
-}
-
-/// The same, and how long it may take.
-fn timed<'a>(alloc: Global) -> Result<Command<'a>, AllocError> {
-    let seconds = Arg::new(alloc, "seconds").long("seconds").help(
-        "so long it takes at most, 10 if it isn't said; then it says what is left, and ends with status 6",
-    );
-    drained(alloc)?.arg(seconds)
-}
-
-fn take_out<'a>(alloc: Global) -> Result<Command<'a>, AllocError> {
-    let to = Arg::new(alloc, "to").long("to").help(
-        "the nodes that take its sessions in turn, numbers with commas between; else all others",
-    );
-    timed(alloc)?.arg(to)?.arg(choice(alloc, "halt", "halts the node once it has none left"))
-}
-
-/// One command more.
-fn with<'a>(
-    program: Command<'a>,
-    command: Result<Command<'a>, AllocError>,
-) -> Result<Command<'a>, AllocError> {
-    match command {
-        Ok(command) => program.subcommand(command),
-        Err(refused) => Err(refused),
-    }
-}
-
-/// The commands on files.
-fn on_files<'a>(alloc: Global) -> Result<Command<'a>, AllocError> {
-    let program = Command::new(alloc, NAME)
-        .bin_name(NAME)?
-        .about("what an operator of nodes has in hand")
-        .version(version())
-        .subcommand_required(true)
-        .arg_required_else_help(true);
-    let program = with(program, check(alloc))?;
-    let program = with(program, sessions(alloc))?;
-    with(program, records(alloc))
-}
-
-/// And those on running nodes.
-fn on_nodes<'a>(alloc: Global) -> Result<Command<'a>, AllocError> {
-    let program = with(on_files(alloc)?, to_move(alloc))?;
-    let program = with(program, at_port(alloc, "tick", "has a node do what is due"))?;
-    with(program, at_port(alloc, "halt", "halts a node at once"))
-}
-
-/// The program with all its commands.
-fn program<'a>(alloc: Global) -> Result<Command<'a>, AllocError> {
-    let program = with(on_nodes(alloc)?, status(alloc))?;
-    let program = with(program, stop(alloc))?;
-    with(program, take_out(alloc))
 }
 
 /// A word that a command has, as clap has seen to it.
@@ -272,6 +137,40 @@ fn drain_of<'a>(matches: &ArgMatches<'a>) -> Result<Order<'a>, Fault> {
     }))
 }
 
+/// How many tables are to be shown.
+fn count(matches: &ArgMatches<'_>) -> Result<Option<u64>, Fault> {
+    let Some(text) = matches.get_str("count") else {
+        return Ok(None);
+    };
+    match text.parse::<u64>() {
+        Ok(count) if count > 0 => Ok(Some(count)),
+        _ => Err(Fault::Arguments("--count is a number above 0")),
+    }
+}
+
+/// The words that a command has in a list.
+fn texts<'a>(alloc: Global, matches: &ArgMatches<'a>, id: &str) -> Result<Vec<&'a str>, Fault> {
+    let mut all = Vec::new(alloc);
+    if let Some(words) = matches.get_strs(id) {
+        for word in words {
+            all.push(*word)?;
+        }
+    }
+    Ok(all)
+}
+
+fn watch_of<'a>(alloc: Global, matches: &ArgMatches<'a>) -> Result<Order<'a>, Fault> {
+    let count = count(matches)?;
+    match texts(alloc, matches, "METRICS") {
+        Ok(files) => Ok(Order::Watch(Watch {
+            config: text(matches, "CONFIG"),
+            files,
+            count,
+        })),
+        Err(fault) => Err(fault),
+    }
+}
+
 fn sessions_of<'a>(matches: &ArgMatches<'a>) -> Order<'a> {
     Order::Sessions {
         journal: text(matches, "JOURNAL"),
@@ -288,18 +187,32 @@ fn sessions_of<'a>(matches: &ArgMatches<'a>) -> Order<'a> {
     }
 }
 
-fn check_of<'a>(matches: &ArgMatches<'a>) -> Order<'a> {
+/// The journal that is to be looked at, and the node whose it is said to be.
+fn claim<'a>(matches: &ArgMatches<'a>) -> Result<Option<Claim<'a>>, Fault> {
+    match matches.get_strs("journal") {
+        Some([journal, node]) => Ok(Some(Claim {
+            journal,
+            node: node_of(node)?,
+        })),
+        _ => Ok(None),
+    }
+}
+
+fn check_of<'a>(matches: &ArgMatches<'a>) -> Result<Order<'a>, Fault> {
     let config = text(matches, "CONFIG");
     match matches.get_str("against") {
-        Some(old) => Order::Compare { old, new: config },
-        None => Order::Check { config },
+        Some(old) => Ok(Order::Compare { old, new: config }),
+        None => Ok(Order::Check(Check {
+            config,
+            program: matches.get_str("program"),
+            claim: claim(matches)?,
+        })),
     }
 }
 
 /// What a command on files asks for.
 fn order_on_files<'a>(name: &str, matches: &ArgMatches<'a>) -> Order<'a> {
     match name {
-        "check" => check_of(matches),
         "records" => Order::Records {
             journal: text(matches, "JOURNAL"),
         },
@@ -331,11 +244,13 @@ fn order_on_node<'a>(name: &str, matches: &ArgMatches<'a>) -> Result<Order<'a>, 
 }
 
 /// What a command and its words ask for.
-fn order_of<'a>(name: &str, matches: &ArgMatches<'a>) -> Result<Order<'a>, Fault> {
+fn order_of<'a>(alloc: Global, name: &str, matches: &ArgMatches<'a>) -> Result<Order<'a>, Fault> {
     match name {
-        "check" | "sessions" | "records" => Ok(order_on_files(name, matches)),
+        "check" => check_of(matches),
+        "sessions" | "records" => Ok(order_on_files(name, matches)),
         "status" | "stop" => Ok(order_on_cluster(name, matches)),
         "drain" => drain_of(matches),
+        "watch" => watch_of(alloc, matches),
         _ => order_on_node(name, matches),
     }
 }
@@ -355,7 +270,7 @@ pub fn read_words(alloc: Global, words: &[String]) -> Result<Asked<'_>, Fault> {
         Err(said) => return Ok(Asked::Said(said)),
     };
     match matches.subcommand() {
-        Some((name, inner)) => Ok(Asked::Order(order_of(name, inner)?)),
+        Some((name, inner)) => Ok(Asked::Order(order_of(alloc, name, inner)?)),
         None => Err(Fault::Arguments("no command")),
     }
 }

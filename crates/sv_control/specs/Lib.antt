@@ -5,3 +5,4 @@ pub mod Moving
 pub mod Naming
 pub mod Places
 pub mod Records
+pub mod Whose

@@ -9,6 +9,17 @@ use Rattle.sv_model.specs.declared.state.KeyState.{KeyState}
 use Rattle.sv_model.specs.declared.state.KeyState.TheVariants.{Active, Sent, Gone, Ended}
 use Rattle.sv_model.specs.NodeState.{Durable}
 
+-- what a record of a snapshot has of its key, by what is made of a key and its state
+abbrev pub at_state : (Key → KeyState → List Key) → Record → List Key
+at_state f (Boot boot) = []
+at_state f (Commit named born) = []
+at_state f (Expired k) = []
+at_state f (SentRecord k e to s) = []
+at_state f (Taken k e from s) = []
+at_state f (GoneRecord k e) = []
+at_state f (State k st) = f k st
+at_state f (Counters boot next) = []
+
 -- the key, if its session is active
 abbrev pub if_active : Key → KeyState → List Key
 if_active k (Active e s) = k ∷ []
@@ -18,14 +29,7 @@ if_active k (Ended e) = []
 
 -- the key of a record of a snapshot, if its session is active
 abbrev pub active_at : Record → List Key
-active_at (Boot boot) = []
-active_at (Commit named born) = []
-active_at (Expired k) = []
-active_at (SentRecord k e to s) = []
-active_at (Taken k e from s) = []
-active_at (GoneRecord k e) = []
-active_at (State k st) = if_active k st
-active_at (Counters boot next) = []
+active_at entry = at_state if_active entry
 
 -- the keys whose sessions are active by a snapshot
 abbrev pub active_in : List Record → List Key
@@ -40,14 +44,7 @@ if_sent k (Ended e) = []
 
 -- the key of a record of a snapshot, if its session is on its way
 abbrev pub sent_at : Record → List Key
-sent_at (Boot boot) = []
-sent_at (Commit named born) = []
-sent_at (Expired k) = []
-sent_at (SentRecord k e to s) = []
-sent_at (Taken k e from s) = []
-sent_at (GoneRecord k e) = []
-sent_at (State k st) = if_sent k st
-sent_at (Counters boot next) = []
+sent_at entry = at_state if_sent entry
 
 -- the keys whose sessions are on their way by a snapshot
 abbrev pub sent_in : List Record → List Key

@@ -32,6 +32,17 @@ epoch_of (Ended e) = e
 abbrev pub state_text : Key → KeyState → List ℕ
 state_text k state = key_text k ++ place_part state ++ codes ", epoch " ++ decimal (epoch_of state)
 
+-- what a request has made of the session that it named, and of the one that it made
+abbrev pub commit_text : Change → Change → List ℕ
+commit_text named born = codes "served:" ++ change_text (codes "kept") named ++ change_text (codes "made") born
+
+-- a session's way, which the word says, to a node or from one
+abbrev pub way_text : List ℕ → Key → List ℕ → ℕ → ℕ → List ℕ
+way_text verb k word node e = verb ++ codes " " ++ key_text k ++ word ++ decimal node ++ codes ", epoch " ++ decimal e
+
+abbrev pub gone_text : Key → ℕ → List ℕ
+gone_text k e = codes "gone " ++ key_text k ++ codes ", epoch " ++ decimal e
+
 -- the counters of a snapshot
 abbrev pub counters_text : ℕ → ℕ → List ℕ
 counters_text boot next = codes "snapshot behind start " ++ decimal boot ++ codes ", next serial " ++ decimal next
@@ -39,10 +50,10 @@ counters_text boot next = codes "snapshot behind start " ++ decimal boot ++ code
 -- what a record says
 abbrev pub record_text : Record → List ℕ
 record_text (Boot boot) = codes "start " ++ decimal boot
-record_text (Commit named born) = codes "served:" ++ change_text (codes "kept") named ++ change_text (codes "made") born
+record_text (Commit named born) = commit_text named born
 record_text (Expired k) = codes "expired " ++ key_text k
-record_text (SentRecord k e to s) = codes "sent " ++ key_text k ++ codes " to " ++ decimal to ++ codes ", epoch " ++ decimal e
-record_text (Taken k e from s) = codes "taken " ++ key_text k ++ codes " from " ++ decimal from ++ codes ", epoch " ++ decimal e
-record_text (GoneRecord k e) = codes "gone " ++ key_text k ++ codes ", epoch " ++ decimal e
+record_text (SentRecord k e to s) = way_text (codes "sent") k (codes " to ") to e
+record_text (Taken k e from s) = way_text (codes "taken") k (codes " from ") from e
+record_text (GoneRecord k e) = gone_text k e
 record_text (State k state) = state_text k state
 record_text (Counters boot next) = counters_text boot next

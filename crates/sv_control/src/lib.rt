@@ -5,7 +5,7 @@
 //! its two files, in memory, so that nothing is ever written; [`replay`] gives what its records give. [`session_line`] is
 //! what is shown of a session and [`ShownRecord`] of a record, and [`places_of`] says where each record stands; [`to_move`] says which
 //! sessions a drain moves, and [`left_in`] how many are left; [`look_at`] tells of a descriptor, and [`losses`] of one that takes the
-//! place of another.
+//! place of another; [`is_anothers`] and [`is_own`] say whose journal a record can be in.
 #![tactic(auto)]
 
 mod descriptor;
@@ -18,6 +18,7 @@ mod moving;
 mod naming;
 mod places;
 mod records;
+mod whose;
 
 pub use descriptor::{Look, look_at};
 pub use images::{FoundFault, entries_of};
@@ -28,3 +29,4 @@ pub use moving::{Left, left_in, to_move};
 pub use naming::{ShownKey, key_text, shown_key};
 pub use places::{RecordPlace, places_of};
 pub use records::ShownRecord;
+pub use whose::{is_anothers, is_own};

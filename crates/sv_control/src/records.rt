@@ -3,7 +3,7 @@
 ghost use Rattle.std.specs.Prelude.{◌≡◌, ◌++◌, decimal};
 ghost use Rattle.std.specs.Fmt.{WritesOnOk};
 ghost use Rattle.sv_control.specs.Records as spec;
-ghost use Rattle.sv_control.specs.Records.{change_text, place_part, state_text};
+ghost use Rattle.sv_control.specs.Records.{change_text, commit_text, gone_text, place_part, state_text, way_text};
 
 use crate::naming::ShownKey;
 use std::fmt;
@@ -67,6 +67,40 @@ fn write_two<W: fmt::Write>(
     write!(f, "{}{}{}{}", one.0, one.1, other.0, other.1)
 }
 
+/// Writes what a request has made of the session that it named, and of the one that it made.
+fn write_commit<W: fmt::Write>(
+    f: &mut fmt::Formatter<W>,
+    named: &Change,
+    born: &Change,
+) -> fmt::Result
+    ensures { WritesOnOk W.write_str_gives f.old result (commit_text named.now born.now) f.new }
+{
+    f.write_str("served:")?;
+    write_change(f, "kept", named)?;
+    write_change(f, "made", born)
+}
+
+/// Writes a session's way to a node or from one.
+fn write_way<W: fmt::Write>(
+    f: &mut fmt::Formatter<W>,
+    verb: &str,
+    key: Key,
+    way: (&str, u8),
+    epoch: u64,
+) -> fmt::Result
+    ensures { WritesOnOk W.write_str_gives f.old result (way_text verb.now key way.entry.0.now way.entry.1 epoch) f.new }
+{
+    let (word, node) = way;
+    write!(f, "{verb} {}{word}{node}, epoch {epoch}", ShownKey(key))
+}
+
+/// Writes that a session has gone.
+fn write_gone<W: fmt::Write>(f: &mut fmt::Formatter<W>, key: Key, epoch: u64) -> fmt::Result
+    ensures { WritesOnOk W.write_str_gives f.old result (gone_text key epoch) f.new }
+{
+    write!(f, "gone {}, epoch {epoch}", ShownKey(key))
+}
+
 /// A record, which prints as what it says.
 #[derive(Clone, Copy)]
 pub struct ShownRecord<'a>(pub &'a Record);
@@ -80,22 +114,18 @@ impl fmt::Display for ShownRecord<'_> {
     fn fmt<W: fmt::Write>(&self, f: &mut fmt::Formatter<W>) -> fmt::Result {
         match self.0 {
             Record::Boot(boot) => write!(f, "start {boot}"),
-            Record::Commit { named, born } => {
-                f.write_str("served:")?;
-                write_change(f, "kept", named)?;
-                write_change(f, "made", born)
-            }
+            Record::Commit { named, born } => write_commit(f, named, born),
             Record::Expired(key) => write!(f, "expired {}", ShownKey(*key)),
             Record::Sent { key, epoch, to, .. } => {
-                write!(f, "sent {} to {to}, epoch {epoch}", ShownKey(*key))
+                write_way(f, "sent", *key, (" to ", *to), *epoch)
             }
             Record::Taken {
                 key,
                 epoch,
                 from,
                 ..
-            } => { write!(f, "taken {} from {from}, epoch {epoch}", ShownKey(*key)) }
-            Record::Gone { key, epoch } => write!(f, "gone {}, epoch {epoch}", ShownKey(*key)),
+            } => { write_way(f, "taken", *key, (" from ", *from), *epoch) }
+            Record::Gone { key, epoch } => write_gone(f, *key, *epoch),
             Record::State { key, state } => write_state(f, *key, state),
             Record::Counters { boot, next } => {
                 write_two(

@@ -3,9 +3,22 @@
 use crate::application::{contexts, deployed, descriptors, filters, patterns, servlets};
 use crate::fault::RowFault;
 use crate::record::{self, attributes, changed, frames, spelled};
+use crate::watched;
 use crate::web::{cookies, fields, forms, lengths, responses, streams, targets};
 use std::alloc::Global;
 use sv_model::{Packet, Record};
+
+fn of_figures(alloc: Global, kind: &str, parts: &str) -> Result<String, RowFault> {
+    match kind {
+        "figures" => watched::figures(alloc, parts),
+        "cut-figures" => watched::cut(alloc, parts),
+        "figure" => watched::figure(alloc, parts),
+        "rate" => watched::rate(alloc, parts),
+        "table" => watched::plain(alloc, parts),
+        "screen" => watched::drawn(alloc, parts),
+        _ => Err(RowFault::Kind),
+    }
+}
 
 fn of_record(alloc: Global, kind: &str, parts: &str) -> Result<String, RowFault> {
     match kind {
@@ -18,7 +31,7 @@ fn of_record(alloc: Global, kind: &str, parts: &str) -> Result<String, RowFault>
         "attributes" => attributes::attributes(alloc, parts),
         "changed" => changed::changed(alloc, parts),
         "count" => record::count(alloc, parts),
-        _ => Err(RowFault::Kind),
+        _ => of_figures(alloc, kind, parts),
     }
 }
 

@@ -14,7 +14,8 @@
 //!   `deployed-filters`;
 //! - `application`, paths: `context`, `below`, `servlet`, `pattern`, `long-pattern`, `filters` and `dispatcher`;
 //! - `record`: `record`, `old-record`, `packet`, `old-packet`, `frame`, `old-frame`, `attributes`, `changed` and `count`, whose
-//!   bytes are in hexadecimal.
+//!   bytes are in hexadecimal;
+//! - `watched`, figures: `figures`, `cut-figures`, `figure`, `rate`, `table` and `screen`.
 #![tactic(auto)]
 
 mod answer;
@@ -26,6 +27,7 @@ mod kinds;
 mod record;
 mod repeat;
 mod row;
+mod watched;
 mod web;
 
 use std::io;

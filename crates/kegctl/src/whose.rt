@@ -1,0 +1,103 @@
+//! Says whether a journal can be a node's.
+
+use crate::fault::Fault;
+use crate::journal::{entries, records};
+use crate::machine::Machine;
+use sv_control::{RecordPlace, ShownRecord, is_anothers, is_own, places_of};
+use sv_model::Record;
+use sv_script::NodeNumber;
+
+/// A journal, and the node whose it is said to be.
+#[derive(Clone, Copy, Debug, PartialEq, Eq)]
+pub struct Claim<'a> {
+    /// The first of its files.
+    pub journal: &'a str,
+    pub node: NodeNumber,
+}
+
+/// Says by which record the journal is another node's.
+fn say_not<M: Machine>(
+    machine: &M,
+    node: NodeNumber,
+    place: RecordPlace,
+    record: &Record,
+) -> Result<(), Fault> {
+    let record = ShownRecord(record);
+    match println!(machine;
+        "the journal is not node {}'s: {place} {record}",
+        node.value
+    ) {
+        Ok(()) => Err(Fault::Anothers),
+        Err(_) => Err(Fault::Output),
+    }
+}
+
+/// Looks for a record that no journal of the node has.
+fn look_for_anothers<M: Machine>(
+    machine: &M,
+    node: NodeNumber,
+    places: &[RecordPlace],
+    records: &[Record],
+) -> Result<(), Fault> {
+    for (place, record) in places.iter().zip(records) {
+        if is_anothers(node.value, record) {
+            return say_not(machine, node, *place, record);
+        }
+    }
+    Ok(())
+}
+
+/// Whether the journal has a record that no other node's has.
+fn has_own(node: NodeNumber, records: &[Record]) -> bool {
+    for record in records {
+        if is_own(node.value, record) {
+            return true;
+        }
+    }
+    false
+}
+
+/// Says that the journal is the node's, or may be.
+fn say_may<M: Machine>(machine: &M, node: NodeNumber, records: &[Record]) -> Result<(), Fault> {
+    let number = node.value;
+    let said = if has_own(node, records) {
+        println!(machine; "the journal is node {number}'s")
+    } else {
+        println!(machine; "the journal may be node {number}'s: no record says whose it is")
+    };
+    match said {
+        Ok(()) => Ok(()),
+        Err(_) => Err(Fault::Output),
+    }
+}
+
+fn look_at<M: Machine>(
+    machine: &M,
+    node: NodeNumber,
+    entries: &[Vec<u8>],
+    records: &[Record],
+) -> Result<(), Fault> {
+    let places = places_of(machine.alloc(), entries)?;
+    look_for_anothers(machine, node, &places, records)?;
+    say_may(machine, node, records)
+}
+
+/// The same of payloads of a journal.
+fn look_through<M: Machine>(
+    machine: &M,
+    node: NodeNumber,
+    entries: &[Vec<u8>],
+) -> Result<(), Fault> {
+    match records(machine, entries) {
+        Ok(records) => look_at(machine, node, entries, &records),
+        Err(fault) => Err(fault),
+    }
+}
+
+/// Says whether a journal can be a node's, by its records.
+pub fn check_claim<M: Machine>(machine: &M, claim: Claim<'_>) -> Result<(), Fault> {
+    match entries(machine, claim.journal) {
+        Ok(entries) => look_through(machine, claim.node, &entries),
+        Err(fault) => Err(fault),
+    }
+}
