@@ -3,6 +3,7 @@
 ghost use Rattle.sv_model.specs.Ranges.{IsPacket};
 
 use crate::connections::Connections;
+use crate::links::Link;
 use crate::machine::Machine;
 use crate::open::Open;
 use crate::socket::{Socket, Written};
@@ -82,23 +83,23 @@ impl Connections {
 
     /// Sends a frame.
     fn send_frame(&mut self, machine: &impl Machine, to: u8, addr: SocketAddr, frame: Vec<u8>) {
-        match self.links.line_to(machine, to, addr) {
-            Some(socket) => self.call(socket, to, frame),
+        match self.links.link_to(machine, to, addr, self.clock) {
+            Some(link) => self.call(link, frame),
             None => self.report.lost(to, Loss::NoSocket),
         }
     }
 
     /// Sends a frame on a connection. It stays there as long as the frame isn't taken whole; one on which it was is kept for the next.
-    fn call(&mut self, socket: Socket, to: u8, frame: Vec<u8>) {
-        let mut socket = socket;
+    fn call(&mut self, link: Link, frame: Vec<u8>) {
+        let mut link = link;
         let mut frame = frame;
-        match socket.write(&mut frame) {
+        match link.socket.write(&mut frame) {
             Written::All => {
-                self.report.sent(to);
-                self.links.keep(to, socket);
+                self.report.sent(link.node);
+                self.links.keep(link);
             }
-            Written::Part => self.keep_call(socket, to, frame),
-            Written::Broken => self.report.lost(to, Loss::Broken),
+            Written::Part => self.keep_call(link.socket, link.node, frame),
+            Written::Broken => self.report.lost(link.node, Loss::Broken),
         }
     }
 

@@ -6,12 +6,19 @@ use crate::socket::{Sign, Socket};
 use mio::net::TcpStream;
 use std::alloc::{AllocFailed, Global};
 use std::net::SocketAddr;
+use std::time::Duration;
+
+/// In seconds: so long a connection is used, and then another is made. So where a program between the nodes is told to do
+/// otherwise, the connections of before come to their end.
+const AGE: u64 = 10;
 
 /// A connection to a node.
 #[derive(Drop)]
-struct Link {
-    node: u8,
-    socket: Socket,
+pub struct Link {
+    pub node: u8,
+    pub socket: Socket,
+    /// When it was made, by the clock that never goes back.
+    since: Duration,
 }
 
 /// The connections to other nodes that are kept for what is sent next, at most one a node.
@@ -38,21 +45,21 @@ impl Links {
         }
     }
 
-    /// Where the connection to a node stands; none where none is kept.
-    fn position(&self, node: u8) -> Option<usize> {
-        self.links.iter().position(|link| link.node == node)
-    }
-
     /// The connection to a node, whose address this is: the one that is kept, or a new one; none where none can be had.
-    pub fn line_to(
+    pub fn link_to(
         &mut self,
         machine: &impl Machine,
         node: u8,
         addr: SocketAddr,
-    ) -> Option<Socket> {
-        match self.take(node) {
-            Some(socket) => Some(socket),
-            None => self.connect(machine, addr),
+        clock: Duration,
+    ) -> Option<Link> {
+        match self.take(node, clock) {
+            Some(link) => Some(link),
+            None => Some(Link {
+                node,
+                socket: self.connect(machine, addr)?,
+                since: clock,
+            }),
         }
     }
 
@@ -65,23 +72,25 @@ impl Links {
         Some(Socket::from(stream))
     }
 
-    /// Takes the connection to a node, where one is kept and its other end is still there.
-    fn take(&mut self, node: u8) -> Option<Socket> {
-        let at = self.position(node)?;
-        let Link {
-            node: _,
-            mut socket,
-        } = self.links.swap_remove(at);
-        match socket.sign() {
-            Sign::Open => Some(socket),
+    /// Takes the connection to a node, where one is kept that isn't too old, and whose other end is still there.
+    fn take(&mut self, node: u8, clock: Duration) -> Option<Link> {
+        let at = self.links.iter().position(|link| link.node == node)?;
+        let mut link = self.links.swap_remove(at);
+        if clock >= link.since.saturating_add(Duration::from_secs(AGE)) {
+            return None;
+        }
+        match link.socket.sign() {
+            Sign::Open => Some(link),
             Sign::Ended | Sign::Broken => None,
         }
     }
 
     /// Keeps a connection on which a packet was sent whole. Where none is to be kept, or there is no memory for it, it is closed.
-    pub fn keep(&mut self, node: u8, socket: Socket) {
-        if self.persistence == Persistence::Kept && self.position(node).is_none() {
-            let _: Result<(), AllocFailed<Link>> = self.links.push(Link { node, socket });
+    pub fn keep(&mut self, link: Link) {
+        let node = link.node;
+        let has_one = self.links.iter().any(|other| other.node == node);
+        if self.persistence == Persistence::Kept && !has_one {
+            let _: Result<(), AllocFailed<Link>> = self.links.push(link);
         }
     }
 }

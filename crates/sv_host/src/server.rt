@@ -149,9 +149,10 @@ impl Server {
             && len != write.len
             && let Ok(now) = machine.monotonic()
         {
+            let nanoseconds = now.saturating_sub(begun).as_nanos();
             self.connections
                 .report
-                .written(now.saturating_sub(begun).as_nanos() as u64);
+                .written(u64::try_from(nanoseconds).unwrap_or(u64::MAX));
         }
     }
 
