@@ -2,7 +2,7 @@
 
 use crate::cell::Cell;
 use crate::column::Column;
-use crate::row::ROWS;
+use crate::row::rows;
 use std::alloc::{AllocError, Global};
 
 /// So many columns of the screen a node takes, where its cells aren't longer.
@@ -31,7 +31,7 @@ impl Drop for Strip {
 /// The cells of a node's column, the first of them on top.
 fn cells_of(alloc: Global, column: &Column<'_>, now: u64) -> Result<Vec<Cell>, AllocError> {
     let mut cells = Vec::new(alloc);
-    for row in &ROWS {
+    for row in rows() {
         cells.push(Cell::new(alloc, column, *row, now)?)?;
     }
     Ok(cells)

@@ -1,7 +1,7 @@
 //! A table of several nodes.
 
 use crate::column::Column;
-use crate::row::ROWS;
+use crate::row::rows;
 use crate::strip::Strip;
 use std::alloc::{AllocError, Global};
 
@@ -94,7 +94,7 @@ fn add_row(
 }
 
 fn add_rows(out: &mut String, strips: &[Strip], medium: Medium) -> Result<(), AllocError> {
-    for (at, row) in ROWS.iter().enumerate() {
+    for (at, row) in rows().iter().enumerate() {
         add_row(out, row.title, strips, at, medium)?;
     }
     Ok(())
