@@ -27,7 +27,7 @@ pub struct Row {
 }
 
 /// All rows: with the heading they have room on a screen of 24 lines.
-const ROWS: [Row; 22] = [
+pub const ROWS: [Row; 22] = [
     Row {
         title: "written",
         name: "time_seconds",
@@ -161,8 +161,3 @@ const ROWS: [Row; 22] = [
         shown: Shown::Mean,
     },
 ];
-
-/// The rows of a table, from above.
-pub fn rows() -> &'static [Row] {
-    &ROWS
-}

@@ -2,7 +2,7 @@
 
 use crate::cell::Cell;
 use crate::column::Column;
-use crate::row::rows;
+use crate::row::Row;
 use std::alloc::{AllocError, Global};
 
 /// So many columns of the screen a node takes, where its cells aren't longer.
@@ -28,10 +28,15 @@ impl Drop for Strip {
     }
 }
 
-/// The cells of a node's column, the first of them on top.
-fn cells_of(alloc: Global, column: &Column<'_>, now: u64) -> Result<Vec<Cell>, AllocError> {
+/// The cells of a node's column in these rows, the first of them on top.
+fn cells_of(
+    alloc: Global,
+    rows: &[Row],
+    column: &Column<'_>,
+    now: u64,
+) -> Result<Vec<Cell>, AllocError> {
     let mut cells = Vec::new(alloc);
-    for row in rows() {
+    for row in rows {
         cells.push(Cell::new(alloc, column, *row, now)?)?;
     }
     Ok(cells)
@@ -50,11 +55,12 @@ impl Strip {
     /// The column of the node with this number.
     pub fn new(
         alloc: Global,
+        rows: &[Row],
         column: &Column<'_>,
         node: u8,
         now: u64,
     ) -> Result<Strip, AllocError> {
-        let cells = cells_of(alloc, column, now)?;
+        let cells = cells_of(alloc, rows, column, now)?;
         let width = width_of(&cells);
         Ok(Strip {
             heading: format!(in alloc; "node {node}")?,

@@ -1,7 +1,7 @@
 //! A table of several nodes.
 
 use crate::column::Column;
-use crate::row::rows;
+use crate::row::{ROWS, Row};
 use crate::strip::Strip;
 use std::alloc::{AllocError, Global};
 
@@ -93,19 +93,29 @@ fn add_row(
     out.push_str("\n")
 }
 
-fn add_rows(out: &mut String, strips: &[Strip], medium: Medium) -> Result<(), AllocError> {
-    for (at, row) in rows().iter().enumerate() {
+fn add_rows(
+    out: &mut String,
+    rows: &[Row],
+    strips: &[Strip],
+    medium: Medium,
+) -> Result<(), AllocError> {
+    for (at, row) in rows.iter().enumerate() {
         add_row(out, row.title, strips, at, medium)?;
     }
     Ok(())
 }
 
 /// The columns of the nodes whose figures are known.
-fn strips_of(alloc: Global, columns: &[Column<'_>], now: u64) -> Result<Vec<Strip>, AllocError> {
+fn strips_of(
+    alloc: Global,
+    rows: &[Row],
+    columns: &[Column<'_>],
+    now: u64,
+) -> Result<Vec<Strip>, AllocError> {
     let mut strips = Vec::new(alloc);
     for column in columns {
         if let Some(figures) = &column.latest {
-            strips.push(Strip::new(alloc, column, figures.node, now)?)?;
+            strips.push(Strip::new(alloc, rows, column, figures.node, now)?)?;
         }
     }
     Ok(strips)
@@ -134,11 +144,22 @@ pub fn table_of(
     now: u64,
     medium: Medium,
 ) -> Result<String, AllocError> {
-    let strips = strips_of(alloc, columns, now)?;
+    table_in(alloc, &ROWS, columns, now, medium)
+}
+
+/// A table of these rows.
+fn table_in(
+    alloc: Global,
+    rows: &[Row],
+    columns: &[Column<'_>],
+    now: u64,
+    medium: Medium,
+) -> Result<String, AllocError> {
+    let strips = strips_of(alloc, rows, columns, now)?;
     let mut out = String::new(alloc);
     if !strips.is_empty() {
         add_headings(&mut out, &strips)?;
-        add_rows(&mut out, &strips, medium)?;
+        add_rows(&mut out, rows, &strips, medium)?;
     }
     add_faults(&mut out, columns)?;
     Ok(out)
