@@ -13,9 +13,9 @@ TOP = os.path.dirname(os.path.dirname(os.path.abspath(__file__)))
 LEFT_OUT = {"out", "proofs", "must-fail"}
 
 
-def below():
-    """The crates on which each crate stands, as crates.txt has them."""
-    with open(f"{TOP}/crates.txt", encoding="utf-8") as file:
+def below(top=TOP):
+    """The crates on which each crate stands, as the tree's crates.txt has them."""
+    with open(f"{top}/crates.txt", encoding="utf-8") as file:
         lines = [line.partition("#")[0].partition(":") for line in file]
     return {name.split()[0]: words.split() for name, _, words in lines if name.strip()}
 
