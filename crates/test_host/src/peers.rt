@@ -10,8 +10,10 @@ use sv_host::Persistence;
 /// What node 0 sends for clients that name the first and the second session of node 1: its first two wants since its first start.
 const WANT: &[u8] = b"\xE1\0\0\0\x1D\x02\x01\0\x01\x01\0\0\0\0\0\0\0\x01\
     \0\0\0\0\0\0\0\x01\0\0\0\0\0\0\0\x01";
+
 const SECOND_WANT: &[u8] = b"\xE1\0\0\0\x1D\x02\x01\0\x01\x01\0\0\0\0\0\0\0\x02\
     \0\0\0\0\0\0\0\x01\0\0\0\0\0\0\0\x02";
+
 const BOTH_WANTS: &[u8] = b"\xE1\0\0\0\x1D\x02\x01\0\x01\x01\0\0\0\0\0\0\0\x01\
     \0\0\0\0\0\0\0\x01\0\0\0\0\0\0\0\x01\
     \xE1\0\0\0\x1D\x02\x01\0\x01\x01\0\0\0\0\0\0\0\x02\
