@@ -84,10 +84,19 @@ class Browser:
         self.value(f"window.isOld = true; {code}")
         self.wait_for_another(code)
 
+    def has_another(self):
+        """Whether another page is there, whole. One that is just left answers nothing."""
+        try:
+            return self.value("window.isOld === undefined && document.readyState === 'complete'")
+        except OSError as fault:
+            if "navigated or closed" in str(fault):
+                return False
+            raise
+
     def wait_for_another(self, what):
         """Waits until another page is there than the one that was marked as old."""
         for _ in range(PATIENCE * 50):
-            if self.value("window.isOld === undefined && document.readyState === 'complete'"):
+            if self.has_another():
                 return
             time.sleep(0.02)
         raise OSError(f"no page comes after {what}")
