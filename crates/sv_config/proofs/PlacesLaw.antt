@@ -30,7 +30,7 @@ use Rattle.sv_config.specs.declared.members.Unfit.TheVariants.{NoPattern, NoDisp
 use Rattle.sv_config.specs.declared.place.TablePlace.{TablePlace}
 use Rattle.sv_config.specs.declared.place.TablePlace.TheVariants.{OfNodes, Within}
 use Rattle.sv_config.specs.declared.rules.FieldKind.{FieldKind}
-use Rattle.sv_config.specs.declared.rules.FieldKind.TheVariants.{Text as TextKind, Integer, Texts, Integers, Table, Tables}
+use Rattle.sv_config.specs.declared.rules.FieldKind.TheVariants.{Text as TextKind, Integer, Boolean, Texts, Integers, Table, Tables}
 use Rattle.sv_config.specs.declared.rules.TableKind.{TableKind}
 use Rattle.sv_config.specs.declared.rules.TableKind.TheVariants.{Top, Cluster, Context, Servlet, Filter, Mapping, Listener, Page}
 
@@ -156,6 +156,7 @@ some_mistyped_of : (kind : FieldKind) (p : PlacedTable) (key : Text) (required :
 unfolding values_at
 some_mistyped_of TextKind p key required = or_nothing (misshaped_at TextKind key p.1)
 some_mistyped_of Integer p key required = or_nothing (misshaped_at Integer key p.1)
+some_mistyped_of Boolean p key required = or_nothing (misshaped_at Boolean key p.1)
 some_mistyped_of Table p key required = or_nothing (misshaped_at Table key p.1)
 some_mistyped_of Texts p key required = ap (λ b. misshaped_at Texts key p.1 || b) (some_members_at (is_unfit NoText) p key) ∙ found_misfits is_text (get_member key p.1)
 some_mistyped_of Integers p key required = ap (λ b. misshaped_at Integers key p.1 || b) (some_members_at (is_unfit NoInteger) p key) ∙ found_misfits is_integer (get_member key p.1)
@@ -431,19 +432,29 @@ some_counted holds p key = some_count holds p key (length (values_at key p.1))
 some_too_many : (limit : ℕ) (p : PlacedTable) (key : Text) → is_some_place (too_many_at limit p key) ≡ has_over limit key p.1
 some_too_many limit p key = some_counted (has_over limit key p.1) p key
 
+or_four : (a b c d : Bool) → (((a || b) || c) || d) ≡ (a || (b || (c || d)))
+or_four true b c d = refl
+or_four false true c d = refl
+or_four false false true d = refl
+or_four false false false d = refl
+
 some_in_cluster : (p : PlacedTable) → is_some_place (exceeding_in_cluster p) ≡ exceeds_in_cluster p.1
 unfolding exceeding_in_cluster exceeds_in_cluster
 some_in_cluster p =
     let bad_count : Bool = is_empty_at (codes "ports") p.1 || has_over 8 (codes "ports") p.1 in
     let bad_deadline : Bool = is_outside_at (pos 1) (pos 86400) (codes "deadline") p.1 in
+    let bad_keys : Bool = is_outside_at (pos 1) (pos 1048576) (codes "keys") p.1 in
     let deadline : List Spot = field_where bad_deadline p (codes "deadline") in
+    let keys : List Spot = field_where bad_keys p (codes "keys") in
     let ports : List Spot = members_where (is_unfit NoPort) p (codes "ports") in
-    some_both (counted bad_count p (codes "ports") ++ ports) deadline (bad_count || has_no_port p.1) bad_deadline
+    some_both ((counted bad_count p (codes "ports") ++ ports) ++ deadline) keys ((bad_count || has_no_port p.1) || bad_deadline) bad_keys
+    (some_both (counted bad_count p (codes "ports") ++ ports) deadline (bad_count || has_no_port p.1) bad_deadline
     (some_both (counted bad_count p (codes "ports")) ports bad_count (has_no_port p.1)
     (some_counted bad_count p (codes "ports"))
     (some_members_at (is_unfit NoPort) p (codes "ports") ∙ any_some as_integer (is_outside (pos 1) (pos 65535)) (values_at (codes "ports") p.1)))
-    (some_field bad_deadline p (codes "deadline"))
-    ∙ sym (or_assoc bad_count (has_no_port p.1) bad_deadline)
+    (some_field bad_deadline p (codes "deadline")))
+    (some_field bad_keys p (codes "keys"))
+    ∙ or_four bad_count (has_no_port p.1) bad_deadline bad_keys
 
 some_then : (before : List Spot) (holds : Bool) (limit : ℕ) (p : PlacedTable) (key : Text) → is_some_place before ≡ holds
     → is_some_place (before ++ too_many_at limit p key) ≡ (holds || has_over limit key p.1)

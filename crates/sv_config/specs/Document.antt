@@ -2,7 +2,7 @@
 use Rattle.std.specs.Prelude.{ℤ, Bool, false, ◌==◌, List, [], ◌∷◌, length, Option, option_and_then, is_some, unwrap_or, codes}
 use Rattle.std.specs.Option.{option_map_or}
 use Rattle.std.specs.List.{filter_map, flat_map}
-use Rattle.toml.specs.Data.{Data, Items, no_items, item, Members, get_member, as_str, as_integer, as_array, as_table}
+use Rattle.toml.specs.Data.{Data, Items, no_items, item, Members, get_member, as_str, as_integer, as_bool, as_array, as_table}
 use Rattle.sv_mapping.specs.Path.{Text}
 
 -- the items of an array as a list
@@ -23,6 +23,10 @@ text_or_empty key t = unwrap_or (text_at key t) []
 
 abbrev pub integer_at : Text → Members → Option ℤ
 integer_at key t = option_and_then as_integer (get_member key t)
+
+-- the truth value at a key
+abbrev pub boolean_at : Text → Members → Option Bool
+boolean_at key t = option_and_then as_bool (get_member key t)
 
 abbrev pub table_at : Text → Members → Option Members
 table_at key t = option_and_then as_table (get_member key t)

@@ -2,11 +2,11 @@
 use Rattle.std.specs.Prelude.{Bool, false, not, is_some}
 use Rattle.std.specs.Option.{option_map_or}
 use Rattle.std.specs.List.{list_any, list_all}
-use Rattle.toml.specs.Data.{Data, Members, get_member, as_str, as_integer, as_array, as_table}
+use Rattle.toml.specs.Data.{Data, Members, get_member, as_str, as_integer, as_bool, as_array, as_table}
 use Rattle.sv_config.specs.Document.{items_list}
 use Rattle.sv_config.specs.Rules.{Rule, rules_of}
 use Rattle.sv_config.specs.declared.rules.FieldKind.{FieldKind}
-use Rattle.sv_config.specs.declared.rules.FieldKind.TheVariants.{Text, Integer, Texts, Integers, Table, Tables}
+use Rattle.sv_config.specs.declared.rules.FieldKind.TheVariants.{Text, Integer, Boolean, Texts, Integers, Table, Tables}
 use Rattle.sv_config.specs.declared.rules.TableKind.{TableKind}
 
 -- an array whose members all pass
@@ -19,12 +19,16 @@ is_text d = is_some (as_str d)
 abbrev pub is_integer : Data → Bool
 is_integer d = is_some (as_integer d)
 
+abbrev pub is_boolean : Data → Bool
+is_boolean d = is_some (as_bool d)
+
 abbrev pub is_table : Data → Bool
 is_table d = is_some (as_table d)
 
 abbrev pub has_kind : FieldKind → Data → Bool
 has_kind Text d = is_text d
 has_kind Integer d = is_integer d
+has_kind Boolean d = is_boolean d
 has_kind Texts d = is_array_of is_text d
 has_kind Integers d = is_array_of is_integer d
 has_kind Table d = is_table d

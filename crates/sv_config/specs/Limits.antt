@@ -30,11 +30,11 @@ has_bad_length key t = option_map_or (λ name. length name == 0 || nat_lt 64 (le
 abbrev pub has_no_port : Members → Bool
 has_no_port t = list_any (is_outside (pos 1) (pos 65535)) (integers_at (codes "ports") t)
 
--- 1 to 8 ports; a deadline of a second to a day
+-- 1 to 8 ports; a deadline of a second to a day; 1 to 1048576 keys
 unfoldable pub exceeds_in_cluster : Members → Bool
 exceeds_in_cluster t =
     (is_empty_at (codes "ports") t || has_over 8 (codes "ports") t)
-    || (has_no_port t || is_outside_at (pos 1) (pos 86400) (codes "deadline") t)
+    || (has_no_port t || (is_outside_at (pos 1) (pos 86400) (codes "deadline") t || is_outside_at (pos 1) (pos 1048576) (codes "keys") t))
 
 -- 64 servlets, 32 filters, 64 filter mappings, 16 listeners and 32 error pages
 abbrev pub has_too_many : Members → Bool

@@ -10,7 +10,7 @@ use Rattle.sv_mapping.specs.Dispatcher.{dispatcher_of}
 use Rattle.sv_config.specs.Document.{is_empty_at, text_at, integer_at, values_at, tables_at, column, patterns_of}
 use Rattle.sv_config.specs.Rules.{Rule, rules_of}
 use Rattle.sv_config.specs.Missing.{lacks, lacks_contents}
-use Rattle.sv_config.specs.Kinds.{is_text, is_integer, is_table}
+use Rattle.sv_config.specs.Kinds.{is_text, is_integer, is_boolean, is_table}
 use Rattle.sv_config.specs.Unknown.{is_listed}
 use Rattle.sv_config.specs.Spelling.{fails_at, is_context_path, is_name, is_page_path}
 use Rattle.sv_config.specs.Repeats.{has_both, is_default_page}
@@ -20,7 +20,7 @@ use Rattle.sv_config.specs.Place.{Spot, children, placed_tables, kind_of, table_
 use Rattle.sv_config.specs.declared.fault.ConfigFault.{ConfigFault}
 use Rattle.sv_config.specs.declared.fault.ConfigFault.TheVariants.{NotToml, MissingField, WrongKind, UnknownName, BadPattern, Duplicate, LimitExceeded, Memory}
 use Rattle.sv_config.specs.declared.rules.FieldKind.{FieldKind}
-use Rattle.sv_config.specs.declared.rules.FieldKind.TheVariants.{Text as TextKind, Integer, Texts, Integers, Table, Tables}
+use Rattle.sv_config.specs.declared.rules.FieldKind.TheVariants.{Text as TextKind, Integer, Boolean, Texts, Integers, Table, Tables}
 use Rattle.sv_config.specs.declared.rules.TableKind.{TableKind}
 use Rattle.sv_config.specs.declared.rules.TableKind.TheVariants.{Top, Cluster, Context, Servlet, Filter, Mapping, Listener, Page}
 use Rattle.sv_config.specs.declared.place.TablePlace.{TablePlace}
@@ -57,6 +57,7 @@ missing_places p = flat_map (λ rule. field_where (lacks p.1 rule) p rule.key) (
 abbrev pub has_other_shape : FieldKind → Data → Bool
 has_other_shape TextKind d = not (is_text d)
 has_other_shape Integer d = not (is_integer d)
+has_other_shape Boolean d = not (is_boolean d)
 has_other_shape Table d = not (is_table d)
 has_other_shape Texts d = is_none (as_array d)
 has_other_shape Integers d = is_none (as_array d)
@@ -68,6 +69,7 @@ mistyped_members Integers p key = members_where (is_unfit NoInteger) p key
 mistyped_members Tables p key = members_where (is_unfit NoTable) p key
 mistyped_members TextKind p key = []
 mistyped_members Integer p key = []
+mistyped_members Boolean p key = []
 mistyped_members Table p key = []
 
 abbrev pub misshaped_at : FieldKind → Text → Members → Bool
@@ -221,6 +223,7 @@ exceeding_in_cluster p =
     counted (is_empty_at (codes "ports") p.1 || has_over 8 (codes "ports") p.1) p (codes "ports")
     ++ members_where (is_unfit NoPort) p (codes "ports")
     ++ field_where (is_outside_at (pos 1) (pos 86400) (codes "deadline") p.1) p (codes "deadline")
+    ++ field_where (is_outside_at (pos 1) (pos 1048576) (codes "keys") p.1) p (codes "keys")
 
 unfoldable pub exceeding_in_context : PlacedTable → List Spot
 exceeding_in_context p =

@@ -2,7 +2,7 @@
 use Rattle.std.specs.Prelude.{Bool, true, false, List, [], ◌∷◌, codes}
 use Rattle.sv_mapping.specs.Path.{Text}
 use Rattle.sv_config.specs.declared.rules.FieldKind.{FieldKind}
-use Rattle.sv_config.specs.declared.rules.FieldKind.TheVariants.{Text as TextKind, Integer, Texts, Integers, Table, Tables}
+use Rattle.sv_config.specs.declared.rules.FieldKind.TheVariants.{Text as TextKind, Integer, Boolean, Texts, Integers, Table, Tables}
 use Rattle.sv_config.specs.declared.rules.FieldRule.{FieldRule}
 use Rattle.sv_config.specs.declared.rules.TableKind.{TableKind}
 use Rattle.sv_config.specs.declared.rules.TableKind.TheVariants.{Top, Cluster, Context, Servlet, Filter, Mapping, Listener, Page}
@@ -22,7 +22,9 @@ optional key kind = record { key = key; kind = kind; required = false }
 -- the fields of each kind of table
 unfoldable pub rules_of : TableKind → List Rule
 rules_of Top = needed (codes "context") Tables ∷ optional (codes "cluster") Table ∷ []
-rules_of Cluster = optional (codes "ports") Integers ∷ optional (codes "deadline") Integer ∷ optional (codes "secrets") TextKind ∷ []
+rules_of Cluster =
+    optional (codes "ports") Integers ∷ optional (codes "deadline") Integer ∷ optional (codes "secrets") TextKind
+    ∷ optional (codes "keys") Integer ∷ optional (codes "forget") Boolean ∷ []
 rules_of Context =
     needed (codes "path") TextKind ∷ optional (codes "interval") Integer ∷ optional (codes "servlet") Tables
     ∷ optional (codes "filter") Tables ∷ optional (codes "filter-mapping") Tables ∷ optional (codes "listener") Tables

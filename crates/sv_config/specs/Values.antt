@@ -1,6 +1,6 @@
 -- What a document says: its deployment, with the defaults filled in. Total: where a document has a fault, something
 -- stands for what is not there, and no deployment is made of it.
-use Rattle.std.specs.Prelude.{ℕ, ◌+◌, ℤ, pos, negsuc, Bool, ◌&&◌, not, List, [], ◌∷◌, map, filter, fold, codes, bytes_eq, string_bytes, Option, Some, None, option_map, unwrap_or, is_none, option_and_then, if◌then◌else◌}
+use Rattle.std.specs.Prelude.{ℕ, ◌+◌, ℤ, pos, negsuc, Bool, false, ◌&&◌, not, List, [], ◌∷◌, map, filter, fold, codes, bytes_eq, string_bytes, Option, Some, None, option_map, unwrap_or, is_none, option_and_then, if◌then◌else◌}
 use Rattle.std.specs.Option.{option_map_or}
 use Rattle.std.specs.List.{position_or_len}
 use Rattle.std.specs.FinMap as finite
@@ -13,7 +13,7 @@ use Rattle.sv_mapping.specs.declared.filter.FilterMapping.{FilterMapping}
 use Rattle.sv_mapping.specs.declared.dispatcher.Dispatchers.{Dispatchers}
 use Rattle.sv_mapping.specs.declared.filter.FilterTarget.{FilterTarget}
 use Rattle.sv_mapping.specs.declared.filter.FilterTarget.TheVariants.{Pattern, Servlet}
-use Rattle.sv_config.specs.Document.{text_at, text_or_empty, integer_at, table_at, tables_at, texts_at, integers_at, column}
+use Rattle.sv_config.specs.Document.{text_at, text_or_empty, integer_at, boolean_at, table_at, tables_at, texts_at, integers_at, column}
 use Rattle.sv_config.specs.Limits.{is_outside}
 use Rattle.sv_config.specs.declared.deployment.Cluster.{Cluster}
 use Rattle.sv_config.specs.declared.deployment.Context.{Context}
@@ -28,6 +28,8 @@ pub record ClusterData : Type 0 where
   pub ports : List ℤ
   pub deadline : ℤ
   pub secrets : Option Text
+  pub keys : ℤ
+  pub forget : Bool
 
 -- what an error page is for
 pub data Choice : Type 0 where
@@ -70,11 +72,20 @@ ports_of t = filter is_port (integers_at (codes "ports") t)
 abbrev pub deadline_of : Members → ℤ
 deadline_of t = integer_within (pos 1) (pos 86400) (pos 30) (codes "deadline") t
 
+-- 65,536 keys
+abbrev pub keys_of : Members → ℤ
+keys_of t = integer_within (pos 1) (pos 1048576) (pos 65536) (codes "keys") t
+
+abbrev pub forget_of : Members → Bool
+forget_of t = unwrap_or (boolean_at (codes "forget") t) false
+
 unfoldable pub cluster_of : Members → ClusterData
 cluster_of t = record {
   ports = ports_of t;
   deadline = deadline_of t;
   secrets = text_at (codes "secrets") t;
+  keys = keys_of t;
+  forget = forget_of t;
 }
 
 -- the first place of a name
@@ -164,7 +175,7 @@ deployment_of t = record {
 -- ---- a deployment of the code
 
 abbrev pub cluster_data : Cluster → ClusterData
-cluster_data c = record { ports = map pos c.ports.items; deadline = pos c.deadline; secrets = option_map string_bytes c.secrets }
+cluster_data c = record { ports = map pos c.ports.items; deadline = pos c.deadline; secrets = option_map string_bytes c.secrets; keys = pos c.keys; forget = c.forget }
 
 abbrev pub choice_data : PageFor → Choice
 choice_data (Status status) = of_status (pos status)

@@ -7,13 +7,16 @@ ghost use Rattle.sv_config.specs.Document.{table_at, text_at};
 ghost use Rattle.sv_config.specs.Values as spec;
 
 use crate::deployment::Cluster;
-use crate::document::{integer_at, table_at, text_at, values_at};
-use crate::limits::is_outside;
+use crate::document::{boolean_at, integer_at, table_at, text_at, values_at};
+use crate::limits::{MAX_KEYS, is_outside};
 use std::alloc::{AllocError, Global};
 use toml::Table;
 
 /// For how many seconds a request waits for its session where nothing else is said.
 const DEFAULT_DEADLINE: u32 = 30;
+
+/// How many keys a node knows, at most, where nothing else is said.
+const DEFAULT_KEYS: u32 = 65_536;
 
 /// The nodes that a document names.
 pub(crate) fn read_cluster(alloc: Global, document: &Table) -> Result<Cluster, AllocError>
@@ -34,6 +37,8 @@ fn default_cluster(alloc: Global) -> Cluster
         ports: Vec::new(alloc),
         deadline: DEFAULT_DEADLINE,
         secrets: None,
+        keys: DEFAULT_KEYS,
+        forget: false,
     }
 }
 
@@ -45,6 +50,8 @@ fn cluster_of(alloc: Global, table: &Table) -> Result<Cluster, AllocError>
         ports: ports_of(alloc, table)?,
         deadline: deadline_of(table),
         secrets: secrets_of(alloc, table)?,
+        keys: keys_of(table),
+        forget: forget_of(table),
     })
 }
 
@@ -72,6 +79,28 @@ fn deadline_of(table: &Table) -> u32
             integer as u32
         },
         None => DEFAULT_DEADLINE,
+    }
+}
+
+fn keys_of(table: &Table) -> u32
+    ensures { pos result ≡ spec.keys_of (table_view table.now) }
+{
+    match integer_at(table, "keys") {
+        Some(integer) => if is_outside(integer, 1, MAX_KEYS) {
+            DEFAULT_KEYS
+        } else {
+            integer as u32
+        },
+        None => DEFAULT_KEYS,
+    }
+}
+
+fn forget_of(table: &Table) -> bool
+    ensures { result ≡ spec.forget_of (table_view table.now) }
+{
+    match boolean_at(table, "forget") {
+        Some(forgets) => forgets,
+        None => false,
     }
 }
 

@@ -21,6 +21,10 @@ pub struct Cluster {
     pub deadline: u32,
     /// The path of the file that secrets are read from.
     pub secrets: Option<String>,
+    /// The keys that a node knows, at most.
+    pub keys: u32,
+    /// Nodes forget their own keys that have ended there.
+    pub forget: bool,
 }
 
 /// A web application.

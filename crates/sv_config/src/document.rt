@@ -54,6 +54,16 @@ pub(crate) fn integer_at(table: &Table, key: &str) -> Option<i64>
     }
 }
 
+/// The truth value at a key.
+pub(crate) fn boolean_at(table: &Table, key: &str) -> Option<bool>
+    ensures { result ≡ spec.boolean_at key.now (table_view table.now) }
+{
+    match member(table, key) {
+        Some(value) => value.as_bool(),
+        None => None,
+    }
+}
+
 /// The table at a key.
 pub(crate) fn table_at<'a>(table: &'a Table, key: &str) -> Option<&'a Table>
     ensures { option_map (λ t. table_view t.now) result ≡ spec.table_at key.now (table_view table.now) }

@@ -7,8 +7,8 @@ ghost use Rattle.sv_config.specs.Places as spec;
 use crate::columns::{patterns_of, tables_at};
 use crate::document::{is_empty_at, values_at};
 use crate::limits::{
-    MAX_CONTEXTS, MAX_ERROR_PAGES, MAX_FILTER_MAPPINGS, MAX_FILTERS, MAX_LISTENERS, MAX_NODES,
-    MAX_SERVLETS, has_bad_length, has_over, is_outside_at,
+    MAX_CONTEXTS, MAX_ERROR_PAGES, MAX_FILTER_MAPPINGS, MAX_FILTERS, MAX_KEYS, MAX_LISTENERS,
+    MAX_NODES, MAX_SERVLETS, has_bad_length, has_over, is_outside_at,
 };
 use crate::members::{Unfit, add_count, add_field, add_members};
 use crate::place::{Place, kind_of};
@@ -54,6 +54,12 @@ fn add_in_cluster<'a>(places: &mut Vec<Place<'a>>, at: Placed<'a>) -> Result<(),
         is_outside_at(at.table, "deadline", 1, 86400),
         at,
         "deadline",
+    )?;
+    add_field(
+        places,
+        is_outside_at(at.table, "keys", 1, MAX_KEYS),
+        at,
+        "keys",
     )
 }
 

@@ -47,7 +47,8 @@ fn wrong_kind(place: &Place<'_>) -> &'static str {
         return member_kind(place.key);
     }
     match place.key {
-        "deadline" | "interval" | "status" => "an integer",
+        "deadline" | "interval" | "status" | "keys" => "an integer",
+        "forget" => "true or false",
         "ports" => "an array of integers",
         "patterns" | "dispatch" => "an array of texts",
         "cluster" => "a table",
@@ -78,7 +79,7 @@ fn text_or_tables(place: &Place<'_>) -> &'static str {
 fn unknown(kind: TableKind, key: &str) -> &'static str {
     match kind {
         TableKind::Top => "one of context and cluster",
-        TableKind::Cluster => "one of ports, deadline and secrets",
+        TableKind::Cluster => "one of ports, deadline, secrets, keys and forget",
         TableKind::Context => {
             "one of path, interval, servlet, filter, filter-mapping, listener and error-page"
         }
@@ -125,6 +126,7 @@ fn limit(place: &Place<'_>) -> &'static str {
         "ports" if place.index.is_some() => "a port from 1 to 65535",
         "ports" => "1 to 8 ports",
         "deadline" => "1 to 86400 seconds",
+        "keys" => "1 to 1048576 keys",
         "interval" => "-2147483648 to 2147483647 seconds",
         "name" => "1 to 64 bytes",
         "status" => "a status from 400 to 599",

@@ -39,6 +39,7 @@ fn has_kind(kind: FieldKind, value: &Value) -> bool
     match kind {
         FieldKind::Text => value.is_str(),
         FieldKind::Integer => value.is_integer(),
+        FieldKind::Boolean => value.is_bool(),
         FieldKind::Texts => is_texts(value),
         FieldKind::Integers => is_integers(value),
         FieldKind::Table => value.is_table(),

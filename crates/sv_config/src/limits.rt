@@ -13,6 +13,8 @@ use toml::Table;
 
 pub(crate) const MAX_NODES: usize = 8;
 
+pub(crate) const MAX_KEYS: i64 = 1_048_576;
+
 pub(crate) const MAX_CONTEXTS: usize = 16;
 
 pub(crate) const MAX_SERVLETS: usize = 64;
@@ -56,7 +58,7 @@ fn exceeds_in_cluster(alloc: Global, cluster: &Table) -> Result<bool, AllocError
     if has_no_port(alloc, cluster)? {
         return Ok(true);
     }
-    Ok(is_outside_at(cluster, "deadline", 1, 86400))
+    Ok(is_outside_at(cluster, "deadline", 1, 86400) || is_outside_at(cluster, "keys", 1, MAX_KEYS))
 }
 
 /// Whether some of the ports is none.

@@ -48,7 +48,7 @@ fn add_misfit<'a>(
     let key = rule.key;
     add_field(places, is_misshaped(rule.kind, at.table, key), at, key)?;
     match rule.kind {
-        FieldKind::Text | FieldKind::Integer | FieldKind::Table => Ok(()),
+        FieldKind::Text | FieldKind::Integer | FieldKind::Boolean | FieldKind::Table => Ok(()),
         FieldKind::Texts => add_members(places, Unfit::NoText, at, key),
         FieldKind::Integers => add_members(places, Unfit::NoInteger, at, key),
         FieldKind::Tables => add_members(places, Unfit::NoTable, at, key),
@@ -71,6 +71,7 @@ fn has_other_shape(kind: FieldKind, value: &Value) -> bool
     match kind {
         FieldKind::Text => !value.is_str(),
         FieldKind::Integer => !value.is_integer(),
+        FieldKind::Boolean => !value.is_bool(),
         FieldKind::Table => !value.is_table(),
         FieldKind::Texts | FieldKind::Integers | FieldKind::Tables => !value.is_array(),
     }

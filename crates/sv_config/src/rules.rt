@@ -21,6 +21,7 @@ pub enum TableKind {
 pub enum FieldKind {
     Text,
     Integer,
+    Boolean,
     Texts,
     Integers,
     Table,
@@ -48,7 +49,7 @@ const TOP: [FieldRule; 2] = [
     },
 ];
 
-const CLUSTER: [FieldRule; 3] = [
+const CLUSTER: [FieldRule; 5] = [
     FieldRule {
         key: "ports",
         kind: FieldKind::Integers,
@@ -62,6 +63,16 @@ const CLUSTER: [FieldRule; 3] = [
     FieldRule {
         key: "secrets",
         kind: FieldKind::Text,
+        required: false,
+    },
+    FieldRule {
+        key: "keys",
+        kind: FieldKind::Integer,
+        required: false,
+    },
+    FieldRule {
+        key: "forget",
+        kind: FieldKind::Boolean,
         required: false,
     },
 ];

@@ -11,10 +11,10 @@ use Rattle.std.proofs.lemmas.List.Folds.{list_any_at}
 use Rattle.sv_model.specs.declared.key.Key.{Key}
 use Rattle.sv_model.specs.declared.state.KeyState.{KeyState}
 use Rattle.sv_model.specs.declared.state.KeyState.TheVariants.{Gone}
-use Rattle.sv_model.specs.Keys.{key_cmp}
+use Rattle.sv_model.specs.Keys.{key_cmp, same_key}
 use Rattle.sv_model.specs.Time.{is_over, first_over}
 use Rattle.sv_core.specs.Order.{Entry}
-use Rattle.sv_core.specs.Places.{Place, Rises, are_low, AreLow, are_high, AreHigh, are_within, AreWithin, seen, state_at}
+use Rattle.sv_core.specs.Places.{Place, Rises, are_low, AreLow, are_high, AreHigh, are_within, AreWithin, seen, state_at, erase}
 use Rattle.sv_core.proofs.OrderLemmas.{first, second, both, less}
 
 -- ---- homes
@@ -93,6 +93,20 @@ put_front k at (p ∷ ps) qs above =
       | Greater ↦ ap (λ l. p ∷ l) (put_front k at ps qs above)
     ]
 
+erase_none : (k : Key) (ps : List Place) → T (below_all key_cmp k ps) → erase k ps ≡ ps
+erase_none k [] above = refl
+erase_none k (p ∷ ps) above =
+    ap (λ o. cond (is_eq o) ps (p ∷ erase k ps)) (less (key_cmp k p.0) (first (is_lt (key_cmp k p.0)) (below_all key_cmp k ps) above))
+    ∙ ap (λ l. p ∷ l) (erase_none k ps (second (is_lt (key_cmp k p.0)) (below_all key_cmp k ps) above))
+
+erase_front : (k : Key) (ps qs : List Place) → T (below_all key_cmp k qs) → erase k (ps ++ qs) ≡ erase k ps ++ qs
+erase_front k [] qs above = erase_none k qs above
+erase_front k (p ∷ ps) qs above =
+    elim (same_key k p.0) as (λ b. cond b (ps ++ qs) (p ∷ erase k (ps ++ qs)) ≡ cond b ps (p ∷ erase k ps) ++ qs) [
+      | true ↦ refl
+      | false ↦ ap (λ l. p ∷ l) (erase_front k ps qs above)
+    ]
+
 module _ (home : ℕ) (k : Key) where
   beyond_low : (p : Place) (ps : List Place) → home < k.home → AreLow home (p ∷ ps) → key_cmp k p.0 ≡ Greater
   beyond_low p ps is low =
@@ -117,6 +131,19 @@ module _ (home : ℕ) (k : Key) where
         | Greater ↦ both (nat_le p.0.home home) (are_low home (put key_cmp k at ps)) here (low_put at ps is rest)
       ]
 
+  pub erase_low : (ps qs : List Place) → k.home ≤ home → AreHigh home qs → erase k (ps ++ qs) ≡ erase k ps ++ qs
+  erase_low ps qs is high = erase_front k ps qs (below_high k home qs is high)
+
+  pub low_erased : (ps : List Place) → AreLow home ps → AreLow home (erase k ps)
+  low_erased [] low = tt
+  low_erased (p ∷ ps) low =
+      let here = first (nat_le p.0.home home) (are_low home ps) low in
+      let rest = second (nat_le p.0.home home) (are_low home ps) low in
+      elim (same_key k p.0) as (λ b. T (are_low home (cond b ps (p ∷ erase k ps)))) [
+        | true ↦ rest
+        | false ↦ both (nat_le p.0.home home) (are_low home (erase k ps)) here (low_erased ps rest)
+      ]
+
   -- a key of the second part
   pub find_high : (ps qs : List Place) → home < k.home → AreLow home ps → find key_cmp k (ps ++ qs) ≡ find key_cmp k qs
   find_high [] qs is low = refl
@@ -138,6 +165,21 @@ module _ (home : ℕ) (k : Key) where
         | Less ↦ both (nat_lt home k.home) (are_high home (p ∷ ps)) (more home k.home is) high
         | Equal ↦ both (nat_lt home p.0.home) (are_high home ps) here rest
         | Greater ↦ both (nat_lt home p.0.home) (are_high home (put key_cmp k at ps)) here (high_put at ps is rest)
+      ]
+
+  pub erase_high : (ps qs : List Place) → home < k.home → AreLow home ps → erase k (ps ++ qs) ≡ ps ++ erase k qs
+  erase_high [] qs is low = refl
+  erase_high (p ∷ ps) qs is low =
+      ap (λ o. cond (is_eq o) (ps ++ qs) (p ∷ erase k (ps ++ qs))) (beyond_low p ps is low) ∙ ap (λ l. p ∷ l) (erase_high ps qs is (second (nat_le p.0.home home) (are_low home ps) low))
+
+  pub high_erased : (ps : List Place) → AreHigh home ps → AreHigh home (erase k ps)
+  high_erased [] high = tt
+  high_erased (p ∷ ps) high =
+      let here = first (nat_lt home p.0.home) (are_high home ps) high in
+      let rest = second (nat_lt home p.0.home) (are_high home ps) high in
+      elim (same_key k p.0) as (λ b. T (are_high home (cond b ps (p ∷ erase k ps)))) [
+        | true ↦ rest
+        | false ↦ both (nat_lt home p.0.home) (are_high home (erase k ps)) here (high_erased ps rest)
       ]
 
 -- ---- a walk over both

@@ -1,7 +1,6 @@
 -- A record that may stand behind others has its serial.
 use Rattle.std.proofs.Common.{◌≡◌, ◌≢◌, ℕ, ◌+◌, ◌≤◌, Bool, true, false, arith, refl}
-use Rattle.std.specs.Prelude.{not, ◌==◌, ◌&&◌, nat_lt}
-use Rattle.std.specs.FinMap.{len}
+use Rattle.std.specs.Prelude.{not, ◌==◌, ◌&&◌}
 use Rattle.std.proofs.lemmas.Bool.{eqb-false}
 use Rattle.sv_model.specs.declared.key.Key.{Key}
 use Rattle.sv_model.specs.declared.node.Setting.{Setting}
@@ -9,9 +8,8 @@ use Rattle.sv_model.specs.declared.node.Stage.{Stage}
 use Rattle.sv_model.specs.declared.record.Change.{Change}
 use Rattle.sv_model.specs.declared.record.Change.TheVariants.{Absent as Unchanged, Alive as ChangeAlive, Ended as ChangeEnded}
 use Rattle.sv_model.specs.declared.record.Record.{Record}
-use Rattle.sv_model.specs.declared.record.Record.TheVariants.{Boot, Commit, Expired, Sent, Taken, Gone, State, Counters}
-use Rattle.sv_model.specs.declared.state.TheConstants.{KEY_LIMIT}
-use Rattle.sv_model.specs.NodeState.{Durable, last_number}
+use Rattle.sv_model.specs.declared.record.Record.TheVariants.{Boot, Commit, Expired, Sent, Taken, Gone, State, Counters, Forgets, Counted}
+use Rattle.sv_model.specs.NodeState.{Durable, last_number, has_space}
 use Rattle.sv_model.specs.Replay.{applied, fits_named, fits_born, is_next, Fits}
 use Rattle.sv_core.specs.Effect.{LeavesSerial, HasSerial}
 
@@ -27,7 +25,7 @@ right false b is = absurd cc
 
 not_last : (set : Setting) (d : Durable) (k : Key) → is_next set d k ≡ true → d.next ≢ last_number
 not_last set d k is same =
-    let apart : (d.next == last_number) ≡ false = third (k.home == set.node) (k.serial == d.next) (d.next == last_number) (nat_lt (len d.keys) KEY_LIMIT) is in
+    let apart : (d.next == last_number) ≡ false = third (k.home == set.node) (k.serial == d.next) (d.next == last_number) (has_space set d) is in
     eqb-false d.next last_number apart same
 
 born_left : (set : Setting) (d : Durable) (b : Change) → fits_born set d b ≡ true → LeavesSerial b d.next
@@ -44,6 +42,8 @@ fits_left set stage d (Taken k e from s) is = tt
 fits_left set stage d (Gone k e) is = tt
 fits_left set stage d (State k st) is = tt
 fits_left set stage d (Counters boot next) is = tt
+fits_left set stage d (Forgets home boot) is = tt
+fits_left set stage d (Counted home boot next) is = tt
 
 behind_left : (next : ℕ) → next + 1 ≤ last_number → next ≢ last_number
 behind_left next less same = omega (arith, less, same)
@@ -59,3 +59,5 @@ within_left d (Taken k e from s) is = tt
 within_left d (Gone k e) is = tt
 within_left d (State k st) is = tt
 within_left d (Counters boot next) is = tt
+within_left d (Forgets home boot) is = tt
+within_left d (Counted home boot next) is = tt

@@ -1,7 +1,7 @@
 -- What holds of each key that is known goes on holding behind records.
-use Rattle.std.proofs.Common.{◌≡◌, ◌≢◌, ℕ, suc, ◌+◌, ◌<◌, ◌≤◌, Bool, true, false, cond, Option, Some, None, arith, refl, sym, ap, ◌∙◌, subst, ⊎_elim}
+use Rattle.std.proofs.Common.{◌≡◌, ◌≢◌, ℕ, suc, ◌+◌, ◌-◌, ◌<◌, ◌≤◌, Bool, true, false, cond, Option, Some, None, arith, refl, sym, ap, ◌∙◌, subst, ⊎_elim}
 use Rattle.std.specs.Prelude.{is_some, ◌&&◌, nat_lt}
-use Rattle.std.specs.FinMap.{get, insert, len, get-insert, len-insert}
+use Rattle.std.specs.FinMap.{get, insert, remove, len, contains_key, get-insert, get-remove, len-insert, len-remove}
 use Rattle.std.proofs.lemmas.Bool.{cond_both}
 use Rattle.std.proofs.lemmas.Bool.Decides.{leb_tells}
 use Rattle.std.proofs.lemmas.Option.{same_Some}
@@ -9,10 +9,9 @@ use Rattle.sv_model.specs.declared.key.Key.{Key}
 use Rattle.sv_model.specs.declared.session.Session.{Session}
 use Rattle.sv_model.specs.declared.state.KeyState.{KeyState}
 use Rattle.sv_model.specs.declared.state.KeyState.TheVariants.{Active, Sent, Gone, Ended}
-use Rattle.sv_model.specs.declared.state.TheConstants.{KEY_LIMIT}
 use Rattle.sv_model.specs.Keys.{same_key}
-use Rattle.sv_model.specs.NodeState.{Keys}
-use Rattle.sv_model.specs.Serving.{kept_at, ended_at}
+use Rattle.sv_model.specs.NodeState.{Keys, is_own}
+use Rattle.sv_model.specs.Serving.{kept_at, over_at, ended_at}
 use Rattle.sv_model.proofs.KeyLemmas.{keys_total, keys_tell}
 
 pub left : (a b : Bool) → (a && b) ≡ true → a ≡ true
@@ -56,22 +55,40 @@ all_kept P keys k s (Some (Sent e old to)) h there keeps = h
 all_kept P keys k s (Some (Gone e)) h there keeps = h
 all_kept P keys k s (Some (Ended e)) h there keeps = h
 
-pub all_ended : (P : Key → KeyState → Type 0) (keys : Keys) (k : Key) (st : Option KeyState) → AreAll P keys → get keys k ≡ st
-    → ((e : ℕ) (old : Session) → P k (Active e old) → P k (Ended e)) → AreAll P (ended_at k st keys)
-all_ended P keys k None h there ends = h
-all_ended P keys k (Some (Active e old)) h there ends = all_with P keys k (Ended e) h (ends e old (h k (Active e old) there))
-all_ended P keys k (Some (Sent e old to)) h there ends = h
-all_ended P keys k (Some (Gone e)) h there ends = h
-all_ended P keys k (Some (Ended e)) h there ends = h
+all_without : (P : Key → KeyState → Type 0) (keys : Keys) (k : Key) → AreAll P keys → AreAll P (remove keys k)
+all_without P keys k h q u there = ⊎_elim
+    (λ (t : (q ≡ k) × (same_key q k ≡ true)). absurd (let never : None ≡ Some u = ap (λ b. cond b None (get keys q)) (sym t.1) ∙ sym (get-remove keys_total keys k q) ∙ there in cc))
+    (λ (t : (q ≢ k) × (same_key q k ≡ false)). h q u (ap (λ b. cond b None (get keys q)) (sym t.1) ∙ sym (get-remove keys_total keys k q) ∙ there))
+    (keys_tell q k)
+
+pub all_over : (P : Key → KeyState → Type 0) (home : Option ℕ) (keys : Keys) (k : Key) (e : ℕ) → AreAll P keys → P k (Ended e) → AreAll P (over_at home k e keys)
+all_over P home keys k e h new = cond_both (is_own home k) (remove keys k) (insert keys k (Ended e)) (λ m. AreAll P m) (λ _. all_without P keys k h) (λ _. all_with P keys k (Ended e) h new)
+
+pub all_ended : (P : Key → KeyState → Type 0) (home : Option ℕ) (keys : Keys) (k : Key) (st : Option KeyState) → AreAll P keys → get keys k ≡ st
+    → ((e : ℕ) (old : Session) → P k (Active e old) → P k (Ended e)) → AreAll P (ended_at home k st keys)
+all_ended P home keys k None h there ends = h
+all_ended P home keys k (Some (Active e old)) h there ends = all_over P home keys k e h (ends e old (h k (Active e old) there))
+all_ended P home keys k (Some (Sent e old to)) h there ends = h
+all_ended P home keys k (Some (Gone e)) h there ends = h
+all_ended P home keys k (Some (Ended e)) h there ends = h
 
 -- ---- how many there are
 
 pub as_many : (keys : Keys) (k : Key) (st old : KeyState) → get keys k ≡ Some old → len (insert keys k st) ≡ len keys
 as_many keys k st old there = len-insert keys_total keys k st ∙ ap (λ o. cond (is_some o) (len keys) (len keys + 1)) there
 
-pub one_more : (keys : Keys) (k : Key) (st : KeyState) → len keys < KEY_LIMIT → len (insert keys k st) ≤ KEY_LIMIT
-one_more keys k st room = subst (λ n. n ≤ KEY_LIMIT) (sym (len-insert keys_total keys k st))
-    (cond_both (is_some (get keys k)) (len keys) (len keys + 1) (λ n. n ≤ KEY_LIMIT) (λ _. omega (arith, room)) (λ _. omega (arith, room)))
+pub one_more : (most : ℕ) (keys : Keys) (k : Key) (st : KeyState) → len keys < most → len (insert keys k st) ≤ most
+one_more most keys k st room = subst (λ n. n ≤ most) (sym (len-insert keys_total keys k st))
+    (cond_both (is_some (get keys k)) (len keys) (len keys + 1) (λ n. n ≤ most) (λ _. omega (arith, room)) (λ _. omega (arith, room)))
+
+one_less : (keys : Keys) (k : Key) → len (remove keys k) ≤ len keys
+one_less keys k = subst (λ n. n ≤ len keys) (sym (len-remove keys_total keys k)) (cond_both (contains_key keys k) (len keys - 1) (len keys) (λ n. n ≤ len keys) (λ _. omega arith) (λ _. omega arith))
+
+pub over_more : (most : ℕ) (home : Option ℕ) (keys : Keys) (k : Key) (e : ℕ) → len keys < most → len (over_at home k e keys) ≤ most
+over_more most home keys k e room = cond_both (is_own home k) (remove keys k) (insert keys k (Ended e)) (λ m. len m ≤ most) (λ _. omega (arith, room, one_less keys k)) (λ _. one_more most keys k (Ended e) room)
+
+over_few : (home : Option ℕ) (keys : Keys) (k : Key) (e : ℕ) (old : KeyState) → get keys k ≡ Some old → len (over_at home k e keys) ≤ len keys
+over_few home keys k e old there = cond_both (is_own home k) (remove keys k) (insert keys k (Ended e)) (λ m. len m ≤ len keys) (λ _. one_less keys k) (λ _. omega (arith, as_many keys k (Ended e) old there))
 
 pub kept_many : (keys : Keys) (k : Key) (s : Session) (st : Option KeyState) → get keys k ≡ st → len (kept_at k s st keys) ≡ len keys
 kept_many keys k s None there = refl
@@ -80,9 +97,9 @@ kept_many keys k s (Some (Sent e old to)) there = refl
 kept_many keys k s (Some (Gone e)) there = refl
 kept_many keys k s (Some (Ended e)) there = refl
 
-pub ended_many : (keys : Keys) (k : Key) (st : Option KeyState) → get keys k ≡ st → len (ended_at k st keys) ≡ len keys
-ended_many keys k None there = refl
-ended_many keys k (Some (Active e old)) there = as_many keys k (Ended e) (Active e old) there
-ended_many keys k (Some (Sent e old to)) there = refl
-ended_many keys k (Some (Gone e)) there = refl
-ended_many keys k (Some (Ended e)) there = refl
+pub ended_few : (home : Option ℕ) (keys : Keys) (k : Key) (st : Option KeyState) → get keys k ≡ st → len (ended_at home k st keys) ≤ len keys
+ended_few home keys k None there = omega arith
+ended_few home keys k (Some (Active e old)) there = over_few home keys k e (Active e old) there
+ended_few home keys k (Some (Sent e old to)) there = omega arith
+ended_few home keys k (Some (Gone e)) there = omega arith
+ended_few home keys k (Some (Ended e)) there = omega arith

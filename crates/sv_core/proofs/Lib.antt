@@ -2,6 +2,8 @@ pub mod OrderLemmas
 pub mod PlaceLemmas
 pub mod DirectoryLemmas
 pub mod SentLemmas
+pub mod EraseLemmas
+pub mod SpareLemmas
 pub mod TableLemmas
 pub mod WantLemmas
 pub mod SettledLemmas

@@ -149,17 +149,17 @@ put_rises k place ps rises = is_sorted-put key_cmp keys_total k place ps rises
 
 -- ---- the places
 
-is_below : (m n : ℕ) → m < n → T (nat_lt m n)
+pub is_below : (m n : ℕ) → m < n → T (nat_lt m n)
 is_below m n is = grind (arith, nat_tests)
 
-below_is : (m n : ℕ) → T (nat_lt m n) → m < n
+pub below_is : (m n : ℕ) → T (nat_lt m n) → m < n
 below_is m n is = grind (arith, nat_tests)
 
-pub within_more : (n : ℕ) (ps : List Place) → T (are_within n ps) → T (are_within (n + 1) ps)
-within_more n [] within = tt
-within_more n (p ∷ ps) within =
+pub within_more : (n m : ℕ) (ps : List Place) → n ≤ m → T (are_within n ps) → T (are_within m ps)
+within_more n m [] up within = tt
+within_more n m (p ∷ ps) up within =
     let less : p.1 < n = below_is p.1 n (first _ _ within) in
-    both _ _ (is_below p.1 (n + 1) (omega (arith, less))) (within_more n ps (second _ _ within))
+    both _ _ (is_below p.1 m (omega (arith, less, up))) (within_more n m ps up (second _ _ within))
 
 pub within_put : (k : Key) (at n : ℕ) (ps : List Place) → at < n → T (are_within n ps) → T (are_within n (put key_cmp k at ps))
 within_put k at n [] less within = both _ _ (is_below at n less) tt
@@ -170,19 +170,19 @@ within_put k at n (p ∷ ps) less within =
       | Greater ↦ both _ _ (first _ _ within) (within_put k at n ps less (second _ _ within))
     ]
 
-apart_is : (m n : ℕ) → T (not (m == n)) → m ≢ n
+pub apart_is : (m n : ℕ) → T (not (m == n)) → m ≢ n
 apart_is m n is = grind (arith, nat_tests)
 
-is_apart : (m n : ℕ) → m ≢ n → T (not (m == n))
+pub is_apart : (m n : ℕ) → m ≢ n → T (not (m == n))
 is_apart m n is = grind (arith, nat_tests)
 
-free_within : (n : ℕ) (ps : List Place) → T (are_within n ps) → T (is_free n ps)
+pub free_within : (n : ℕ) (ps : List Place) → T (are_within n ps) → T (is_free n ps)
 free_within n [] within = tt
 free_within n (p ∷ ps) within =
     let less : p.1 < n = below_is p.1 n (first _ _ within) in
     both _ _ (is_apart p.1 n (λ same. omega (arith, less, same))) (free_within n ps (second _ _ within))
 
-free_put : (k : Key) (at n : ℕ) (ps : List Place) → at ≢ n → T (is_free n ps) → T (is_free n (put key_cmp k at ps))
+pub free_put : (k : Key) (at n : ℕ) (ps : List Place) → at ≢ n → T (is_free n ps) → T (is_free n (put key_cmp k at ps))
 free_put k at n [] other free = both _ _ (is_apart at n other) tt
 free_put k at n (p ∷ ps) other free =
     elim (key_cmp k p.0) as (λ o. T (is_free n (by_order o ((k, at) ∷ p ∷ ps) ((p.0, at) ∷ ps) (p ∷ put key_cmp k at ps)))) [
@@ -191,7 +191,7 @@ free_put k at n (p ∷ ps) other free =
       | Greater ↦ both _ _ (first _ _ free) (free_put k at n ps other (second _ _ free))
     ]
 
-apart_put : (k : Key) (at : ℕ) (ps : List Place) → T (is_free at ps) → T (are_apart ps) → T (are_apart (put key_cmp k at ps))
+pub apart_put : (k : Key) (at : ℕ) (ps : List Place) → T (is_free at ps) → T (are_apart ps) → T (are_apart (put key_cmp k at ps))
 apart_put k at [] free apart = tt
 apart_put k at (p ∷ ps) free apart =
     elim (key_cmp k p.0) as (λ o. T (are_apart (by_order o ((k, at) ∷ p ∷ ps) ((p.0, at) ∷ ps) (p ∷ put key_cmp k at ps)))) [
@@ -199,9 +199,6 @@ apart_put k at (p ∷ ps) free apart =
       | Equal ↦ both (is_free at ps) (are_apart ps) (second (not (p.1 == at)) (is_free at ps) free) (second (is_free p.1 ps) (are_apart ps) apart)
       | Greater ↦ both _ _ (free_put k at p.1 ps (λ same. apart_is p.1 at (first _ _ free) (sym same)) (first _ _ apart)) (apart_put k at ps (second _ _ free) (second _ _ apart))
     ]
-
-pub apart_new : (k : Key) (n : ℕ) (ps : List Place) → T (are_within n ps) → T (are_apart ps) → T (are_apart (put key_cmp k n ps))
-apart_new k n ps within apart = apart_put k n ps (free_within n ps within) apart
 
 found_by : (k : Key) (at n : ℕ) (p : Place) (ps : List Place) (b : Bool) → cond b (Some p.1) (find key_cmp k ps) ≡ Some at → p.1 < n → (find key_cmp k ps ≡ Some at → at < n) → at < n
 found_by k at n p ps true is less rest = subst (λ m. m < n) (ap (λ (o : Option ℕ). unwrap_or o at) is) less
@@ -330,7 +327,7 @@ set_there [] at st is = absurd (omega (arith, is))
 set_there (s ∷ states) zero st is = refl
 set_there (s ∷ states) (suc at) st is = set_there states at st (omega (arith, is))
 
-set_apart : (states : List KeyState) (at n : ℕ) (st : KeyState) → n ≢ at → state_at (set states at st) n ≡ state_at states n
+pub set_apart : (states : List KeyState) (at n : ℕ) (st : KeyState) → n ≢ at → state_at (set states at st) n ≡ state_at states n
 set_apart [] at n st other = refl
 set_apart (s ∷ states) zero zero st other = absurd (other refl)
 set_apart (s ∷ states) zero (suc n) st other = refl
@@ -346,7 +343,7 @@ push_apart [] n st is = absurd (omega (arith, is))
 push_apart (s ∷ states) zero st is = refl
 push_apart (s ∷ states) (suc n) st is = push_apart states n st (omega (arith, is))
 
-same_free : (k : Key) (at : ℕ) (st : KeyState) (states : List KeyState) (ps : List Place) → T (is_free at ps) → AreSame k states (set states at st) ps
+pub same_free : (k : Key) (at : ℕ) (st : KeyState) (states : List KeyState) (ps : List Place) → T (is_free at ps) → AreSame k states (set states at st) ps
 same_free k at st states [] free = tt
 same_free k at st states (p ∷ ps) free = (λ other. set_apart states at p.1 st (apart_is p.1 at (first _ _ free)), same_free k at st states ps (second _ _ free))
 
@@ -354,7 +351,7 @@ free_by : (k : Key) (n at : ℕ) (p : Place) (ps : List Place) (b : Bool) → co
 free_by k n at p ps true is other rest = λ same. other (ap (λ (o : Option ℕ). unwrap_or o at) is ∙ sym same)
 free_by k n at p ps false is other rest = rest is
 
-free_found : (k : Key) (n at : ℕ) (ps : List Place) → find key_cmp k ps ≡ Some at → T (is_free n ps) → n ≢ at
+pub free_found : (k : Key) (n at : ℕ) (ps : List Place) → find key_cmp k ps ≡ Some at → T (is_free n ps) → n ≢ at
 free_found k n at [] is free = absurd (let no : None ≡ Some at = is in cc)
 free_found k n at (p ∷ ps) is free = free_by k n at p ps (same_key k p.0) is (apart_is p.1 n (first _ _ free)) (λ there. free_found k n at ps there (second _ _ free))
 

@@ -1,48 +1,66 @@
 -- Records within the ranges of the formats leave a node within them.
-use Rattle.std.proofs.Common.{◌≡◌, ℕ, ◌<◌, ◌≤◌, Some, None, List, [], ◌∷◌, arith, refl, sym, ◌∙◌}
+use Rattle.std.proofs.Common.{◌≡◌, ℕ, ◌<◌, ◌≤◌, Option, Some, None, List, [], ◌∷◌, arith, refl, sym, ◌∙◌}
 use Rattle.std.specs.List.{AllByRecursion}
 use Rattle.std.specs.FinMap.{empty, get, get-empty}
 use Rattle.sv_model.specs.declared.key.Key.{Key}
 use Rattle.sv_model.specs.declared.state.KeyState.{KeyState}
-use Rattle.sv_model.specs.declared.state.KeyState.TheVariants.{Active, Sent, Gone, Ended}
+use Rattle.sv_model.specs.declared.state.KeyState.TheVariants.{Active, Sent, Gone}
 use Rattle.sv_model.specs.declared.record.Change.{Change}
 use Rattle.sv_model.specs.declared.record.Change.TheVariants.{Absent as Unchanged, Alive as ChangeAlive, Ended as ChangeEnded}
 use Rattle.sv_model.specs.declared.record.Record.{Record}
-use Rattle.sv_model.specs.declared.record.Record.TheVariants.{Boot, Commit, Expired, Sent as SentRecord, Taken, Gone as GoneRecord, State, Counters}
-use Rattle.sv_model.specs.Keys.{key_cmp, IsKey}
+use Rattle.sv_model.specs.declared.record.Record.TheVariants.{Boot, Commit, Expired, Sent as SentRecord, Taken, Gone as GoneRecord, State, Counters, Forgets, Counted}
+use Rattle.sv_model.specs.Keys.{key_cmp, IsKey, IsNode}
+use Rattle.sv_model.specs.Decision.{idle}
+use Rattle.std.specs.Prelude.{◌+◌, IfSome}
+use Rattle.std.proofs.lemmas.Bool.{cond_both}
 use Rattle.sv_model.specs.NodeState.{Keys, Durable, Node, last_number}
-use Rattle.sv_model.specs.Replay.{blank, with_named, with_born, next_by, keys_behind, next_behind, applied, replayed}
+use Rattle.sv_model.specs.Replay.{blank, with_named, with_born, next_by, keys_behind, next_behind, home_behind, applied, replayed}
 use Rattle.sv_model.specs.declared.node.Setting.{Setting}
 use Rattle.sv_model.specs.Journaled.{IsJournaled}
 use Rattle.sv_core.specs.Core.{starts}
-use Rattle.sv_model.specs.Ranges.{IsRangedStep, IsChange, IsState, IsRecord, IsRanged}
-use Rattle.sv_core.proofs.KeptLemmas.{AreAll, all_with, all_kept, all_ended}
+use Rattle.sv_model.specs.Ranges.{IsSetting, IsRangedStep, IsChange, IsState, IsRecord, IsRanged}
+use Rattle.sv_core.proofs.KeptLemmas.{AreAll, all_with, all_kept, all_over, all_ended}
 
 abbrev pub IsEntry : Key → KeyState → Type 0
 IsEntry k st = IsKey k × IsState st
 
-ended : (k : Key) (keys : Keys) → AreAll IsEntry keys → AreAll IsEntry (with_named (ChangeEnded k) keys)
-ended k keys h = all_ended IsEntry keys k (get keys k) h refl (λ e old is. (is.0, is.1.0))
+ended : (home : Option ℕ) (k : Key) (keys : Keys) → AreAll IsEntry keys → AreAll IsEntry (with_named home (ChangeEnded k) keys)
+ended home k keys h = all_ended IsEntry home keys k (get keys k) h refl (λ e old is. (is.0, is.1.0))
 
-named : (c : Change) (keys : Keys) → IsChange c → AreAll IsEntry keys → AreAll IsEntry (with_named c keys)
-named Unchanged keys is h = h
-named (ChangeAlive k s) keys is h = all_kept IsEntry keys k s (get keys k) h refl (λ e old was. (was.0, (was.1.0, is.1)))
-named (ChangeEnded k) keys is h = ended k keys h
+named : (home : Option ℕ) (c : Change) (keys : Keys) → IsChange c → AreAll IsEntry keys → AreAll IsEntry (with_named home c keys)
+named home Unchanged keys is h = h
+named home (ChangeAlive k s) keys is h = all_kept IsEntry keys k s (get keys k) h refl (λ e old was. (was.0, (was.1.0, is.1)))
+named home (ChangeEnded k) keys is h = ended home k keys h
 
-born : (c : Change) (keys : Keys) → IsChange c → AreAll IsEntry keys → AreAll IsEntry (with_born c keys)
-born Unchanged keys is h = h
-born (ChangeAlive k s) keys is h = all_with IsEntry keys k (Active 1 s) h (is.0, (omega arith, is.1))
-born (ChangeEnded k) keys is h = all_with IsEntry keys k (Ended 1) h (is, omega arith)
+born : (home : Option ℕ) (c : Change) (keys : Keys) → IsChange c → AreAll IsEntry keys → AreAll IsEntry (with_born home c keys)
+born home Unchanged keys is h = h
+born home (ChangeAlive k s) keys is h = all_with IsEntry keys k (Active 1 s) h (is.0, (omega arith, is.1))
+born home (ChangeEnded k) keys is h = all_over IsEntry home keys k 1 h (is, omega arith)
 
-pub entries_behind : (r : Record) (keys : Keys) → IsRecord r → AreAll IsEntry keys → AreAll IsEntry (keys_behind r keys)
-entries_behind (Boot boot) keys is h = h
-entries_behind (Commit c b) keys is h = born b (with_named c keys) is.1 (named c keys is.0 h)
-entries_behind (Expired k) keys is h = ended k keys h
-entries_behind (SentRecord k e to s) keys is h = all_with IsEntry keys k (Sent e s to) h (is.0, (is.1, is.3, is.2))
-entries_behind (Taken k e from s) keys is h = all_with IsEntry keys k (Active e s) h (is.0, (is.1, is.3))
-entries_behind (GoneRecord k e) keys is h = all_with IsEntry keys k (Gone e) h is
-entries_behind (State k st) keys is h = all_with IsEntry keys k st h is
-entries_behind (Counters boot next) keys is h = h
+pub entries_behind : (home : Option ℕ) (r : Record) (keys : Keys) → IsRecord r → AreAll IsEntry keys → AreAll IsEntry (keys_behind home r keys)
+entries_behind home (Boot boot) keys is h = h
+entries_behind home (Commit c b) keys is h = born home b (with_named home c keys) is.1 (named home c keys is.0 h)
+entries_behind home (Expired k) keys is h = ended home k keys h
+entries_behind home (SentRecord k e to s) keys is h = all_with IsEntry keys k (Sent e s to) h (is.0, (is.1, is.3, is.2))
+entries_behind home (Taken k e from s) keys is h = all_with IsEntry keys k (Active e s) h (is.0, (is.1, is.3))
+entries_behind home (GoneRecord k e) keys is h = all_with IsEntry keys k (Gone e) h is
+entries_behind home (State k st) keys is h = all_with IsEntry keys k st h is
+entries_behind home (Counters boot next) keys is h = h
+entries_behind home (Forgets n boot) keys is h = h
+entries_behind home (Counted n boot next) keys is h = h
+
+-- whose keys are forgotten is a node
+home_ranged : (r : Record) (home : Option ℕ) → IsRecord r → IfSome home IsNode → IfSome (home_behind r home) IsNode
+home_ranged (Boot boot) home is own = own
+home_ranged (Commit c b) home is own = own
+home_ranged (Expired k) home is own = own
+home_ranged (SentRecord k e to s) home is own = own
+home_ranged (Taken k e from s) home is own = own
+home_ranged (GoneRecord k e) home is own = own
+home_ranged (State k st) home is own = own
+home_ranged (Counters boot next) home is own = own
+home_ranged (Forgets n boot) home is own = is.0
+home_ranged (Counted n boot next) home is own = is.0
 
 next_made : (c : Change) (next : ℕ) → 0 < next → 0 < next_by c next
 next_made Unchanged next is = is
@@ -58,14 +76,20 @@ counting_behind (Taken k e from s) next is counts = counts
 counting_behind (GoneRecord k e) next is counts = counts
 counting_behind (State k st) next is counts = counts
 counting_behind (Counters boot n) next is counts = is
+counting_behind (Forgets home boot) next is counts = counts
+counting_behind (Counted home boot n) next is counts = is.1
 
 entries_replayed : (d : Durable) (rs : List Record) → AllByRecursion IsRecord rs → AreAll IsEntry d.keys → AreAll IsEntry (replayed d rs).keys
 entries_replayed d [] are h = h
-entries_replayed d (r ∷ rs) are h = entries_replayed (applied r d) rs are.1 (entries_behind r d.keys are.0 h)
+entries_replayed d (r ∷ rs) are h = entries_replayed (applied r d) rs are.1 (entries_behind d.home r d.keys are.0 h)
 
 counting_replayed : (d : Durable) (rs : List Record) → AllByRecursion IsRecord rs → 0 < d.next → 0 < (replayed d rs).next
 counting_replayed d [] are counts = counts
 counting_replayed d (r ∷ rs) are counts = counting_replayed (applied r d) rs are.1 (counting_behind r d.next are.0 counts)
+
+home_replayed : (d : Durable) (rs : List Record) → AllByRecursion IsRecord rs → IfSome d.home IsNode → IfSome (replayed d rs).home IsNode
+home_replayed d [] are own = own
+home_replayed d (r ∷ rs) are own = home_replayed (applied r d) rs are.1 (home_ranged r d.home are.0 own)
 
 none_known : AreAll IsEntry empty
 none_known k st there = absurd (let no : None ≡ Some st = sym (get-empty key_cmp k) ∙ there in cc)
@@ -76,18 +100,27 @@ ranged_recovered rs are within = record {
   known = entries_replayed blank rs are none_known;
   next = counting_replayed blank rs are (omega arith);
   waiting = tt;
+  home = home_replayed blank rs are tt;
   next_within = within;
   want_within = omega arith;
 }
 
 -- ---- a start
 
-pub starts_journaled : (set : Setting) (n : Node) → IsJournaled set n (starts n)
-starts_journaled set n = record { fits = λ stage. refl; gives = refl; marks = refl }
+pub starts_journaled : (set : Setting) (n : Node) → IsJournaled set n (starts set n)
+starts_journaled set n = cond_both set.forget (Forgets set.node (n.durable.boot + 1)) (Boot (n.durable.boot + 1)) (λ r. IsJournaled set n (record (idle n []) { entry = Some r; durable = applied r n.durable }))
+    (λ _. record { fits = λ stage. (refl, refl); gives = refl; marks = refl })
+    (λ _. record { fits = λ stage. refl; gives = refl; marks = refl })
 
-pub starts_ranged : (n : Node) → IsRanged n → IsRangedStep (starts n)
-starts_ranged n is = record {
-  entry = omega arith;
-  packets = tt;
-  left_is = record { known = is.known; next = is.next; waiting = is.waiting; next_within = is.next_within; want_within = is.want_within };
-}
+pub starts_ranged : (set : Setting) (n : Node) → IsSetting set → IsRanged n → IsRangedStep (starts set n)
+starts_ranged set n inside is = cond_both set.forget (Forgets set.node (n.durable.boot + 1)) (Boot (n.durable.boot + 1)) (λ r. IsRangedStep (record (idle n []) { entry = Some r; durable = applied r n.durable }))
+    (λ _. record {
+      entry = (omega (arith, inside.few, inside.inside), omega arith);
+      packets = tt;
+      left_is = record { known = is.known; next = is.next; waiting = is.waiting; home = omega (arith, inside.few, inside.inside); next_within = is.next_within; want_within = is.want_within };
+    })
+    (λ _. record {
+      entry = omega arith;
+      packets = tt;
+      left_is = record { known = is.known; next = is.next; waiting = is.waiting; home = is.home; next_within = is.next_within; want_within = is.want_within };
+    })

@@ -23,7 +23,7 @@ use Rattle.sv_core.specs.Decision.{decision_of, parked_by, want_by}
 use Rattle.sv_core.specs.Waiting.{waiting_without, parked_without}
 
 abbrev pub behind : Option (Key × Secret) → Key → Fate → Birth → Durable → Durable
-behind named k fate birth d = record d { keys = born_keys k birth (fated_keys named fate d.keys); next = next_with birth d.next }
+behind named k fate birth d = record d { keys = born_keys d.home k birth (fated_keys d.home named fate d.keys); next = next_with birth d.next }
 
 -- what a record of a request makes of what a node keeps
 pub entry_applies : (named : Option (Key × Secret)) (k : Key) (fate : Fate) (birth : Birth) (d : Durable) → applied_if (entry_of (named_change named fate) (born_change k birth)) d ≡ behind named k fate birth d

@@ -1,5 +1,5 @@
 -- The requests that can be served, behind a record.
-use Rattle.std.proofs.Common.{◌≡◌, ◌≢◌, Bool, true, false, cond, Option, Some, None, List, refl, sym, ap, ◌∙◌, ⊎_elim}
+use Rattle.std.proofs.Common.{◌≡◌, ◌≢◌, ℕ, Bool, true, false, cond, Option, Some, None, List, refl, sym, ap, ◌∙◌, ⊎_elim}
 use Rattle.std.specs.FinMap.{get, insert, get-insert}
 use Rattle.sv_model.specs.declared.key.Key.{Key}
 use Rattle.sv_model.specs.declared.session.Session.{Session}
@@ -9,14 +9,20 @@ use Rattle.sv_model.specs.declared.node.Parked.{Parked}
 use Rattle.sv_model.specs.declared.record.Change.{Change}
 use Rattle.sv_model.specs.declared.record.Change.TheVariants.{Absent as Unchanged, Alive as ChangeAlive, Ended as ChangeEnded}
 use Rattle.sv_model.specs.declared.record.Record.{Record}
-use Rattle.sv_model.specs.declared.record.Record.TheVariants.{Boot, Commit, Expired, Sent as SentRecord, Taken, Gone as GoneRecord, State, Counters}
+use Rattle.sv_model.specs.declared.record.Record.TheVariants.{Boot, Commit, Expired, Sent as SentRecord, Taken, Gone as GoneRecord, State, Counters, Forgets, Counted}
 use Rattle.sv_model.specs.Keys.{same_key}
 use Rattle.sv_model.specs.NodeState.{Keys, is_settled}
-use Rattle.sv_model.specs.Replay.{with_named, with_born, keys_behind}
+use Rattle.sv_model.specs.Replay.{with_named, with_born, keys_behind, boot_behind, next_behind, home_behind, applied}
 use Rattle.sv_model.specs.Serving.{kept_at, ended_at}
 use Rattle.sv_model.proofs.KeyLemmas.{keys_total, keys_tell}
+use Rattle.sv_model.proofs.KnownLemmas.{plainly_known}
+use Rattle.sv_core.specs.Table.{durable_by}
 use Rattle.sv_core.specs.Wants.{is_here, wants_where, wants_here, settles_born, settles, settled_by}
 use Rattle.sv_core.proofs.WantLemmas.{same_where}
+
+-- it can be served by what is kept
+abbrev here : Keys → Parked → Bool
+here keys = λ p. is_settled (get keys p.key)
 
 settled_if : (b : Bool) (st : KeyState) (o : Option KeyState) → is_settled (cond b (Some st) o) ≡ cond b (is_settled (Some st)) (is_settled o)
 settled_if true st o = refl
@@ -39,19 +45,19 @@ kept keys k s (Some (Sent e old to)) q there = refl
 kept keys k s (Some (Gone e)) q there = refl
 kept keys k s (Some (Ended e)) q there = refl
 
-ended : (keys : Keys) (k : Key) (st : Option KeyState) (q : Key) → get keys k ≡ st → is_settled (get (ended_at k st keys) q) ≡ is_settled (get keys q)
+ended : (keys : Keys) (k : Key) (st : Option KeyState) (q : Key) → get keys k ≡ st → is_settled (get (ended_at None k st keys) q) ≡ is_settled (get keys q)
 ended keys k None q there = refl
 ended keys k (Some (Active e old)) q there = again keys k (Ended e) q (ap is_settled there) refl
 ended keys k (Some (Sent e old to)) q there = refl
 ended keys k (Some (Gone e)) q there = refl
 ended keys k (Some (Ended e)) q there = refl
 
-named : (keys : Keys) (c : Change) (q : Key) → is_settled (get (with_named c keys) q) ≡ is_settled (get keys q)
+named : (keys : Keys) (c : Change) (q : Key) → is_settled (get (with_named None c keys) q) ≡ is_settled (get keys q)
 named keys Unchanged q = refl
 named keys (ChangeAlive k s) q = kept keys k s (get keys k) q refl
 named keys (ChangeEnded k) q = ended keys k (get keys k) q refl
 
-born : (keys : Keys) (c : Change) (p : Parked) → is_here (with_born c keys) p ≡ settled_by (settles_born c) (is_here keys) p
+born : (keys : Keys) (c : Change) (p : Parked) → here (with_born None c keys) p ≡ settled_by (settles_born c) (here keys) p
 born keys Unchanged p = refl
 born keys (ChangeAlive k s) p = put keys k _ p.key
 born keys (ChangeEnded k) p = put keys k _ p.key
@@ -61,15 +67,27 @@ by_named None one other p same = same
 by_named (Some change) one other p same = ap (λ b. cond (same_key p.key change.0) change.1 b) same
 
 -- those that can be served behind a record
-here_behind : (keys : Keys) (r : Record) (p : Parked) → is_here (keys_behind r keys) p ≡ settled_by (settles r) (is_here keys) p
+here_behind : (keys : Keys) (r : Record) (p : Parked) → here (keys_behind None r keys) p ≡ settled_by (settles r) (here keys) p
 here_behind keys (Boot boot) p = refl
-here_behind keys (Commit c d) p = born (with_named c keys) d p ∙ by_named (settles_born d) (is_here (with_named c keys)) (is_here keys) p (named keys c p.key)
+here_behind keys (Commit c d) p = born (with_named None c keys) d p ∙ by_named (settles_born d) (here (with_named None c keys)) (here keys) p (named keys c p.key)
 here_behind keys (Expired k) p = ended keys k (get keys k) p.key refl
 here_behind keys (SentRecord k e to s) p = put keys k (Sent e s to) p.key
 here_behind keys (Taken k e from s) p = put keys k (Active e s) p.key
 here_behind keys (GoneRecord k e) p = put keys k (Gone e) p.key
 here_behind keys (State k st) p = put keys k st p.key
 here_behind keys (Counters boot next) p = refl
+here_behind keys (Forgets home boot) p = refl
+here_behind keys (Counted home boot next) p = refl
 
-pub settled_behind : (keys : Keys) (r : Record) (ps : List Parked) → wants_where (settled_by (settles r) (is_here keys)) ps ≡ wants_here (keys_behind r keys) ps
-settled_behind keys r ps = same_where (settled_by (settles r) (is_here keys)) (is_here (keys_behind r keys)) ps (λ p. sym (here_behind keys r p))
+-- at a node that forgets none only what is kept counts
+here_plain : (keys : Keys) (boot next : ℕ) → is_here (durable_by keys boot next None) ≡ here keys
+here_plain keys boot next = λ i p. is_settled (plainly_known (durable_by keys boot next None) p.key refl i)
+
+pub settled_behind : (keys : Keys) (boot next : ℕ) (home : Option ℕ) (r : Record) (ps : List Parked) → home ≡ None → home_behind r home ≡ None
+    → wants_where (settled_by (settles r) (is_here (durable_by keys boot next home))) ps ≡ wants_here (applied r (durable_by keys boot next home)) ps
+settled_behind keys boot next home r ps none stays =
+    (λ i. wants_where (settled_by (settles r) (is_here (durable_by keys boot next (none i)))) ps)
+    ∙ ap (λ f. wants_where (settled_by (settles r) f) ps) (here_plain keys boot next)
+    ∙ same_where (settled_by (settles r) (here keys)) (here (keys_behind None r keys)) ps (λ p. sym (here_behind keys r p))
+    ∙ ap (λ f. wants_where f ps) (sym (here_plain (keys_behind None r keys) (boot_behind r boot) (next_behind r next)))
+    ∙ (λ i. wants_here (durable_by (keys_behind (sym none i) r keys) (boot_behind r boot) (next_behind r next) (sym stays i)) ps)

@@ -1,6 +1,6 @@
 -- The records of a snapshot may stand behind one another, and give what the node keeps.
-use Rattle.std.proofs.Common.{◌≡◌, ℕ, suc, ◌+◌, ◌<◌, ◌≤◌, false, cond, Some, None, List, [], ◌∷◌, ◌++◌, map, length, get_or, take, arith, refl, sym, ap, ◌∙◌, subst, inl, inr}
-use Rattle.std.specs.Prelude.{T, not, ◌&&◌, is_none, nat_lt}
+use Rattle.std.proofs.Common.{◌≡◌, ℕ, suc, ◌+◌, ◌<◌, ◌≤◌, false, cond, Option, Some, None, List, [], ◌∷◌, ◌++◌, map, length, get_or, take, arith, refl, sym, ap, ◌∙◌, subst, inl, inr}
+use Rattle.std.specs.Prelude.{T, not, ◌&&◌, is_none}
 use Rattle.std.specs.Ordering.{is_eq}
 use Rattle.std.specs.declared.cmp.Ordering.TheVariants.{Less}
 use Rattle.std.specs.FinMap.{empty, insert, len, entries, find, put, same_entries_map, get-entries, len-entries, entries-insert, entries_sorted}
@@ -8,18 +8,17 @@ use Rattle.std.specs.FinMap.Entries.{below_all, by_order}
 use Rattle.std.proofs.lemmas.List.{append-nil, append_assoc, length-append, map-append}
 use Rattle.sv_model.specs.declared.key.Key.{Key}
 use Rattle.sv_model.specs.declared.state.KeyState.{KeyState}
-use Rattle.sv_model.specs.declared.state.TheConstants.{KEY_LIMIT}
 use Rattle.sv_model.specs.declared.node.Setting.{Setting}
 use Rattle.sv_model.specs.declared.node.Stage.{Stage}
 use Rattle.sv_model.specs.declared.node.Stage.TheVariants.{Blank, Snapshot}
 use Rattle.sv_model.specs.Keys.{key_cmp}
 use Rattle.sv_model.specs.Membership.{In}
-use Rattle.sv_model.specs.NodeState.{Keys, Durable, is_unmade}
-use Rattle.sv_model.specs.Replay.{blank, replayed, AllFit}
+use Rattle.sv_model.specs.NodeState.{Keys, Durable, is_unmade, bound, has_space}
+use Rattle.sv_model.specs.Replay.{blank, applied, replayed, stage_behind, Fits, AllFit}
 use Rattle.sv_model.proofs.KeyLemmas.{keys_total}
-use Rattle.sv_model.proofs.EntryLemmas.{no_entries, known}
+use Rattle.sv_model.proofs.EntryLemmas.{no_entries, entry_kept}
 use Rattle.sv_core.specs.Order.{Entry}
-use Rattle.sv_core.specs.Snapshot.{staged, state_record, snapshot_of}
+use Rattle.sv_core.specs.Snapshot.{staged, state_record, head_by, snapshot_of}
 use Rattle.sv_core.proofs.SoundLemmas.{IsSound}
 use Rattle.sv_core.specs.Places.{Place, Rises, state_at, seen}
 use Rattle.sv_model.specs.declared.record.Record.{Record}
@@ -62,24 +61,24 @@ added_entries : (es : List Entry) (keys : Keys) → Rises (entries keys ++ es) �
 added_entries [] keys rises = sym (append-nil (entries keys))
 added_entries (e ∷ es) keys rises = added_entries es (insert keys e.0 e.1) (subst Rises (sym (with_rest keys e es rises)) rises) ∙ with_rest keys e es rises
 
-module _ (boot next : ℕ) where
+module _ (boot next : ℕ) (home : Option ℕ) where
   abbrev at : Keys → Durable
-  at keys = record { keys = keys; boot = boot; next = next }
+  at keys = record { keys = keys; boot = boot; next = next; home = home }
 
   replays : (es : List Entry) (keys : Keys) → replayed (at keys) (map state_record es) ≡ at (added es keys)
   replays [] keys = refl
   replays (e ∷ es) keys = replays es (insert keys e.0 e.1)
 
   module _ (set : Setting) where
-    fit : (es : List Entry) (keys : Keys) → Rises (entries keys ++ es) → length (entries keys ++ es) ≤ KEY_LIMIT → ((e : Entry) → In e es → is_unmade set (at keys) e.0 ≡ false)
+    fit : (es : List Entry) (keys : Keys) → Rises (entries keys ++ es) → length (entries keys ++ es) ≤ bound set → ((e : Entry) → In e es → is_unmade set (at keys) e.0 ≡ false)
         → AllFit set Snapshot (at keys) (map state_record es)
     fit [] keys rises few made = tt
     fit (e ∷ es) keys rises few made =
-        let room : len keys < KEY_LIMIT = let many : length (entries keys ++ e ∷ es) ≡ length (entries keys) + suc (length es) = length-append (entries keys) (e ∷ es) in let these : len keys ≡ length (entries keys) = len-entries keys in omega (arith, few, many, these) in (
-          ap (λ o. is_none o && (not (is_unmade set (at keys) e.0) && nat_lt (len keys) KEY_LIMIT)) (get-entries keys e.0 ∙ find_last e (entries keys) es rises)
-              ∙ ap (λ b. not b && nat_lt (len keys) KEY_LIMIT) (made e (inl refl))
-              ∙ lower_is (len keys) KEY_LIMIT room,
-          fit es (insert keys e.0 e.1) (subst Rises (sym (with_rest keys e es rises)) rises) (subst (λ l. length l ≤ KEY_LIMIT) (sym (with_rest keys e es rises)) few) (λ f i. made f (inr i)),
+        let room : len keys < bound set = let many : length (entries keys ++ e ∷ es) ≡ length (entries keys) + suc (length es) = length-append (entries keys) (e ∷ es) in let these : len keys ≡ length (entries keys) = len-entries keys in omega (arith, few, many, these) in (
+          ap (λ o. is_none o && (not (is_unmade set (at keys) e.0) && has_space set (at keys))) (get-entries keys e.0 ∙ find_last e (entries keys) es rises)
+              ∙ ap (λ b. not b && has_space set (at keys)) (made e (inl refl))
+              ∙ lower_is (len keys) (bound set) room,
+          fit es (insert keys e.0 e.1) (subst Rises (sym (with_rest keys e es rises)) rises) (subst (λ l. length l ≤ bound set) (sym (with_rest keys e es rises)) few) (λ f i. made f (inr i)),
         )
 
 stays : (es : List Entry) → staged Snapshot (map state_record es) ≡ Snapshot
@@ -89,21 +88,38 @@ stays (e ∷ es) = stays es
 nothing_before : (d : Durable) → entries (empty {X = KeyState} {R = key_cmp}) ++ entries d.keys ≡ entries d.keys
 nothing_before d = ap (λ l. l ++ entries d.keys) no_entries
 
+-- ---- the head
+
+head_gives : (home : Option ℕ) (boot next : ℕ) → applied (head_by home boot next) blank ≡ at boot next home empty
+head_gives None boot next = refl
+head_gives (Some h) boot next = refl
+
+head_stage : (home : Option ℕ) (boot next : ℕ) → stage_behind (head_by home boot next) Blank ≡ Snapshot
+head_stage None boot next = refl
+head_stage (Some h) boot next = refl
+
+head_fits : (set : Setting) (home : Option ℕ) (boot next : ℕ) → ((h : ℕ) → home ≡ Some h → h ≡ set.node) → Fits set Blank blank (head_by home boot next)
+head_fits set None boot next own = refl
+head_fits set (Some h) boot next own = (own h refl, refl)
+
 pub snapshot_gives : (d : Durable) → replayed blank (snapshot_of d) ≡ d
 snapshot_gives d =
-    replays d.boot d.next (entries d.keys) empty
-    ∙ ap (at d.boot d.next) (same_entries_map _ _ (added_entries (entries d.keys) empty (subst Rises (sym (nothing_before d)) (entries_sorted d.keys)) ∙ nothing_before d))
+    ap (λ b. replayed b (map state_record (entries d.keys))) (head_gives d.home d.boot d.next)
+    ∙ replays d.boot d.next d.home (entries d.keys) empty
+    ∙ ap (at d.boot d.next d.home) (same_entries_map _ _ (added_entries (entries d.keys) empty (subst Rises (sym (nothing_before d)) (entries_sorted d.keys)) ∙ nothing_before d))
 
 pub snapshot_fits : (set : Setting) (stage : Stage) (d : Durable) → IsSound set stage d → AllFit set Blank blank (snapshot_of d)
 snapshot_fits set stage d s = (
-  refl,
-  fit d.boot d.next set (entries d.keys) empty (subst Rises (sym (nothing_before d)) (entries_sorted d.keys))
-      (subst (λ l. length l ≤ KEY_LIMIT) (sym (nothing_before d)) (subst (λ n. n ≤ KEY_LIMIT) (len-entries d.keys) s.few))
-      (λ e i. s.made e.0 e.1 (known d.keys e i)),
+  head_fits set d.home d.boot d.next s.own,
+  subst (λ b. AllFit set (stage_behind (head_by d.home d.boot d.next) Blank) b (map state_record (entries d.keys))) (sym (head_gives d.home d.boot d.next))
+      (subst (λ g. AllFit set g (at d.boot d.next d.home empty) (map state_record (entries d.keys))) (sym (head_stage d.home d.boot d.next))
+      (fit d.boot d.next d.home set (entries d.keys) empty (subst Rises (sym (nothing_before d)) (entries_sorted d.keys))
+      (subst (λ l. length l ≤ bound set) (sym (nothing_before d)) (subst (λ n. n ≤ bound set) (len-entries d.keys) s.few))
+      (λ e i. s.made e.0 e.1 (entry_kept d.keys e i)))),
 )
 
 pub snapshot_stage : (d : Durable) → staged Blank (snapshot_of d) ≡ Snapshot
-snapshot_stage d = stays (entries d.keys)
+snapshot_stage d = ap (λ g. staged g (map state_record (entries d.keys))) (head_stage d.home d.boot d.next) ∙ stays (entries d.keys)
 
 -- a record of one key more
 pub recorded_more : (states : List KeyState) (ps qs : List Place) (i : ℕ) (d : Place) (st : KeyState) (before outs new : List Record) → qs ≡ ps → i < length qs → st ≡ state_at states (get_or qs i d).1

@@ -4,7 +4,8 @@ use Rattle.std.specs.Ordering.{is_eq}
 use Rattle.std.specs.declared.cmp.Ordering.{Ordering}
 use Rattle.std.specs.declared.cmp.Ordering.TheVariants.{Less, Equal, Greater}
 use Rattle.std.specs.Cmp.{eq_by_cmp_equiv}
-use Rattle.std.specs.FinMap.{insert, entries, find, put, entries_sorted, get-entries, get-insert, entries-insert}
+use Rattle.std.specs.FinMap.{insert, remove, entries, find, put, entries_sorted, get-entries, entries-insert}
+use Rattle.std.proofs.lemmas.Bool.{cond_both}
 use Rattle.std.specs.FinMap.Entries.{below_all, by_order}
 use Rattle.sv_model.specs.declared.key.Key.{Key}
 use Rattle.sv_model.specs.declared.session.Session.{Session}
@@ -12,14 +13,16 @@ use Rattle.sv_model.specs.declared.state.KeyState.{KeyState}
 use Rattle.sv_model.specs.declared.state.KeyState.TheVariants.{Active, Sent, Gone, Ended}
 use Rattle.sv_model.specs.Keys.{key_cmp, same_key}
 use Rattle.sv_model.specs.Decision.{Decision}
-use Rattle.sv_model.specs.Serving.{ended_at}
+use Rattle.sv_model.specs.Serving.{over_at, ended_at}
 use Rattle.sv_model.proofs.KeyLemmas.{keys_total}
 use Rattle.sv_core.specs.Order.{Entry}
-use Rattle.sv_core.specs.Places.{Place, Rises, state_at, seen, is_handed_over, sent_among}
+use Rattle.sv_core.specs.Places.{Place, Rises, state_at, seen, erase, is_handed_over, sent_among}
+use Rattle.sv_core.specs.Table.{durable_by}
+use Rattle.sv_core.proofs.TableLemmas.{entries_without}
 use Rattle.sv_core.specs.Plain.{expiring, ticked}
 use Rattle.sv_core.specs.Decision.{decision_of}
 use Rattle.sv_core.proofs.PlaceLemmas.{seen_more}
-use Rattle.sv_core.proofs.OrderLemmas.{first, second, less, reversed, find_low, one_key}
+use Rattle.sv_core.proofs.OrderLemmas.{first, second, less, reversed, find_low}
 use Rattle.std.proofs.Common.{◌≡◌, ℕ, ◌+◌, ◌<◌, Bool, true, false, cond, Option, Some, None, List, [], ◌∷◌, ◌++◌, length, get_or, take, refl, sym, ap, ◌∙◌, subst}
 use Rattle.std.specs.Prelude.{not, T}
 use Rattle.std.specs.List.{filter, filter_map, flat_map}
@@ -30,9 +33,9 @@ use Rattle.std.proofs.lemmas.List.Elements.{filter-append, filter_map-append}
 use Rattle.sv_model.specs.declared.node.Setting.{Setting}
 use Rattle.sv_model.specs.declared.node.Parked.{Parked}
 use Rattle.sv_model.specs.declared.output.Output.{Output}
-use Rattle.sv_model.specs.NodeState.{Keys, Durable, Node, is_settled}
+use Rattle.sv_model.specs.NodeState.{Keys, Durable, Node, is_own}
 use Rattle.sv_model.specs.Waiting.{wants}
-use Rattle.sv_model.specs.Time.{is_late, is_over, first_over, expire, deadlines, wants_again, grant_again, on_tick}
+use Rattle.sv_model.specs.Time.{is_late, is_quiet, is_over, first_over, expire, deadlines, wants_again, grant_again, on_tick}
 use Rattle.std.specs.FinMap.{get}
 use Rattle.sv_core.specs.Time.{wants_of}
 
@@ -40,8 +43,8 @@ use Rattle.sv_core.specs.Time.{wants_of}
 pub wants_of_more : (set : Setting) (d : Durable) (now : ℕ) (ps : List Parked) (p : Parked) → wants_of set d now (ps ++ p ∷ []) ≡ wants_of set d now ps ++ wants_of set d now (p ∷ [])
 wants_of_more set d now ps p =
     ap (λ l. wants_again set d l) (filter-append (λ q. not (is_late set now q)) ps (p ∷ []))
-    ∙ ap (flat_map (λ q. wants set d q.key q.want)) (filter-append (λ q. not (is_settled (get d.keys q.key))) (filter (λ q. not (is_late set now q)) ps) (filter (λ q. not (is_late set now q)) (p ∷ [])))
-    ∙ flat_map-append (λ q. wants set d q.key q.want) (filter (λ q. not (is_settled (get d.keys q.key))) (filter (λ q. not (is_late set now q)) ps)) (filter (λ q. not (is_settled (get d.keys q.key))) (filter (λ q. not (is_late set now q)) (p ∷ [])))
+    ∙ ap (flat_map (λ q. wants set d q.key q.want)) (filter-append (λ q. not (is_quiet set d q)) (filter (λ q. not (is_late set now q)) ps) (filter (λ q. not (is_late set now q)) (p ∷ [])))
+    ∙ flat_map-append (λ q. wants set d q.key q.want) (filter (λ q. not (is_quiet set d q)) (filter (λ q. not (is_late set now q)) ps)) (filter (λ q. not (is_quiet set d q)) (filter (λ q. not (is_late set now q)) (p ∷ [])))
 
 -- ---- the session that expires
 
@@ -69,16 +72,7 @@ pub found_over : (now : ℕ) (es : List Entry) (k : Key) (st : KeyState) → Ris
 found_over now [] k st rises found = absurd (let no : None ≡ Some (k, st) = found in cc)
 found_over now (e ∷ es) k st rises found = found_by now e es k st (is_over now e.1) (first _ _ rises) (found_over now es k st (second _ _ rises)) found
 
--- ---- what is put out is the same before and after it
-
-settled_by : (b : Bool) (e : ℕ) (s : Session) (old : Option KeyState) → (b ≡ true → old ≡ Some (Active e s)) → is_settled (cond b (Some (Ended e)) old) ≡ is_settled old
-settled_by true e s old is = sym (ap is_settled (is refl))
-settled_by false e s old is = refl
-
-settled_still : (keys : Keys) (k : Key) (e : ℕ) (s : Session) (q : Key) → get keys k ≡ Some (Active e s) → is_settled (get (insert keys k (Ended e)) q) ≡ is_settled (get keys q)
-settled_still keys k e s q is =
-    ap is_settled (get-insert keys_total keys k (Ended e) q)
-    ∙ settled_by (same_key q k) e s (get keys q) (λ t. ap (get keys) (one_key q k t) ∙ is)
+-- ---- what is handed over again is the same before and after it
 
 granted_by : (set : Setting) (k : Key) (n : ℕ) (s : Session) (e : Entry) (es : List Entry) (o : Ordering) → key_cmp k e.0 ≡ o → T (below_all key_cmp e.0 es)
     → (find key_cmp k es ≡ Some (Active n s) → filter_map (grant_again set) (put key_cmp k (Ended n) es) ≡ filter_map (grant_again set) es)
@@ -101,11 +95,33 @@ granted_still : (set : Setting) (k : Key) (n : ℕ) (s : Session) (es : List Ent
 granted_still set k n s [] rises found = absurd (let no : None ≡ Some (Active n s) = found in cc)
 granted_still set k n s (e ∷ es) rises found = granted_by set k n s e es (key_cmp k e.0) refl (first _ _ rises) (granted_still set k n s es (second _ _ rises)) found
 
+-- the key is forgotten
+erased_by : (set : Setting) (k : Key) (n : ℕ) (s : Session) (e : Entry) (es : List Entry) (b : Bool) → cond b (Some e.1) (find key_cmp k es) ≡ Some (Active n s)
+    → (find key_cmp k es ≡ Some (Active n s) → filter_map (grant_again set) (erase k es) ≡ filter_map (grant_again set) es)
+    → filter_map (grant_again set) (cond b es (e ∷ erase k es)) ≡ filter_map (grant_again set) (e ∷ es)
+erased_by set k n s e es true found rest =
+    let there : e.1 ≡ Active n s = ap (λ (o : Option KeyState). unwrap_or o e.1) found in
+    ap (λ (st : KeyState). filter_map (grant_again set) ((e.0, st) ∷ es)) (sym there)
+erased_by set k n s e es false found rest =
+    filter_map-append (grant_again set) (e ∷ []) (erase k es)
+    ∙ ap (λ l. filter_map (grant_again set) (e ∷ []) ++ l) (rest found)
+    ∙ sym (filter_map-append (grant_again set) (e ∷ []) es)
+
+granted_erased : (set : Setting) (k : Key) (n : ℕ) (s : Session) (es : List Entry) → find key_cmp k es ≡ Some (Active n s) → filter_map (grant_again set) (erase k es) ≡ filter_map (grant_again set) es
+granted_erased set k n s [] found = absurd (let no : None ≡ Some (Active n s) = found in cc)
+granted_erased set k n s (e ∷ es) found = erased_by set k n s e es (same_key k e.0) found (granted_erased set k n s es)
+
+granted_over : (set : Setting) (home : Option ℕ) (keys : Keys) (k : Key) (n : ℕ) (s : Session) → find key_cmp k (entries keys) ≡ Some (Active n s)
+    → filter_map (grant_again set) (entries (over_at home k n keys)) ≡ filter_map (grant_again set) (entries keys)
+granted_over set home keys k n s found = cond_both (is_own home k) (remove keys k) (insert keys k (Ended n)) (λ m. filter_map (grant_again set) (entries m) ≡ filter_map (grant_again set) (entries keys))
+    (λ _. ap (filter_map (grant_again set)) (entries_without keys k) ∙ granted_erased set k n s (entries keys) found)
+    (λ _. ap (filter_map (grant_again set)) (entries-insert keys_total keys k (Ended n)) ∙ granted_still set k n s (entries keys) (entries_sorted keys) found)
+
 -- ---- the tick
 
-module _ (set : Setting) (keys : Keys) (boot next : ℕ) (parked : List Parked) (want now : ℕ) where
+module _ (set : Setting) (keys : Keys) (boot next : ℕ) (home : Option ℕ) (parked : List Parked) (want now : ℕ) where
   abbrev pub there : Node
-  there = record { durable = record { keys = keys; boot = boot; next = next }; parked = parked; next_want = want }
+  there = record { durable = durable_by keys boot next home; parked = parked; next_want = want }
 
   abbrev pub put_out : List Output
   put_out = deadlines set now parked ++ wants_of set there.durable now parked ++ filter_map (grant_again set) (entries keys)
@@ -114,23 +130,21 @@ module _ (set : Setting) (keys : Keys) (boot next : ℕ) (parked : List Parked) 
   tick_by f =
       let waiting = filter (λ p. not (is_late set now p)) parked in
       record (expire there now f []) {
-        outputs = deadlines set now parked ++ wants_again set (expire there now f []).durable waiting ++ filter_map (grant_again set) (entries (expire there now f []).durable.keys);
+        outputs = deadlines set now parked ++ wants_again set there.durable waiting ++ filter_map (grant_again set) (entries (expire there now f []).durable.keys);
         parked = waiting;
       }
 
   found : (k : Key) (st : KeyState) → first_over now (entries keys) ≡ Some (k, st) → find key_cmp k (entries keys) ≡ Some st
   found k st is = found_over now (entries keys) k st (entries_sorted keys) is
 
-  known : (k : Key) (st : KeyState) → first_over now (entries keys) ≡ Some (k, st) → get keys k ≡ Some st
-  known k st is = get-entries keys k ∙ found k st is
+  kept : (k : Key) (st : KeyState) → first_over now (entries keys) ≡ Some (k, st) → get keys k ≡ Some st
+  kept k st is = get-entries keys k ∙ found k st is
 
   tick_ended : (k : Key) (e : ℕ) (s : Session) → first_over now (entries keys) ≡ Some (k, Active e s)
       → decision_of set there (ticked now (Some (k, s.context)) put_out) ≡ tick_by (Some (k, Active e s))
   tick_ended k e s is = λ i. record (tick_by (Some (k, Active e s))) {
-    durable = record { keys = ended_at k (known k (Active e s) is i) keys; boot = boot; next = next };
-    outputs = deadlines set now parked
-        ++ flat_map (λ p. wants set there.durable p.key p.want) (filter (λ p. not (sym (settled_still keys k e s p.key (known k (Active e s) is)) i)) (filter (λ p. not (is_late set now p)) parked))
-        ++ sym (ap (filter_map (grant_again set)) (entries-insert keys_total keys k (Ended e)) ∙ granted_still set k e s (entries keys) (entries_sorted keys) (found k (Active e s) is)) i;
+    durable = durable_by (ended_at home k (kept k (Active e s) is i) keys) boot next home;
+    outputs = deadlines set now parked ++ wants_of set there.durable now parked ++ sym (granted_over set home keys k e s (found k (Active e s) is)) i;
   }
 
   by_found : (f : Option Entry) → first_over now (entries keys) ≡ f → decision_of set there (ticked now (expiring f) put_out) ≡ tick_by f

@@ -542,3 +542,17 @@ pub passing_fits : (test : Parked → Bool) (ps left : List Parked) (keys : List
 passing_fits test ps left keys same is =
     let fewer = length_passing test ps in
     subst (λ l. length l ≤ length keys) (sym is) (omega (arith, fewer, ap length same, length-map ps (λ (p : Parked). p.key)))
+
+-- ---- a walk over those that wait, anew
+
+pub where_more : (test : Parked → Bool) (ps : List Parked) (i : ℕ) (p : Parked) (ws : List ℕ) → i < length ps → p ≡ get_or ps i p → ws ≡ wants_where test (take i ps)
+    → ws ++ cond (test p) (p.want ∷ []) [] ≡ wants_where test (take (i + 1) ps)
+where_more test ps i p ws is read are =
+    where_push test (take i ps) p ws are ∙ ap (λ (q : Parked). wants_where test (take i ps ++ q ∷ [])) read ∙ sym (ap (wants_where test) (take_next ps i p is))
+    ∙ ap (λ n. wants_where test (take n ps)) {x = suc i} (omega arith)
+
+pub where_all : (test : Parked → Bool) (ps : List Parked) (i : ℕ) → length ps ≤ i → wants_where test (take i ps) ≡ wants_where test ps
+where_all test [] zero is = refl
+where_all test [] (suc i) is = refl
+where_all test (p ∷ ps) zero is = absurd (omega (arith, is))
+where_all test (p ∷ ps) (suc i) is = ap (λ l. cond (test p) (p.want ∷ l) l) (where_all test ps i (omega (arith, is)))

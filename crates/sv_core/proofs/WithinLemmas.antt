@@ -1,8 +1,8 @@
 -- The numbers behind a decision are numbers still.
 use Rattle.std.proofs.Common.{◌≡◌, ℕ, ◌+◌, ◌≤◌, Bool, true, false, cond, Option, Some, None, List, [], arith, refl}
-use Rattle.std.specs.Prelude.{◌==◌, ◌||◌, ◌&&◌, is_none, nat_le, length}
+use Rattle.std.specs.Prelude.{◌==◌, ◌||◌, nat_le, length}
 use Rattle.std.proofs.lemmas.Bool.{eqb-false, cond_both}
-use Rattle.std.specs.FinMap.{get, len, entries}
+use Rattle.std.specs.FinMap.{entries}
 use Rattle.sv_model.specs.declared.key.Key.{Key}
 use Rattle.sv_model.specs.declared.key.Secret.{Secret}
 use Rattle.sv_model.specs.declared.key.Moment.{Moment}
@@ -12,7 +12,7 @@ use Rattle.sv_model.specs.declared.request.Request.{Request}
 use Rattle.sv_model.specs.declared.session.Session.{Session}
 use Rattle.sv_model.specs.declared.state.KeyState.{KeyState}
 use Rattle.sv_model.specs.declared.state.KeyState.TheVariants.{Active, Sent, Gone, Ended}
-use Rattle.sv_model.specs.declared.state.TheConstants.{PARK_LIMIT, KEY_LIMIT}
+use Rattle.sv_model.specs.declared.state.TheConstants.{PARK_LIMIT}
 use Rattle.sv_model.specs.declared.outcome.Outcome.{Outcome}
 use Rattle.sv_model.specs.declared.outcome.Birth.{Birth}
 use Rattle.sv_model.specs.declared.outcome.Birth.TheVariants.{Absent, Alive, Ended as BirthEnded}
@@ -21,9 +21,9 @@ use Rattle.sv_model.specs.declared.packet.Packet.TheVariants.{Want, Grant, Ack, 
 use Rattle.sv_model.specs.declared.input.Input.{Input}
 use Rattle.sv_model.specs.declared.input.Input.TheVariants.{Ask, Packet as Incoming, Poke, Tick, Move}
 use Rattle.sv_model.specs.declared.output.Cause.{Cause}
-use Rattle.sv_model.specs.declared.output.Cause.TheVariants.{SerialsSpent, ParkFull, WantsSpent}
+use Rattle.sv_model.specs.declared.output.Cause.TheVariants.{SerialsSpent, TableFull, ParkFull, WantsSpent}
 use Rattle.sv_model.specs.Engine.{EngineMeaning}
-use Rattle.sv_model.specs.NodeState.{Node, last_number, is_settled, is_dead, is_unmade, epoch_in}
+use Rattle.sv_model.specs.NodeState.{Node, last_number, known, is_settled, is_dead, is_unmade, epoch_in, lacks_room, is_crowded}
 use Rattle.sv_model.specs.Decision.{Decision, idle, with_record}
 use Rattle.sv_model.specs.Serving.{no_birth, next_with, answer_of, answered_unless, refused, served}
 use Rattle.sv_model.specs.Waiting.{on_ask, waits, parks, first_of, without, serve_first, serve_parked}
@@ -45,27 +45,28 @@ module _ (set : Setting) (n : Node) (want : n.next_want ≤ last_number) (next :
   spare true cause other is none = absurd (let no : Some SerialsSpent ≡ None = none in cc)
   spare false cause other is none = let apart : n.durable.next ≡ last_number → ⊥ = eqb-false n.durable.next last_number is in omega (arith, next, apart)
 
-  born : (birth : Birth) → no_birth n.durable birth ≡ None → next_with birth n.durable.next ≤ last_number
+  born : (birth : Birth) → no_birth set n.durable birth ≡ None → next_with birth n.durable.next ≤ last_number
   born Absent none = next
   born (Alive s) none = spare (n.durable.next == last_number) None _ refl none
   born BirthEnded none = spare (n.durable.next == last_number) None _ refl none
 
   module _ (m : EngineMeaning) (moment : Moment) where
-    unless : (cause : Option Cause) (token : ℕ) (r : Request) (out : Outcome) (waiting : List Parked) → no_birth n.durable out.birth ≡ cause → IsWithin (answered_unless cause m set n moment token r out waiting)
+    unless : (cause : Option Cause) (token : ℕ) (r : Request) (out : Outcome) (waiting : List Parked) → no_birth set n.durable out.birth ≡ cause → IsWithin (answered_unless cause m set n moment token r out waiting)
     unless None token r out waiting is = record { want = want; next = born out.birth is }
     unless (Some cause) token r out waiting is = same _ refl refl
 
     serves : (token : ℕ) (r : Request) (waiting : List Parked) → IsWithin (served m set n moment token r waiting)
-    serves token r waiting = unless (no_birth n.durable (answer_of m set n.durable moment r).birth) token r (answer_of m set n.durable moment r) waiting refl
+    serves token r waiting = unless (no_birth set n.durable (answer_of m set n.durable moment r).birth) token r (answer_of m set n.durable moment r) waiting refl
 
     waiting : (token : ℕ) (r : Request) (k : Key) → IsWithin (waits set n moment token r k)
-    waiting token r k = either (nat_le PARK_LIMIT (length n.parked)) _ _ (λ _. same (refused n token ParkFull n.parked) refl refl)
+    waiting token r k = either (is_crowded set n.durable k) (refused n token TableFull n.parked) _ (λ _. same (refused n token TableFull n.parked) refl refl)
+        (λ _. either (nat_le PARK_LIMIT (length n.parked)) (refused n token ParkFull n.parked) _ (λ _. same (refused n token ParkFull n.parked) refl refl)
         (λ _. either (n.next_want == last_number) (refused n token WantsSpent n.parked) (parks set n moment token r k) (λ _. same (refused n token WantsSpent n.parked) refl refl)
-        (λ is. let apart : n.next_want ≡ last_number → ⊥ = eqb-false n.next_want last_number is in record { want = omega (arith, want, apart); next = next }))
+        (λ is. let apart : n.next_want ≡ last_number → ⊥ = eqb-false n.next_want last_number is in record { want = omega (arith, want, apart); next = next })))
 
     asks : (token : ℕ) (r : Request) (named : Option (Key × Secret)) → IsWithin (on_ask m set n moment token r named)
     asks token r None = serves token r n.parked
-    asks token r (Some named) = either (is_settled (get n.durable.keys named.0) || is_dead set n.durable named.0) _ _ (λ _. serves token r n.parked) (λ _. waiting token r named.0)
+    asks token r (Some named) = either (is_settled (known n.durable named.0) || is_dead set n.durable named.0) _ _ (λ _. serves token r n.parked) (λ _. waiting token r named.0)
 
     first : (found : Option Parked) (others : List Parked) → IsWithin (serve_first m set n moment found others)
     first None others = same _ refl refl
@@ -87,7 +88,7 @@ module _ (set : Setting) (n : Node) (want : n.next_want ≤ last_number) (next :
     granted : (from : ℕ) (k : Key) (e : ℕ) (s : Session) (st : Option KeyState) → IsWithin (on_grant set n from k e s st)
     granted from k e s st = either (is_unmade set n.durable k) _ _ (λ _. same (idle n []) refl refl)
         (λ _. either (nat_le e (epoch_in st)) _ _ (λ _. same (idle n _) refl refl)
-        (λ _. either (is_none st && nat_le KEY_LIMIT (len n.durable.keys)) (idle n []) (takes_over set n from k e s) (λ _. same (idle n []) refl refl) (λ _. same (takes_over set n from k e s) refl refl)))
+        (λ _. either (lacks_room set n.durable k) (idle n []) (takes_over set n from k e s) (λ _. same (idle n []) refl refl) (λ _. same (takes_over set n from k e s) refl refl)))
 
     acked : (k : Key) (e : ℕ) (st : Option KeyState) → IsWithin (on_ack n k e st)
     acked k e None = same _ refl refl
@@ -97,9 +98,9 @@ module _ (set : Setting) (n : Node) (want : n.next_want ≤ last_number) (next :
     acked k e (Some (Ended f)) = same _ refl refl
 
     ours : (p : Packet) → IsWithin (on_ours m set n moment p)
-    ours (Want from to k boot number) = wanted from k boot number (get n.durable.keys k)
-    ours (Grant from to k e s) = granted from k e s (get n.durable.keys k)
-    ours (Ack from to k e) = acked k e (get n.durable.keys k)
+    ours (Want from to k boot number) = wanted from k boot number (known n.durable k)
+    ours (Grant from to k e s) = granted from k e s (known n.durable k)
+    ours (Ack from to k e) = acked k e (known n.durable k)
     ours (No from to k boot number) = either (boot == n.durable.boot) _ _ (λ _. parked (is_wanted k number)) (λ _. same (idle n []) refl refl)
 
     ended : (now : ℕ) (f : Option Entry) → ((expire n now f []).next_want ≡ n.next_want) × ((expire n now f []).durable.next ≡ n.durable.next)
@@ -120,6 +121,6 @@ module _ (set : Setting) (n : Node) (want : n.next_want ≤ last_number) (next :
     pub within : (input : Input) → IsWithin (decided m set n moment input)
     within (Ask token r) = asks token r (m.names r)
     within (Incoming p) = either (is_ours set p) _ _ (λ _. ours p) (λ _. same (idle n []) refl refl)
-    within Poke = parked (λ p. is_settled (get n.durable.keys p.key))
+    within Poke = parked (λ p. is_settled (known n.durable p.key))
     within Tick = let e = ended moment.now (first_over moment.now (entries n.durable.keys)) in same (on_tick set n moment.now) e.0 e.1
-    within (Move k to) = moves k to (get n.durable.keys k)
+    within (Move k to) = moves k to (known n.durable k)

@@ -1,17 +1,16 @@
 -- A core, seen as a node with its engine's meaning and listeners.
-use Rattle.std.specs.Prelude.{◌≡◌, ◌≤◌, ◌⊎◌, ◌+◌, ℕ, Some, List, []}
+use Rattle.std.specs.Prelude.{◌≡◌, ◌≤◌, ◌⊎◌, ℕ, Some, List, []}
 use Rattle.sv_model.specs.declared.key.Moment.{Moment}
 use Rattle.sv_model.specs.declared.input.Input.{Input}
 use Rattle.sv_model.specs.declared.node.Setting.{Setting}
 use Rattle.sv_model.specs.declared.node.Stage.{Stage}
 use Rattle.sv_model.specs.declared.node.Stage.TheVariants.{Blank}
 use Rattle.sv_model.specs.declared.record.Record.{Record}
-use Rattle.sv_model.specs.declared.record.Record.TheVariants.{Boot}
 use Rattle.sv_model.specs.Engine.{EngineMeaning}
 use Rattle.sv_model.specs.NodeState.{Durable, Node, last_number}
 use Rattle.sv_model.specs.Decision as model
 use Rattle.sv_model.specs.Node.{decided}
-use Rattle.sv_model.specs.Replay.{blank, applied, replayed, AllFit}
+use Rattle.sv_model.specs.Replay.{blank, boot_record, applied, replayed, AllFit}
 use Rattle.sv_model.specs.Step.{View}
 use Rattle.sv_core.specs.declared.node.Core.{Core}
 use Rattle.sv_core.specs.declared.decision.Decision.{Decision}
@@ -46,8 +45,8 @@ abbrev pub decision_at : {E : Type 0} → Core E → Decision → model.Decision
 decision_at c d = decision_of (setting_of c) (node_at c) d
 
 -- a node starts once more
-abbrev pub starts : Node → model.Decision
-starts n = record (model.idle n []) { entry = Some (Boot (n.durable.boot + 1)); durable = applied (Boot (n.durable.boot + 1)) n.durable }
+abbrev pub starts : Setting → Node → model.Decision
+starts set n = record (model.idle n []) { entry = Some (boot_record set n.durable); durable = applied (boot_record set n.durable) n.durable }
 
 -- the numbers behind a decision are numbers still
 pub record IsWithin (d : model.Decision) : Type 0 where
@@ -56,7 +55,7 @@ pub record IsWithin (d : model.Decision) : Type 0 where
 
 -- what a node may do: what the table says at some moment and input, or a start
 abbrev pub IsRow : EngineMeaning → Setting → Node → model.Decision → Type 0
-IsRow m set n d = ((moment : Moment) × (input : Input) × (d ≡ decided m set n moment input)) ⊎ (d ≡ starts n)
+IsRow m set n d = ((moment : Moment) × (input : Input) × (d ≡ decided m set n moment input)) ⊎ (d ≡ starts set n)
 
 -- the decision was made for the core as it is, which has the room that it needs
 pub record WasDecided {E : Type 0} (meaning : E → EngineMeaning) (c : Core E) (d : Decision) : Type 0 where

@@ -3,7 +3,7 @@ use Rattle.std.specs.Prelude.{◌≢◌, ℕ, ⊤}
 use Rattle.sv_model.specs.declared.record.Change.{Change}
 use Rattle.sv_model.specs.declared.record.Change.TheVariants.{Absent as Unchanged, Alive as ChangeAlive, Ended as ChangeEnded}
 use Rattle.sv_model.specs.declared.record.Record.{Record}
-use Rattle.sv_model.specs.declared.record.Record.TheVariants.{Boot, Commit, Expired, Sent, Taken, Gone, State, Counters}
+use Rattle.sv_model.specs.declared.record.Record.TheVariants.{Boot, Commit, Expired, Sent, Taken, Gone, State, Counters, Forgets, Counted}
 use Rattle.sv_model.specs.NodeState.{last_number}
 
 abbrev pub LeavesSerial : Change → ℕ → Type 0
@@ -21,3 +21,5 @@ HasSerial (Taken k e from s) next = ⊤
 HasSerial (Gone k e) next = ⊤
 HasSerial (State k st) next = ⊤
 HasSerial (Counters boot n) next = ⊤
+HasSerial (Forgets home boot) next = ⊤
+HasSerial (Counted home boot n) next = ⊤

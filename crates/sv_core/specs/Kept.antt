@@ -1,11 +1,11 @@
 -- What a core keeps, seen as a node.
 use Rattle.std.specs.Prelude.{◌+◌, ◌<◌, ◌≤◌, length, vec_len, vec_capacity}
 use Rattle.sv_model.specs.NodeState.{Node}
-use Rattle.sv_core.specs.Table.{keys_of, HasRoom}
+use Rattle.sv_core.specs.Table.{keys_of, durable_by, HasRoom}
 use Rattle.sv_core.specs.declared.kept.Kept.{Kept}
 
 abbrev pub node_of : Kept → Node
-node_of k = record { durable = record { keys = keys_of k.keys; boot = k.boot; next = k.next }; parked = k.parked.items; next_want = k.next_want }
+node_of k = record { durable = durable_by (keys_of k.keys) k.boot k.next k.home; parked = k.parked.items; next_want = k.next_want }
 
 -- a record can be taken without taking memory: the requests for a key that it settles may be all that wait
 pub record TakesRecord (k : Kept) : Type 0 where

@@ -1,5 +1,5 @@
 -- Keys in their order, each with the place of what is known of it.
-use Rattle.std.specs.Prelude.{◌≡◌, ℕ, ◌<◌, ◌≤◌, ◌==◌, ◌&&◌, Bool, true, false, not, nat_lt, nat_le, cond, T, Some, None, List, [], ◌∷◌, length, slice_index_or, slice_set, remove}
+use Rattle.std.specs.Prelude.{◌≡◌, ◌⊎◌, ◌++◌, ℕ, ◌<◌, ◌≤◌, ◌==◌, ◌&&◌, Bool, true, false, not, nat_lt, nat_le, cond, T, Some, None, List, [], ◌∷◌, length, slice_index_or, slice_set, remove}
 use Rattle.std.specs.List as list
 use Rattle.std.specs.FinMap.{find, put, is_sorted}
 use Rattle.sv_model.specs.declared.key.Key.{Key}
@@ -36,6 +36,31 @@ are_apart (p ∷ ps) = is_free p.1 ps && are_apart ps
 abbrev pub AreApart : List Place → Type 0
 AreApart ps = T (are_apart ps)
 
+-- each of these places is below the number of states
+abbrev pub are_below : ℕ → List ℕ → Bool
+are_below n [] = true
+are_below n (at ∷ free) = nat_lt at n && are_below n free
+
+abbrev pub AreBelow : ℕ → List ℕ → Type 0
+AreBelow n free = T (are_below n free)
+
+-- the place isn't one of these
+abbrev pub is_other : ℕ → List ℕ → Bool
+is_other at [] = true
+is_other at (b ∷ free) = not (b == at) && is_other at free
+
+-- the place is that of a state, no key's, and not one of these
+abbrev pub is_spare : ℕ → List Place → ℕ → List ℕ → Bool
+is_spare n ps at free = nat_lt at n && (is_free at ps && is_other at free)
+
+-- these places are those of states, no key's, and none of them stands there twice
+abbrev pub are_spare : ℕ → List Place → List ℕ → Bool
+are_spare n ps [] = true
+are_spare n ps (at ∷ free) = is_spare n ps at free && are_spare n ps free
+
+abbrev pub AreSpare : ℕ → List Place → List ℕ → Type 0
+AreSpare n ps free = T (are_spare n ps free)
+
 -- each key is of a home up to this one
 abbrev pub are_low : ℕ → List Place → Bool
 are_low home [] = true
@@ -56,13 +81,17 @@ AreHigh home ps = T (are_high home ps)
 abbrev pub state_at : List KeyState → ℕ → KeyState
 state_at states at = slice_index_or states at (Gone 0)
 
+-- a state was put down at the last of the free places, or behind all others where there is none
+abbrev pub IsPutDown : List KeyState → List ℕ → List KeyState → List ℕ → ℕ → KeyState → Type 0
+IsPutDown old free new left at st = ((free ≡ left ++ at ∷ []) × (new ≡ slice_set old at st)) ⊎ ((free ≡ []) × (left ≡ []) × (at ≡ length old) × (new ≡ old ++ st ∷ []))
+
 -- the keys, each with what is known of it
 abbrev pub seen : List KeyState → List Place → List Entry
 seen states [] = []
 seen states (p ∷ ps) = (p.0, state_at states p.1) ∷ seen states ps
 
--- the places without that of a key
-abbrev pub erase : Key → List Place → List Place
+-- without a key
+abbrev pub erase : {V : Type 0} → Key → List (Key × V) → List (Key × V)
 erase k [] = []
 erase k (p ∷ ps) = cond (same_key k p.0) ps (p ∷ erase k ps)
 

@@ -1,5 +1,5 @@
 -- All that a node keeps durably, as records that give it again.
-use Rattle.std.specs.Prelude.{◌≡◌, List, [], ◌∷◌, map}
+use Rattle.std.specs.Prelude.{◌≡◌, ℕ, Option, Some, None, List, [], ◌∷◌, map}
 use Rattle.std.specs.FinMap.{entries}
 use Rattle.sv_model.specs.declared.key.Key.{Key}
 use Rattle.sv_model.specs.declared.state.KeyState.{KeyState}
@@ -7,7 +7,7 @@ use Rattle.sv_model.specs.declared.node.Setting.{Setting}
 use Rattle.sv_model.specs.declared.node.Stage.{Stage}
 use Rattle.sv_model.specs.declared.node.Stage.TheVariants.{Blank, Snapshot}
 use Rattle.sv_model.specs.declared.record.Record.{Record}
-use Rattle.sv_model.specs.declared.record.Record.TheVariants.{State, Counters}
+use Rattle.sv_model.specs.declared.record.Record.TheVariants.{State, Counters, Counted}
 use Rattle.sv_model.specs.NodeState.{Durable}
 use Rattle.sv_model.specs.Replay.{blank, replayed, stage_behind, AllFit}
 
@@ -20,9 +20,17 @@ staged stage (r ∷ rs) = staged (stage_behind r stage) rs
 abbrev pub state_record : Key × KeyState → Record
 state_record e = State e.0 e.1
 
+-- the counters, and whose keys are forgotten
+abbrev pub head_by : Option ℕ → ℕ → ℕ → Record
+head_by None boot next = Counters boot next
+head_by (Some home) boot next = Counted home boot next
+
+abbrev pub head_of : Durable → Record
+head_of d = head_by d.home d.boot d.next
+
 -- the counters, then what is known of each key in order
 abbrev pub snapshot_of : Durable → List Record
-snapshot_of d = Counters d.boot d.next ∷ map state_record (entries d.keys)
+snapshot_of d = head_of d ∷ map state_record (entries d.keys)
 
 -- its records may stand behind one another from the first on, give what is kept durably, and let records of any kind but a
 -- second head follow

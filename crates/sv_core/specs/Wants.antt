@@ -1,14 +1,13 @@
 -- The wants of the requests that wait: in which order they stand, and which of them can be answered here.
 use Rattle.std.specs.Prelude.{◌≡◌, ℕ, ◌+◌, ◌<◌, ◌&&◌, Bool, true, false, cond, nat_le, T, Option, Some, None, List, [], ◌∷◌, ◌++◌, map, length, position, slice_index_or}
-use Rattle.std.specs.FinMap.{get}
 use Rattle.sv_model.specs.declared.key.Key.{Key}
 use Rattle.sv_model.specs.declared.record.Change.{Change}
 use Rattle.sv_model.specs.declared.record.Change.TheVariants.{Absent as Unchanged, Alive as ChangeAlive, Ended as ChangeEnded}
 use Rattle.sv_model.specs.declared.record.Record.{Record}
-use Rattle.sv_model.specs.declared.record.Record.TheVariants.{Boot, Commit, Expired, Sent, Taken, Gone, State, Counters}
+use Rattle.sv_model.specs.declared.record.Record.TheVariants.{Boot, Commit, Expired, Sent, Taken, Gone, State, Counters, Forgets, Counted}
 use Rattle.sv_model.specs.declared.node.Parked.{Parked}
 use Rattle.sv_model.specs.Keys.{same_key}
-use Rattle.sv_model.specs.NodeState.{Keys, is_settled}
+use Rattle.sv_model.specs.NodeState.{Durable, known, is_settled}
 
 -- each number is above those before it
 abbrev pub rise_from : ℕ → List ℕ → Bool
@@ -36,14 +35,14 @@ wants_where test [] = []
 wants_where test (p ∷ ps) = cond (test p) (p.want ∷ wants_where test ps) (wants_where test ps)
 
 -- it can be served here at once
-abbrev pub is_here : Keys → Parked → Bool
-is_here keys = λ p. is_settled (get keys p.key)
+abbrev pub is_here : Durable → Parked → Bool
+is_here d = λ p. is_settled (known d p.key)
 
 -- a walk over those that wait gives the wants of those that can be served
-abbrev pub wants_here : Keys → List Parked → List ℕ
-wants_here keys parked = wants_where (is_here keys) parked
+abbrev pub wants_here : Durable → List Parked → List ℕ
+wants_here d parked = wants_where (is_here d) parked
 
--- the key whose requests can be served behind a record, or can't
+-- the key whose requests can be served behind a record, or can't, at a node that forgets none
 abbrev pub settles_born : Change → Option (Key × Bool)
 settles_born Unchanged = None
 settles_born (ChangeAlive k s) = Some (k, true)
@@ -58,6 +57,8 @@ settles (Taken k e from s) = Some (k, true)
 settles (Gone k e) = Some (k, false)
 settles (State k st) = Some (k, is_settled (Some st))
 settles (Counters boot next) = None
+settles (Forgets home boot) = None
+settles (Counted home boot next) = None
 
 -- those that pass, where requests for a key do from now on, or don't
 abbrev pub with_key : Key → Bool → (Parked → Bool) → Parked → Bool

@@ -3,9 +3,9 @@
 ghost use Rattle.std.specs.Prelude.{◌≡◌, ◌++◌, OnOk, [], length};
 ghost use Rattle.std.specs.FinMap.{find, put};
 ghost use Rattle.sv_model.specs.Keys.{key_cmp};
-ghost use Rattle.sv_core.specs.Places.{Rises, AreLow, AreHigh};
+ghost use Rattle.sv_core.specs.Places.{Rises, AreLow, AreHigh, erase};
 
-use crate::places::{add, place_of};
+use crate::places::{add, place_of, remove};
 use std::alloc::{AllocError, Global};
 use sv_model::Key;
 
@@ -89,6 +89,19 @@ impl Directory {
             add(&mut self.low, key, place);
         } else {
             add(&mut self.high, key, place);
+        }
+    }
+
+    /// The key is not there.
+    pub fn remove(&mut self, key: Key)
+        ensures places { places_in self.new ≡ erase key (places_in self.old) }
+        ensures one { HasSpaceFor 1 self.old → HasSpaceFor 1 self.new }
+        ensures two { HasSpaceFor 2 self.old → HasSpaceFor 2 self.new }
+    {
+        if key.home <= self.home {
+            remove(&mut self.low, key);
+        } else {
+            remove(&mut self.high, key);
         }
     }
 }

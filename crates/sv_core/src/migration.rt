@@ -10,9 +10,7 @@ ghost use Rattle.sv_model.specs.declared.packet.Packet.TheVariants.{Ack};
 use crate::decision::{Decision, one_output};
 use crate::fault::Memory;
 use crate::kept::Kept;
-use sv_model::{
-    Event, KEY_LIMIT, Key, KeyState, MoveRefusal, Output, Packet, Record, Session, Told,
-};
+use sv_model::{Event, Key, KeyState, MoveRefusal, Output, Packet, Record, Session, Told};
 
 impl Kept {
     ghost use Rattle.sv_core.specs.Kept.{node_of};
@@ -162,7 +160,7 @@ impl Kept {
         if epoch <= epoch_in(state) {
             return Decision::says(self.alloc, self.ack(from, key, epoch));
         }
-        if state.is_none() && self.keys.len() >= KEY_LIMIT {
+        if self.lacks_room(key) {
             return Ok(Decision::nothing(self.alloc));
         }
         self.take_over(from, key, epoch, session)

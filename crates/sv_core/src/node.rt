@@ -1,10 +1,9 @@
 //! A node among others: an engine, and what the node keeps.
 
 ghost use Rattle.std.specs.Prelude.{◌≡◌, ◌==◌, is_none, IfOk, IfSome, OnOk, OnErr, IfErr, option_copied};
-ghost use Rattle.std.specs.FinMap.{get};
 ghost use Rattle.std.specs.List.{AllByRecursion};
 ghost use Rattle.sv_model.specs.Engine.{heard_all};
-ghost use Rattle.sv_model.specs.NodeState.{last_number};
+ghost use Rattle.sv_model.specs.NodeState.{last_number, known};
 ghost use Rattle.sv_model.specs.Replay.{blank, applied, Fits, AllFit, stage_behind, stage_behind_if};
 ghost use Rattle.sv_model.specs.Journaled.{IsJournaled};
 ghost use Rattle.sv_model.specs.Ranges.{IsSetting, IsInput, IsRecord, IsRanged, IsRangedStep};
@@ -54,6 +53,8 @@ impl<E> Core<E> {
             keys: Table::new(alloc, setting.node),
             boot: 0,
             next: 1,
+            home: None,
+            over: KeyState::Ended { epoch: u64::MAX },
             stage: Stage::Blank,
             parked: Vec::new(alloc),
             next_want: 1,
@@ -122,11 +123,11 @@ impl<E> Core<E> {
         self.kept.boot
     }
 
-    /// What it knows of a key; none where it has never heard of it.
+    /// What it knows of a key; none where it has never heard of it. One that it has forgotten has ended, at the last epoch.
     pub fn state(&self, key: Key) -> Option<&KeyState>
-        ensures { option_copied result ≡ get (durable_at self.now).keys key }
+        ensures { option_copied result ≡ known (durable_at self.now) key }
     {
-        self.kept.keys.get(key)
+        self.kept.known(key)
     }
 
     /// How many keys it knows, by what it knows of them: a walk over all of them.
@@ -195,18 +196,18 @@ impl<E: Engine> Core<E> {
         row::decide(&mut self.engine, &self.kept, moment, input)
     }
 
-    /// What the node does when it starts, before anything of it is done: its boot number rises. There is none where that is
-    /// the last number.
+    /// What the node does when it starts, before anything of it is done: its boot number rises, and from then on it forgets where
+    /// its setting says so. There is none where that is the last number.
     pub fn decide_start(&mut self) -> Result<Option<Decision>, Memory>
         ensures engine { engine_of self.new ≡ engine_of self.old }
         ensures node { node_at self.new ≡ node_at self.old }
         ensures setting { setting_of self.new ≡ setting_of self.old }
         ensures stage { stage_of self.new ≡ stage_of self.old }
         ensures none { IfOk result (λ o. is_none o ≡ ((durable_at self.old).boot == last_number)) }
-        ensures decision { IfOk result (λ o. IfSome o (λ d. decision_at self.new d ≡ starts (node_at self.old))) }
+        ensures decision { IfOk result (λ o. IfSome o (λ d. decision_at self.new d ≡ starts (setting_of self.old) (node_at self.old))) }
         ensures decided { IfOk result (λ o. IfSome o (λ d. WasDecided E.meaning self.new d)) }
         ensures journaled { IfOk result (λ o. IfSome o (λ d. IsJournaled (setting_of self.old) (node_at self.old) (decision_at self.new d))) }
-        ensures ranged { IsRanged (node_at self.old) → IfOk result (λ o. IfSome o (λ d. IsRangedStep (decision_at self.new d))) }
+        ensures ranged { IsSetting (setting_of self.old) → IsRanged (node_at self.old) → IfOk result (λ o. IfSome o (λ d. IsRangedStep (decision_at self.new d))) }
     {
         self.kept.reserve()?;
         // the numbers behind the decision are numbers, since those before it are

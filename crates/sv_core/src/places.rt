@@ -94,7 +94,7 @@ pub fn add(places: &mut Vec<(Key, usize)>, key: Key, place: usize)
 }
 
 /// The key is not among them.
-fn remove(places: &mut Vec<(Key, usize)>, key: Key)
+pub fn remove(places: &mut Vec<(Key, usize)>, key: Key)
     requires { Rises places.old.items }
     ensures items { places.new.items ≡ erase key places.old.items }
     ensures len { vec_len places.new ≤ vec_len places.old }

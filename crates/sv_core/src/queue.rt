@@ -8,7 +8,6 @@ ghost use Rattle.sv_core.specs.declared.decision.Waiting.TheVariants.{Joins, Lea
 use crate::decision::{Arrival, Waiting};
 use crate::kept::Kept;
 use crate::time::is_late;
-use crate::waiting::is_settled;
 use crate::wants::{forget, forget_late, list_keys, push_if};
 use sv_model::Parked;
 
@@ -32,7 +31,8 @@ impl Kept {
             key,
             since,
         } = arrival;
-        push_if(&mut self.settled, want, is_settled(self.keys.get(key)));
+        let is_here = self.is_settled(key);
+        push_if(&mut self.settled, want, is_here);
         self.waited.push_reserved(key);
         self.parked.push_reserved(Parked {
             token,

@@ -12,7 +12,7 @@ ghost use Rattle.sv_core.specs.declared.fault.ApplyFault.TheVariants.{BadRecord}
 use crate::fault::ApplyFault;
 use crate::kept::Kept;
 use crate::migration::epoch_in;
-use sv_model::{Change, KEY_LIMIT, Key, KeyState, Record, Session, Stage};
+use sv_model::{Change, Key, KeyState, Record, Session, Stage};
 
 /// The session is active here.
 fn is_active(state: Option<&KeyState>) -> bool
@@ -58,14 +58,14 @@ impl Kept {
         }
     }
 
-    /// The key is that of the next session that is made here, and there is room for it.
+    /// The key is that of the next session that is made here, and there is space for it.
     fn is_next(&self, key: Key) -> bool
         ensures { result ≡ is_next self.now.setting (node_of self.now).durable key }
     {
         key.home == self.setting.node
             && key.serial == self.next
             && self.next != u64::MAX
-            && self.keys.len() < KEY_LIMIT
+            && self.has_space()
     }
 
     fn fits_born(&self, born: &Change) -> bool
@@ -83,7 +83,7 @@ impl Kept {
     {
         epoch_in(state) < epoch
             && !self.is_unmade(key)
-            && (state.is_some() || self.keys.len() < KEY_LIMIT)
+            && (self.keys.get(key).is_some() || self.has_space())
     }
 
     fn fits_state(&self, key: Key) -> bool
@@ -92,7 +92,7 @@ impl Kept {
         self.stage == Stage::Snapshot
             && self.keys.get(key).is_none()
             && !self.is_unmade(key)
-            && self.keys.len() < KEY_LIMIT
+            && self.has_space()
     }
 
     /// The record may stand behind those before it.
@@ -109,12 +109,16 @@ impl Kept {
                 session,
                 ..
             } => fits_sent(self.keys.get(*key), *epoch, session),
-            Record::Taken { key, epoch, .. } => {
-                self.fits_taken(*key, *epoch, self.keys.get(*key))
-            }
+            Record::Taken { key, epoch, .. } => { self.fits_taken(*key, *epoch, self.known(*key)) }
             Record::Gone { key, epoch } => fits_gone(self.keys.get(*key), *epoch),
             Record::State { key, .. } => self.fits_state(*key),
             Record::Counters { .. } => self.stage == Stage::Blank,
+            Record::Forgets { home, boot } => {
+                *home == self.setting.node && self.boot.checked_add(1) == Some(*boot)
+            }
+            Record::Counted { home, .. } => {
+                *home == self.setting.node && self.stage == Stage::Blank
+            }
         }
     }
 

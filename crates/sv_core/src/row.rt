@@ -1,14 +1,12 @@
 //! A step at each of a node's inputs, by the row of its table.
 
 ghost use Rattle.std.specs.Prelude.{◌≡◌, ◌<◌, Bool, List, Option, Some, None, IfOk, IfSome, OnOk, position, length, option_copied};
-ghost use Rattle.std.specs.FinMap.{get};
 ghost use Rattle.sv_model.specs.declared.node.Parked.{Parked};
-ghost use Rattle.sv_model.specs.NodeState.{is_settled};
+ghost use Rattle.sv_model.specs.NodeState.{known};
 ghost use Rattle.sv_model.specs.Waiting.{on_ask, on_named, serve_parked, on_poke};
 ghost use Rattle.sv_model.specs.Migration.{on_no, on_ours, on_packet, is_ours, sender, addressee};
 ghost use Rattle.sv_model.specs.Node.{decided};
 ghost use Rattle.sv_core.specs.Kept.{node_of, IsReady};
-ghost use Rattle.sv_core.specs.Table.{keys_of};
 ghost use Rattle.sv_core.specs.Decision.{decision_of};
 
 use crate::decision::Decision;
@@ -67,7 +65,7 @@ fn ask_named<E: Engine>(
     ensures valid { E.valid engine.new }
     ensures meaning { E.meaning engine.new ≡ E.meaning engine.old }
     ensures heard { E.heard engine.new ≡ E.heard engine.old }
-    ensures decision { IfOk result (λ d. decision_of kept.now.setting (node_of kept.now) d ≡ on_named (E.meaning engine.old) kept.now.setting (node_of kept.now) moment token request named.0 (get (keys_of kept.now.keys) named.0)) }
+    ensures decision { IfOk result (λ d. decision_of kept.now.setting (node_of kept.now) d ≡ on_named (E.meaning engine.old) kept.now.setting (node_of kept.now) moment token request named.0 (known (node_of kept.now).durable named.0)) }
 {
     let (key, _) = named;
     if kept.is_settled(key) || kept.is_dead(key) {
@@ -178,20 +176,20 @@ fn packet<E: Engine>(
             key,
             boot,
             want,
-        } => kept.on_want(from, key, boot, want, kept.keys.get(key)),
+        } => kept.on_want(from, key, boot, want, kept.known(key)),
         Packet::Grant {
             from,
             to: _,
             key,
             epoch,
             session,
-        } => kept.on_grant(from, key, epoch, session, kept.keys.get(key)),
+        } => kept.on_grant(from, key, epoch, session, kept.known(key)),
         Packet::Ack {
             from: _,
             to: _,
             key,
             epoch,
-        } => kept.on_ack(key, epoch, kept.keys.get(key)),
+        } => kept.on_ack(key, epoch, kept.known(key)),
         Packet::No {
             from: _,
             to: _,
@@ -220,6 +218,6 @@ pub fn decide<E: Engine>(
         Input::Packet(packed) => packet(engine, kept, moment, packed),
         Input::Poke => poke(engine, kept, moment),
         Input::Tick => kept.on_tick(moment.now),
-        Input::Move { key, to } => kept.on_move(key, to, kept.keys.get(key)),
+        Input::Move { key, to } => kept.on_move(key, to, kept.known(key)),
     }
 }

@@ -15,8 +15,8 @@ use crate::decision::{Decision, Waiting, one_output};
 use crate::fault::Memory;
 use crate::kept::Kept;
 use sv_model::{
-    Birth, Cause, Change, Commit, Engine, Fate, KEY_LIMIT, Key, KeyState, Moment, Outcome, Output,
-    Record, Request, Secret, Sequence, Session, Token,
+    Birth, Cause, Change, Commit, Engine, Fate, Key, KeyState, Moment, Outcome, Output, Record,
+    Request, Secret, Sequence, Session, Token,
 };
 
 /// A session was made.
@@ -118,7 +118,7 @@ impl Kept {
 
     /// Why a session can't be made here.
     fn no_birth(&self, birth: &Birth) -> Option<Cause>
-        ensures { result ≡ no_birth (node_of self.now).durable birth.now }
+        ensures { result ≡ no_birth self.now.setting (node_of self.now).durable birth.now }
     {
         if !is_birth(birth) {
             return None;
@@ -126,7 +126,7 @@ impl Kept {
         if self.next == u64::MAX {
             return Some(Cause::SerialsSpent);
         }
-        if self.keys.len() >= KEY_LIMIT {
+        if self.is_full() {
             return Some(Cause::TableFull);
         }
         None

@@ -3,7 +3,7 @@
 ghost use Rattle.std.specs.Prelude.{◌≡◌, ◌++◌, ◌∷◌, [], IfOk, OnOk, length, map};
 ghost use Rattle.sv_core.specs.Kept.{node_of};
 ghost use Rattle.sv_core.specs.Places.{AreWithin, seen};
-ghost use Rattle.sv_core.specs.Snapshot.{state_record, snapshot_of};
+ghost use Rattle.sv_core.specs.Snapshot.{state_record, head_of, snapshot_of};
 
 use crate::kept::Kept;
 use std::alloc::AllocError;
@@ -39,15 +39,29 @@ impl Kept {
         Ok(())
     }
 
+    /// The counters, by which it is plain whether the node forgets.
+    fn head(&self) -> Record
+        ensures { result ≡ head_of (node_of self.now).durable }
+    {
+        match self.home {
+            Some(home) => Record::Counted {
+                home,
+                boot: self.boot,
+                next: self.next,
+            },
+            None => Record::Counters {
+                boot: self.boot,
+                next: self.next,
+            },
+        }
+    }
+
     /// The counters, then what is known of each key.
     pub fn snapshot(&self) -> Result<Vec<Record>, AllocError>
         ensures { IfOk result (λ records. records.items ≡ snapshot_of (node_of self.now).durable) }
     {
         let mut records = Vec::new(self.alloc);
-        records.push(Record::Counters {
-            boot: self.boot,
-            next: self.next,
-        })?;
+        records.push(self.head())?;
         self.add_states(&mut records, self.keys.places().low())?;
         self.add_states(&mut records, self.keys.places().high())?;
         Ok(records)

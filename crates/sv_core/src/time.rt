@@ -54,7 +54,10 @@ impl Kept {
     ) -> Result<(), AllocError>
         ensures { OnOk result (outputs.new.items ≡ outputs.old.items ++ wants_of self.now.setting (node_of self.now).durable now (parked.now ∷ [])) }
     {
-        if is_late(self.setting, parked, now) || self.is_settled(parked.key) {
+        if is_late(self.setting, parked, now)
+            || self.is_settled(parked.key)
+            || self.is_crowded(parked.key)
+        {
             return Ok(());
         }
         self.add_wants(outputs, parked.key, parked.want)

@@ -1,8 +1,7 @@
 //! Requests that wait for their sessions.
 
 ghost use Rattle.std.specs.Prelude.{◌≡◌, ◌++◌, IfOk, OnOk, option_copied, position};
-ghost use Rattle.std.specs.FinMap.{get};
-ghost use Rattle.sv_model.specs.NodeState.{is_settled};
+ghost use Rattle.sv_model.specs.NodeState.{known, is_settled};
 ghost use Rattle.sv_model.specs.Waiting.{wants, waits, parks};
 ghost use Rattle.sv_model.specs.Migration.{is_wanted};
 ghost use Rattle.sv_model.specs.declared.output.Output.TheVariants.{Send};
@@ -28,14 +27,13 @@ pub fn is_settled(state: Option<&KeyState>) -> bool
 
 impl Kept {
     ghost use Rattle.sv_core.specs.Kept.{node_of};
-    ghost use Rattle.sv_core.specs.Table.{keys_of};
     ghost use Rattle.sv_core.specs.Decision.{decision_of};
 
     /// A request for the key can be served here at once.
     pub fn is_settled(&self, key: Key) -> bool
-        ensures { result ≡ is_settled (get (keys_of self.now.keys) key) }
+        ensures { result ≡ is_settled (known (node_of self.now).durable key) }
     {
-        is_settled(self.keys.get(key))
+        is_settled(self.known(key))
     }
 
     fn want_to(&self, to: u8, key: Key, want: u64) -> Output
@@ -106,6 +104,9 @@ impl Kept {
     ) -> Result<Decision, Memory>
         ensures { IfOk result (λ d. decision_of self.now.setting (node_of self.now) d ≡ waits self.now.setting (node_of self.now) moment token request key) }
     {
+        if self.is_crowded(key) {
+            return self.refuse(token, Cause::TableFull, None);
+        }
         if self.parked.len() >= PARK_LIMIT {
             return self.refuse(token, Cause::ParkFull, None);
         }
@@ -117,7 +118,7 @@ impl Kept {
 
     /// The first request that waits and whose session is active or has ended here.
     pub fn settled_place(&self) -> Option<usize>
-        ensures { result ≡ position (λ p. is_settled (get (keys_of self.now.keys) p.key)) self.now.parked.items }
+        ensures { result ≡ position (λ p. is_settled (known (node_of self.now).durable p.key)) self.now.parked.items }
     {
         let want = *self.settled.first()?;
         search(&self.parked, want).ok()

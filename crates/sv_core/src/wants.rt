@@ -3,12 +3,14 @@
 ghost use Rattle.std.specs.List.{list_any};
 ghost use Rattle.std.specs.Prelude.{◌≡◌, ◌<◌, ◌≤◌, ◌+◌, ◌++◌, ◌∷◌, [], ℕ, Bool, List, cond, false, IfOk, IfErr, length, vec_len, vec_capacity};
 ghost use Rattle.sv_model.specs.declared.node.Parked.{Parked};
-ghost use Rattle.sv_model.specs.NodeState.{is_settled};
+ghost use Rattle.sv_model.specs.NodeState.{known, is_settled};
 ghost use Rattle.sv_model.specs.Time.{is_late};
 ghost use Rattle.sv_model.specs.Keys.{same_key};
-ghost use Rattle.sv_core.specs.Wants.{Rise, Stands, Lacks, IsAround, around, keys_in, wants_in, wants_where, with_key, settles, settled_by};
+ghost use Rattle.sv_core.specs.Table.{keys_of, durable_by};
+ghost use Rattle.sv_core.specs.Wants.{Rise, Stands, Lacks, IsAround, around, keys_in, wants_in, wants_where, wants_here, with_key, settles, settled_by};
 
-use crate::table::is_same;
+use crate::kept::was_given;
+use crate::table::{Table, is_same};
 use crate::time::is_late;
 use crate::waiting::is_settled;
 use sv_model::{Change, Key, Parked, Record, Setting};
@@ -41,7 +43,9 @@ fn add(wants: &mut Vec<u64>, want: u64)
 /// The want of one that joins is among them, where it can be served. There is room for it.
 pub fn push_if(wants: &mut Vec<u64>, want: u64, is_settled: bool)
     requires { vec_len wants.old < vec_capacity wants.old }
-    ensures { wants.new.items ≡ wants.old.items ++ cond is_settled (want ∷ []) [] }
+    ensures items { wants.new.items ≡ wants.old.items ++ cond is_settled (want ∷ []) [] }
+    ensures len { vec_len wants.new ≤ vec_len wants.old + 1 }
+    ensures capacity { vec_capacity wants.old ≤ vec_capacity wants.new }
 {
     if is_settled {
         wants.push_reserved(want);
@@ -96,7 +100,11 @@ fn settles(entry: &Record) -> Option<(Key, bool)>
     ensures { result ≡ settles entry.now }
 {
     match entry {
-        Record::Boot(_) | Record::Counters { .. } | Record::Expired(_) => None,
+        Record::Boot(_)
+        | Record::Counters { .. }
+        | Record::Forgets { .. }
+        | Record::Counted { .. }
+        | Record::Expired(_) => None,
         Record::Commit { born, .. } => match born {
             Change::Absent => None,
             Change::Alive { key, .. } => Some((*key, true)),
@@ -135,7 +143,7 @@ fn settle_if_waited(
     }
 }
 
-/// The wants of those that can be served, behind a record.
+/// The wants of those that can be served, behind a record of a node that forgets none.
 pub fn settle_behind(wants: &mut Vec<u64>, all: &[Parked], waited: &[Key], entry: &Record)
     requires keyed { waited.now ≡ keys_in all.now }
     requires rise { Rise (wants_in all.now) }
@@ -145,6 +153,28 @@ pub fn settle_behind(wants: &mut Vec<u64>, all: &[Parked], waited: &[Key], entry
 {
     if let Some((key, is_settled)) = settles(entry) {
         settle_if_waited(wants, all, waited, key, is_settled);
+    }
+}
+
+/// The request can be served by a node with these keys, which forgets those of this home and whose next serial is this.
+fn can_serve(keys: &Table, home: Option<u8>, next: u64, key: Key) -> bool
+    ensures { result ≡ is_settled (known (durable_by (keys_of keys.now) 0 next home) key) }
+{
+    match keys.get(key) {
+        Some(state) => is_settled(Some(state)),
+        None => was_given(home, next, key),
+    }
+}
+
+/// The wants of those that can be served, anew. There is room for them.
+pub fn settle_anew(wants: &mut Vec<u64>, all: &[Parked], keys: &Table, home: Option<u8>, next: u64)
+    requires { length all.now ≤ vec_capacity wants.old }
+    ensures items { wants.new.items ≡ wants_here (durable_by (keys_of keys.now) 0 next home) all.now }
+    ensures capacity { vec_capacity wants.old ≤ vec_capacity wants.new }
+{
+    wants.clear();
+    for parked in all {
+        push_if(wants, parked.want, can_serve(keys, home, next, parked.key));
     }
 }
 

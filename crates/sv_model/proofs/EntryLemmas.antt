@@ -47,8 +47,8 @@ known_by (f ∷ es) e rises i = ⊎_elim
     ap (λ o. cond (is_eq o) (Some f.1) (find key_cmp e.0 es)) high ∙ known_by es e (second _ _ rises) t)
     i
 
-pub known : (keys : Keys) (e : Entry) → In e (entries keys) → get keys e.0 ≡ Some e.1
-known keys e i = get-entries keys e.0 ∙ known_by (entries keys) e (entries_sorted keys) i
+pub entry_kept : (keys : Keys) (e : Entry) → In e (entries keys) → get keys e.0 ≡ Some e.1
+entry_kept keys e i = get-entries keys e.0 ∙ known_by (entries keys) e (entries_sorted keys) i
 
 pub over_in : (now : ℕ) (es : List Entry) (e : Entry) → first_over now es ≡ Some e → In e es × (is_over now e.1 ≡ true)
 over_in now [] e is = absurd (cc)

@@ -2,7 +2,8 @@
 use Rattle.std.proofs.Common.{◌≡◌, ◌≢◌, ℕ, Bool, true, false, cond, Option, Some, None, refl, sym, ap, ◌∙◌, ⊎_elim}
 use Rattle.std.specs.Prelude.{is_some}
 use Rattle.std.specs.Option.{option_map}
-use Rattle.std.specs.FinMap.{get, insert, get-insert}
+use Rattle.std.proofs.lemmas.Bool.{cond_both}
+use Rattle.std.specs.FinMap.{get, insert, remove, get-insert, get-remove}
 use Rattle.sv_model.specs.declared.key.Key.{Key}
 use Rattle.sv_model.specs.declared.key.Secret.{Secret}
 use Rattle.sv_model.specs.declared.session.Session.{Session}
@@ -14,8 +15,8 @@ use Rattle.sv_model.specs.declared.outcome.Birth.{Birth}
 use Rattle.sv_model.specs.declared.outcome.Birth.TheVariants.{Absent, Alive, Ended as BirthEnded}
 use Rattle.sv_model.specs.Keys.{same_key, set_key}
 use Rattle.sv_model.specs.Container.{held_by, handed_if, fated, born}
-use Rattle.sv_model.specs.NodeState.{Keys, session_in}
-use Rattle.sv_model.specs.Serving.{held_in, kept_at, ended_at, fated_keys, born_keys}
+use Rattle.sv_model.specs.NodeState.{Keys, session_in, is_own}
+use Rattle.sv_model.specs.Serving.{held_in, kept_at, over_at, ended_at, fated_keys, born_keys}
 use Rattle.sv_model.proofs.KeyLemmas.{keys_total, keys_tell}
 
 -- the container has the sessions that are active here
@@ -32,6 +33,17 @@ set_agrees map keys k st agree q =
     ap (cond (same_key q k) (session_in (Some st))) (agree q)
     ∙ sym (session_cond (same_key q k) st (get keys q))
     ∙ ap session_in (sym (get-insert keys_total keys k st q))
+
+none_cond : (b : Bool) (old : Option KeyState) → session_in (cond b None old) ≡ cond b None (session_in old)
+none_cond true old = refl
+none_cond false old = refl
+
+-- one key leaves both sides
+unset_agrees : (map : Key → Option Session) (keys : Keys) (k : Key) → Agree map keys → Agree (set_key map k None) (remove keys k)
+unset_agrees map keys k agree q = ap (cond (same_key q k) None) (agree q) ∙ sym (none_cond (same_key q k) (get keys q)) ∙ ap session_in (sym (get-remove keys_total keys k q))
+
+over_agrees : (home : Option ℕ) (map : Key → Option Session) (keys : Keys) (k : Key) (e : ℕ) → Agree map keys → Agree (set_key map k None) (over_at home k e keys)
+over_agrees home map keys k e agree = cond_both (is_own home k) (remove keys k) (insert keys k (Ended e)) (Agree (set_key map k None)) (λ _. unset_agrees map keys k agree) (λ _. set_agrees map keys k (Ended e) agree)
 
 -- what is held is what the container has
 pub held_agrees : (map : Key → Option Session) (keys : Keys) (named : Option (Key × Secret)) → Agree map keys → held_by map named ≡ held_in keys named
@@ -54,34 +66,33 @@ kept_agrees map keys k s (Some (Sent e old to)) agree touched = absurd (let neve
 kept_agrees map keys k s (Some (Gone e)) agree touched = absurd (let never : Kept s ≡ Untouched = touched refl in cc)
 kept_agrees map keys k s (Some (Ended e)) agree touched = absurd (let never : Kept s ≡ Untouched = touched refl in cc)
 
-ended_agrees : (map : Key → Option Session) (keys : Keys) (k : Key) (st : Option KeyState) → Agree map keys
-    → (option_map {U = Key × Session} (λ u. (k, u)) (session_in st) ≡ None → FateEnded ≡ Untouched) → Agree (set_key map k None) (ended_at k st keys)
-ended_agrees map keys k None agree touched = absurd (let never : FateEnded ≡ Untouched = touched refl in cc)
-ended_agrees map keys k (Some (Active e old)) agree touched = set_agrees map keys k (Ended e) agree
-ended_agrees map keys k (Some (Sent e old to)) agree touched = absurd (let never : FateEnded ≡ Untouched = touched refl in cc)
-ended_agrees map keys k (Some (Gone e)) agree touched = absurd (let never : FateEnded ≡ Untouched = touched refl in cc)
-ended_agrees map keys k (Some (Ended e)) agree touched = absurd (let never : FateEnded ≡ Untouched = touched refl in cc)
+ended_agrees : (home : Option ℕ) (map : Key → Option Session) (keys : Keys) (k : Key) (st : Option KeyState) → Agree map keys
+    → (option_map {U = Key × Session} (λ u. (k, u)) (session_in st) ≡ None → FateEnded ≡ Untouched) → Agree (set_key map k None) (ended_at home k st keys)
+ended_agrees home map keys k None agree touched = absurd (let never : FateEnded ≡ Untouched = touched refl in cc)
+ended_agrees home map keys k (Some (Active e old)) agree touched = over_agrees home map keys k e agree
+ended_agrees home map keys k (Some (Sent e old to)) agree touched = absurd (let never : FateEnded ≡ Untouched = touched refl in cc)
+ended_agrees home map keys k (Some (Gone e)) agree touched = absurd (let never : FateEnded ≡ Untouched = touched refl in cc)
+ended_agrees home map keys k (Some (Ended e)) agree touched = absurd (let never : FateEnded ≡ Untouched = touched refl in cc)
 
 -- behind what became of the session that is named
-pub fated_agrees : (map : Key → Option Session) (keys : Keys) (named : Option (Key × Secret)) (fate : Fate) → Agree map keys → IsTouchedHeld keys named fate
-    → Agree (fated named fate map) (fated_keys named fate keys)
-fated_agrees map keys None fate agree touched = agree
-fated_agrees map keys (Some named) Untouched agree touched = agree
-fated_agrees map keys (Some named) (Kept s) agree touched = kept_agrees map keys named.0 s (get keys named.0) agree touched
-fated_agrees map keys (Some named) FateEnded agree touched = ended_agrees map keys named.0 (get keys named.0) agree touched
+pub fated_agrees : (home : Option ℕ) (map : Key → Option Session) (keys : Keys) (named : Option (Key × Secret)) (fate : Fate) → Agree map keys → IsTouchedHeld keys named fate
+    → Agree (fated named fate map) (fated_keys home named fate keys)
+fated_agrees home map keys None fate agree touched = agree
+fated_agrees home map keys (Some named) Untouched agree touched = agree
+fated_agrees home map keys (Some named) (Kept s) agree touched = kept_agrees map keys named.0 s (get keys named.0) agree touched
+fated_agrees home map keys (Some named) FateEnded agree touched = ended_agrees home map keys named.0 (get keys named.0) agree touched
 
 -- a key without a session gets none
-none_agrees : (map : Key → Option Session) (keys : Keys) (k : Key) (e : ℕ) → Agree map keys → get keys k ≡ None → Agree map (insert keys k (Ended e))
-none_agrees map keys k e agree unknown q =
+none_agrees : (home : Option ℕ) (map : Key → Option Session) (keys : Keys) (k : Key) (e : ℕ) → Agree map keys → get keys k ≡ None → Agree map (over_at home k e keys)
+none_agrees home map keys k e agree unknown q =
     ⊎_elim
-    (λ (t : (q ≡ k) × (same_key q k ≡ true)). agree q ∙ ap (λ (p : Key). session_in (get keys p)) t.0 ∙ ap session_in unknown ∙ ap (λ b. cond b None (session_in (get keys q))) (sym t.1))
-    (λ (t : (q ≢ k) × (same_key q k ≡ false)). agree q ∙ ap (λ b. cond b None (session_in (get keys q))) (sym t.1))
+    (λ (t : (q ≡ k) × (same_key q k ≡ true)). agree q ∙ ap (λ (p : Key). session_in (get keys p)) t.0 ∙ ap session_in unknown ∙ ap (λ b. cond b None (map q)) (sym t.1))
+    (λ (t : (q ≢ k) × (same_key q k ≡ false)). ap (λ b. cond b None (map q)) (sym t.1))
     (keys_tell q k)
-    ∙ sym (session_cond (same_key q k) (Ended e) (get keys q))
-    ∙ ap session_in (sym (get-insert keys_total keys k (Ended e) q))
+    ∙ over_agrees home map keys k e agree q
 
 -- behind what became of the session that was made
-pub born_agrees : (map : Key → Option Session) (keys : Keys) (k : Key) (b : Birth) → Agree map keys → get keys k ≡ None → Agree (born k b map) (born_keys k b keys)
-born_agrees map keys k Absent agree unknown = agree
-born_agrees map keys k (Alive s) agree unknown = set_agrees map keys k (Active 1 s) agree
-born_agrees map keys k BirthEnded agree unknown = none_agrees map keys k 1 agree unknown
+pub born_agrees : (home : Option ℕ) (map : Key → Option Session) (keys : Keys) (k : Key) (b : Birth) → Agree map keys → get keys k ≡ None → Agree (born k b map) (born_keys home k b keys)
+born_agrees home map keys k Absent agree unknown = agree
+born_agrees home map keys k (Alive s) agree unknown = set_agrees map keys k (Active 1 s) agree
+born_agrees home map keys k BirthEnded agree unknown = none_agrees home map keys k 1 agree unknown

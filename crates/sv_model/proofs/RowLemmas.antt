@@ -1,6 +1,6 @@
 -- The worked examples of the table, computed.
-use Rattle.std.proofs.Common.{◌≡◌, ℕ, None, List, [], refl, ap, ◌∙◌}
-use Rattle.std.specs.FinMap.{empty, insert, entries-insert, len-empty, get-empty, get-insert}
+use Rattle.std.proofs.Common.{◌≡◌, ℕ, Bool, true, false, cond, Option, Some, None, List, [], ◌∷◌, refl, arith, sym, ap, ◌∙◌}
+use Rattle.std.specs.FinMap.{empty, insert, remove, entries-insert, len-empty, get-empty, get-insert, get-remove, same_map}
 use Rattle.sv_model.specs.declared.key.Secret.{Secret}
 use Rattle.sv_model.specs.declared.key.Moment.{Moment}
 use Rattle.sv_model.specs.declared.node.Setting.{Setting}
@@ -14,23 +14,68 @@ use Rattle.sv_model.specs.declared.outcome.Fate.TheVariants.{Untouched, Kept}
 use Rattle.sv_model.specs.declared.outcome.Birth.TheVariants.{Absent, Alive}
 use Rattle.sv_model.specs.declared.state.KeyState.{KeyState}
 use Rattle.sv_model.specs.declared.state.KeyState.TheVariants.{Active, Sent, Gone, Ended}
-use Rattle.sv_model.specs.declared.input.Input.TheVariants.{Poke}
-use Rattle.sv_model.specs.Keys.{key_cmp}
+use Rattle.sv_model.specs.declared.input.Input.TheVariants.{Ask, Poke}
+use Rattle.sv_model.specs.declared.output.Cause.{Cause}
+use Rattle.sv_model.specs.declared.output.Cause.TheVariants.{TableFull}
+use Rattle.sv_model.specs.declared.key.Key.{Key}
+use Rattle.sv_model.specs.Keys.{key_cmp, same_key}
 use Rattle.sv_model.specs.Engine.{EngineMeaning}
 use Rattle.sv_model.specs.NodeState.{Keys, Node}
-use Rattle.sv_model.specs.Serving.{held_in, served, no_birth, answer_of, answered, answered_unless}
+use Rattle.sv_model.specs.Serving.{held_in, served, refused, no_birth, answer_of, answered, answered_unless}
 use Rattle.sv_model.specs.Waiting.{on_ask}
 use Rattle.sv_model.specs.Node.{decided}
-use Rattle.sv_model.specs.Rows.{of_three, first_key, keeps, at_rest, at_second, waiting, IsExample, IsHandedOver, AreLate, IsNeverMade, AreTicks, AreOrders}
-use Rattle.sv_model.proofs.KeyLemmas.{keys_total}
+use Rattle.sv_model.specs.Rows.{of_three, first_key, second_key, keeps, forgets, at_rest, at_second, waits_at_1, waiting, IsExample, IsHandedOver, AreLate, IsNeverMade, AreTicks, AreOrders, AreForgotten, AreFull, AreForgetting}
+use Rattle.sv_model.proofs.KeyLemmas.{keys_total, exact_keys}
 use Rattle.sv_model.proofs.EntryLemmas.{no_entries}
 
 -- a request that is answered so
-serves_as : (m : EngineMeaning) (set : Setting) (n : Node) (moment : Moment) (token : ℕ) (r : Request) (waiting : List Parked) (out : Outcome) → answer_of m set n.durable moment r ≡ out → no_birth n.durable out.birth ≡ None
+serves_as : (m : EngineMeaning) (set : Setting) (n : Node) (moment : Moment) (token : ℕ) (r : Request) (waiting : List Parked) (out : Outcome) → answer_of m set n.durable moment r ≡ out → no_birth set n.durable out.birth ≡ None
     → served m set n moment token r waiting ≡ answered m set n moment token r out waiting
 serves_as m set n moment token r waiting out is none =
-    ap (λ (o : Outcome). answered_unless (no_birth n.durable o.birth) m set n moment token r o waiting) is
+    ap (λ (o : Outcome). answered_unless (no_birth set n.durable o.birth) m set n moment token r o waiting) is
     ∙ ap (λ cause. answered_unless cause m set n moment token r out waiting) none
+
+-- one that is refused so
+refused_as : (m : EngineMeaning) (set : Setting) (n : Node) (moment : Moment) (token : ℕ) (r : Request) (waiting : List Parked) (out : Outcome) (why : Cause) → answer_of m set n.durable moment r ≡ out → no_birth set n.durable out.birth ≡ Some why
+    → served m set n moment token r waiting ≡ refused n token why waiting
+refused_as m set n moment token r waiting out why is some =
+    ap (λ (o : Outcome). answered_unless (no_birth set n.durable o.birth) m set n moment token r o waiting) is
+    ∙ ap (λ cause. answered_unless cause m set n moment token r out waiting) some
+
+-- a key that leaves leaves nothing
+none_twice : (b : Bool) (st : Option KeyState) → cond b None (cond b st None) ≡ None
+none_twice true st = refl
+none_twice false st = refl
+
+none_once : (b : Bool) → ◌≡◌ {A = Option KeyState} (cond b None None) None
+none_once true = refl
+none_once false = refl
+
+left_alone : (k : Key) (st : KeyState) → ◌≡◌ {A = Keys} (remove (insert empty k st) k) empty
+left_alone k st = same_map keys_total exact_keys _ _ (λ q.
+    get-remove keys_total (insert empty k st) k q
+    ∙ ap (cond (same_key q k) None) (get-insert keys_total empty k st q ∙ ap (cond (same_key q k) (Some st)) (get-empty key_cmp q))
+    ∙ none_twice (same_key q k) (Some st)
+    ∙ sym (get-empty key_cmp q))
+
+none_left : (k : Key) → ◌≡◌ {A = Keys} (remove empty k) empty
+none_left k = same_map keys_total exact_keys _ _ (λ q.
+    get-remove keys_total empty k q ∙ ap (cond (same_key q k) None) (get-empty key_cmp q) ∙ none_once (same_key q k) ∙ sym (get-empty key_cmp q))
+
+pub forgetting : (s : Session) → AreForgetting s
+forgetting s = record {
+  begun = rw (get-insert keys_total empty (first_key 0) (Active 1 s) (first_key 0)) (ap (forgets 0) (left_alone (first_key 0) (Active 1 s)));
+  spent = ap (forgets 0) (none_left (first_key 0));
+  before = refl;
+  counted = refl;
+  stays = refl;
+  starts = (refl, refl);
+  starts_once = λ h. omega (arith, h.1);
+  starts_elsewhere = λ h. omega (arith, h.0);
+  heads = (refl, refl);
+  heads_late = λ h. absurd (let never : false ≡ true = h.1 in cc);
+  heads_elsewhere = λ h. omega (arith, h.0);
+}
 
 module _ (m : EngineMeaning) (secret : Secret) (first again : Request) (made kept : Session) (one two : Response) (events more : List Told) (is : IsExample m secret first again made kept one two events more) where
   -- the session is made, and the one that was named is kept
@@ -105,4 +150,45 @@ module _ (m : EngineMeaning) (secret : Secret) (first again : Request) (made kep
     ordered = rw (get-insert keys_total empty (first_key 0) (Active 2 kept) (first_key 0)) refl;
     expired = λ over. rw (entries-insert keys_total empty (first_key 0) (Active 1 made), no_entries, over, entries-insert keys_total one_held (first_key 0) (Ended 1), entries-insert keys_total empty (first_key 0) (Active 1 made), no_entries) refl;
     park_full = λ parked long. rw (is.names, get-empty key_cmp (first_key 0), long) refl;
+  }
+
+  abbrev away_held : Keys
+  away_held = insert empty (first_key 0) (Active 2 made)
+
+  pub forgotten : AreForgotten m secret first again made kept one two events more
+  forgotten = record {
+    asked =
+        (let settled : decided m (of_three 0) (at_rest (forgets 0 empty)) (at_second 1_000 secret) (Ask 1 again) ≡ served m (of_three 0) (at_rest (forgets 0 empty)) (at_second 1_000 secret) 1 again []
+        = rw (is.names, get-empty key_cmp (first_key 0)) refl in settled)
+        ∙ serves_as m (of_three 0) (at_rest (forgets 0 empty)) (at_second 1_000 secret) 1 again [] making
+        (ap (λ named. m.serve again (held_in empty named) 1_000 (second_key 0, secret)) is.names
+        ∙ (rw (get-empty key_cmp (first_key 0)) (is.without (second_key 0)))) (rw (len-empty key_cmp KeyState) refl)
+        ∙ (rw (is.names, get-empty key_cmp (first_key 0)) refl);
+    poked =
+        (let settled : decided m (of_three 0) (record { durable = forgets 0 empty; parked = waits_at_1 m secret first again made kept one two events more ∷ []; next_want = 2 }) (at_second 1_000 secret) Poke
+        ≡ served m (of_three 0) (record { durable = forgets 0 empty; parked = waits_at_1 m secret first again made kept one two events more ∷ []; next_want = 2 }) (at_second 1_000 secret) 1 again []
+        = rw (get-empty key_cmp (first_key 0)) refl in settled)
+        ∙ serves_as m (of_three 0) (record { durable = forgets 0 empty; parked = waits_at_1 m secret first again made kept one two events more ∷ []; next_want = 2 }) (at_second 1_000 secret) 1 again [] making
+        (ap (λ named. m.serve again (held_in empty named) 1_000 (second_key 0, secret)) is.names
+        ∙ (rw (get-empty key_cmp (first_key 0)) (is.without (second_key 0)))) (rw (len-empty key_cmp KeyState) refl)
+        ∙ (rw (is.names, get-empty key_cmp (first_key 0)) refl);
+    denied = rw (get-empty key_cmp (first_key 0)) refl;
+    granted = rw (get-empty key_cmp (first_key 0)) refl;
+    moved = rw (get-empty key_cmp (first_key 0)) refl;
+    unmade = rw (get-empty key_cmp (second_key 0)) refl;
+    never = rw (get-empty key_cmp (record { home = 0; serial = 0 })) refl;
+    foreign = rw (get-empty key_cmp (first_key 1)) refl;
+    expired = λ over. rw (entries-insert keys_total empty (first_key 0) (Active 1 made), no_entries, over, left_alone (first_key 0) (Active 1 made), no_entries) refl;
+    expired_away = λ over. rw (entries-insert keys_total empty (first_key 0) (Active 2 made), no_entries, over, entries-insert keys_total away_held (first_key 0) (Ended 2), entries-insert keys_total empty (first_key 0) (Active 2 made), no_entries) refl;
+  }
+
+  pub full : AreFull m secret first again made kept one two events more
+  full = record {
+    crowded = rw (is.names, get-empty key_cmp (first_key 0), len-empty key_cmp KeyState) refl;
+    parked = rw (is.names, get-empty key_cmp (first_key 0)) refl;
+    left = rw (get-empty key_cmp (first_key 0), len-empty key_cmp KeyState) refl;
+    refused =
+        ap (λ named. on_ask m (record (of_three 0) { keys = 0 }) (at_rest (keeps empty 1)) (at_second 1_000 secret) 1 first named) is.none
+        ∙ refused_as m (record (of_three 0) { keys = 0 }) (at_rest (keeps empty 1)) (at_second 1_000 secret) 1 first [] making TableFull
+        (ap (λ named. m.serve first (held_in empty named) 1_000 (first_key 0, secret)) is.none ∙ is.makes (first_key 0)) (rw (len-empty key_cmp KeyState) refl);
   }

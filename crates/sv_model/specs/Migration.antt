@@ -1,6 +1,5 @@
 -- A session that goes from node to node: the packets between them, and the order to move one.
-use Rattle.std.specs.Prelude.{ℕ, ◌+◌, ◌==◌, ◌&&◌, ◌||◌, Bool, not, cond, is_none, nat_lt, nat_le, Option, Some, None, List, [], ◌∷◌}
-use Rattle.std.specs.FinMap.{get, len}
+use Rattle.std.specs.Prelude.{ℕ, ◌+◌, ◌==◌, ◌&&◌, ◌||◌, Bool, not, cond, nat_lt, nat_le, Option, Some, None, List, [], ◌∷◌}
 use Rattle.sv_model.specs.declared.key.Key.{Key}
 use Rattle.sv_model.specs.declared.key.Moment.{Moment}
 use Rattle.sv_model.specs.declared.session.Session.{Session}
@@ -14,10 +13,9 @@ use Rattle.sv_model.specs.declared.output.Output.{Output}
 use Rattle.sv_model.specs.declared.output.Output.TheVariants.{Send, Moved, MoveRefused}
 use Rattle.sv_model.specs.declared.output.MoveRefusal.{MoveRefusal}
 use Rattle.sv_model.specs.declared.output.MoveRefusal.TheVariants.{UnknownKey, NotActive, BadPeer, EpochsSpent}
-use Rattle.sv_model.specs.declared.state.TheConstants.{KEY_LIMIT}
 use Rattle.sv_model.specs.Engine.{EngineMeaning}
 use Rattle.sv_model.specs.Keys.{same_key}
-use Rattle.sv_model.specs.NodeState.{Setting, Parked, Node, last_number, epoch_in, is_unmade}
+use Rattle.sv_model.specs.NodeState.{Setting, Parked, Node, last_number, epoch_in, known, is_unmade, lacks_room}
 use Rattle.sv_model.specs.Decision.{Decision, idle, with_record}
 use Rattle.sv_model.specs.Waiting.{serve_parked}
 
@@ -49,7 +47,7 @@ abbrev pub on_grant : Setting → Node → ℕ → Key → ℕ → Session → O
 on_grant set n from k e s st =
     cond (is_unmade set n.durable k) (idle n [])
     (cond (nat_le e (epoch_in st)) (idle n (Send (Ack set.node from k e) ∷ []))
-    (cond (is_none st && nat_le KEY_LIMIT (len n.durable.keys)) (idle n []) (takes_over set n from k e s)))
+    (cond (lacks_room set n.durable k) (idle n []) (takes_over set n from k e s)))
 
 abbrev pub on_ack : Node → Key → ℕ → Option KeyState → Decision
 on_ack n k e None = idle n []
@@ -81,9 +79,9 @@ abbrev pub is_ours : Setting → Packet → Bool
 is_ours set p = (addressee p == set.node) && (not (sender p == set.node) && nat_lt (sender p) set.nodes)
 
 abbrev pub on_ours : EngineMeaning → Setting → Node → Moment → Packet → Decision
-on_ours m set n moment (Want from to k boot want) = on_want set n from k boot want (get n.durable.keys k)
-on_ours m set n moment (Grant from to k e s) = on_grant set n from k e s (get n.durable.keys k)
-on_ours m set n moment (Ack from to k e) = on_ack n k e (get n.durable.keys k)
+on_ours m set n moment (Want from to k boot want) = on_want set n from k boot want (known n.durable k)
+on_ours m set n moment (Grant from to k e s) = on_grant set n from k e s (known n.durable k)
+on_ours m set n moment (Ack from to k e) = on_ack n k e (known n.durable k)
 on_ours m set n moment (No from to k boot want) = on_no m set n moment k boot want
 
 abbrev pub on_packet : EngineMeaning → Setting → Node → Moment → Packet → Decision

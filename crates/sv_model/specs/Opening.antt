@@ -8,7 +8,7 @@ use Rattle.sv_model.specs.declared.event.Event.TheVariants.{Passivate, Activate}
 use Rattle.sv_model.specs.declared.record.Change.{Change}
 use Rattle.sv_model.specs.declared.record.Change.TheVariants.{Absent as Unchanged, Alive as ChangeAlive, Ended as ChangeEnded}
 use Rattle.sv_model.specs.declared.record.Record.{Record}
-use Rattle.sv_model.specs.declared.record.Record.TheVariants.{Boot, Commit as CommitRecord, Expired as ExpiredRecord, Sent as SentRecord, Taken as TakenRecord, Gone as GoneRecord, State as StateRecord, Counters}
+use Rattle.sv_model.specs.declared.record.Record.TheVariants.{Boot, Commit as CommitRecord, Expired as ExpiredRecord, Sent as SentRecord, Taken as TakenRecord, Gone as GoneRecord, State as StateRecord, Counters, Forgets, Counted}
 
 -- a session with which an epoch of a key was opened
 pub record Opening : Type 0 where
@@ -32,6 +32,8 @@ opening_of (Some (TakenRecord k e from s)) = Some (record { key = k; epoch = e; 
 opening_of (Some (GoneRecord k e)) = None
 opening_of (Some (StateRecord k st)) = None
 opening_of (Some (Counters boot next)) = None
+opening_of (Some (Forgets home boot)) = None
+opening_of (Some (Counted home boot next)) = None
 
 -- what listeners are told of a record that hands a session over or takes it over
 abbrev pub mark_of : Option Record → Option Told
@@ -44,3 +46,5 @@ mark_of (Some (TakenRecord k e from s)) = Some (record { context = s.context; ev
 mark_of (Some (GoneRecord k e)) = None
 mark_of (Some (StateRecord k st)) = None
 mark_of (Some (Counters boot next)) = None
+mark_of (Some (Forgets home boot)) = None
+mark_of (Some (Counted home boot next)) = None

@@ -11,7 +11,7 @@ use Rattle.sv_model.specs.declared.state.KeyState.TheVariants as kept
 use Rattle.sv_model.specs.declared.record.Change.{Change}
 use Rattle.sv_model.specs.declared.record.Change.TheVariants.{Absent, Alive, Ended}
 use Rattle.sv_model.specs.declared.record.Record.{Record}
-use Rattle.sv_model.specs.declared.record.Record.TheVariants.{Boot, Commit, Expired, Sent, Taken, Gone, State, Counters}
+use Rattle.sv_model.specs.declared.record.Record.TheVariants.{Boot, Commit, Expired, Sent, Taken, Gone, State, Counters, Forgets, Counted}
 use Rattle.sv_model.specs.declared.packet.Packet.{Packet}
 use Rattle.sv_model.specs.declared.packet.Packet.TheVariants.{Want, Grant, Ack, No}
 use Rattle.sv_model.specs.declared.input.Input.{Input}
@@ -66,6 +66,8 @@ IsRecord (Taken k e from s) = IsHandover k e from s
 IsRecord (Gone k e) = IsKey k × IsCounting e
 IsRecord (State k s) = IsKey k × IsState s
 IsRecord (Counters b next) = IsCounting next
+IsRecord (Forgets home b) = IsNode home × IsCounting b
+IsRecord (Counted home b next) = IsNode home × IsCounting next
 
 -- a packet that may be written
 abbrev pub IsPacket : Packet → Type 0
@@ -90,6 +92,7 @@ pub record IsRanged (n : Node) : Type 0 where
   pub known : (k : Key) (st : KeyState) → get n.durable.keys k ≡ Some st → IsKey k × IsState st
   pub next : IsCounting n.durable.next
   pub waiting : AllByRecursion (λ p. IsKey p.key) n.parked
+  pub home : IfSome n.durable.home IsNode
   -- no number is past the last
   pub next_within : n.durable.next ≤ last_number
   pub want_within : n.next_want ≤ last_number

@@ -1,52 +1,53 @@
 -- What a record makes of what a node keeps. What is durable at a node is its records, one behind the other.
-use Rattle.std.specs.Prelude.{◌≡◌, ℕ, ◌+◌, ◌==◌, ◌&&◌, ◌||◌, Bool, true, false, not, nat_lt, is_none, List, [], ◌∷◌, Option, Some, None, ⊤}
-use Rattle.std.specs.FinMap.{get, insert, empty, len}
+use Rattle.std.specs.Prelude.{◌≡◌, ℕ, ◌+◌, ◌==◌, ◌&&◌, ◌||◌, Bool, true, false, cond, not, nat_lt, is_none, List, [], ◌∷◌, Option, Some, None, ⊤}
+use Rattle.std.specs.FinMap.{get, insert, empty}
 use Rattle.sv_model.specs.declared.node.Setting.{Setting}
 use Rattle.sv_model.specs.declared.node.Stage.{Stage}
 use Rattle.sv_model.specs.declared.node.Stage.TheVariants.{Blank, Snapshot, Past}
 use Rattle.sv_model.specs.declared.session.Session.{Session}
-use Rattle.sv_model.specs.declared.state.TheConstants.{KEY_LIMIT}
 use Rattle.sv_model.specs.declared.key.Key.{Key}
 use Rattle.sv_model.specs.declared.state.KeyState.{KeyState}
 use Rattle.sv_model.specs.declared.state.KeyState.TheVariants.{Active, Sent, Gone, Ended}
 use Rattle.sv_model.specs.declared.record.Change.{Change}
 use Rattle.sv_model.specs.declared.record.Change.TheVariants.{Absent as Unchanged, Alive as ChangeAlive, Ended as ChangeEnded}
 use Rattle.sv_model.specs.declared.record.Record.{Record}
-use Rattle.sv_model.specs.declared.record.Record.TheVariants.{Boot, Commit, Expired, Sent as SentRecord, Taken, Gone as GoneRecord, State, Counters}
-use Rattle.sv_model.specs.NodeState.{Keys, Durable, last_number, epoch_in, is_unmade}
-use Rattle.sv_model.specs.Serving.{kept_at, ended_at}
+use Rattle.sv_model.specs.declared.record.Record.TheVariants.{Boot, Commit, Expired, Sent as SentRecord, Taken, Gone as GoneRecord, State, Counters, Forgets, Counted}
+use Rattle.sv_model.specs.NodeState.{Keys, Durable, last_number, epoch_in, known, is_unmade, has_space}
+use Rattle.sv_model.specs.Serving.{kept_at, ended_at, over_at}
 
 -- no records
 abbrev pub blank : Durable
-blank = record { keys = empty; boot = 0; next = 1 }
+blank = record { keys = empty; boot = 0; next = 1; home = None }
 
 -- the session that a request names is kept or has ended
-abbrev pub with_named : Change → Keys → Keys
-with_named Unchanged keys = keys
-with_named (ChangeAlive k s) keys = kept_at k s (get keys k) keys
-with_named (ChangeEnded k) keys = ended_at k (get keys k) keys
+abbrev pub with_named : Option ℕ → Change → Keys → Keys
+with_named home Unchanged keys = keys
+with_named home (ChangeAlive k s) keys = kept_at k s (get keys k) keys
+with_named home (ChangeEnded k) keys = ended_at home k (get keys k) keys
 
 -- a session that was made is active or has ended, and its serial is spent
-abbrev pub with_born : Change → Keys → Keys
-with_born Unchanged keys = keys
-with_born (ChangeAlive k s) keys = insert keys k (Active 1 s)
-with_born (ChangeEnded k) keys = insert keys k (Ended 1)
+abbrev pub with_born : Option ℕ → Change → Keys → Keys
+with_born home Unchanged keys = keys
+with_born home (ChangeAlive k s) keys = insert keys k (Active 1 s)
+with_born home (ChangeEnded k) keys = over_at home k 1 keys
 
 abbrev pub next_by : Change → ℕ → ℕ
 next_by Unchanged next = next
 next_by (ChangeAlive k s) next = next + 1
 next_by (ChangeEnded k) next = next + 1
 
--- the keys behind a record
-abbrev pub keys_behind : Record → Keys → Keys
-keys_behind (Boot boot) keys = keys
-keys_behind (Commit named born) keys = with_born born (with_named named keys)
-keys_behind (Expired k) keys = ended_at k (get keys k) keys
-keys_behind (SentRecord k e to s) keys = insert keys k (Sent e s to)
-keys_behind (Taken k e from s) keys = insert keys k (Active e s)
-keys_behind (GoneRecord k e) keys = insert keys k (Gone e)
-keys_behind (State k st) keys = insert keys k st
-keys_behind (Counters boot next) keys = keys
+-- the keys behind a record, at a node that forgets those of a home
+abbrev pub keys_behind : Option ℕ → Record → Keys → Keys
+keys_behind home (Boot boot) keys = keys
+keys_behind home (Commit named born) keys = with_born home born (with_named home named keys)
+keys_behind home (Expired k) keys = ended_at home k (get keys k) keys
+keys_behind home (SentRecord k e to s) keys = insert keys k (Sent e s to)
+keys_behind home (Taken k e from s) keys = insert keys k (Active e s)
+keys_behind home (GoneRecord k e) keys = insert keys k (Gone e)
+keys_behind home (State k st) keys = insert keys k st
+keys_behind home (Counters boot next) keys = keys
+keys_behind home (Forgets n boot) keys = keys
+keys_behind home (Counted n boot next) keys = keys
 
 abbrev pub boot_behind : Record → ℕ → ℕ
 boot_behind (Boot b) boot = b
@@ -57,6 +58,8 @@ boot_behind (Taken k e from s) boot = boot
 boot_behind (GoneRecord k e) boot = boot
 boot_behind (State k st) boot = boot
 boot_behind (Counters b next) boot = b
+boot_behind (Forgets n b) boot = b
+boot_behind (Counted n b next) boot = b
 
 abbrev pub next_behind : Record → ℕ → ℕ
 next_behind (Boot boot) next = next
@@ -67,14 +70,33 @@ next_behind (Taken k e from s) next = next
 next_behind (GoneRecord k e) next = next
 next_behind (State k st) next = next
 next_behind (Counters boot n) next = n
+next_behind (Forgets home boot) next = next
+next_behind (Counted home boot n) next = n
+
+-- the home whose keys are forgotten; no record but these two speaks of it
+abbrev pub home_behind : Record → Option ℕ → Option ℕ
+home_behind (Boot boot) home = home
+home_behind (Commit named born) home = home
+home_behind (Expired k) home = home
+home_behind (SentRecord k e to s) home = home
+home_behind (Taken k e from s) home = home
+home_behind (GoneRecord k e) home = home
+home_behind (State k st) home = home
+home_behind (Counters boot next) home = home
+home_behind (Forgets n boot) home = Some n
+home_behind (Counted n boot next) home = Some n
 
 -- what is kept behind a record
 abbrev pub applied : Record → Durable → Durable
-applied r d = record { keys = keys_behind r d.keys; boot = boot_behind r d.boot; next = next_behind r d.next }
+applied r d = record { keys = keys_behind d.home r d.keys; boot = boot_behind r d.boot; next = next_behind r d.next; home = home_behind r d.home }
 
 abbrev pub applied_if : Option Record → Durable → Durable
 applied_if None d = d
 applied_if (Some r) d = applied r d
+
+-- what a start makes durable: a node that is to forget says so
+abbrev pub boot_record : Setting → Durable → Record
+boot_record set d = cond set.forget (Forgets set.node (d.boot + 1)) (Boot (d.boot + 1))
 
 -- all of them, one behind the other
 abbrev pub replayed : Durable → List Record → Durable
@@ -92,6 +114,8 @@ stage_behind (Taken k e from s) stage = Past
 stage_behind (GoneRecord k e) stage = Past
 stage_behind (State k st) stage = stage
 stage_behind (Counters boot next) stage = Snapshot
+stage_behind (Forgets home boot) stage = Past
+stage_behind (Counted home boot next) stage = Snapshot
 
 abbrev pub stage_behind_if : Option Record → Stage → Stage
 stage_behind_if None stage = stage
@@ -110,9 +134,9 @@ fits_named keys Unchanged = true
 fits_named keys (ChangeAlive k s) = is_active (get keys k)
 fits_named keys (ChangeEnded k) = is_active (get keys k)
 
--- a session that is made has the next key, and there is room for it
+-- a session that is made has the next key, and there is space for it
 abbrev pub is_next : Setting → Durable → Key → Bool
-is_next set d k = (k.home == set.node) && ((k.serial == d.next) && (not (d.next == last_number) && nat_lt (len d.keys) KEY_LIMIT))
+is_next set d k = (k.home == set.node) && ((k.serial == d.next) && (not (d.next == last_number) && has_space set d))
 
 abbrev pub fits_born : Setting → Durable → Change → Bool
 fits_born set d Unchanged = true
@@ -128,7 +152,7 @@ FitsSent e s (Some (Gone f)) = ⊥
 FitsSent e s (Some (Ended f)) = ⊥
 
 abbrev pub fits_taken : Setting → Durable → Key → ℕ → Option KeyState → Bool
-fits_taken set d k e st = nat_lt (epoch_in st) e && (not (is_unmade set d k) && (not (is_none st) || nat_lt (len d.keys) KEY_LIMIT))
+fits_taken set d k e st = nat_lt (epoch_in st) e && (not (is_unmade set d k) && (not (is_none (get d.keys k)) || has_space set d))
 
 abbrev pub fits_gone : ℕ → Option KeyState → Bool
 fits_gone e None = false
@@ -139,7 +163,7 @@ fits_gone e (Some (Ended f)) = false
 
 abbrev pub fits_state : Setting → Durable → Key → Stage → Bool
 fits_state set d k Blank = false
-fits_state set d k Snapshot = is_none (get d.keys k) && (not (is_unmade set d k) && nat_lt (len d.keys) KEY_LIMIT)
+fits_state set d k Snapshot = is_none (get d.keys k) && (not (is_unmade set d k) && has_space set d)
 fits_state set d k Past = false
 
 abbrev pub fits_counters : Stage → Bool
@@ -152,10 +176,13 @@ Fits set stage d (Boot boot) = boot ≡ d.boot + 1
 Fits set stage d (Commit named born) = (fits_named d.keys named && fits_born set d born) ≡ true
 Fits set stage d (Expired k) = is_active (get d.keys k) ≡ true
 Fits set stage d (SentRecord k e to s) = FitsSent e s (get d.keys k)
-Fits set stage d (Taken k e from s) = fits_taken set d k e (get d.keys k) ≡ true
+Fits set stage d (Taken k e from s) = fits_taken set d k e (known d k) ≡ true
 Fits set stage d (GoneRecord k e) = fits_gone e (get d.keys k) ≡ true
 Fits set stage d (State k st) = fits_state set d k stage ≡ true
 Fits set stage d (Counters boot next) = fits_counters stage ≡ true
+-- a node forgets the keys of no home but its own
+Fits set stage d (Forgets home boot) = (home ≡ set.node) × (boot ≡ d.boot + 1)
+Fits set stage d (Counted home boot next) = (home ≡ set.node) × (fits_counters stage ≡ true)
 
 -- each may stand behind those before it
 abbrev pub AllFit : Setting → Stage → Durable → List Record → Type 0

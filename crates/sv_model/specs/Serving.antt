@@ -1,6 +1,6 @@
 -- A request that is served: by the session that it names where that is active here, or without it.
-use Rattle.std.specs.Prelude.{ℕ, ◌+◌, ◌==◌, Bool, true, false, cond, is_some, nat_le, Option, Some, None, List, [], ◌∷◌}
-use Rattle.std.specs.FinMap.{get, insert, len}
+use Rattle.std.specs.Prelude.{ℕ, ◌+◌, ◌==◌, Bool, true, false, cond, is_some, Option, Some, None, List, [], ◌∷◌}
+use Rattle.std.specs.FinMap.{get, insert, remove}
 use Rattle.sv_model.specs.declared.key.Key.{Key}
 use Rattle.sv_model.specs.declared.key.Secret.{Secret}
 use Rattle.sv_model.specs.declared.key.Moment.{Moment}
@@ -22,10 +22,9 @@ use Rattle.sv_model.specs.declared.outcome.Birth.TheVariants.{Absent, Alive, End
 use Rattle.sv_model.specs.declared.output.Output.TheVariants.{Answer, Refuse}
 use Rattle.sv_model.specs.declared.output.Cause.{Cause}
 use Rattle.sv_model.specs.declared.output.Cause.TheVariants.{TableFull, SerialsSpent}
-use Rattle.sv_model.specs.declared.state.TheConstants.{KEY_LIMIT}
 use Rattle.sv_model.specs.Container.{held_by}
 use Rattle.sv_model.specs.Engine.{EngineMeaning}
-use Rattle.sv_model.specs.NodeState.{Setting, Keys, Durable, Parked, Node, last_number, session_in}
+use Rattle.sv_model.specs.NodeState.{Setting, Keys, Durable, Parked, Node, last_number, session_in, is_own, is_full}
 use Rattle.sv_model.specs.Decision.{Decision, idle}
 
 -- the key and the secret of a session that is made, and the secret of one whose id is changed; the serial is 0 where
@@ -54,26 +53,30 @@ kept_at k s (Some (Sent e old to)) keys = keys
 kept_at k s (Some (Gone e)) keys = keys
 kept_at k s (Some (Ended e)) keys = keys
 
+-- a session has ended at an epoch: its key is kept so, or is forgotten where it is of the home whose keys are
+abbrev pub over_at : Option ℕ → Key → ℕ → Keys → Keys
+over_at home k e keys = cond (is_own home k) (remove keys k) (insert keys k (Ended e))
+
 -- one that is ended has ended at its epoch
-abbrev pub ended_at : Key → Option KeyState → Keys → Keys
-ended_at k None keys = keys
-ended_at k (Some (Active e old)) keys = insert keys k (Ended e)
-ended_at k (Some (Sent e old to)) keys = keys
-ended_at k (Some (Gone e)) keys = keys
-ended_at k (Some (Ended e)) keys = keys
+abbrev pub ended_at : Option ℕ → Key → Option KeyState → Keys → Keys
+ended_at home k None keys = keys
+ended_at home k (Some (Active e old)) keys = over_at home k e keys
+ended_at home k (Some (Sent e old to)) keys = keys
+ended_at home k (Some (Gone e)) keys = keys
+ended_at home k (Some (Ended e)) keys = keys
 
 -- the keys behind what became of the session that is named
-abbrev pub fated_keys : Option (Key × Secret) → Fate → Keys → Keys
-fated_keys None fate keys = keys
-fated_keys (Some named) Untouched keys = keys
-fated_keys (Some named) (Kept s) keys = kept_at named.0 s (get keys named.0) keys
-fated_keys (Some named) FateEnded keys = ended_at named.0 (get keys named.0) keys
+abbrev pub fated_keys : Option ℕ → Option (Key × Secret) → Fate → Keys → Keys
+fated_keys home None fate keys = keys
+fated_keys home (Some named) Untouched keys = keys
+fated_keys home (Some named) (Kept s) keys = kept_at named.0 s (get keys named.0) keys
+fated_keys home (Some named) FateEnded keys = ended_at home named.0 (get keys named.0) keys
 
 -- the keys behind what became of the session that was made: its epoch is 1
-abbrev pub born_keys : Key → Birth → Keys → Keys
-born_keys k Absent keys = keys
-born_keys k (Alive s) keys = insert keys k (Active 1 s)
-born_keys k BirthEnded keys = insert keys k (Ended 1)
+abbrev pub born_keys : Option ℕ → Key → Birth → Keys → Keys
+born_keys home k Absent keys = keys
+born_keys home k (Alive s) keys = insert keys k (Active 1 s)
+born_keys home k BirthEnded keys = over_at home k 1 keys
 
 abbrev pub next_with : Birth → ℕ → ℕ
 next_with Absent next = next
@@ -82,7 +85,7 @@ next_with BirthEnded next = next + 1
 
 -- what is kept behind an outcome
 abbrev pub kept_with : Option (Key × Secret) → Key → Outcome → Durable → Durable
-kept_with named fresh out d = record d { keys = born_keys fresh out.birth (fated_keys named out.fate d.keys); next = next_with out.birth d.next }
+kept_with named fresh out d = record d { keys = born_keys d.home fresh out.birth (fated_keys d.home named out.fate d.keys); next = next_with out.birth d.next }
 
 -- what a record says of the session that is named, and of the one that was made
 abbrev pub named_change : Option (Key × Secret) → Fate → Change
@@ -127,8 +130,8 @@ abbrev pub refused : Node → ℕ → Cause → List Parked → Decision
 refused n token cause waiting = record (idle n (Refuse token cause ∷ [])) { parked = waiting }
 
 -- a session that is made wants a serial, and room for its key
-abbrev pub no_birth : Durable → Birth → Option Cause
-no_birth d birth = cond (is_birth birth) (cond (d.next == last_number) (Some SerialsSpent) (cond (nat_le KEY_LIMIT (len d.keys)) (Some TableFull) None)) None
+abbrev pub no_birth : Setting → Durable → Birth → Option Cause
+no_birth set d birth = cond (is_birth birth) (cond (d.next == last_number) (Some SerialsSpent) (cond (is_full set d) (Some TableFull) None)) None
 
 abbrev pub answered_unless : Option Cause → EngineMeaning → Setting → Node → Moment → ℕ → Request → Outcome → List Parked → Decision
 answered_unless None m set n moment token r out waiting = answered m set n moment token r out waiting
@@ -138,4 +141,4 @@ answered_unless (Some cause) m set n moment token r out waiting = refused n toke
 abbrev pub served : EngineMeaning → Setting → Node → Moment → ℕ → Request → List Parked → Decision
 served m set n moment token r waiting =
     let out = answer_of m set n.durable moment r in
-    answered_unless (no_birth n.durable out.birth) m set n moment token r out waiting
+    answered_unless (no_birth set n.durable out.birth) m set n moment token r out waiting

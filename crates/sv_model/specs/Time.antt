@@ -1,7 +1,7 @@
 -- What time does: a session expires, a request has waited long enough, and what may have been lost is sent again.
-use Rattle.std.specs.Prelude.{ℕ, ◌+◌, Bool, false, not, cond, nat_le, Option, Some, None, List, [], ◌∷◌, ◌++◌, map}
+use Rattle.std.specs.Prelude.{ℕ, ◌+◌, ◌||◌, Bool, false, not, cond, nat_le, Option, Some, None, List, [], ◌∷◌, ◌++◌, map}
 use Rattle.std.specs.List.{filter, filter_map, flat_map}
-use Rattle.std.specs.FinMap.{get, entries}
+use Rattle.std.specs.FinMap.{entries}
 use Rattle.sv_model.specs.declared.key.Key.{Key}
 use Rattle.sv_model.specs.declared.state.KeyState.{KeyState}
 use Rattle.sv_model.specs.declared.state.KeyState.TheVariants.{Active, Sent, Gone, Ended}
@@ -13,8 +13,9 @@ use Rattle.sv_model.specs.declared.output.Output.{Output}
 use Rattle.sv_model.specs.declared.output.Output.TheVariants.{Refuse, Send}
 use Rattle.sv_model.specs.declared.output.Cause.TheVariants.{Deadline}
 use Rattle.sv_model.specs.Session.{is_expired}
-use Rattle.sv_model.specs.NodeState.{Setting, Durable, Parked, Node, is_settled}
-use Rattle.sv_model.specs.Decision.{Decision, idle, with_record}
+use Rattle.sv_model.specs.NodeState.{Setting, Durable, Parked, Node, known, is_settled, is_crowded}
+use Rattle.sv_model.specs.Decision.{Decision, idle}
+use Rattle.sv_model.specs.Serving.{over_at}
 use Rattle.sv_model.specs.Waiting.{wants}
 
 -- the session is active, and has expired
@@ -33,7 +34,12 @@ first_over now (e ∷ es) = cond (is_over now e.1) (Some e) (first_over now es)
 abbrev pub expire : Node → ℕ → Option (Key × KeyState) → List Output → Decision
 expire n now None outputs = idle n outputs
 expire n now (Some (k, Active e s)) outputs =
-    record (with_record n (ExpiredRecord k) k (Ended e) None outputs) { commit = Some (Expired k now); events = record { context = s.context; event = Destroyed k } ∷ [] }
+    record (idle n outputs) {
+      entry = Some (ExpiredRecord k);
+      commit = Some (Expired k now);
+      events = record { context = s.context; event = Destroyed k } ∷ [];
+      durable = record (n.durable) { keys = over_at n.durable.home k e n.durable.keys };
+    }
 expire n now (Some (k, Sent e s to)) outputs = idle n outputs
 expire n now (Some (k, Gone e)) outputs = idle n outputs
 expire n now (Some (k, Ended e)) outputs = idle n outputs
@@ -45,9 +51,13 @@ is_late set now p = nat_le (p.since + set.deadline) now
 abbrev pub deadlines : Setting → ℕ → List Parked → List Output
 deadlines set now parked = map (λ p. Refuse p.token Deadline) (filter (is_late set now) parked)
 
+-- the session may not be asked for again: the request can be served, or there is no room for what it waits for
+abbrev pub is_quiet : Setting → Durable → Parked → Bool
+is_quiet set d p = is_settled (known d p.key) || is_crowded set d p.key
+
 -- the requests that go on waiting ask for their sessions again
 abbrev pub wants_again : Setting → Durable → List Parked → List Output
-wants_again set d parked = flat_map (λ p. wants set d p.key p.want) (filter (λ p. not (is_settled (get d.keys p.key))) parked)
+wants_again set d parked = flat_map (λ p. wants set d p.key p.want) (filter (λ p. not (is_quiet set d p)) parked)
 
 -- a session that was handed over is handed over again
 abbrev pub grant_again : Setting → Key × KeyState → Option Output
@@ -61,6 +71,6 @@ on_tick set n now =
     let d = expire n now (first_over now (entries n.durable.keys)) [] in
     let waiting = filter (λ p. not (is_late set now p)) n.parked in
     record d {
-      outputs = deadlines set now n.parked ++ wants_again set d.durable waiting ++ filter_map (grant_again set) (entries d.durable.keys);
+      outputs = deadlines set now n.parked ++ wants_again set n.durable waiting ++ filter_map (grant_again set) (entries d.durable.keys);
       parked = waiting;
     }

@@ -1,7 +1,6 @@
 -- A request that waits for its session, which is asked for, and one that has waited.
 use Rattle.std.specs.Prelude.{ℕ, zero, suc, ◌+◌, ◌==◌, ◌||◌, Bool, not, cond, nat_le, Option, Some, None, List, [], ◌∷◌, ◌++◌, map, length}
 use Rattle.std.specs.List.{filter}
-use Rattle.std.specs.FinMap.{get}
 use Rattle.sv_model.specs.declared.key.Key.{Key}
 use Rattle.sv_model.specs.declared.key.Secret.{Secret}
 use Rattle.sv_model.specs.declared.key.Moment.{Moment}
@@ -10,10 +9,10 @@ use Rattle.sv_model.specs.declared.state.KeyState.{KeyState}
 use Rattle.sv_model.specs.declared.packet.Packet.TheVariants.{Want}
 use Rattle.sv_model.specs.declared.output.Output.{Output}
 use Rattle.sv_model.specs.declared.output.Output.TheVariants.{Send}
-use Rattle.sv_model.specs.declared.output.Cause.TheVariants.{ParkFull, WantsSpent}
+use Rattle.sv_model.specs.declared.output.Cause.TheVariants.{TableFull, ParkFull, WantsSpent}
 use Rattle.sv_model.specs.declared.state.TheConstants.{PARK_LIMIT}
 use Rattle.sv_model.specs.Engine.{EngineMeaning}
-use Rattle.sv_model.specs.NodeState.{Setting, Durable, Parked, Node, last_number, is_settled, is_dead}
+use Rattle.sv_model.specs.NodeState.{Setting, Durable, Parked, Node, last_number, known, is_settled, is_dead, is_crowded}
 use Rattle.sv_model.specs.Decision.{Decision, idle}
 use Rattle.sv_model.specs.Serving.{refused, served}
 
@@ -40,7 +39,9 @@ parks set n moment token r k =
 
 abbrev pub waits : Setting → Node → Moment → ℕ → Request → Key → Decision
 waits set n moment token r k =
-    cond (nat_le PARK_LIMIT (length n.parked)) (refused n token ParkFull n.parked) (cond (n.next_want == last_number) (refused n token WantsSpent n.parked) (parks set n moment token r k))
+    cond (is_crowded set n.durable k) (refused n token TableFull n.parked)
+    (cond (nat_le PARK_LIMIT (length n.parked)) (refused n token ParkFull n.parked)
+    (cond (n.next_want == last_number) (refused n token WantsSpent n.parked) (parks set n moment token r k)))
 
 abbrev pub on_named : EngineMeaning → Setting → Node → Moment → ℕ → Request → Key → Option KeyState → Decision
 on_named m set n moment token r k st =
@@ -48,7 +49,7 @@ on_named m set n moment token r k st =
 
 abbrev pub on_ask : EngineMeaning → Setting → Node → Moment → ℕ → Request → Option (Key × Secret) → Decision
 on_ask m set n moment token r None = served m set n moment token r n.parked
-on_ask m set n moment token r (Some named) = on_named m set n moment token r named.0 (get n.durable.keys named.0)
+on_ask m set n moment token r (Some named) = on_named m set n moment token r named.0 (known n.durable named.0)
 
 -- the first that passes, and the list without it
 abbrev pub first_of : (Parked → Bool) → List Parked → Option Parked
@@ -68,4 +69,4 @@ abbrev pub serve_parked : EngineMeaning → Setting → Node → Moment → (Par
 serve_parked m set n moment test = serve_first m set n moment (first_of test n.parked) (without test n.parked)
 
 abbrev pub on_poke : EngineMeaning → Setting → Node → Moment → Decision
-on_poke m set n moment = serve_parked m set n moment (λ p. is_settled (get n.durable.keys p.key))
+on_poke m set n moment = serve_parked m set n moment (λ p. is_settled (known n.durable p.key))

@@ -15,7 +15,7 @@ ghost use Rattle.sv_model.specs.Engine.{EngineMeaning, TouchesOnlyHanded, KeepsL
 ghost use Rattle.sv_model.specs.NodeState.{Node};
 ghost use Rattle.sv_model.specs.Node.{decided};
 ghost use Rattle.sv_model.specs.Journaled.{IsJournaled};
-ghost use Rattle.sv_model.specs.Rows.{IsExample, IsHandedOver, AreLate, IsNeverMade, AreTicks, AreOrders};
+ghost use Rattle.sv_model.specs.Rows.{IsExample, IsHandedOver, AreLate, IsNeverMade, AreTicks, AreOrders, AreForgotten, AreFull, AreForgetting};
 ghost use Rattle.sv_model.specs.Ranges.{IsSetting, IsInput, IsRanged, IsRangedStep};
 
 /// The record of a step may stand behind those of the node, and makes of what the node kept durably what it keeps behind
@@ -35,7 +35,8 @@ pub fn ranged()
 /// Examples of the table with three nodes, written out: a session is made at one node and handed over to another that is
 /// asked for it; packets that come again or late change nothing; a request for a session that was never made is served
 /// without it; what was lost is sent again, and a request that has waited long enough is refused; a session is moved by order, and
-/// ends when it has expired; and no more than 64 requests wait.
+/// ends when it has expired; no more than 64 requests wait; a node that forgets answers for what it has forgotten as for what has
+/// ended; and one that has no room for a key leaves its session where it is.
 pub fn worked()
     ensures handed_over { (m : EngineMeaning) (secret : Secret) (first again : Request) (made kept : Session) (one two : Response) (events more : List Told)
         → IsExample m secret first again made kept one two events more → IsHandedOver m secret first again made kept one two events more }
@@ -45,6 +46,11 @@ pub fn worked()
         → IsExample m secret first again made kept one two events more → IsNeverMade m secret first again made kept one two events more }
     ensures ticks { (m : EngineMeaning) (secret : Secret) (first again : Request) (made kept : Session) (one two : Response) (events more : List Told)
         → IsExample m secret first again made kept one two events more → AreTicks m secret first again made kept one two events more }
+    ensures forgotten { (m : EngineMeaning) (secret : Secret) (first again : Request) (made kept : Session) (one two : Response) (events more : List Told)
+        → IsExample m secret first again made kept one two events more → AreForgotten m secret first again made kept one two events more }
+    ensures full { (m : EngineMeaning) (secret : Secret) (first again : Request) (made kept : Session) (one two : Response) (events more : List Told)
+        → IsExample m secret first again made kept one two events more → AreFull m secret first again made kept one two events more }
+    ensures forgetting { (s : Session) → AreForgetting s }
     ensures orders { (m : EngineMeaning) (secret : Secret) (first again : Request) (made kept : Session) (one two : Response) (events more : List Told)
         → IsExample m secret first again made kept one two events more → AreOrders m secret first again made kept one two events more }
 {}

@@ -55,5 +55,5 @@ pub use session::{
     ATTRIBUTE_LIMIT, CONTEXT_LIMIT, NAME_LIMIT, SESSION_LIMIT, Session, VALUE_LIMIT,
 };
 pub use site::{Site, StepFault};
-pub use state::{KEY_LIMIT, KeyState, PARK_LIMIT};
+pub use state::{KEY_LIMIT, KEY_MOST, KeyState, PARK_LIMIT};
 pub use text::Text;

@@ -63,6 +63,22 @@ pub enum Record {
         /// The serial of the next session that is made here.
         next: u64,
     },
+    /// Kind 9: the node starts, and forgets its own keys that end here from now on.
+    Forgets {
+        /// The node's number.
+        home: u8,
+        /// The time that it starts for.
+        boot: u64,
+    },
+    /// Kind 10: the head of a snapshot of a node that forgets.
+    Counted {
+        /// The node's number.
+        home: u8,
+        /// The number of the last start.
+        boot: u64,
+        /// The serial of the next session that is made here.
+        next: u64,
+    },
 }
 
 impl Change {
@@ -125,6 +141,8 @@ impl Record {
                 state: state.copy(alloc)?,
             },
             Record::Counters { boot, next } => Record::Counters { boot, next },
+            Record::Forgets { home, boot } => Record::Forgets { home, boot },
+            Record::Counted { home, boot, next } => Record::Counted { home, boot, next },
         };
         Ok(copy)
     }

@@ -5,8 +5,11 @@ ghost use Rattle.std.specs.Prelude.{◌≡◌, IfOk};
 use crate::session::Session;
 use std::alloc::{AllocError, Global};
 
-/// The keys that a node knows, at most.
+/// The keys that a node knows, at most, where its setting says nothing else.
 pub const KEY_LIMIT: usize = 65_536;
+
+/// The keys that a node knows, at most, whatever its setting says.
+pub const KEY_MOST: usize = 1_048_576;
 
 /// The requests that wait at a node for their sessions, at most.
 pub const PARK_LIMIT: usize = 64;

@@ -97,6 +97,12 @@ kept_lawful v = pair_lawful key (key_state v) key_lawful (state_lawful v)
 counters_lawful : Lawful (pair long counting)
 counters_lawful = pair_lawful long counting long_lawful counting_lawful
 
+forgets_lawful : Lawful (pair node counting)
+forgets_lawful = pair_lawful node counting node_lawful counting_lawful
+
+counted_lawful : Lawful (pair node (pair long counting))
+counted_lawful = pair_lawful node (pair long counting) node_lawful counters_lawful
+
 record_takes : (v : Version) → TakesByKind spec.kind_of (spec.fields v) (spec.FieldsFit v) (spec.by_kind v)
 record_takes v =
     kind_takes spec.kind_of (spec.fields v) (spec.FieldsFit v) 1 counting rec.Boot _ counting_lawful (λ b. (refl, refl, λ fits. fits)) (
@@ -107,7 +113,9 @@ record_takes v =
     kind_takes spec.kind_of (spec.fields v) (spec.FieldsFit v) 6 (pair key counting) (λ x. rec.Gone x.0 x.1) _ gone_lawful (λ b. (refl, refl, λ fits. fits)) (
     kind_takes spec.kind_of (spec.fields v) (spec.FieldsFit v) 7 (pair key (key_state v)) (λ x. rec.State x.0 x.1) _ (kept_lawful v) (λ b. (refl, refl, λ fits. fits)) (
     kind_takes spec.kind_of (spec.fields v) (spec.FieldsFit v) 8 (pair long counting) (λ x. rec.Counters x.0 x.1) _ counters_lawful (λ b. (refl, refl, λ fits. fits)) (
-    no_kind_takes spec.kind_of (spec.fields v) (spec.FieldsFit v) Foreign))))))))
+    kind_takes spec.kind_of (spec.fields v) (spec.FieldsFit v) 9 (pair node counting) (λ x. rec.Forgets x.0 x.1) _ forgets_lawful (λ b. (refl, refl, λ fits. fits)) (
+    kind_takes spec.kind_of (spec.fields v) (spec.FieldsFit v) 10 (pair node (pair long counting)) (λ x. rec.Counted x.0 x.1.0 x.1.1) _ counted_lawful (λ b. (refl, refl, λ fits. fits)) (
+    no_kind_takes spec.kind_of (spec.fields v) (spec.FieldsFit v) Foreign))))))))))
 
 record_small : (r : Record) → spec.kind_of r < 256
 record_small (rec.Boot b) = lit< tt
@@ -118,6 +126,8 @@ record_small (rec.Taken k e from s) = lit< tt
 record_small (rec.Gone k e) = lit< tt
 record_small (rec.State k s) = lit< tt
 record_small (rec.Counters b next) = lit< tt
+record_small (rec.Forgets home b) = lit< tt
+record_small (rec.Counted home b next) = lit< tt
 
 record_again : (v : Version) (r : Record) (rest : List ℕ) → spec.FieldsFit v r → spec.by_kind v (spec.kind_of r) (spec.fields v r ++ rest) ≡ Ok (r, rest)
 record_again v (rec.Boot b) rest fits = rw (counting_lawful.again b rest fits) refl
@@ -128,6 +138,8 @@ record_again v (rec.Taken k e from s) rest fits = rw ((handover_lawful v).again 
 record_again v (rec.Gone k e) rest fits = rw (gone_lawful.again (k, e) rest fits) refl
 record_again v (rec.State k s) rest fits = rw ((kept_lawful v).again (k, s) rest fits) refl
 record_again v (rec.Counters b next) rest fits = rw (counters_lawful.again (b, next) rest fits) refl
+record_again v (rec.Forgets home b) rest fits = rw (forgets_lawful.again (home, b) rest fits) refl
+record_again v (rec.Counted home b next) rest fits = rw (counted_lawful.again (home, (b, next)) rest fits) refl
 
 pub record_lawful : (v : Version) → Lawful (record_format v)
 unfolding record_format

@@ -206,6 +206,8 @@ record_range v (rec.Taken k e from s) fits = handover_range v k e from s fits
 record_range v (rec.Gone k e) fits = (key_range k fits.0, counting_range e fits.1)
 record_range v (rec.State k s) fits = (key_range k fits.0, state_range v s fits.1)
 record_range v (rec.Counters b next) fits = counting_range next fits.1
+record_range v (rec.Forgets home b) fits = (node_range home fits.0, counting_range b fits.1)
+record_range v (rec.Counted home b next) fits = (node_range home fits.0, counting_range next fits.1.1)
 
 pub packet_range : (v : Version) (p : Packet) → packet.HasSpellingBy v p → IsPacket p
 unfolding packet.packet_format

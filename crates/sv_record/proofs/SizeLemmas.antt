@@ -77,3 +77,5 @@ record_size v (rec.Taken k e from s) fits = omega (arith, session_size v s fits.
 record_size v (rec.Gone k e) fits = omega arith
 record_size v (rec.State k s) fits = omega (arith, state_size v s fits.1)
 record_size v (rec.Counters b next) fits = omega arith
+record_size v (rec.Forgets home b) fits = omega arith
+record_size v (rec.Counted home b next) fits = omega arith

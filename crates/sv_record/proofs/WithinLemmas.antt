@@ -119,6 +119,8 @@ record_there v (rec.Taken k e from s) fits = ((fits.0, (fits.1.0, (fits.1.1.0, s
 record_there v (rec.Gone k e) fits = (fits, tt)
 record_there v (rec.State k s) fits = let a = state_there v s fits.1 in ((fits.0, a.0), a.1)
 record_there v (rec.Counters b next) fits = (fits, tt)
+record_there v (rec.Forgets home b) fits = (fits, tt)
+record_there v (rec.Counted home b next) fits = (fits, tt)
 
 record_back : (v : Version) (r : Record) → spec.HasSpelling r → IsRecordWithin v r → spec.HasSpellingBy v r
 unfolding spec.record_format commit
@@ -130,6 +132,8 @@ record_back v (rec.Taken k e from s) fits is = (fits.0, (fits.1.0, (fits.1.1.0, 
 record_back v (rec.Gone k e) fits is = fits
 record_back v (rec.State k s) fits is = (fits.0, state_back v s fits.1 is)
 record_back v (rec.Counters b next) fits is = fits
+record_back v (rec.Forgets home b) fits is = fits
+record_back v (rec.Counted home b next) fits is = fits
 
 pub record_by : (v : Version) (r : Record) → spec.HasSpellingBy v r ↔ (spec.HasSpelling r × IsRecordWithin v r)
 record_by v r = (λ fits. record_there v r fits, λ is. record_back v r is.0 is.1)

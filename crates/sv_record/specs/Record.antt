@@ -7,7 +7,7 @@ use Rattle.sv_model.specs.declared.state.KeyState.TheVariants as kept
 use Rattle.sv_model.specs.declared.record.Change.{Change}
 use Rattle.sv_model.specs.declared.record.Change.TheVariants.{Absent, Alive, Ended}
 use Rattle.sv_model.specs.declared.record.Record.{Record}
-use Rattle.sv_model.specs.declared.record.Record.TheVariants.{Boot, Commit, Expired, Sent, Taken, Gone, State, Counters}
+use Rattle.sv_model.specs.declared.record.Record.TheVariants.{Boot, Commit, Expired, Sent, Taken, Gone, State, Counters, Forgets, Counted}
 use Rattle.sv_model.specs.Ranges.{is_absent}
 use Rattle.sv_record.specs.declared.fault.RecordFault.{RecordFault}
 use Rattle.sv_record.specs.declared.fault.RecordFault.TheVariants.{Foreign, BadField}
@@ -100,6 +100,8 @@ kind_of (Taken k e from s) = 5
 kind_of (Gone k e) = 6
 kind_of (State k s) = 7
 kind_of (Counters b next) = 8
+kind_of (Forgets home b) = 9
+kind_of (Counted home b next) = 10
 
 -- what stands behind the kind
 abbrev pub fields : Version → Record → List ℕ
@@ -111,6 +113,8 @@ fields v (Taken k e from s) = (handover v).text (k, (e, (from, s)))
 fields v (Gone k e) = (pair key counting).text (k, e)
 fields v (State k s) = (pair key (key_state v)).text (k, s)
 fields v (Counters b next) = (pair long counting).text (b, next)
+fields v (Forgets home b) = (pair node counting).text (home, b)
+fields v (Counted home b next) = (pair node (pair long counting)).text (home, (b, next))
 
 -- the records whose fields have a spelling
 abbrev pub FieldsFit : Version → Record → Type 0
@@ -122,6 +126,8 @@ FieldsFit v (Taken k e from s) = (handover v).Fits (k, (e, (from, s)))
 FieldsFit v (Gone k e) = (pair key counting).Fits (k, e)
 FieldsFit v (State k s) = (pair key (key_state v)).Fits (k, s)
 FieldsFit v (Counters b next) = (pair long counting).Fits (b, next)
+FieldsFit v (Forgets home b) = (pair node counting).Fits (home, b)
+FieldsFit v (Counted home b next) = (pair node (pair long counting)).Fits (home, (b, next))
 
 -- reading the fields; another kind is foreign
 abbrev pub by_kind : Version → ByKind Record
@@ -134,7 +140,9 @@ by_kind v =
     kind_at 6 (pair key counting) (λ x. Gone x.0 x.1) (
     kind_at 7 (pair key (key_state v)) (λ x. State x.0 x.1) (
     kind_at 8 (pair long counting) (λ x. Counters x.0 x.1) (
-    no_kind Foreign))))))))
+    kind_at 9 (pair node counting) (λ x. Forgets x.0 x.1) (
+    kind_at 10 (pair node (pair long counting)) (λ x. Counted x.0 x.1.0 x.1.1) (
+    no_kind Foreign))))))))))
 
 -- a record behind its version
 unfoldable pub record_format : Version → Format Record

@@ -7,7 +7,7 @@ use Rattle.sv_model.specs.declared.state.KeyState.TheVariants as kept
 use Rattle.sv_model.specs.declared.record.Change.{Change}
 use Rattle.sv_model.specs.declared.record.Change.TheVariants.{Absent, Alive, Ended}
 use Rattle.sv_model.specs.declared.record.Record.{Record}
-use Rattle.sv_model.specs.declared.record.Record.TheVariants.{Boot, Commit, Expired, Sent, Taken, Gone, State, Counters}
+use Rattle.sv_model.specs.declared.record.Record.TheVariants.{Boot, Commit, Expired, Sent, Taken, Gone, State, Counters, Forgets, Counted}
 use Rattle.sv_model.specs.declared.packet.Packet.{Packet}
 use Rattle.sv_model.specs.declared.packet.Packet.TheVariants.{Want, Grant, Ack, No}
 use Rattle.sv_record.specs.declared.version.Version.{Version}
@@ -41,6 +41,8 @@ IsRecordWithin v (Taken k e from s) = IsWithin v s
 IsRecordWithin v (Gone k e) = Unit {0}
 IsRecordWithin v (State k s) = IsStateWithin v s
 IsRecordWithin v (Counters b next) = Unit {0}
+IsRecordWithin v (Forgets home b) = Unit {0}
+IsRecordWithin v (Counted home b next) = Unit {0}
 
 -- the session of a packet, if it has one
 abbrev pub IsPacketWithin : Version → Packet → Type 0

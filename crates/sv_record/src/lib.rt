@@ -21,6 +21,7 @@ mod packet_fields;
 mod record;
 mod record_fields;
 mod session;
+mod start_fields;
 mod state;
 mod version;
 

@@ -1,7 +1,7 @@
 //! What stands behind the version of a record: its kind and its fields.
 
 ghost use Rattle.std.specs.Prelude.{◌≡◌, ◌++◌, length, take, OnOk, OnErr};
-ghost use Rattle.sv_model.specs.declared.record.Record.TheVariants.{Boot, Commit, Expired, Sent, Taken, Gone, State, Counters};
+ghost use Rattle.sv_model.specs.declared.record.Record.TheVariants.{Commit, Expired, Sent, Taken, Gone, State};
 ghost use Rattle.sv_model.specs.Ranges.{IsRecord};
 ghost use Rattle.sv_record.specs.Reading.{Gives};
 ghost use Rattle.sv_record.specs.Record.{by_kind, record_format};
@@ -11,7 +11,11 @@ use crate::change::{read_changes, write_changes};
 use crate::fault::RecordFault;
 use crate::handover::{read_handover, write_handover};
 use crate::key::{read_key, write_key};
-use crate::number::{read_byte, read_counting, read_u64, write_byte, write_counting, write_u64};
+use crate::number::{read_byte, read_counting, write_byte, write_counting};
+use crate::start_fields::{
+    read_boot, read_counted, read_counters, read_forgets, write_boot, write_counted,
+    write_counters, write_forgets,
+};
 use crate::state::{read_state, write_state};
 use crate::version::Version;
 use std::alloc::{AllocError, Global};
@@ -47,16 +51,10 @@ fn read_kind(
         6 => read_gone(bytes),
         7 => read_kept(alloc, version, bytes),
         8 => read_counters(bytes),
+        9 => read_forgets(bytes),
+        10 => read_counted(bytes),
         _ => Err(RecordFault::Foreign),
     }
-}
-
-// A kind without a session is read the same by each version.
-fn read_boot(bytes: &[u8]) -> Result<(Record, &[u8]), RecordFault>
-    ensures { Gives (λ x. (x.0, x.1.now)) result (by_kind One 1 bytes.now) }
-{
-    let (boot, rest) = read_counting(bytes)?;
-    Ok((Record::Boot(boot), rest))
 }
 
 fn read_commit(
@@ -70,6 +68,7 @@ fn read_commit(
     Ok((Record::Commit { named, born }, rest))
 }
 
+// A kind without a session is read the same by each version.
 fn read_expired(bytes: &[u8]) -> Result<(Record, &[u8]), RecordFault>
     ensures { Gives (λ x. (x.0, x.1.now)) result (by_kind One 3 bytes.now) }
 {
@@ -119,14 +118,6 @@ fn read_kept(alloc: Global, version: Version, bytes: &[u8]) -> Result<(Record, &
     Ok((Record::State { key, state }, rest))
 }
 
-fn read_counters(bytes: &[u8]) -> Result<(Record, &[u8]), RecordFault>
-    ensures { Gives (λ x. (x.0, x.1.now)) result (by_kind One 8 bytes.now) }
-{
-    let (boot, rest) = read_u64(bytes)?;
-    let (next, rest) = read_counting(rest)?;
-    Ok((Record::Counters { boot, next }, rest))
-}
-
 #[tactic(auto, unfolding(crate::specs::Record::record_format))]
 pub(crate) fn write_fields(entry: &Record, out: &mut Vec<u8>) -> Result<(), AllocError>
     requires { IsRecord entry.now }
@@ -153,18 +144,9 @@ pub(crate) fn write_fields(entry: &Record, out: &mut Vec<u8>) -> Result<(), Allo
         Record::Gone { key, epoch } => write_gone(*key, *epoch, out),
         Record::State { key, state } => write_kept(*key, state, out),
         Record::Counters { boot, next } => write_counters(*boot, *next, out),
+        Record::Forgets { home, boot } => write_forgets(*home, *boot, out),
+        Record::Counted { home, boot, next } => write_counted(*home, *boot, *next, out),
     }
-}
-
-#[tactic(auto, unfolding(crate::specs::Record::record_format))]
-fn write_boot(boot: u64, out: &mut Vec<u8>) -> Result<(), AllocError>
-    requires { IsRecord (Boot boot) }
-    ensures ok { OnOk result (out.new.items ≡ out.old.items ++ (record_format Two).text (Boot boot)) }
-    ensures fits { OnOk result ((record_format Two).Fits (Boot boot)) }
-    ensures err { OnErr result (take (length out.old.items) out.new.items ≡ out.old.items) }
-{
-    write_byte(1, out)?;
-    write_counting(boot, out)
 }
 
 #[tactic(auto, unfolding(crate::specs::Record::record_format))]
@@ -245,16 +227,4 @@ fn write_kept(key: Key, state: &KeyState, out: &mut Vec<u8>) -> Result<(), Alloc
     write_byte(7, out)?;
     write_key(key, out)?;
     write_state(state, out)
-}
-
-#[tactic(auto, unfolding(crate::specs::Record::record_format))]
-fn write_counters(boot: u64, next: u64, out: &mut Vec<u8>) -> Result<(), AllocError>
-    requires { IsRecord (Counters boot next) }
-    ensures ok { OnOk result (out.new.items ≡ out.old.items ++ (record_format Two).text (Counters boot next)) }
-    ensures fits { OnOk result ((record_format Two).Fits (Counters boot next)) }
-    ensures err { OnErr result (take (length out.old.items) out.new.items ≡ out.old.items) }
-{
-    write_byte(8, out)?;
-    write_u64(boot, out)?;
-    write_counting(next, out)
 }

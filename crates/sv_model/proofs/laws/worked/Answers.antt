@@ -1,4 +1,4 @@
-use Rattle.sv_model.proofs.RowLemmas.{handed_over, late, never_made, ticks, orders}
+use Rattle.sv_model.proofs.RowLemmas.{handed_over, late, never_made, ticks, orders, forgotten, full, forgetting}
 use Rattle.sv_model.proofs.laws.worked.Goals as goal
 
 pub returns-clause-handed_over : goal.returns-clause-handed_over
@@ -15,3 +15,12 @@ returns-clause-ticks c = ticks
 
 pub returns-clause-orders : goal.returns-clause-orders
 returns-clause-orders c = orders
+
+pub returns-clause-forgotten : goal.returns-clause-forgotten
+returns-clause-forgotten c = forgotten
+
+pub returns-clause-full : goal.returns-clause-full
+returns-clause-full c = full
+
+pub returns-clause-forgetting : goal.returns-clause-forgetting
+returns-clause-forgetting c = forgetting

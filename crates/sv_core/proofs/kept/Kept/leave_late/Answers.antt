@@ -3,7 +3,7 @@ use Rattle.std.specs.Prelude.{not}
 use Rattle.std.specs.List.{filter}
 use Rattle.std.proofs.lemmas.Fn.{filter_same}
 use Rattle.sv_model.specs.Time.{is_late}
-use Rattle.sv_core.specs.Table.{keys_of}
+use Rattle.sv_core.specs.Kept.{node_of}
 use Rattle.sv_core.specs.Wants.{Rise, keys_in, wants_in, is_here, IsLine, wants_here, wants_where}
 use Rattle.sv_core.proofs.WantLemmas.{line_rises, line_passing, where_filter}
 use Rattle.sv_core.proofs.kept.Kept.leave_late.Goals as goal
@@ -19,9 +19,10 @@ invariant_of-self c =
     record {
       keyed = c.list_keys.ensures ∙ ap keys_in c.deref-2.ensures.value;
       line = subst (IsLine k.next_want) (sym left) (line_passing (λ p. not (is_late k.setting c.args.now p)) k.next_want k.parked.items k.line);
-      walked = c.forget_late.ensures (is_here (keys_of k.keys)) (k.walked ∙ ap (wants_here (keys_of k.keys)) (sym c.deref.ensures.value))
-          ∙ ap (wants_where (λ p. cond (is_late k.setting c.args.now p) false (is_here (keys_of k.keys) p))) c.deref.ensures.value
-          ∙ where_filter (is_late k.setting c.args.now) (is_here (keys_of k.keys)) k.parked.items ∙ ap (wants_here (keys_of k.keys)) (sym left);
+      walked = c.forget_late.ensures (is_here (node_of k).durable) (k.walked ∙ ap (wants_here (node_of k).durable) (sym c.deref.ensures.value))
+          ∙ ap (wants_where (λ p. cond (is_late k.setting c.args.now p) false (is_here (node_of k).durable p))) c.deref.ensures.value
+          ∙ where_filter (is_late k.setting c.args.now) (is_here (node_of k).durable) k.parked.items ∙ ap (wants_here (node_of k).durable) (sym left);
+      ended = k.ended;
     }
 
 pub returns-clause-node : goal.returns-clause-node
@@ -29,4 +30,4 @@ returns-clause-node c =
     let k = c.args.self.now in
     let left : c.retain.new.self.items ≡ filter (λ p. not (is_late k.setting c.args.now p)) k.parked.items =
     filter_same _ (λ p. not (is_late k.setting c.args.now p)) _ (λ x b f' k. search rules) _ _ c.retain.ensures.filtered in
-    λ i. record { durable = record { keys = keys_of k.keys; boot = k.boot; next = k.next }; parked = left i; next_want = k.next_want }
+    λ i. record { durable = (node_of k).durable; parked = left i; next_want = k.next_want }

@@ -1,9 +1,9 @@
 use Rattle.std.proofs.Common.{◌++◌, ◌∷◌, [], length, map, sym, ap, subst, ◌∙◌}
-use Rattle.sv_model.specs.declared.record.Record.TheVariants.{Counters}
 use Rattle.sv_core.specs.declared.directory.Directory.{Directory}
 use Rattle.sv_core.specs.Places.{AreWithin, seen}
 use Rattle.sv_core.specs.Directory.{places_in}
-use Rattle.sv_core.specs.Snapshot.{state_record}
+use Rattle.sv_core.specs.Snapshot.{state_record, head_of}
+use Rattle.sv_core.specs.Kept.{node_of}
 use Rattle.sv_core.proofs.DirectoryLemmas.{front_within, back_within}
 use Rattle.sv_core.proofs.SnapshotLemmas.{states_joined}
 use Rattle.sv_core.proofs.TableLemmas.{entries_are}
@@ -23,8 +23,8 @@ pub returns : goal.returns
 returns c =
     let k = c.args.self.now in
     let t = k.keys in
-    states_joined t.states.items t.places.low.items t.places.high.items (Counters k.boot k.next) c.push.new.self.items c.add_states.new.records.items c.add_states-2.new.records.items
-    (c.in_ok-push.ensures.items ∙ ap (λ l. l ++ Counters k.boot k.next ∷ []) c.new-records.ensures.items)
+    states_joined t.states.items t.places.low.items t.places.high.items (head_of (node_of k).durable) c.push.new.self.items c.add_states.new.records.items c.add_states-2.new.records.items
+    (c.in_ok-push.ensures.items ∙ (λ i. c.new-records.ensures.items i ++ c.head.ensures i ∷ []))
     (c.in_ok-add_states.ensures ∙ ap (λ l. c.push.new.self.items ++ map state_record (seen t.states.items l)) (c.low.ensures ∙ ap (λ (d : Directory). d.low.items) c.places.ensures))
     (c.in_ok-add_states-2.ensures ∙ ap (λ l. c.add_states.new.records.items ++ map state_record (seen t.states.items l)) (c.high.ensures ∙ ap (λ (d : Directory). d.high.items) c.places-2.ensures))
-    ∙ ap (λ l. Counters k.boot k.next ∷ map state_record l) (sym (entries_are t.states.items (places_in t.places) t.places.rises))
+    ∙ ap (λ l. head_of (node_of k).durable ∷ map state_record l) (sym (entries_are t.states.items (places_in t.places) t.places.rises))

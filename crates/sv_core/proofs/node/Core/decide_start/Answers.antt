@@ -1,8 +1,9 @@
 use Rattle.std.proofs.Common.{sym, subst}
 use Rattle.std.proofs.lemmas.Option.{IfSome_then}
 use Rattle.sv_model.specs.NodeState.{Node}
+use Rattle.sv_model.specs.declared.node.Setting.{Setting}
 use Rattle.sv_model.specs.Journaled.{IsJournaled}
-use Rattle.sv_model.specs.Ranges.{IsRanged, IsRangedStep}
+use Rattle.sv_model.specs.Ranges.{IsSetting, IsRanged, IsRangedStep}
 use Rattle.sv_core.specs.Kept.{node_of}
 use Rattle.sv_core.specs.Core.{starts}
 use Rattle.sv_core.specs.Decision.{decision_of}
@@ -15,10 +16,11 @@ returns-clause-journaled g c =
     let set = c.args.self.now.kept.setting in
     let old = node_of c.args.self.now.kept in
     IfSome_then c.start.result c.start.ensures.start (λ d is. subst (λ e. IsJournaled set old (decision_of k.setting (node_of k) e)) (sym is)
-    (subst (λ (n : Node). IsJournaled set n (starts (node_of k))) c.in_ok-reserve.ensures.node (starts_journaled set (node_of k))))
+    (subst (λ (s : Setting). IsJournaled set old (starts s (node_of k))) (sym c.in_ok-reserve.ensures.setting)
+    (subst (λ (n : Node). IsJournaled set n (starts set (node_of k))) c.in_ok-reserve.ensures.node (starts_journaled set (node_of k)))))
 
 pub returns-clause-ranged : goal.returns-clause-ranged
 returns-clause-ranged g c =
     let k = c.reserve.new.self in
-    λ within. IfSome_then c.start.result c.start.ensures.start (λ d is. subst (λ e. IsRangedStep (decision_of k.setting (node_of k) e)) (sym is)
-    (starts_ranged (node_of k) (subst IsRanged (sym c.in_ok-reserve.ensures.node) within)))
+    λ inside within. IfSome_then c.start.result c.start.ensures.start (λ d is. subst (λ e. IsRangedStep (decision_of k.setting (node_of k) e)) (sym is)
+    (starts_ranged k.setting (node_of k) (subst IsSetting (sym c.in_ok-reserve.ensures.setting) inside) (subst IsRanged (sym c.in_ok-reserve.ensures.node) within)))
