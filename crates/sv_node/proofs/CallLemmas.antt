@@ -43,7 +43,7 @@ module _ {E D : Type 0} (meaning : E → EngineMeaning) (heard : E → List (Lis
 -- ---- an opening
 
 pub opened : {E D : Type 0} (meaning : E → EngineMeaning) (heard : E → List (List ℕ)) (n : Node E D) (engine : E) (set : Setting) (d : Durable)
-    → IsStarted meaning heard n engine set → d.boot ≢ last_number → durable_of n ≡ restarted d → IsOpenCall set d n
+    → IsStarted meaning heard n engine set → d.boot ≢ last_number → durable_of n ≡ restarted set d → IsOpenCall set d n
 opened meaning heard n engine set d s some is = record {
   does = λ m. (refl, some, λ i. quiet (record { durable = is i; parked = s.parked i; next_want = s.next_want i }));
   runs = s.live;

@@ -1,9 +1,9 @@
 -- Records in the place of others: what they give, and what a stop leaves.
-use Rattle.std.proofs.Common.{◌≡◌, inl, inr, ⊎_elim, ℕ, ◌≤◌, Bool, true, false, cond, not, List, [], ◌∷◌, map, Result, Ok, Err, IsTrue, OnOk, OnErr, IsErr, IsErrOf, refl, ap, sym, subst, arith}
+use Rattle.std.proofs.Common.{◌≡◌, inl, inr, ⊎_elim, ℕ, ◌≤◌, Bool, true, false, cond, not, Option, Some, None, List, [], ◌∷◌, map, Result, Ok, Err, IsTrue, OnOk, OnErr, IsErr, IsErrOf, refl, ap, sym, subst, arith}
 use Rattle.std.proofs.lemmas.List.Elements.{All-from_recursion}
 use Rattle.std.specs.FinMap.{entries}
 use Rattle.std.specs.List.{All, AllByRecursion}
-use Rattle.sv_core.specs.Snapshot.{staged, state_record, snapshot_of}
+use Rattle.sv_core.specs.Snapshot.{staged, state_record, head_by, snapshot_of}
 use Rattle.sv_core.proofs.SoundLemmas.{sound_blank, sound_replayed}
 use Rattle.sv_core.proofs.SnapshotLemmas.{snapshot_fits, snapshot_gives}
 use Rattle.sv_journal.specs.Disk.{Only, LeavesOnly, TellsOn, HasRisen}
@@ -20,10 +20,12 @@ use Rattle.sv_model.specs.Engine.{EngineMeaning}
 use Rattle.sv_model.specs.Membership.{In}
 use Rattle.sv_model.specs.NodeState.{Durable, Node as State}
 use Rattle.sv_model.specs.Ranges.{IsRecord, IsState, IsRanged}
-use Rattle.sv_model.specs.Keys.{IsKey}
+use Rattle.sv_model.specs.Keys.{IsKey, IsNode as IsNumber, IsCounting}
+use Rattle.std.specs.Prelude.{IfSome}
 use Rattle.sv_model.specs.Replay.{blank, replayed}
-use Rattle.sv_model.proofs.EntryLemmas.{known}
-use Rattle.sv_node.specs.Compaction.{HasTurned, written, spared, len_with, HasNoRoom, RestoresBeside, LeavesSame, CompactionEnds, IsCompaction}
+use Rattle.sv_model.proofs.EntryLemmas.{entry_kept}
+use Rattle.sv_record.specs.Record.{spelling}
+use Rattle.sv_node.specs.Compaction.{HasTurned, written, spared, len_with, HasNoRoom, RestoresBeside, LeavesSame, LeavesReplaced, CompactionEnds, IsCompaction}
 use Rattle.sv_node.specs.Node.{view_of, setting_of, durable_of, journal_of, IsNode}
 use Rattle.sv_node.specs.Records.{Give, Replays}
 use Rattle.sv_node.specs.Stops.{TellsBoth, Stores, Restores}
@@ -36,8 +38,12 @@ states_ranged : (es : List (Key × KeyState)) → ((e : Key × KeyState) → In 
 states_ranged [] f = tt
 states_ranged (e ∷ es) f = (f e (inl refl), states_ranged es (λ x i. f x (inr i)))
 
+head_ranged : (home : Option ℕ) (boot next : ℕ) → IfSome home IsNumber → IsCounting next → IsRecord (head_by home boot next)
+head_ranged None boot next own counts = counts
+head_ranged (Some h) boot next own counts = (own, counts)
+
 pub snapshot_ranged : (n : State) → IsRanged n → All IsRecord (snapshot_of n.durable)
-snapshot_ranged n r = All-from_recursion IsRecord (snapshot_of n.durable) (r.next, states_ranged (entries n.durable.keys) (λ e i. r.known e.0 e.1 (known n.durable.keys e i)))
+snapshot_ranged n r = All-from_recursion IsRecord (snapshot_of n.durable) (head_ranged n.durable.home n.durable.boot n.durable.next r.home r.next, states_ranged (entries n.durable.keys) (λ e i. r.known e.0 e.1 (entry_kept n.durable.keys e i)))
 
 pub snapshot_is : (set : Setting) (entries : List (List ℕ)) (d : Durable) → Replays set entries d → Give set (snapshot_of d) d
 snapshot_is set entries d r =
@@ -98,6 +104,17 @@ module _ {D : Type 0} (tells : D → Type 0) (seen : D → List ℕ) (may_leave 
         each = λ c left. subst (RestoresBeside set (seen journal.current) d) (sym (s.holds.other_durable c (only_now journal.other c told left))) here;
         before = λ t c le left. inl left;
       }
+
+  pub unmoved_entries : ((disk : D) (c : List ℕ) → tells disk → left_since disk (moment disk) c → may_leave disk c)
+      → (journal : JournalView D) (records : List Record) → tells journal.other → LeavesReplaced seen may_leave moment left_since journal journal records
+  unmoved_entries only_now journal records told before h =
+      let P : List ℕ → Type 0 = OpensReplaced (seen journal.current) before (map spelling records) in
+      subst (λ (z : D). LeavesOnly moment left_since journal.other z P) (sym (written_stayed journal journal refl))
+      (record {
+        later = omega arith;
+        each = λ c left. subst P (sym (h.other_durable c (only_now journal.other c told left))) (inl (opens_on tells seen may_leave moment left_since journal before h));
+        before = λ t c le left. inl left;
+      })
 
   left_of : (o : Bool) (x y kept : D) (set : Setting) (d : Durable) → cond o x y ≡ kept → Only (seen kept) (may_leave kept)
       → ((c : List ℕ) → may_leave (cond o y x) c → RestoresBeside set (seen kept) d c) → (a b : List ℕ) → may_leave x a → may_leave y b → Restores set a b d
@@ -172,8 +189,9 @@ module _ {E D T : Type 0} (valid : E → Type 0) (meaning : E → EngineMeaning)
       → ((journal_of old).live ≡ false → answer ≡ Err journal.Failed) → setting_of new ≡ setting_of old → TellsOn tells (journal_of old).other (written (journal_of old) (journal_of new)) → spared (journal_of old) (journal_of new) ≡ (journal_of old).current
       → (tells (journal_of old).other → Stores seen may_leave (journal_of old) (setting_of old) (durable_of old)
       → LeavesOnly moment left_since (journal_of old).other (written (journal_of old) (journal_of new)) (RestoresBeside (setting_of old) (seen (journal_of old).current) (durable_of old)))
+      → (tells (journal_of old).other → LeavesReplaced seen may_leave moment left_since (journal_of old) (journal_of new) (snapshot_of (durable_of old)))
       → IsCompaction meaning heard tells seen may_leave moment left_since failed old answer new
-  compacting old new answer is ends gone setting tells_on kept moments =
+  compacting old new answer is ends gone setting tells_on kept moments writes =
       record {
         ends = ends;
         failed_before = gone;
@@ -184,6 +202,7 @@ module _ {E D T : Type 0} (valid : E → Type 0) (meaning : E → EngineMeaning)
         left = λ live told.
             let s = is.stored live told in
             left_alike tells seen may_leave moment left_since counts_now (journal_of old) (journal_of new) (setting_of old) (durable_of old) (tells_on.tells_after told.1) kept s.holds.keeps.durable (moments told.1 s);
+        writes = λ live told. writes told.1;
       }
 
   -- nothing is called
@@ -195,3 +214,4 @@ module _ {E D T : Type 0} (valid : E → Type 0) (meaning : E → EngineMeaning)
       compacting node node (Err fault) is ends (λ dead. ap Err (gone dead)) refl (subst (λ (z : D). TellsOn tells j.other z) here (record { tells_after = λ t. t; told_before = λ t. t })) (spared_stayed j j refl)
       (λ told s. subst (λ (z : D). LeavesOnly moment left_since j.other z (RestoresBeside (setting_of node) (seen j.current) (durable_of node))) here
       (unmoved tells seen may_leave moment left_since only_now j (setting_of node) (durable_of node) told s))
+      (unmoved_entries tells seen may_leave moment left_since only_now j (snapshot_of (durable_of node)))

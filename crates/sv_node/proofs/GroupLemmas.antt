@@ -34,12 +34,12 @@ use Rattle.sv_model.specs.Site.{with_list}
 use Rattle.sv_model.specs.Step.{left, told}
 use Rattle.sv_record.specs.Record.{spelling, HasSpelling}
 use Rattle.sv_node.specs.declared.node.Node.{Node}
-use Rattle.sv_node.specs.Group.{Answer, IsAnswer, left_by, entries_by, events_by, behind, entries_of, events_of, Answered, outcomes, events_held, bytes_of, ReplaysMore, LacksRoom, StagesMore, TakesOne, TakesAll, FitsIn, GroupEnds, IsGroup}
+use Rattle.sv_node.specs.Group.{Answer, IsAnswer, left_by, entries_by, events_by, behind, entries_of, events_of, Answered, outcomes, events_held, bytes_of, ReplaysMore, LacksRoom, StagesMore, TakesOne, TakesAll, FitsIn, GroupEnds, GroupWrites, IsGroup}
 use Rattle.sv_node.specs.Node.{setting_of, durable_of, journal_of, IsTooLongAt, IsNode}
 use Rattle.sv_node.specs.Records.{Replays, CanFollow}
-use Rattle.sv_node.specs.Stops.{Stores, RestoresEither}
+use Rattle.sv_node.specs.Stops.{Stores, RestoresEither, LeavesAdded}
 use Rattle.sv_node.proofs.RecordLemmas.{replays_more}
-use Rattle.sv_node.proofs.StopLemmas.{still, weaker, restored, left_behind}
+use Rattle.sv_node.proofs.StopLemmas.{still, still_entries, weaker, restored, left_behind}
 
 pub heard_append : (m : EngineMeaning) (heard : List (List ℕ)) (ts us : List Told) → heard_all m heard (ts ++ us) ≡ heard_all m (heard_all m heard ts) us
 heard_append m heard [] us = refl
@@ -221,8 +221,9 @@ module _ {E D : Type 0} (valid : E → Type 0) (meaning : E → EngineMeaning) (
       → (journal_of new).other ≡ (journal_of old).other → (journal_of new).on_a ≡ (journal_of old).on_a
       → (tells (journal_of old).current → Stores seen may_leave (journal_of old) (setting_of old) (durable_of old)
       → LeavesOnly moment left_since (journal_of old).current (journal_of new).current (RestoresEither (setting_of old) (seen (journal_of old).other) (durable_of old) (durable_of new)))
+      → (tells (journal_of old).current → GroupWrites meaning old inputs answer new (λ records. LeavesAdded seen may_leave moment left_since (journal_of old) (journal_of new) records)) → (journal_of new).generation ≡ (journal_of old).generation
       → IsGroup meaning heard tells seen may_leave moment left_since failed old inputs answer new
-  grouping old new inputs answer is ends gone setting tells_on other on_a moments =
+  grouping old new inputs answer is ends gone setting tells_on other on_a moments writes generation =
       record {
         ends = ends;
         failed_before = gone;
@@ -234,6 +235,8 @@ module _ {E D : Type 0} (valid : E → Type 0) (meaning : E → EngineMeaning) (
         left = λ live told.
             let s = is.stored live told in
             left_behind tells seen may_leave moment left_since counts_now (journal_of old) (journal_of new) (setting_of old) (durable_of old) (durable_of new) (tells_on.tells_after told.0) other s.holds.other_durable (moments told.0 s);
+        writes = λ live told. writes told.0;
+        generation = generation;
       }
 
   -- a group is added
@@ -254,6 +257,8 @@ module _ {E D : Type 0} (valid : E → Type 0) (meaning : E → EngineMeaning) (
       (ap (λ (j : JournalView D). j.other) same) (ap (λ (j : JournalView D). j.on_a) same)
       (λ told s. subst (λ (j : JournalView D). LeavesOnly moment left_since (journal_of old).current j.current (RestoresEither (setting_of old) (seen (journal_of old).other) (durable_of old) (durable_of new))) (sym same)
       (still tells seen may_leave moment left_since only_now (journal_of old) (setting_of old) (durable_of old) (durable_of new) told s))
+      (λ told. subst (λ (j : JournalView D). LeavesAdded seen may_leave moment left_since (journal_of old) j []) (sym same) (still_entries tells seen may_leave moment left_since only_now (journal_of old) [] told))
+      (ap (λ (j : JournalView D). j.generation) same)
 
 -- the fault of a journal that is live and has room, when nothing takes memory
 pub device_alone : {T : Type 0} (fault : JournalFault) → (¬ (IsErrOf {T = T} (Err fault) journal.Failed)) → (¬ (IsErrOf {T = T} (Err fault) journal.Full)) → (¬ (IsErrOf {T = T} (Err fault) journal.Damaged))

@@ -223,7 +223,7 @@ module _ {E D : Type 0} (meaning : E → EngineMeaning) (heard : E → List (Lis
 
   -- ---- an opening
 
-  pub opening_leads : (low : ℕ) (n : Node E D) (engine : E) (set : Setting) (d : Durable) → IsStarted meaning heard n engine set → d.boot ≢ last_number → durable_of n ≡ restarted d
+  pub opening_leads : (low : ℕ) (n : Node E D) (engine : E) (set : Setting) (d : Durable) → IsStarted meaning heard n engine set → d.boot ≢ last_number → durable_of n ≡ restarted set d
       → Leads (meaning engine) set low 0 (halted d) (stand_of n) []
   opening_leads low n engine set d s some is =
       let o = opened meaning heard n engine set d s some is in
@@ -233,7 +233,7 @@ module _ {E D : Type 0} (meaning : E → EngineMeaning) (heard : E → List (Lis
   -- ---- the life of a process
 
   module _ (seen : D → List ℕ) (set : Setting) (engine : E) (a b : D) (n new : Node E D) (s : IsStarted meaning heard n engine set)
-      (first : tells a → tells b → (d : Durable) × Restores set (seen a) (seen b) d × (d.boot ≢ last_number) × (durable_of n ≡ restarted d)) (both : tells a → tells b → TellsBoth tells (journal_of n)) where
+      (first : tells a → tells b → (d : Durable) × Restores set (seen a) (seen b) d × (d.boot ≢ last_number) × (durable_of n ≡ restarted set d)) (both : tells a → tells b → TellsBoth tells (journal_of n)) where
     -- calls of the opened node, behind its opening
     behind_opening : (low high : ℕ) (d : Durable) (told : List Told) (to : Stand) → tells a → tells b → Restores set (seen a) (seen b) d
         → Leads (meaning (engine_of n)) (setting_of n) 0 high (stand_of n) to told → Leads (meaning engine) set low high (halted d) to told

@@ -1,6 +1,6 @@
 -- What an opening finds, and what a stop leaves of disks that it has handed back.
 use Rattle.std.proofs.Common.{◌≡◌, ◌⊎◌, inl, inr, ⊎_elim, ℕ, ◌≤◌, Bool, true, false, cond, List, sym, ap, ◌∙◌, subst}
-use Rattle.std.proofs.Common.{refl}
+use Rattle.std.proofs.Common.{◌+◌, Some, arith, refl}
 use Rattle.sv_journal.specs.Disk.{Only, LeavesOnly, TellsOn, HasRisen}
 use Rattle.sv_journal.specs.Format.{Opens, OpensAlike}
 use Rattle.sv_journal.specs.Journal.{OpensWithoutLoss}
@@ -13,14 +13,17 @@ use Rattle.sv_model.specs.declared.node.Setting.{Setting}
 use Rattle.sv_model.specs.declared.node.Stage.TheVariants.{Blank}
 use Rattle.sv_model.specs.declared.record.Record.{Record}
 use Rattle.sv_model.specs.NodeState.{Durable, Node as State}
-use Rattle.sv_model.specs.Ranges.{IsRanged}
-use Rattle.sv_model.specs.Replay.{blank, replayed, AllFit}
+use Rattle.sv_model.specs.Ranges.{IsSetting, IsRecord, IsRanged}
+use Rattle.sv_model.specs.declared.record.Record.TheVariants.{Boot, Forgets}
+use Rattle.std.proofs.lemmas.Bool.{cond_both}
+use Rattle.sv_core.proofs.RangeLemmas.{starts_journaled, starts_ranged}
+use Rattle.sv_model.specs.Replay.{blank, boot_record, replayed, AllFit}
 use Rattle.sv_record.specs.Record.{record_format, IsSpelling}
 use Rattle.sv_record.proofs.KindLaws.{record_lawful}
 use Rattle.sv_record.proofs.WholeLaws.{one_value}
 use Rattle.sv_node.specs.declared.fault.OpenFault.TheVariants.{Damaged, Device, Full}
 use Rattle.sv_node.specs.Fault.{open_fault, apply_fault}
-use Rattle.sv_node.specs.Records.{Spell, Replays}
+use Rattle.sv_node.specs.Records.{Spell, Replays, CanFollow}
 use Rattle.sv_node.specs.Stops.{Restores}
 use Rattle.sv_node.specs.Opened.{LeavesStart, LeavesUnstarted, restarted}
 use Rattle.sv_node.proofs.RecordLemmas.{one_list}
@@ -87,8 +90,15 @@ one_state set a b d e r s =
     let same : r.entries ≡ s.entries = one_opening a b r.entries s.entries r.opens s.opens in
     gives_too set s.entries s.replays.records d s.replays.spelled (subst (λ (es : List (List ℕ)). Replays set es d) same r.replays) ∙ s.replays.gives
 
-pub restarted_ranged : (n : State) → IsRanged n → IsRanged (record n { durable = restarted n.durable })
-restarted_ranged n r = record { known = r.known; next = r.next; waiting = r.waiting; next_within = r.next_within; want_within = r.want_within }
+pub restarted_ranged : (set : Setting) (n : State) → IsSetting set → IsRanged n → IsRanged (record n { durable = restarted set n.durable })
+restarted_ranged set n is r = (starts_ranged set n is r).left_is
+
+-- the record of a start may be written, and may stand behind the others
+pub start_ranged : (set : Setting) (d : Durable) → IsSetting set → IsRecord (boot_record set d)
+start_ranged set d is = cond_both set.forget (Forgets set.node (d.boot + 1)) (Boot (d.boot + 1)) (λ r. IsRecord r) (λ _. (omega (arith, is.few, is.inside), omega arith)) (λ _. omega arith)
+
+pub start_follows : (set : Setting) (n : State) → CanFollow set n.durable (Some (boot_record set n.durable))
+start_follows set n = (starts_journaled set n).fits
 
 -- the disks A and B tell on, of which the current one alone is written
 pub tell_on : {D : Type 0} (tells : D → Type 0) (on_a : Bool) (current other new a b : D) → TellsOn tells a (cond on_a current other) → TellsOn tells b (cond on_a other current)

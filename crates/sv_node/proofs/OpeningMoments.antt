@@ -10,11 +10,11 @@ use Rattle.sv_node.specs.Opened.{GivesStart, WritesOne, StartsWithoutLoss, resta
 use Rattle.sv_node.specs.Stops.{Restores, RestoresEither}
 use Rattle.sv_node.proofs.OpenLemmas.{alike}
 
-gives_first : (set : Setting) (image other : List ℕ) (d : Durable) → RestoresEither set other d (restarted d) image → GivesStart set d image other
+gives_first : (set : Setting) (image other : List ℕ) (d : Durable) → RestoresEither set other d (restarted set d) image → GivesStart set d image other
 gives_first set image other d (inl r) = inl (record { entries = r.entries; opens = inl r.opens; replays = r.replays })
 gives_first set image other d (inr r) = inr (record { entries = r.entries; opens = inl r.opens; replays = r.replays })
 
-gives_second : (set : Setting) (image other : List ℕ) (d : Durable) → RestoresEither set other d (restarted d) image → GivesStart set d other image
+gives_second : (set : Setting) (image other : List ℕ) (d : Durable) → RestoresEither set other d (restarted set d) image → GivesStart set d other image
 gives_second set image other d (inl r) = inl (record { entries = r.entries; opens = inr (inl r.opens); replays = r.replays })
 gives_second set image other d (inr r) = inr (record { entries = r.entries; opens = inr (inl r.opens); replays = r.replays })
 
@@ -50,26 +50,26 @@ module _ {D : Type 0} (tells : D → Type 0) (seen : D → List ℕ) (may_leave 
   -- the start is written behind it
   going_on : (on_a : Bool) (current other final : D) → tells (cond on_a other current) → OpensWithoutLoss seen may_leave moment left_since a b (cond on_a current other) (cond on_a other current)
       → (on_a ≡ false → LeavesOnly moment left_since a (cond on_a current other) (may_leave a)) → Only (seen other) (may_leave other)
-      → LeavesOnly moment left_since current final (RestoresEither set (seen other) d (restarted d)) → StartsWithoutLoss seen may_leave moment left_since set d a b (cond on_a final other) (cond on_a other final)
+      → LeavesOnly moment left_since current final (RestoresEither set (seen other) d (restarted set d)) → StartsWithoutLoss seen may_leave moment left_since set d a b (cond on_a final other) (cond on_a other final)
   going_on true current other final told w kept only moments =
       let f = found current other told w in
       let P : List ℕ → Type 0 = λ image. may_leave a image ⊎ GivesStart set d image (seen other) in
       inl (record {
-        of_written = leaves_then moment left_since a current final P (RestoresEither set (seen other) d (restarted d)) P (λ image p. p) (λ image q. inr (gives_first set image (seen other) d q)) f.of_written moments;
+        of_written = leaves_then moment left_since a current final P (RestoresEither set (seen other) d (restarted set d)) P (λ image p. p) (λ image q. inr (gives_first set image (seen other) d q)) f.of_written moments;
         of_kept = f.of_kept;
         apart = inl only;
       })
   going_on false current other final told w kept only moments =
       let P : List ℕ → Type 0 = λ image. may_leave b image ⊎ GivesStart set d (seen other) image in
       inr (record {
-        of_written = leaves_then moment left_since b current final (may_leave b) (RestoresEither set (seen other) d (restarted d)) P (λ image old. inl old) (λ image q. inr (gives_second set image (seen other) d q)) w.of_b moments;
+        of_written = leaves_then moment left_since b current final (may_leave b) (RestoresEither set (seen other) d (restarted set d)) P (λ image old. inl old) (λ image q. inr (gives_second set image (seen other) d q)) w.of_b moments;
         of_kept = kept refl;
         apart = inl only;
       })
 
   pub started_moments : (first last : JournalView D) → tells (disk_b first) → last.other ≡ first.other → last.on_a ≡ first.on_a
       → OpensWithoutLoss seen may_leave moment left_since a b (disk_a first) (disk_b first) → (first.on_a ≡ false → LeavesOnly moment left_since a (disk_a first) (may_leave a))
-      → Only (seen first.other) (may_leave first.other) → LeavesOnly moment left_since first.current last.current (RestoresEither set (seen first.other) d (restarted d))
+      → Only (seen first.other) (may_leave first.other) → LeavesOnly moment left_since first.current last.current (RestoresEither set (seen first.other) d (restarted set d))
       → StartsWithoutLoss seen may_leave moment left_since set d a b (disk_a last) (disk_b last)
   started_moments first last told other on_a w kept only moments =
       subst (λ (o : Bool). StartsWithoutLoss seen may_leave moment left_since set d a b (cond o last.current last.other) (cond o last.other last.current)) (sym on_a)
@@ -78,7 +78,7 @@ module _ {D : Type 0} (tells : D → Type 0) (seen : D → List ℕ) (may_leave 
 
 -- what is read, and then what is written
 pub read_then : {D : Type 0} (moment : D → ℕ) (left_since : D → ℕ → List ℕ → Type 0) (set : Setting) (other : List ℕ) (d : Durable) (first mid last : D)
-    → LeavesOnly moment left_since first mid (RestoresEither set other d (restarted d)) → LeavesOnly moment left_since mid last (RestoresEither set other d (restarted d))
-    → LeavesOnly moment left_since first last (RestoresEither set other d (restarted d))
+    → LeavesOnly moment left_since first mid (RestoresEither set other d (restarted set d)) → LeavesOnly moment left_since mid last (RestoresEither set other d (restarted set d))
+    → LeavesOnly moment left_since first last (RestoresEither set other d (restarted set d))
 read_then moment left_since set other d first mid last =
-    leaves_then moment left_since first mid last (RestoresEither set other d (restarted d)) (RestoresEither set other d (restarted d)) (RestoresEither set other d (restarted d)) (λ c p. p) (λ c q. q)
+    leaves_then moment left_since first mid last (RestoresEither set other d (restarted set d)) (RestoresEither set other d (restarted set d)) (RestoresEither set other d (restarted set d)) (λ c p. p) (λ c q. q)

@@ -1,5 +1,5 @@
 -- The records that entries spell.
-use Rattle.std.proofs.Common.{◌≡◌, ℕ, zero, suc, List, [], ◌∷◌, ◌++◌, drop, refl, sym, ap, ◌∙◌, subst}
+use Rattle.std.proofs.Common.{◌≡◌, ℕ, zero, suc, List, [], ◌∷◌, ◌++◌, length, drop, refl, sym, ap, ◌∙◌, subst}
 use Rattle.std.specs.Prelude.{map, Some, Ok, Err}
 use Rattle.std.specs.List.{AllByRecursion}
 use Rattle.sv_model.specs.declared.node.Setting.{Setting}
@@ -18,6 +18,12 @@ use Rattle.sv_node.specs.declared.fault.OpenFault.{OpenFault}
 use Rattle.sv_node.specs.declared.fault.OpenFault.TheVariants.{Damaged}
 use Rattle.sv_node.specs.Fault.{read_fault}
 use Rattle.sv_node.specs.Records.{Spell, Replays, CanFollow}
+
+pub spell_length : (entries : List (List ℕ)) (rs : List Record) → Spell entries rs → length rs ≡ length entries
+spell_length [] [] s = refl
+spell_length [] (r ∷ rs) s = absurd s
+spell_length (p ∷ ps) [] s = absurd s
+spell_length (p ∷ ps) (r ∷ rs) s = ap suc (spell_length ps rs s.1)
 
 -- ---- one record more
 

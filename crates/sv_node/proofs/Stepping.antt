@@ -1,5 +1,6 @@
 -- A step of a node, from the steps of its core and its journal.
 use Rattle.std.proofs.Common.{◌≡◌, ℕ, ◌≤◌, false, List, Result, Err, IsTrue, IsErrOf, refl, sym, ap, subst}
+use Rattle.std.specs.Option.{option_to_list}
 use Rattle.sv_journal.specs.Disk.{LeavesOnly, TellsOn, HasRisen}
 use Rattle.sv_journal.specs.Journal.{JournalView}
 use Rattle.sv_journal.specs.declared.journal_fault.JournalFault.{JournalFault}
@@ -15,9 +16,9 @@ use Rattle.sv_model.specs.Ranges.{IsRanged, IsSetting}
 use Rattle.sv_model.specs.Step.{View, IsStep}
 use Rattle.sv_node.specs.declared.node.Node.{Node}
 use Rattle.sv_node.specs.Fault.{step_fault}
-use Rattle.sv_node.specs.Stops.{TellsBoth, Stores, RestoresEither}
+use Rattle.sv_node.specs.Stops.{TellsBoth, Stores, RestoresEither, LeavesAdded}
 use Rattle.sv_node.specs.Node.{view_of, engine_of, setting_of, state_of, durable_of, journal_of, IsNode, IsTooLong, Ends, IsNodeStep}
-use Rattle.sv_node.proofs.StopLemmas.{still, left_behind}
+use Rattle.sv_node.proofs.StopLemmas.{still, still_entries, left_behind}
 
 module _ {E D : Type 0} (valid : E → Type 0) (meaning : E → EngineMeaning) (heard : E → List (List ℕ)) (tells : D → Type 0) (seen : D → List ℕ) (may_leave : D → List ℕ → Type 0) (moment : D → ℕ) (left_since : D → ℕ → List ℕ → Type 0) (failed : D → ℕ)
     (counts_now : (disk : D) (t : ℕ) (c : List ℕ) → tells disk → t ≤ moment disk → may_leave disk c → left_since disk t c)
@@ -34,8 +35,9 @@ module _ {E D : Type 0} (valid : E → Type 0) (meaning : E → EngineMeaning) (
       → Ends meaning heard failed old d answer new → ((journal_of old).live ≡ false → answer ≡ Err Failed) → setting_of new ≡ setting_of old → TellsOn tells (journal_of old).current (journal_of new).current
       → (journal_of new).other ≡ (journal_of old).other → (journal_of new).on_a ≡ (journal_of old).on_a
       → (tells (journal_of old).current → Stores seen may_leave (journal_of old) (setting_of old) (durable_of old) → Moments (journal_of old) (journal_of new) (setting_of old) (durable_of old) d.durable)
+      → (tells (journal_of old).current → LeavesAdded seen may_leave moment left_since (journal_of old) (journal_of new) (option_to_list d.entry)) → (journal_of new).generation ≡ (journal_of old).generation
       → Steps old d answer new
-  stepping old new d answer is ends gone setting tells_on other on_a moments =
+  stepping old new d answer is ends gone setting tells_on other on_a moments writes generation =
       record {
         ends = ends;
         failed_before = gone;
@@ -47,6 +49,8 @@ module _ {E D : Type 0} (valid : E → Type 0) (meaning : E → EngineMeaning) (
         left = λ live told.
             let s = is.stored live told in
             left_behind tells seen may_leave moment left_since counts_now (journal_of old) (journal_of new) (setting_of old) (durable_of old) d.durable (tells_on.tells_after told.0) other s.holds.other_durable (moments told.0 s);
+        writes = λ live told. writes told.0;
+        generation = generation;
       }
 
   -- the journal isn't called
@@ -57,6 +61,8 @@ module _ {E D : Type 0} (valid : E → Type 0) (meaning : E → EngineMeaning) (
       (record { tells_after = subst (λ (j : JournalView D). tells (journal_of old).current → tells j.current) (sym same) (λ t. t); told_before = subst (λ (j : JournalView D). tells j.current → tells (journal_of old).current) (sym same) (λ t. t) })
       (ap (λ (j : JournalView D). j.other) same) (ap (λ (j : JournalView D). j.on_a) same)
       (λ told s. subst (λ (j : JournalView D). Moments (journal_of old) j (setting_of old) (durable_of old) d.durable) (sym same) (still tells seen may_leave moment left_since only_now (journal_of old) (setting_of old) (durable_of old) d.durable told s))
+      (λ told. subst (λ (j : JournalView D). LeavesAdded seen may_leave moment left_since (journal_of old) j (option_to_list d.entry)) (sym same) (still_entries tells seen may_leave moment left_since only_now (journal_of old) (option_to_list d.entry) told))
+      (ap (λ (j : JournalView D). j.generation) same)
 
   -- the journal has refused
   pub refused : {T : Type 0} (old new : Node E D) (d : Decision) (fault : JournalFault) → view_of meaning heard new ≡ view_of meaning heard old

@@ -1,5 +1,5 @@
 -- What stops leave of a journal of records.
-use Rattle.std.proofs.Common.{◌≡◌, ◌⊎◌, inl, inr, ⊎_elim, ℕ, ◌≤◌, Bool, true, false, cond, List, [], ◌∷◌, ◌++◌, sym, subst, arith}
+use Rattle.std.proofs.Common.{◌≡◌, ◌⊎◌, inl, inr, ⊎_elim, ℕ, ◌≤◌, Bool, true, false, cond, List, [], ◌∷◌, ◌++◌, map, sym, subst, arith}
 use Rattle.std.specs.Prelude.{Some}
 use Rattle.sv_journal.specs.Disk.{Only, LeavesOnly}
 use Rattle.sv_journal.specs.Format.{OpensOn, OpensEither}
@@ -10,7 +10,7 @@ use Rattle.sv_model.specs.NodeState.{Durable}
 use Rattle.sv_model.specs.Replay.{applied}
 use Rattle.sv_record.specs.Record.{spelling, HasSpelling}
 use Rattle.sv_node.specs.Records.{Replays, CanFollow}
-use Rattle.sv_node.specs.Stops.{Stores, RestoresOn, Restores, RestoresEither, LeavesEither}
+use Rattle.sv_node.specs.Stops.{Stores, RestoresOn, Restores, RestoresEither, LeavesEither, LeavesAdded}
 use Rattle.sv_node.proofs.RecordLemmas.{replays_more}
 
 -- either side, with its records
@@ -59,6 +59,16 @@ module _ {D : Type 0} (tells : D → Type 0) (seen : D → List ℕ) (may_leave 
       record {
         later = omega arith;
         each = λ c left. subst (RestoresEither set (seen journal.other) d e) (sym (s.holds.keeps.durable c (only_now journal.current c told left))) here;
+        before = λ t c le left. inl left;
+      }
+
+  pub still_entries : ((disk : D) (c : List ℕ) → tells disk → left_since disk (moment disk) c → may_leave disk c)
+      → (journal : JournalView D) (records : List Record) → tells journal.current → LeavesAdded seen may_leave moment left_since journal journal records
+  still_entries only_now journal records told entries h =
+      let here : OpensEither (seen journal.other) entries (entries ++ map spelling records) (seen journal.current) = inl (opens_on journal entries h) in
+      record {
+        later = omega arith;
+        each = λ c left. subst (OpensEither (seen journal.other) entries (entries ++ map spelling records)) (sym (h.keeps.durable c (only_now journal.current c told left))) here;
         before = λ t c le left. inl left;
       }
 

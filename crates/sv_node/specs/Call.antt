@@ -71,8 +71,8 @@ node_behind m set n (g ∷ gs) = node_behind m set (left (decided m set n g.at g
 -- ---- what a call does
 
 -- a stop falls inside a start, before its record or behind it; the last number is never gone past
-abbrev pub StopsStart : Durable → After → Type 0
-StopsStart d a = (a ≡ quiet (kept d)) ⊎ ((d.boot ≢ last_number) × (a ≡ quiet (kept (restarted d))))
+abbrev pub StopsStart : Setting → Durable → After → Type 0
+StopsStart set d a = (a ≡ quiet (kept d)) ⊎ ((d.boot ≢ last_number) × (a ≡ quiet (kept (restarted set d))))
 
 -- a stop falls inside a step, before its record or behind it
 abbrev pub StopsStep : Durable → Decision → After → Type 0
@@ -82,12 +82,12 @@ StopsStep old d a = (a ≡ quiet (kept old)) ⊎ (a ≡ quiet (kept d.durable))
 -- to write stands there or doesn't, as the next opening finds, and until then no call does anything.
 abbrev pub Does : EngineMeaning → Setting → (up : Bool) → Node → Call → After → Type 0
 -- an opening makes one more start; Damaged says of disks that a node has left that its starts are spent
-Does m set up n (Open Done) a = (up ≡ false) × (n.durable.boot ≢ last_number) × (a ≡ quiet (kept (restarted n.durable)))
+Does m set up n (Open Done) a = (up ≡ false) × (n.durable.boot ≢ last_number) × (a ≡ quiet (kept (restarted set n.durable)))
 Does m set up n (Open (Refused opening.Damaged)) a = (up ≡ false) × (n.durable.boot ≡ last_number) × (a ≡ quiet n)
 Does m set up n (Open (Refused opening.Full)) a = (up ≡ false) × (a ≡ quiet n)
 Does m set up n (Open (Refused opening.Memory)) a = (up ≡ false) × (a ≡ quiet n)
-Does m set up n (Open (Refused opening.Device)) a = (up ≡ false) × StopsStart n.durable a
-Does m set up n (Open Cut) a = (up ≡ false) × StopsStart n.durable a
+Does m set up n (Open (Refused opening.Device)) a = (up ≡ false) × StopsStart set n.durable a
+Does m set up n (Open Cut) a = (up ≡ false) × StopsStart set n.durable a
 -- a step does what the table decides, or nothing
 Does m set up n (Step at input Done) a = (up ≡ true) × (a ≡ carried_out (decided m set n at input))
 Does m set up n (Step at input (Refused step.Failed)) a = (up ≡ false) × (a ≡ quiet n)

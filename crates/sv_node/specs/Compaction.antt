@@ -3,8 +3,8 @@ use Rattle.std.specs.Prelude.{◌≡◌, ◌⊎◌, ℕ, ◌+◌, ◌-◌, ◌^�
 use Rattle.std.specs.List.{flat_map}
 use Rattle.sv_core.specs.Snapshot.{snapshot_of}
 use Rattle.sv_journal.specs.Disk.{LeavesOnly, TellsOn, HasRisen}
-use Rattle.sv_journal.specs.Format.{entry}
-use Rattle.sv_journal.specs.Journal.{JournalView, disk_a, disk_b}
+use Rattle.sv_journal.specs.Format.{entry, OpensReplaced}
+use Rattle.sv_journal.specs.Journal.{JournalView, Holds, disk_a, disk_b}
 use Rattle.sv_journal.specs.declared.limits.TheConstants.{FILE_LIMIT}
 use Rattle.sv_journal.specs.declared.journal_fault.JournalFault.{JournalFault}
 use Rattle.sv_journal.specs.declared.journal_fault.JournalFault.TheVariants.{Failed, Damaged, Full, Device, Memory}
@@ -46,6 +46,12 @@ pub record HasTurned {D : Type 0} (old new : JournalView D) : Type 0 where
   pub generation : new.generation ≡ old.generation + 1
   pub on_a : new.on_a ≡ not old.on_a
 
+-- a stop at any moment leaves, of the disk that isn't current, beside the current one, the entries that the journal holds, or
+-- these records and no others
+abbrev pub LeavesReplaced : {D : Type 0} → (D → List ℕ) → (D → List ℕ → Type 0) → (D → ℕ) → (D → ℕ → List ℕ → Type 0) → (old new : JournalView D) → List Record → Type 0
+LeavesReplaced seen may_leave moment left_since old new records =
+    (entries : List (List ℕ)) → Holds seen may_leave old entries → LeavesOnly moment left_since old.other (written old new) (OpensReplaced (seen old.current) entries (map spelling records))
+
 -- what a compaction does, by its answer: it tells nothing, and no call of it answers Damaged
 abbrev pub CompactionEnds : {E D T : Type 0} → (E → EngineMeaning) → (E → List (List ℕ)) → (D → ℕ) → Node E D → Result T JournalFault → Node E D → Type 0
 CompactionEnds meaning heard failed old (Ok _) new =
@@ -70,3 +76,5 @@ pub record IsCompaction {E D T : Type 0} (meaning : E → EngineMeaning) (heard 
   pub any_moment : IsTrue (journal_of old).live → TellsBoth tells (journal_of old)
       → LeavesOnly moment left_since (journal_of old).other (written (journal_of old) (journal_of new)) (RestoresBeside (setting_of old) (seen (journal_of old).current) (durable_of old))
   pub left : IsTrue (journal_of old).live → TellsBoth tells (journal_of old) → LeavesSame may_leave (journal_of new) (setting_of old) (durable_of old)
+  -- whatever its answer, no records but those of the snapshot are written
+  pub writes : IsTrue (journal_of old).live → TellsBoth tells (journal_of old) → LeavesReplaced seen may_leave moment left_since (journal_of old) (journal_of new) (snapshot_of (durable_of old))

@@ -28,7 +28,7 @@ use Rattle.sv_model.specs.Step.{left, told}
 use Rattle.sv_record.specs.Record.{spelling}
 use Rattle.sv_node.specs.Node.{engine_of, setting_of, state_of, durable_of, journal_of, IsTooLongAt, IsUntouched}
 use Rattle.sv_node.specs.Records.{Replays}
-use Rattle.sv_node.specs.Stops.{TellsBoth, RestoresEither, LeavesEither}
+use Rattle.sv_node.specs.Stops.{TellsBoth, RestoresEither, LeavesEither, LeavesAdded}
 use Rattle.sv_node.specs.declared.node.Node.{Node}
 
 -- ---- one of them
@@ -157,6 +157,17 @@ GroupEnds meaning heard failed old inputs (Err Device) new =
     × (meaning (engine_of new) ≡ meaning (engine_of old)) × (heard (engine_of new) ≡ heard (engine_of old))
     × ((journal_of new).live ≡ false) × HasRisen (failed (journal_of old).current) (failed (journal_of new).current)
 
+-- the records that a group writes, by its answer: those of the steps that are done, or were to be where a disk has failed
+abbrev pub GroupWrites : {E D : Type 0} → (E → EngineMeaning) → Node E D → List (Moment × Input) → Result (List Answer) StepFault → Node E D → (List Record → Type 0) → Type 0
+GroupWrites meaning old inputs (Ok answers) new W = W (entries_of (meaning (engine_of old)) (setting_of old) (state_of old) inputs answers)
+GroupWrites meaning old inputs (Err Failed) new W = W []
+GroupWrites meaning old inputs (Err Full) new W = W []
+GroupWrites meaning old inputs (Err Memory) new W = W []
+GroupWrites meaning old inputs (Err Device) new W =
+    (answers : List Answer) × Answered (meaning (engine_of old)) (setting_of old) (journal_of old).len (journal_of old).end (state_of old) inputs answers
+    × (state_of new ≡ behind (meaning (engine_of old)) (setting_of old) (state_of old) inputs answers)
+    × W (entries_of (meaning (engine_of old)) (setting_of old) (state_of old) inputs answers)
+
 -- A group of steps: what it does, and what a stop at any moment of it, or behind it, leaves of the disks: the state before
 -- all of them or the state behind all of them.
 pub record IsGroup {E D : Type 0} (meaning : E → EngineMeaning) (heard : E → List (List ℕ)) (tells : D → Type 0) (seen : D → List ℕ) (may_leave : D → List ℕ → Type 0) (moment : D → ℕ) (left_since : D → ℕ → List ℕ → Type 0) (failed : D → ℕ)
@@ -170,3 +181,6 @@ pub record IsGroup {E D : Type 0} (meaning : E → EngineMeaning) (heard : E →
   pub any_moment : IsTrue (journal_of old).live → TellsBoth tells (journal_of old)
       → LeavesOnly moment left_since (journal_of old).current (journal_of new).current (RestoresEither (setting_of old) (seen (journal_of old).other) (durable_of old) (durable_of new))
   pub left : IsTrue (journal_of old).live → TellsBoth tells (journal_of old) → LeavesEither may_leave (journal_of new) (setting_of old) (durable_of old) (durable_of new)
+  -- no records but those of its steps are written
+  pub writes : IsTrue (journal_of old).live → TellsBoth tells (journal_of old) → GroupWrites meaning old inputs answer new (λ records. LeavesAdded seen may_leave moment left_since (journal_of old) (journal_of new) records)
+  pub generation : (journal_of new).generation ≡ (journal_of old).generation

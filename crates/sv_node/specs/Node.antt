@@ -1,5 +1,6 @@
 -- A running node: what holds between its calls, and what a step of it does.
 use Rattle.std.specs.Prelude.{◌≡◌, ℕ, ◌+◌, ◌<◌, max, length, false, IsTrue, Result, Ok, Err, List, [], Option, Some, None}
+use Rattle.std.specs.Option.{option_to_list}
 use Rattle.sv_journal.specs.Disk.{LeavesOnly, TellsOn, HasRisen}
 use Rattle.sv_journal.specs.Journal.{JournalView}
 use Rattle.sv_journal.specs.declared.limits.TheConstants.{FILE_LIMIT}
@@ -18,7 +19,7 @@ use Rattle.sv_model.specs.NodeState.{Durable, Node as State}
 use Rattle.sv_model.specs.Ranges.{IsSetting, IsRanged}
 use Rattle.sv_model.specs.Step.{View, IsStep}
 use Rattle.sv_record.specs.Record.{spelling}
-use Rattle.sv_node.specs.Stops.{TellsBoth, Stores, RestoresEither, LeavesEither}
+use Rattle.sv_node.specs.Stops.{TellsBoth, Stores, RestoresEither, LeavesEither, LeavesAdded}
 use Rattle.sv_node.specs.declared.node.Node.{Node}
 
 -- a node with its engine's meaning, and what its listeners have noted
@@ -41,6 +42,10 @@ durable_of n = core.durable_at n.core
 
 abbrev pub journal_of : {E D : Type 0} → Node E D → JournalView D
 journal_of n = n.journal
+
+-- how many records were replayed when it was opened
+abbrev pub restored_of : {E D : Type 0} → Node E D → ℕ
+restored_of n = n.restored
 
 -- what holds between the calls of a node
 pub record IsNode {E D : Type 0} (valid : E → Type 0) (tells : D → Type 0) (seen : D → List ℕ) (may_leave : D → List ℕ → Type 0) (n : Node E D) : Type 0 where
@@ -100,6 +105,9 @@ pub record IsNodeStep {E D : Type 0} (meaning : E → EngineMeaning) (heard : E 
   pub any_moment : IsTrue (journal_of old).live → TellsBoth tells (journal_of old)
       → LeavesOnly moment left_since (journal_of old).current (journal_of new).current (RestoresEither (setting_of old) (seen (journal_of old).other) (durable_of old) d.durable)
   pub left : IsTrue (journal_of old).live → TellsBoth tells (journal_of old) → LeavesEither may_leave (journal_of new) (setting_of old) (durable_of old) d.durable
+  -- whatever its answer, no record but the decision's is written
+  pub writes : IsTrue (journal_of old).live → TellsBoth tells (journal_of old) → LeavesAdded seen may_leave moment left_since (journal_of old) (journal_of new) (option_to_list d.entry)
+  pub generation : (journal_of new).generation ≡ (journal_of old).generation
 
 abbrev pub NodeSteps : {E D : Type 0} → (E → EngineMeaning) → (E → List (List ℕ)) → (D → Type 0) → (D → List ℕ) → (D → List ℕ → Type 0) → (D → ℕ) → (D → ℕ → List ℕ → Type 0) → (D → ℕ)
     → Node E D → Moment → Input → Result (List Output) StepFault → Node E D → Type 0

@@ -1,26 +1,21 @@
 -- What a stop leaves of the disks of a node that was to be opened.
-use Rattle.std.specs.Prelude.{◌≡◌, ◌⊎◌, ◌+◌, ℕ, List, Some}
+use Rattle.std.specs.Prelude.{◌≡◌, ◌⊎◌, ℕ, List, [], ◌∷◌, ◌++◌, Some}
 use Rattle.sv_journal.specs.Disk.{Only, LeavesOnly}
 use Rattle.sv_model.specs.declared.node.Setting.{Setting}
-use Rattle.sv_model.specs.declared.record.Record.{Record}
-use Rattle.sv_model.specs.declared.record.Record.TheVariants.{Boot}
 use Rattle.sv_model.specs.NodeState.{Durable}
-use Rattle.sv_model.specs.Replay.{applied}
-use Rattle.sv_journal.specs.Journal.{JournalView, disk_a, disk_b}
-use Rattle.sv_node.specs.Node.{IsTooLong}
+use Rattle.sv_model.specs.Replay.{boot_record, applied}
+use Rattle.sv_journal.specs.Journal.{JournalView, Holds, OpensWithoutLoss, disk_a, disk_b}
+use Rattle.sv_record.specs.Record.{spelling}
+use Rattle.sv_node.specs.Node.{IsTooLong, HasAdded}
 use Rattle.sv_node.specs.Stops.{Stores, Restores}
 
--- the record of one more start
-abbrev pub start_of : Durable → Record
-start_of d = Boot (d.boot + 1)
-
--- what is durable after it
-abbrev pub restarted : Durable → Durable
-restarted d = applied (start_of d) d
+-- what is durable after one more start
+abbrev pub restarted : Setting → Durable → Durable
+restarted set d = applied (boot_record set d) d
 
 -- the images of the disks A and B give this, or that after one more start
 abbrev pub GivesStart : Setting → Durable → List ℕ → List ℕ → Type 0
-GivesStart set d a b = Restores set a b d ⊎ Restores set a b (restarted d)
+GivesStart set d a b = Restores set a b d ⊎ Restores set a b (restarted set d)
 
 -- Whatever a stop now leaves of two disks, a stop could leave before, or it gives what the images gave, or that after one
 -- more start.
@@ -54,4 +49,21 @@ pub record LacksRoom {D : Type 0} (seen : D → List ℕ) (may_leave : D → Lis
   pub on_a : disk_a journal ≡ a
   pub on_b : disk_b journal ≡ b
   pub stores : Stores seen may_leave journal set d
-  pub too_long : IsTooLong journal (Some (start_of d))
+  pub too_long : IsTooLong journal (Some (boot_record set d))
+
+-- The journal that was opened on the disks A and B, with the entries that their images have, has got the record of one more
+-- start behind them, and nothing else.
+pub record AddsStart {D : Type 0} (seen : D → List ℕ) (may_leave : D → List ℕ → Type 0) (moment : D → ℕ) (left_since : D → ℕ → List ℕ → Type 0) (set : Setting) (d : Durable) (entries : List (List ℕ)) (a b : D) (journal : JournalView D) : Type 0 where
+  -- as it was opened, before anything was added
+  pub opened : JournalView D
+  pub holds_opened : Holds seen may_leave opened entries
+  pub moments : OpensWithoutLoss seen may_leave moment left_since a b (disk_a opened) (disk_b opened)
+  pub added : HasAdded opened journal (Some (boot_record set d))
+  pub holds : Holds seen may_leave journal (entries ++ spelling (boot_record set d) ∷ [])
+
+-- the disks A and B are those of a journal with these entries and no others
+pub record Contain {D : Type 0} (seen : D → List ℕ) (may_leave : D → List ℕ → Type 0) (entries : List (List ℕ)) (a b : D) : Type 0 where
+  pub journal : JournalView D
+  pub on_a : disk_a journal ≡ a
+  pub on_b : disk_b journal ≡ b
+  pub holds : Holds seen may_leave journal entries

@@ -1,9 +1,12 @@
 -- What the journal of a node stores, and what a stop leaves of it.
-use Rattle.std.specs.Prelude.{◌⊎◌, ℕ, List}
-use Rattle.sv_journal.specs.Format.{OpensOn, Opens}
+use Rattle.std.specs.Prelude.{◌⊎◌, ℕ, List, ◌++◌, map}
+use Rattle.sv_journal.specs.Disk.{LeavesOnly}
+use Rattle.sv_journal.specs.Format.{OpensOn, Opens, OpensEither}
 use Rattle.sv_journal.specs.Journal.{JournalView, Holds, disk_a, disk_b}
 use Rattle.sv_model.specs.declared.node.Setting.{Setting}
+use Rattle.sv_model.specs.declared.record.Record.{Record}
 use Rattle.sv_model.specs.NodeState.{Durable}
+use Rattle.sv_record.specs.Record.{spelling}
 use Rattle.sv_node.specs.Records.{Replays}
 
 -- both disks tell what their bytes are
@@ -36,3 +39,9 @@ RestoresEither set other before after image = RestoresOn set image other before 
 abbrev pub LeavesEither : {D : Type 0} → (D → List ℕ → Type 0) → JournalView D → Setting → Durable → Durable → Type 0
 LeavesEither may_leave journal set before after =
     (a b : List ℕ) → may_leave (disk_a journal) a → may_leave (disk_b journal) b → Restores set a b before ⊎ Restores set a b after
+
+-- a stop at any moment leaves, of the current disk of a journal, beside the other one, the entries that it holds, or these with
+-- all of the records behind them, and nothing else
+abbrev pub LeavesAdded : {D : Type 0} → (D → List ℕ) → (D → List ℕ → Type 0) → (D → ℕ) → (D → ℕ → List ℕ → Type 0) → (old new : JournalView D) → List Record → Type 0
+LeavesAdded seen may_leave moment left_since old new records =
+    (entries : List (List ℕ)) → Holds seen may_leave old entries → LeavesOnly moment left_since old.current new.current (OpensEither (seen old.other) entries (entries ++ map spelling records))

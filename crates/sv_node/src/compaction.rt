@@ -9,7 +9,7 @@ ghost use Rattle.sv_model.specs.declared.node.Setting.{Setting};
 ghost use Rattle.sv_model.specs.NodeState.{Durable};
 ghost use Rattle.sv_model.specs.Ranges.{IsRecord};
 ghost use Rattle.sv_record.specs.Record.{spelling};
-ghost use Rattle.sv_node.specs.Compaction.{HasTurned, written, spared, len_with, HasNoRoom, RestoresBeside};
+ghost use Rattle.sv_node.specs.Compaction.{HasTurned, written, spared, len_with, HasNoRoom, RestoresBeside, LeavesReplaced};
 ghost use Rattle.sv_node.specs.Records.{Spell, Give};
 ghost use Rattle.sv_node.specs.Stops.{Stores};
 
@@ -44,6 +44,7 @@ pub fn replace<D: Disk>(
         → Stores D.seen D.may_leave journal.new set d) }
     ensures any_moment { (set : Setting) (d : Durable) → D.tells journal.old.other → Give set records.now d → Stores D.seen D.may_leave journal.old set d
         → LeavesOnly D.moment D.left_since journal.old.other (written journal.old journal.new) (RestoresBeside set (D.seen journal.old.current) d) }
+    ensures writes { D.tells journal.old.other → LeavesReplaced D.seen D.may_leave D.moment D.left_since journal.old journal.new records.now }
     ensures tells { TellsOn D.tells journal.old.other (written journal.old journal.new) }
     ensures kept { spared journal.old journal.new ≡ journal.old.current }
     ensures other { OnOk result (journal.new.other ≡ journal.old.current) }

@@ -16,7 +16,7 @@ ghost use Rattle.sv_node.specs.Group.{FitsIn, LacksRoom, StagesMore, TakesOne, T
 use crate::fault::step_fault;
 use crate::ledger::payload_of;
 use crate::node::Node;
-use std::alloc::Global;
+use std::alloc::{AllocError, Global};
 use sv_core::{Core, Held};
 use sv_journal::{Batch, Disk, Journal};
 use sv_model::{Engine, Input, Moment, Output, Record, StepFault};
@@ -87,6 +87,29 @@ fn take<E: Engine, D: Disk>(
         return Err(fault);
     }
     Ok(core.take(decision))
+}
+
+/// Room for what steps are to give: their records, what is held of them, and their answers.
+struct Room {
+    batch: Batch,
+    held: Vec<Result<Held, StepFault>>,
+    answers: Vec<Result<Vec<Output>, StepFault>>,
+}
+
+/// Room for so many steps.
+fn room_for(alloc: Global, many: usize) -> Result<Room, AllocError>
+    ensures batch { IfOk result (λ room. Stages room.batch []) }
+    ensures held { IfOk result (λ room. (room.held.items ≡ []) × (many ≤ vec_capacity room.held)) }
+    ensures answers { IfOk result (λ room. (room.answers.items ≡ []) × (many ≤ vec_capacity room.answers)) }
+{
+    let batch = Batch::with_capacity(alloc, 1)?;
+    let held = Vec::with_capacity(alloc, many)?;
+    let answers = Vec::with_capacity(alloc, many)?;
+    Ok(Room {
+        batch,
+        held,
+        answers,
+    })
 }
 
 /// Decides steps one behind the other, and keeps what was decided, in memory alone.
@@ -167,8 +190,9 @@ impl<E: Engine, D: Disk> Node<E, D> {
     /// Takes inputs one behind the other, each by a step on the state behind the one before, and makes all of their records
     /// durable together: two writes and two syncs however many they are. Only then listeners are told, and what is put out
     /// is handed out, in the order of the inputs. A step that is refused by want of memory or of room changes nothing, and
-    /// the others go on. After Device none of them has been told or put out, a stop leaves all of them or none, and every
-    /// call but `journal_len` and `stop` answers Failed from then on; after the other faults the node is as it was.
+    /// the others go on. After Device none of them has been told or put out, a stop leaves all of them or none, and `step`,
+    /// `step_all` and `compact` answer Failed from then on; the calls that only look at the node go on answering, and show what
+    /// it keeps behind all of them. After the other faults the node is as it was.
     pub fn step_all(
         &mut self,
         inputs: Vec<(Moment, Input)>,
@@ -181,15 +205,14 @@ impl<E: Engine, D: Disk> Node<E, D> {
         if !self.journal.is_live() {
             return Err(StepFault::Failed);
         }
-        let Ok(mut held) = Vec::with_capacity(self.alloc, inputs.len()) else {
+        let Ok(room) = room_for(self.alloc, inputs.len()) else {
             return Err(StepFault::Memory);
         };
-        let Ok(mut answers) = Vec::with_capacity(self.alloc, inputs.len()) else {
-            return Err(StepFault::Memory);
-        };
-        let Ok(mut batch) = Batch::with_capacity(self.alloc, 1) else {
-            return Err(StepFault::Memory);
-        };
+        let Room {
+            mut batch,
+            mut held,
+            mut answers,
+        } = room;
         take_all(
             self.alloc,
             &mut self.core,

@@ -1,6 +1,6 @@
 //! What holds of every call of a node.
 
-ghost use Rattle.std.specs.Prelude.{◌≡◌, ◌≢◌, ℕ, true, false, IsTrue, List, Result, Ok, Err};
+ghost use Rattle.std.specs.Prelude.{◌≡◌, ◌≢◌, ◌⊎◌, ℕ, true, false, IsTrue, List, Result, Ok, Err};
 ghost use Rattle.sv_journal.specs.Journal.{disk_a, disk_b};
 ghost use Rattle.sv_journal.specs.declared.journal_fault.JournalFault.{JournalFault};
 ghost use Rattle.sv_model.specs.declared.input.Input.{Input};
@@ -14,14 +14,15 @@ ghost use Rattle.sv_model.specs.NodeState.{Durable, last_number};
 ghost use Rattle.sv_node.specs.Call.{quiet, kept, StopsStart, Open, Step, Refused, Cut};
 ghost use Rattle.sv_node.specs.Calls.{IsStepCall, IsCompactionCall, IsOpenCall};
 ghost use Rattle.sv_node.specs.Compaction.{IsCompaction, RestoresBeside, written};
-ghost use Rattle.sv_node.specs.Cuts.{GivesCall, GivesCallOn, IsRefusedOpening, LeaveThis};
+ghost use Rattle.sv_node.specs.Cuts.{GivesCall, GivesCallOn, IsRefusedOpening, LeaveEither, LeaveThis, LeftTogether};
 ghost use Rattle.sv_node.specs.Group.{Answer, IsGroup};
 ghost use Rattle.sv_node.specs.GroupCalls.{IsTurns, GivesGroup, GivesGroupOn, all_given, done_in};
 ghost use Rattle.sv_node.specs.History.{HasGone, RiseIn, numbers_in};
 ghost use Rattle.sv_node.specs.Node.{NodeSteps, IsStarted, durable_of, engine_of, journal_of, setting_of, state_of};
-ghost use Rattle.sv_node.specs.Opened.{GivesStart, restarted};
+ghost use Rattle.sv_node.specs.Opened.{GivesStart, StartsWithoutLoss, restarted};
 ghost use Rattle.sv_node.specs.Stops.{Restores, TellsBoth};
 ghost use Rattle.sv_node.specs.declared.fault.OpenFault.{OpenFault};
+ghost use Rattle.sv_node.specs.declared.fault.OpenFault.TheVariants.{Damaged};
 ghost use Rattle.sv_node.specs.declared.node.Node.{Node};
 
 use sv_journal::Disk;
@@ -30,9 +31,9 @@ use sv_model::Engine;
 /// Each call of a node, by what its contract says of it, does what such a call does where no disk is looked at. What the disks
 /// give behind an opening that was cut is one of the two states that such an opening leaves (`found`).
 pub fn calls<E: Engine, D: Disk>()
-    ensures opened { (n : Node E D) (engine : E) (set : Setting) (d : Durable) → IsStarted E.meaning E.heard n engine set → d.boot ≢ last_number → durable_of n ≡ restarted d
+    ensures opened { (n : Node E D) (engine : E) (set : Setting) (d : Durable) → IsStarted E.meaning E.heard n engine set → d.boot ≢ last_number → durable_of n ≡ restarted set d
         → IsOpenCall set d n }
-    ensures found { (set : Setting) (d : Durable) (a b : List ℕ) → GivesStart set d a b → (e : Durable) × Restores set a b e × StopsStart d (quiet (kept e)) }
+    ensures found { (set : Setting) (d : Durable) (a b : List ℕ) → GivesStart set d a b → (e : Durable) × Restores set a b e × StopsStart set d (quiet (kept e)) }
     ensures stepped { (old new : Node E D) (at : Moment) (input : Input) (answer : Result (List Output) StepFault)
         → NodeSteps E.meaning E.heard D.tells D.seen D.may_leave D.moment D.left_since D.failed old at input answer new
         → IsStepCall E.meaning E.heard old at input answer new }
@@ -42,7 +43,8 @@ pub fn calls<E: Engine, D: Disk>()
 {}
 
 /// The calls that a stop has cut, or that were refused with what may have been written: by what the contracts say of the disks,
-/// whatever a stop leaves of these gives a state that such a call leaves where no disk is looked at.
+/// whatever a stop leaves of these gives a state that such a call leaves where no disk is looked at. Disks that a call has
+/// failed under give one of two states: an opening of those that is refused is one of the one or of the other.
 pub fn cuts<E: Engine, D: Disk>()
     ensures step { (old new : Node E D) (at : Moment) (input : Input) (answer : Result (List Output) StepFault)
         → NodeSteps E.meaning E.heard D.tells D.seen D.may_leave D.moment D.left_since D.failed old at input answer new
@@ -59,6 +61,12 @@ pub fn cuts<E: Engine, D: Disk>()
     ensures opening { (m : EngineMeaning) (fault : OpenFault) (set : Setting) (d : Durable) (a b new_a new_b : D) → LeaveThis D.may_leave set d a b
         → IsRefusedOpening D.may_leave fault set d a b new_a new_b → (x y : List ℕ) → D.may_leave new_a x → D.may_leave new_b y
         → GivesCall m set false (kept d) (Open (Refused fault)) x y }
+    ensures opening_cut { (m : EngineMeaning) (set : Setting) (d : Durable) (a b new_a new_b : D) → LeaveThis D.may_leave set d a b
+        → StartsWithoutLoss D.seen D.may_leave D.moment D.left_since set d a b new_a new_b → (x y : List ℕ) → LeftTogether D.may_leave D.moment D.left_since a b new_a new_b x y
+        → GivesCall m set false (kept d) (Open Cut) x y }
+    ensures opening_again { (m : EngineMeaning) (fault : OpenFault) (set : Setting) (before after d : Durable) (a b new_a new_b : D) → LeaveEither D.may_leave set before after a b → (d ≡ before) ⊎ (d ≡ after)
+        → (fault ≡ Damaged → before.boot ≡ after.boot) → IsRefusedOpening D.may_leave fault set d a b new_a new_b → (x y : List ℕ) → D.may_leave new_a x → D.may_leave new_b y
+        → GivesCall m set false (kept before) (Open (Refused fault)) x y ⊎ GivesCall m set false (kept after) (Open (Refused fault)) x y }
 {}
 
 /// A group of steps that is done is their calls, one behind the other. Where a disk has failed under it, whatever a stop leaves

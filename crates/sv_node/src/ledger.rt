@@ -2,6 +2,7 @@
 
 ghost use Rattle.std.specs.Prelude.{◌≡◌, ◌≤◌, ◌++◌, ◌∷◌, [], ℕ, List, map, length, false, IfOk, IfErr, OnOk, IsErr, IsErrOf, IsTrue, IfSome, Some, option_copied};
 ghost use Rattle.std.specs.List.{AllByRecursion};
+ghost use Rattle.std.specs.Option.{option_to_list};
 ghost use Rattle.sv_journal.specs.Disk.{LeavesOnly, TellsOn, HasRisen, IsQuiet};
 ghost use Rattle.sv_journal.specs.Format.{payloads};
 ghost use Rattle.sv_journal.specs.Journal.{Holds};
@@ -14,7 +15,7 @@ ghost use Rattle.sv_model.specs.Replay.{applied, applied_if};
 ghost use Rattle.sv_record.specs.Record.{spelling, HasSpelling, IsSpelling};
 ghost use Rattle.sv_node.specs.Node.{IsTooLong, HasAdded};
 ghost use Rattle.sv_node.specs.Records.{Spell, CanFollow};
-ghost use Rattle.sv_node.specs.Stops.{Stores, RestoresEither};
+ghost use Rattle.sv_node.specs.Stops.{Stores, RestoresEither, LeavesAdded};
 ghost use Rattle.sv_node.specs.declared.fault.OpenFault.TheVariants.{Damaged as OpenDamaged, Device as OpenDevice, Full as OpenFull, Memory as OpenMemory};
 
 use crate::fault::{OpenFault, open_fault, read_fault};
@@ -44,6 +45,10 @@ fn add<D: Disk>(alloc: Global, journal: &mut Journal<D>, entry: &Record) -> Resu
     ensures tells { TellsOn D.tells journal.old.current journal.new.current }
     ensures other { journal.new.other ≡ journal.old.other }
     ensures on_a { journal.new.on_a ≡ journal.old.on_a }
+    ensures writes { D.tells journal.old.current → LeavesAdded D.seen D.may_leave D.moment D.left_since journal.old journal.new (entry.now ∷ []) }
+    ensures holds { OnOk result ((entries : List (List ℕ)) → D.tells journal.old.current → Holds D.seen D.may_leave journal.old entries
+        → Holds D.seen D.may_leave journal.new (entries ++ map spelling (entry.now ∷ []))) }
+    ensures generation { journal.new.generation ≡ journal.old.generation }
     ensures added { OnOk result (HasAdded journal.old journal.new (Some entry.now)) }
     ensures live { OnOk result (IsTrue journal.new.live) }
     ensures failed { IsErrOf result JournalFault.Failed → journal.old.live ≡ false }
@@ -71,6 +76,10 @@ pub fn keep<D: Disk>(
     ensures tells { TellsOn D.tells journal.old.current journal.new.current }
     ensures other { journal.new.other ≡ journal.old.other }
     ensures on_a { journal.new.on_a ≡ journal.old.on_a }
+    ensures writes { D.tells journal.old.current → LeavesAdded D.seen D.may_leave D.moment D.left_since journal.old journal.new (option_to_list (option_copied entry.entry)) }
+    ensures holds { OnOk result ((entries : List (List ℕ)) → D.tells journal.old.current → Holds D.seen D.may_leave journal.old entries
+        → Holds D.seen D.may_leave journal.new (entries ++ map spelling (option_to_list (option_copied entry.entry)))) }
+    ensures generation { journal.new.generation ≡ journal.old.generation }
     ensures added { OnOk result (HasAdded journal.old journal.new (option_copied entry.entry)) }
     ensures live { OnOk result (IsTrue journal.new.live) }
     ensures failed { ¬ IsErrOf result JournalFault.Failed }

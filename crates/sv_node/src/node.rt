@@ -1,13 +1,14 @@
 //! A running node.
 
-ghost use Rattle.std.specs.Prelude.{◌≡◌, ◌≢◌, ◌⊎◌, IfOk, IfErr};
+ghost use Rattle.std.specs.Prelude.{◌≡◌, ◌≢◌, ◌⊎◌, ℕ, List, length, IfOk, IfErr};
 ghost use Rattle.sv_journal.specs.Disk.{TellsOn, HasRisen};
+ghost use Rattle.sv_journal.specs.Format.{Opens};
 ghost use Rattle.sv_core.specs.Census.{census_of};
 ghost use Rattle.sv_core.specs.Waiting.{awaited};
 ghost use Rattle.sv_journal.specs.Journal.{disk_a, disk_b};
 ghost use Rattle.sv_model.specs.NodeState.{Durable, last_number};
 ghost use Rattle.sv_model.specs.Ranges.{IsSetting};
-ghost use Rattle.sv_node.specs.Opened.{LeavesStart, LeavesUnstarted, StartsWithoutLoss, LacksRoom, restarted};
+ghost use Rattle.sv_node.specs.Opened.{AddsStart, Contain, LeavesStart, LeavesUnstarted, StartsWithoutLoss, LacksRoom, restarted};
 ghost use Rattle.sv_node.specs.Stops.{Restores};
 ghost use Rattle.sv_node.specs.declared.fault.OpenFault.TheVariants.{Damaged, Device, Full};
 
@@ -26,11 +27,12 @@ use sv_model::{Engine, Input, Key, Moment, Output, Parked, Request, Setting, Sit
 pub struct Node<E, D: Disk> {
     pub(crate) core: Core<E>,
     pub(crate) journal: Journal<D>,
+    pub(crate) restored: usize,
     pub(crate) alloc: Global,
 }
 
 impl<E: Engine, D: Disk> Node<E, D> {
-    ghost use Rattle.sv_node.specs.Node.{IsNode, IsStarted, durable_of, journal_of};
+    ghost use Rattle.sv_node.specs.Node.{IsNode, IsStarted, durable_of, journal_of, restored_of};
 
     /// Opens the disks A and B, replays their records, and makes the start durable: the boot number is one more than the
     /// last. The setting is that of a node of a cluster of 8 nodes at most. On each fault the engine and the disks are
@@ -50,7 +52,17 @@ impl<E: Engine, D: Disk> Node<E, D> {
         ensures started { IfOk result (λ n. IsStarted E.meaning E.heard n engine setting) }
         ensures node { IfOk result (λ n. IsNode E.valid D.tells D.seen D.may_leave n) }
         // It keeps what the images give, after one more start.
-        ensures restarted { IfOk result (λ n. D.tells a → D.tells b → (d : Durable) × Restores setting (D.seen a) (D.seen b) d × (d.boot ≢ last_number) × (durable_of n ≡ restarted d)) }
+        ensures restarted { IfOk result (λ n. D.tells a → D.tells b → (d : Durable) × Restores setting (D.seen a) (D.seen b) d × (d.boot ≢ last_number) × (durable_of n ≡ restarted setting d)) }
+        // The journal that was opened has got the record of that start, and nothing else.
+        ensures added { IfOk result (λ n. D.tells a → D.tells b → (d : Durable) → (r : Restores setting (D.seen a) (D.seen b) d)
+            → AddsStart D.seen D.may_leave D.moment D.left_since setting d r.entries a b (journal_of n)) }
+        ensures restored { IfOk result (λ n. D.tells a → D.tells b → (entries : List (List ℕ)) → Opens (D.seen a) (D.seen b) entries → restored_of n ≡ length entries) }
+        // Disks that hold no journal read as before.
+        ensures unchanged { IfErr result (λ r. r.fault ≡ Damaged → D.tells a → D.tells b → ((entries : List (List ℕ)) → Opens (D.seen a) (D.seen b) entries → ⊥)
+            → (D.seen r.a ≡ D.seen a) × (D.seen r.b ≡ D.seen b)) }
+        // A journal that they hold has the entries that it had, whether they are records or not, unless a disk has failed.
+        ensures entries { IfErr result (λ r. r.fault ≢ Device → D.tells a → D.tells b → (entries : List (List ℕ)) → Opens (D.seen a) (D.seen b) entries
+            → Contain D.seen D.may_leave entries r.a r.b) }
         // No records of a node are there, or its starts are spent.
         ensures damaged { IfErr result (λ r. r.fault ≡ Damaged → D.tells a → D.tells b → (d : Durable) → Restores setting (D.seen a) (D.seen b) d → d.boot ≡ last_number) }
         // What is lost at a fault is at most the start itself.
@@ -83,6 +95,7 @@ impl<E: Engine, D: Disk> Node<E, D> {
             Ok(records) => records,
             Err(fault) => return Err(not_opened(fault, engine, journal)),
         };
+        let restored = records.len();
         let mut core = match Core::recover(alloc, engine, setting, &records) {
             Ok(core) => core,
             Err(refused) => {
@@ -95,6 +108,7 @@ impl<E: Engine, D: Disk> Node<E, D> {
         Ok(Node {
             core,
             journal,
+            restored,
             alloc,
         })
     }
@@ -112,7 +126,8 @@ impl<E: Engine, D: Disk> Node<E, D> {
     }
 
     /// Writes all that the node keeps durably to the disk that isn't current, which is current from then on. On each fault
-    /// the node is as it was; after Device every call but `journal_len` and `stop` answers Failed from then on.
+    /// the node is as it was; after Device `step`, `step_all` and `compact` answer Failed from then on, and the calls that only
+    /// look at the node (`awaited`, `parked`, `census`, `restored`, `journal_len`) go on answering.
     pub fn compact(&mut self) -> Result<(), JournalFault>
         requires valid { IsNode E.valid D.tells D.seen D.may_leave self.old }
         ensures valid { IsNode E.valid D.tells D.seen D.may_leave self.new }
@@ -129,7 +144,7 @@ impl<E: Engine, D: Disk> Node<E, D> {
 }
 
 impl<E, D: Disk> Node<E, D> {
-    ghost use Rattle.sv_node.specs.Node.{engine_of, journal_of, state_of, durable_of};
+    ghost use Rattle.sv_node.specs.Node.{engine_of, journal_of, state_of, durable_of, restored_of};
 
     /// The requests that wait for their sessions, as they came.
     pub fn parked(&self) -> &[Parked]
@@ -143,6 +158,13 @@ impl<E, D: Disk> Node<E, D> {
         ensures { result ≡ census_of (durable_of self.now) }
     {
         self.core.census()
+    }
+
+    /// How many records were replayed when it was opened: those that the disks held, without that of the start itself.
+    pub fn restored(&self) -> usize
+        ensures { result ≡ restored_of self.now }
+    {
+        self.restored
     }
 
     /// The length of the journal's file in bytes when a call last succeeded.
@@ -159,6 +181,7 @@ impl<E, D: Disk> Node<E, D> {
         let Node {
             core,
             journal,
+            restored: _,
             alloc: _,
         } = self;
         let (a, b) = journal.into_disks();

@@ -10,6 +10,8 @@ use Rattle.sv_model.specs.declared.record.Record.{Record}
 use Rattle.sv_model.specs.declared.node.Stage.TheVariants.{Blank}
 use Rattle.sv_model.specs.Engine.{EngineMeaning}
 use Rattle.sv_model.specs.Replay.{blank, replayed, AllFit}
+use Rattle.sv_world.specs.declared.rules.Rules.{Rules}
+use Rattle.sv_world.specs.Rules.{setting_by}
 use Rattle.sv_world.specs.declared.seat.Seat.{Seat}
 use Rattle.sv_world.specs.declared.world.World.{World as Nodes}
 use Rattle.sv_world.specs.Seat.{IsSeat, RunsOver, durable_of, engine_in, engine_by, place_of, place_by}
@@ -84,12 +86,12 @@ module _ {E : Type 0} where
     idle_fit (Some s) h e = idle_seat s h e
 
     -- engines in their seats are a world
-    pub seated_world : (w : Nodes E) (engines : List E) → AreSeated (length engines) w.deadline engines w.seats.items → All fit engines → 0 < length engines → length engines ≤ 8 → IsWorld fit w
+    pub seated_world : (w : Nodes E) (engines : List E) → AreSeated (length engines) w.rules engines w.seats.items → All fit engines → 0 < length engines → length engines ≤ 8 → IsWorld fit w
     seated_world w engines h all some few =
         let number = number_is w.seats.items engines h.engines_in in
         record {
           seats = all_by (λ s. IsSeat fit s) w.seats.items (λ k. idle_fit (slice_get w.seats.items k) (all_some IsIdle w.seats.items h.idle k) (subst (λ o. IfSome o fit) (sym (at_place w.seats.items engines h.engines_in k)) (all_some fit engines all k)));
-          settings = λ n less. h.settings n less ∙ (λ i. record { node = n; nodes = sym number i; deadline = w.deadline });
+          settings = λ n less. h.settings n less ∙ (λ i. setting_by w.rules n (sym number i));
           some = omega (arith, number);
           few = omega (arith, number);
         }
@@ -118,13 +120,13 @@ module _ {E : Type 0} where
       heard = λ n. sym (heard_are new engines (sym is) n) ∙ (λ i. heard i n);
     }
 
-    module _ (w : Nodes E) (engines : List E) (h : AreSeated (length engines) w.deadline engines w.seats.items) where
-      pub started : w.packets.items ≡ [] → w.trace.items ≡ [] → (new : Nodes E) → HaveBegun meaning noted w new → AreStarted meaning noted engines w.deadline new
+    module _ (w : Nodes E) (engines : List E) (h : AreSeated (length engines) w.rules engines w.seats.items) where
+      pub started : w.packets.items ≡ [] → w.trace.items ≡ [] → (new : Nodes E) → HaveBegun meaning noted w new → AreStarted meaning noted engines w.rules new
       started packets trace new b =
           let number = number_is w.seats.items engines h.engines_in in
           let nothing : world_of w ≡ nothing_happened = λ i. record { places = λ n. place_is (slice_get w.seats.items n) (all_some IsIdle w.seats.items h.idle n) i; packets = packets i; trace = trace i } in
           record {
-            cluster = b.happened.cluster ∙ (λ i. record { nodes = number i; deadline = w.deadline });
+            cluster = b.happened.cluster ∙ (λ i. record { nodes = number i; rules = w.rules });
             world = λ m alike.
                 b.happened.world m (λ n less. meanings_are w engines h.engines_in n ∙ alike_at meaning m engines alike n (omega (arith, number, less)))
                 ∙ (λ i. run m (sym b.happened.cluster i) (nothing i) (restarts (number i)));
@@ -140,5 +142,5 @@ module _ {E : Type 0} where
         heard = λ n. a.heard n ∙ heard_are w engines h.engines_in n;
       }
 
-    pub all_mean : (engines : List E) (deadline : ℕ) (w : Nodes E) → AreStarted meaning noted engines deadline w → (m : EngineMeaning) → AllAlike meaning m engines → AllMean meaning m w
-    all_mean engines deadline w s m alike n less = s.meanings n ∙ alike_at meaning m engines alike n (subst (λ k. n < k) (λ i. (s.cluster i).nodes) less)
+    pub all_mean : (engines : List E) (rules : Rules) (w : Nodes E) → AreStarted meaning noted engines rules w → (m : EngineMeaning) → AllAlike meaning m engines → AllMean meaning m w
+    all_mean engines rules w s m alike n less = s.meanings n ∙ alike_at meaning m engines alike n (subst (λ k. n < k) (λ i. (s.cluster i).nodes) less)

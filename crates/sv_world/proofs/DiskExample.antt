@@ -50,7 +50,7 @@ module _ (s : Session) (r : Request) (moment : Moment) where
 
   -- what the node keeps behind each call
   abbrev opened : Node
-  opened = kept (restarted blank)
+  opened = kept (restarted (setting_of two 0) blank)
 
   abbrev answered : After
   answered = carried_out (decided m (setting_of two 0) opened moment (input.Ask 7 r))

@@ -349,13 +349,13 @@ module _ (m : EngineMeaning) (touches : TouchesOnlyHanded m) (c : Cluster) (w : 
 
   -- its record stands, and the node runs or has stopped again
   started_by : (e : WorldEvent) (place : Durable → Place) (call : Call) (a : After) → happens m c w e ≡ done_by w e n (start_by set at_node.node.durable true place)
-      → Own m c w n call a (e ∷ []) → place (restarted at_node.node.durable) ≡ left_place m c w n call a → at_node.node.durable.boot ≢ last_number → a.outputs ≡ []
+      → Own m c w n call a (e ∷ []) → place (restarted set at_node.node.durable) ≡ left_place m c w n call a → at_node.node.durable.boot ≢ last_number → a.outputs ≡ []
       → asked_at c n at_node.node.durable call ≡ [] → shown_at n at_node.node.durable call a ≡ [] → Simulated m c w n call a
   started_by e place call a happened own is some silent asks shows =
       let d = at_node.node.durable in
       let h = heading_at set d None in
-      does m c w n call a e (booted h d place) own
-      (happened ∙ ap (done_by w e n) (ap (λ b. cond (true && not b) (booted h d place) (halted h d)) (ne_eqb d.boot last_number some)))
+      does m c w n call a e (booted set h d place) own
+      (happened ∙ ap (done_by w e n) (ap (λ b. cond (true && not b) (booted set h d place) (halted h d)) (ne_eqb d.boot last_number some)))
       is (sym silent) (sym asks) (sym shows)
 
   -- no record of it stands
@@ -367,7 +367,7 @@ module _ (m : EngineMeaning) (touches : TouchesOnlyHanded m) (c : Cluster) (w : 
       let d = at_node.node.durable in
       let h = heading_at set d None in
       does m c w n call a e (halted h d) own
-      (happened ∙ ap (done_by w e n) (cond-false (kept_too && not (d.boot == last_number)) (booted h d place) (halted h d) unkept))
+      (happened ∙ ap (done_by w e n) (cond-false (kept_too && not (d.boot == last_number)) (booted set h d place) (halted h d) unkept))
       is (sym silent) (sym asks) (sym shows)
 
   restart_goes : at_node.up ≡ false → happens m c w (Restart n) ≡ done_by w (Restart n) n (start_by set at_node.node.durable true started)
@@ -377,7 +377,7 @@ module _ (m : EngineMeaning) (touches : TouchesOnlyHanded m) (c : Cluster) (w : 
   torn_restart_goes kept_too down = (goes c w (record { node = n; task = task.TornStart kept_too }) (TornRestart n kept_too) (start_ready down) refl).happens m
 
   module _ (a : After) (down : at_node.up ≡ false) (was : IsDown at_node.up at_node.node) where
-    opened : at_node.node.durable.boot ≢ last_number → a ≡ quiet (kept (restarted at_node.node.durable)) → Simulated m c w n (Open Finished) a
+    opened : at_node.node.durable.boot ≢ last_number → a ≡ quiet (kept (restarted set at_node.node.durable)) → Simulated m c w n (Open Finished) a
     opened some l =
         started_by (Restart n) started (Open Finished) a (restart_goes down) refl (λ j. record { up = true; node = sym (node_in l) j }) some (puts_in l) refl refl
 
@@ -398,15 +398,15 @@ module _ (m : EngineMeaning) (touches : TouchesOnlyHanded m) (c : Cluster) (w : 
 
     -- a stop behind its record
     open_behind : (call : Call) → Own m c w n call a (TornRestart n true ∷ []) → runs_behind at_node.up call ≡ false → asked_at c n at_node.node.durable call ≡ [] → shown_at n at_node.node.durable call a ≡ []
-        → at_node.node.durable.boot ≢ last_number → a ≡ quiet (kept (restarted at_node.node.durable)) → Simulated m c w n call a
+        → at_node.node.durable.boot ≢ last_number → a ≡ quiet (kept (restarted set at_node.node.durable)) → Simulated m c w n call a
     open_behind call own ends asks shows some l =
         started_by (TornRestart n true) stopped call a (torn_restart_goes true down) own (λ j. record { up = sym ends j; node = sym (node_in l) j }) some (puts_in l) asks shows
 
     open_stops : (call : Call) → ((kept_too : Bool) → Own m c w n call a (TornRestart n kept_too ∷ [])) → runs_behind at_node.up call ≡ false → asked_at c n at_node.node.durable call ≡ [] → shown_at n at_node.node.durable call a ≡ []
-        → (a ≡ quiet (kept at_node.node.durable)) ⊎ ((at_node.node.durable.boot ≢ last_number) × (a ≡ quiet (kept (restarted at_node.node.durable)))) → Simulated m c w n call a
+        → (a ≡ quiet (kept at_node.node.durable)) ⊎ ((at_node.node.durable.boot ≢ last_number) × (a ≡ quiet (kept (restarted set at_node.node.durable)))) → Simulated m c w n call a
     open_stops call own ends asks shows l = ⊎_elim
         (λ (x : a ≡ quiet (kept at_node.node.durable)). open_before call (own false) ends asks shows (node_in x) (puts_in x))
-        (λ (x : (at_node.node.durable.boot ≢ last_number) × (a ≡ quiet (kept (restarted at_node.node.durable)))). open_behind call (own true) ends asks shows x.0 x.1)
+        (λ (x : (at_node.node.durable.boot ≢ last_number) × (a ≡ quiet (kept (restarted set at_node.node.durable)))). open_behind call (own true) ends asks shows x.0 x.1)
         l
 
   -- ---- a stop between two calls

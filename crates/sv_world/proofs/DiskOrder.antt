@@ -1,6 +1,6 @@
 -- What holds between the calls of nodes over their disks: what a node that doesn't run keeps, and that a request that is new
 -- to a node comes under a token that none had.
-use Rattle.std.proofs.Common.{◌≡◌, ◌≢◌, inl, inr, ⊎_elim, ℕ, ◌<◌, ◌≤◌, ◌==◌, ◌&&◌, Bool, true, false, cond, Some, None, List, [], ◌∷◌, ◌++◌, arith, refl, sym, ap, ◌∙◌, subst, eq-eqb}
+use Rattle.std.proofs.Common.{◌+◌, ◌≡◌, ◌≢◌, inl, inr, ⊎_elim, ℕ, ◌<◌, ◌≤◌, ◌==◌, ◌&&◌, Bool, true, false, cond, Some, None, List, [], ◌∷◌, ◌++◌, arith, refl, sym, ap, ◌∙◌, subst, eq-eqb}
 use Rattle.std.specs.List.{flat_map}
 use Rattle.std.specs.Option.{option_to_list}
 use Rattle.std.proofs.lemmas.Bool.{cases_eq, ne_eqb}
@@ -25,6 +25,7 @@ use Rattle.sv_world.specs.Disks.{IsNew, with_number, numbers_behind}
 use Rattle.sv_world.specs.Waits.{tok, boot_of}
 use Rattle.sv_world.specs.World.{Cluster, Place, setting_of, set_place}
 use Rattle.sv_world.proofs.Arrivals.{one_if, times_more}
+use Rattle.sv_world.proofs.Events.{start_boot}
 use Rattle.sv_world.proofs.Thrift.{apart, decide_thrifty}
 
 -- the tokens of the requests that came with several steps
@@ -150,12 +151,12 @@ module _ (m : EngineMeaning) (c : Cluster) (n : ℕ) (p : Place) (a : After) whe
   same_down was l off = ap (λ (b : After). b.node) l ∙ was off ∙ ap kept (sym (durable_is p.node l))
 
   pub stays_down : (call : Call) → Did call → IsDown p.up p.node → IsDown (runs_behind p.up call) a.node
-  stays_down (Open Done) d was off = kept_down (restarted p.node.durable) d.2
+  stays_down (Open Done) d was off = kept_down (restarted set p.node.durable) d.2
   stays_down (Open (Refused opening.Damaged)) d was off = same_down was d.2 d.0
   stays_down (Open (Refused opening.Full)) d was off = same_down was d.1 d.0
   stays_down (Open (Refused opening.Memory)) d was off = same_down was d.1 d.0
-  stays_down (Open (Refused opening.Device)) d was off = ⊎_elim (kept_down p.node.durable) (λ x. kept_down (restarted p.node.durable) x.1) d.1
-  stays_down (Open Cut) d was off = ⊎_elim (kept_down p.node.durable) (λ x. kept_down (restarted p.node.durable) x.1) d.1
+  stays_down (Open (Refused opening.Device)) d was off = ⊎_elim (kept_down p.node.durable) (λ x. kept_down (restarted set p.node.durable) x.1) d.1
+  stays_down (Open Cut) d was off = ⊎_elim (kept_down p.node.durable) (λ x. kept_down (restarted set p.node.durable) x.1) d.1
   stays_down (Step at i Done) d was off = absurd (let clash : true ≡ false = sym d.0 ∙ off in cc)
   stays_down (Step at i (Refused step.Failed)) d was off = same_down was d.1 off
   stays_down (Step at i (Refused step.Full)) d was off = same_down was d off
@@ -179,8 +180,8 @@ module _ (m : EngineMeaning) (c : Cluster) (n : ℕ) (p : Place) (a : After) whe
   kept_boot : a ≡ quiet (kept p.node.durable) → boot ≤ new_boot
   kept_boot l = omega (arith, boot_is (kept p.node.durable) l)
 
-  next_boot : a ≡ quiet (kept (restarted p.node.durable)) → boot ≤ new_boot
-  next_boot l = omega (arith, boot_is (kept (restarted p.node.durable)) l)
+  next_boot : a ≡ quiet (kept (restarted set p.node.durable)) → boot ≤ new_boot
+  next_boot l = let more : new_boot ≡ boot + 1 = boot_is (kept (restarted set p.node.durable)) l ∙ start_boot set p.node.durable in omega (arith, more)
 
   decided_boot : (at : _) (i : Input) → a ≡ quiet (kept (decided m set p.node at i).durable) → boot ≤ new_boot
   decided_boot at i l = omega (arith, boot_is (kept (decided m set p.node at i).durable) l, step_boot Stop at i)
@@ -251,7 +252,8 @@ module _ (m : EngineMeaning) (c : Cluster) (n : ℕ) (p : Place) (a : After) whe
 
     pub stays_fresh : (call : Call) → Did call → IsFresh asked n p numbers → IsPastOf asked n p → Stays call
     stays_fresh (Open Done) d fresh past up number new =
-        still_none (tok n new_boot number) asked [] (past new_boot number (omega (arith, boot_is (kept (restarted p.node.durable)) d.2))) refl
+        let more : new_boot ≡ boot + 1 = boot_is (kept (restarted set p.node.durable)) d.2 ∙ start_boot set p.node.durable in
+        still_none (tok n new_boot number) asked [] (past new_boot number (omega (arith, more))) refl
     stays_fresh (Open (Refused fault)) d fresh past up number new = absurd (cc)
     stays_fresh (Open Cut) d fresh past up number new = absurd (cc)
     stays_fresh (Step at i Done) d fresh past up number new = step_fresh at i d fresh number new

@@ -1,5 +1,5 @@
 -- What an event does, one case at a time: a fact that holds behind each of these holds behind every event.
-use Rattle.std.proofs.Common.{◌≡◌, ◌<◌, ℕ, ◌&&◌, Bool, true, cond, Option, Some, None, List, [], ◌∷◌, refl}
+use Rattle.std.proofs.Common.{◌≡◌, ◌<◌, ℕ, ◌+◌, ◌&&◌, Bool, true, cond, Option, Some, None, List, [], ◌∷◌, refl}
 use Rattle.std.specs.Prelude.{not, is_some}
 use Rattle.std.proofs.lemmas.Bool.{cond_both, and_parts, ltb-true}
 use Rattle.sv_model.specs.declared.key.Token.{Token}
@@ -9,13 +9,15 @@ use Rattle.sv_model.specs.declared.input.Input.TheVariants as input
 use Rattle.sv_model.specs.Engine.{EngineMeaning}
 use Rattle.sv_model.specs.NodeState.{Durable}
 use Rattle.sv_model.specs.Membership.{In}
-use Rattle.sv_model.specs.Replay.{applied}
+use Rattle.sv_model.specs.Replay.{boot_record, applied}
+use Rattle.sv_model.specs.declared.node.Setting.{Setting}
+use Rattle.sv_model.specs.declared.record.Record.TheVariants.{Boot, Forgets}
 use Rattle.sv_model.specs.Trace.{asked_of}
 use Rattle.sv_world.specs.declared.event.WorldEvent.{WorldEvent}
 use Rattle.sv_world.specs.declared.event.WorldEvent.TheVariants.{Ask, Deliver, Poke, Tick, Move, Crash, Torn, Silent, Restart, TornRestart}
 use Rattle.sv_world.specs.Sent.{may_come}
 use Rattle.sv_world.specs.declared.call.Call.{Call}
-use Rattle.sv_world.specs.World.{Cluster, Place, World, durable_at, stopped, started, items, call_of, decision, token_of_call, is_unused, is_there, is_ready, whole, cut, silent, becomes, halt, boot_record, boots, is_spent, steps, tears, hushes, starts, happens, run}
+use Rattle.sv_world.specs.World.{Cluster, Place, World, durable_at, stopped, started, items, call_of, decision, token_of_call, is_unused, is_there, is_ready, whole, cut, silent, becomes, halt, record_of_start, boots, is_spent, steps, tears, hushes, starts, happens, run}
 use Rattle.sv_world.proofs.SentLemmas.{sent_in}
 
 -- a packet that is given was sent
@@ -50,6 +52,10 @@ readies c w call h =
     let third = and_parts sent unused second.1 in
     record { inside = ltb-true call.node c.nodes first.0; up = second.0; sent = came w.packets call.input third.0; unused = third.1 }
 
+-- a start has the next number
+pub start_boot : (set : Setting) (d : Durable) → (applied (boot_record set d) d).boot ≡ d.boot + 1
+start_boot set d = cond_both set.forget (Forgets set.node (d.boot + 1)) (Boot (d.boot + 1)) (λ r. (applied r d).boot ≡ d.boot + 1) (λ _. refl) (λ _. refl)
+
 -- behind an event of this world
 pub record Behind (m : EngineMeaning) (c : Cluster) (w : World) (e : WorldEvent) (P : World → Type 0) : Type 0 where
   pub still : P w
@@ -57,7 +63,7 @@ pub record Behind (m : EngineMeaning) (c : Cluster) (w : World) (e : WorldEvent)
   pub cut_by : (call : Call) → call_of w.packets e ≡ Some call → IsReady c w call → P (cut c w e call (decision m c w call))
   pub silent_by : (call : Call) → call_of w.packets e ≡ Some call → IsReady c w call → P (silent c w e call (decision m c w call))
   pub halt_by : (n : ℕ) (asked : Option Token) → is_unused (asked_of (items w.trace)) asked ≡ true → P (halt w e n asked)
-  pub boots_by : (n : ℕ) (p : Place) → p.node.parked ≡ [] → p.node.durable ≡ applied (boot_record w n) (durable_at w n) → P (becomes w e n p (Some (boot_record w n)) None)
+  pub boots_by : (n : ℕ) (p : Place) → p.node.parked ≡ [] → p.node.durable ≡ applied (record_of_start c w n) (durable_at w n) → P (becomes w e n p (Some (record_of_start c w n)) None)
 
 module _ (m : EngineMeaning) (c : Cluster) (w : World) (P : World → Type 0) where
   stepped : (e : WorldEvent) (call : Option Call) → call_of w.packets e ≡ call → Behind m c w e P → P (steps m c w e call)
@@ -80,8 +86,8 @@ module _ (m : EngineMeaning) (c : Cluster) (w : World) (P : World → Type 0) wh
 
   start : (e : WorldEvent) (n : ℕ) (kept : Bool) (place : Durable → Place) → ((d : Durable) → (place d).node.parked ≡ []) → ((d : Durable) → (place d).node.durable ≡ d) → Behind m c w e P → P (starts c w e n kept place)
   start e n kept place none same h =
-      cond_both (is_there c n && not (w.places n).up) (cond (kept && not (is_spent w n)) (boots w e n place) (halt w e n None)) w P
-      (λ _. cond_both (kept && not (is_spent w n)) (boots w e n place) (halt w e n None) P (λ _. let d = applied (boot_record w n) (durable_at w n) in h.boots_by n (place d) (none d) (same d)) (λ _. h.halt_by n None refl))
+      cond_both (is_there c n && not (w.places n).up) (cond (kept && not (is_spent w n)) (boots c w e n place) (halt w e n None)) w P
+      (λ _. cond_both (kept && not (is_spent w n)) (boots c w e n place) (halt w e n None) P (λ _. let d = applied (record_of_start c w n) (durable_at w n) in h.boots_by n (place d) (none d) (same d)) (λ _. h.halt_by n None refl))
       (λ _. h.still)
 
   pub behind : (e : WorldEvent) → Behind m c w e P → P (happens m c w e)

@@ -16,6 +16,7 @@ use Rattle.sv_model.specs.declared.state.KeyState.TheVariants.{Active}
 use Rattle.sv_model.specs.Engine.{EngineMeaning}
 use Rattle.sv_model.specs.Trace.{replies_of, served_of}
 use Rattle.sv_model.specs.declared.input.Input.TheVariants as input
+use Rattle.sv_world.specs.Rules.{rules_for}
 use Rattle.sv_world.specs.declared.event.WorldEvent.TheVariants.{Ask, Crash, Torn, Silent, Restart}
 use Rattle.sv_world.specs.World.{Cluster, World, nothing_happened, run, items, commits_in, records_at}
 
@@ -24,7 +25,7 @@ abbrev pub makes : Response → Session → EngineMeaning
 makes response s = record { names = λ r. None; serve = λ r held now fresh. record { response = response; fate = Untouched; birth = Alive s; events = [] }; hear = λ heard t. heard }
 
 abbrev pub two : Cluster
-two = record { nodes = 2; deadline = 30 }
+two = record { nodes = 2; rules = rules_for 30 }
 
 module _ (response : Response) (s : Session) (r : Request) (moment : Moment) where
   abbrev asked : World

@@ -89,7 +89,7 @@ module _ (m : EngineMeaning) (c : Cluster) (w : World) where
   hushes_still e (Some call) f h = ap (λ t. cond t (silent c w e call (decision m c w call)) w) (step_none (is_there c call.node) (up call) (sent call) (unused call) f h)
 
   starts_still : (e : WorldEvent) (n : ℕ) (kept : Bool) (place : Durable → Place) (f : WorldFault) → start_fault (is_there c n) (w.places n).up ≡ Some f → starts c w e n kept place ≡ w
-  starts_still e n kept place f h = ap (λ t. cond t (cond (kept && not (is_spent w n)) (boots w e n place) (halt w e n None)) w) (start_none (is_there c n) (w.places n).up f h)
+  starts_still e n kept place f h = ap (λ t. cond t (cond (kept && not (is_spent w n)) (boots c w e n place) (halt w e n None)) w) (start_none (is_there c n) (w.places n).up f h)
 
   still : (e : WorldEvent) (f : WorldFault) → fault_of c w e ≡ Some f → happens m c w e ≡ w
   still (Ask n moment token r) f h = steps_still (Ask n moment token r) (call_of w.packets (Ask n moment token r)) f h
@@ -122,8 +122,8 @@ module _ (m : EngineMeaning) (c : Cluster) (w : World) where
 
   starts_add : (e : WorldEvent) (n : ℕ) (kept : Bool) (place : Durable → Place) → start_fault (is_there c n) (w.places n).up ≡ None → Adds w (starts c w e n kept place) e
   starts_add e n kept place h =
-      if_so (is_there c n && not (w.places n).up) (cond (kept && not (is_spent w n)) (boots w e n place) (halt w e n None)) w w e (start_goes (is_there c n) (w.places n).up h)
-      (either (kept && not (is_spent w n)) (boots w e n place) (halt w e n None) w e (record { line = _; event = refl; trace = refl }) (record { line = _; event = refl; trace = refl }))
+      if_so (is_there c n && not (w.places n).up) (cond (kept && not (is_spent w n)) (boots c w e n place) (halt w e n None)) w w e (start_goes (is_there c n) (w.places n).up h)
+      (either (kept && not (is_spent w n)) (boots c w e n place) (halt w e n None) w e (record { line = _; event = refl; trace = refl }) (record { line = _; event = refl; trace = refl }))
 
   added : (e : WorldEvent) → fault_of c w e ≡ None → Adds w (happens m c w e) e
   added (Ask n moment token r) h = steps_add (Ask n moment token r) (call_of w.packets (Ask n moment token r)) h

@@ -44,15 +44,15 @@ deed_node m set p (task.Torn moment input kept) =
     node_by (kept && is_some d.entry) (record { place = stopped d.durable; effect = quiet_at h d.entry d.commit }) (halted h p.node.durable) set.node refl refl
 deed_node m set p (task.Silent moment input) = refl
 deed_node m set p task.Stop = refl
-deed_node m set p task.Start = node_by (true && not (p.node.durable.boot == last_number)) (booted (heading_at set p.node.durable None) p.node.durable started) (halted (heading_at set p.node.durable None) p.node.durable) set.node refl refl
-deed_node m set p (task.TornStart kept) = node_by (kept && not (p.node.durable.boot == last_number)) (booted (heading_at set p.node.durable None) p.node.durable stopped) (halted (heading_at set p.node.durable None) p.node.durable) set.node refl refl
+deed_node m set p task.Start = node_by (true && not (p.node.durable.boot == last_number)) (booted set (heading_at set p.node.durable None) p.node.durable started) (halted (heading_at set p.node.durable None) p.node.durable) set.node refl refl
+deed_node m set p (task.TornStart kept) = node_by (kept && not (p.node.durable.boot == last_number)) (booted set (heading_at set p.node.durable None) p.node.durable stopped) (halted (heading_at set p.node.durable None) p.node.durable) set.node refl refl
 
 silent_by : (b : Bool) (x y : Done) → told_by x.effect ≡ [] → told_by y.effect ≡ [] → told_by (cond b x y).effect ≡ []
 silent_by true x y f g = f
 silent_by false x y f g = g
 
 start_silent : (m : EngineMeaning) (set : Setting) (p : Place) → told_by (deed m set p task.Start).effect ≡ []
-start_silent m set p = silent_by (true && not (p.node.durable.boot == last_number)) (booted (heading_at set p.node.durable None) p.node.durable started) (halted (heading_at set p.node.durable None) p.node.durable) refl refl
+start_silent m set p = silent_by (true && not (p.node.durable.boot == last_number)) (booted set (heading_at set p.node.durable None) p.node.durable started) (halted (heading_at set p.node.durable None) p.node.durable) refl refl
 
 -- ---- each node has an engine
 
@@ -74,9 +74,9 @@ module _ {E : Type 0} (meaning : E → EngineMeaning) where
 
 -- ---- the numbers of nodes stay
 
-module _ {E : Type 0} (valid : E → Type 0) (old new : Nodes E) (number : length new.seats.items ≡ length old.seats.items) (deadline : new.deadline ≡ old.deadline) where
+module _ {E : Type 0} (valid : E → Type 0) (old new : Nodes E) (number : length new.seats.items ≡ length old.seats.items) (rules : new.rules ≡ old.rules) where
   pub same_cluster : cluster_of new ≡ cluster_of old
-  same_cluster = λ i. record { nodes = number i; deadline = deadline i }
+  same_cluster = λ i. record { nodes = number i; rules = rules i }
 
   pub still_world : IsWorld valid old → All (λ s. IsSeat valid s) new.seats.items → settings_by new.seats.items ≡ settings_by old.seats.items → IsWorld valid new
   still_world w all same = record {
@@ -86,11 +86,11 @@ module _ {E : Type 0} (valid : E → Type 0) (old new : Nodes E) (number : lengt
     few = omega (arith, number, w.few);
   }
 
-module _ {E : Type 0} (meaning : E → EngineMeaning) (noted : E → List (List ℕ)) (old new : Nodes E) (number : length new.seats.items ≡ length old.seats.items) (deadline : new.deadline ≡ old.deadline)
+module _ {E : Type 0} (meaning : E → EngineMeaning) (noted : E → List (List ℕ)) (old new : Nodes E) (number : length new.seats.items ≡ length old.seats.items) (rules : new.rules ≡ old.rules)
     (meanings : meanings_of meaning new ≡ meanings_of meaning old) where
   pub stays : AreUndone noted old.seats.items new.seats.items → new.packets.items ≡ old.packets.items → new.trace.items ≡ old.trace.items → IsStill meaning noted old new
   stays undone packets trace = record {
-    cluster = λ i. record { nodes = number i; deadline = deadline i };
+    cluster = λ i. record { nodes = number i; rules = rules i };
     world = λ i. record { places = undone.places i; packets = packets i; trace = trace i };
     meanings = meanings;
     heard = undone.heard;
@@ -102,7 +102,7 @@ option_same f (Some x) h = ap Some (h x)
 
 -- ---- one event
 
-module _ {E : Type 0} (meaning : E → EngineMeaning) (noted : E → List (List ℕ)) (old new : Nodes E) (number : length new.seats.items ≡ length old.seats.items) (deadline : new.deadline ≡ old.deadline)
+module _ {E : Type 0} (meaning : E → EngineMeaning) (noted : E → List (List ℕ)) (old new : Nodes E) (number : length new.seats.items ≡ length old.seats.items) (rules : new.rules ≡ old.rules)
     (meanings : meanings_of meaning new ≡ meanings_of meaning old) (e : WorldEvent) (o : Order) (f : Effect) (goes : Goes (cluster_of old) (world_of old) e o)
     (set : settings_by old.seats.items o.node ≡ setting_of (cluster_of old) o.node) (means : (m : EngineMeaning) × (meanings_of meaning old o.node ≡ Some m))
     (done : (m : EngineMeaning) → meanings_of meaning old o.node ≡ Some m → HaveDone noted m old.seats.items new.seats.items o f) where
@@ -142,7 +142,7 @@ module _ {E : Type 0} (meaning : E → EngineMeaning) (noted : E → List (List 
 
   pub happened : new.packets.items ≡ old.packets.items ++ sends_in f.outputs → new.trace.items ≡ old.trace.items ++ line_of e f ∷ [] → HaveHappened meaning noted old new (e ∷ [])
   happened packets trace = record {
-    cluster = λ i. record { nodes = number i; deadline = deadline i };
+    cluster = λ i. record { nodes = number i; rules = rules i };
     world = λ m all. world_is packets trace m all ∙ sym (goes.happens m);
     lines = line_of e f ∷ [];
     trace = trace;
@@ -177,19 +177,19 @@ start_task sent (TornRestart n kept) o h is = absurd (let no : false ≡ true = 
 -- ---- what a node has done, and then the line
 
 -- the lists of a world are those of another
-pub acted_world : {E : Type 0} (valid : E → Type 0) (mid new : Nodes E) → new.seats ≡ mid.seats → new.deadline ≡ mid.deadline → IsWorld valid mid → new.seats.items ≡ mid.seats.items → IsWorld valid new
-acted_world valid mid new seats deadline w items = still_world valid mid new (ap length items) deadline w (subst (λ xs. All (λ s. IsSeat valid s) xs) (sym items) w.seats) (ap settings_by items)
+pub acted_world : {E : Type 0} (valid : E → Type 0) (mid new : Nodes E) → new.seats ≡ mid.seats → new.rules ≡ mid.rules → IsWorld valid mid → new.seats.items ≡ mid.seats.items → IsWorld valid new
+acted_world valid mid new seats rules w items = still_world valid mid new (ap length items) rules w (subst (λ xs. All (λ s. IsSeat valid s) xs) (sym items) w.seats) (ap settings_by items)
 
 module _ {E : Type 0} (meaning : E → EngineMeaning) (noted : E → List (List ℕ)) (valid : E → Type 0) (old mid : Nodes E) where
   acted_goes : (e : WorldEvent) (f : Effect) (h : HasActed meaning noted old mid e f) → Goes (cluster_of old) (world_of old) e h.order
   acted_goes e f h = goes (cluster_of old) (world_of old) h.order e h.possible h.asked
 
   module _ (new : Nodes E) (e : WorldEvent) (f : Effect) (w : IsWorld valid old) (h : HasActed meaning noted old mid e f) where
-    pub acted_happened : new.seats.items ≡ mid.seats.items → new.deadline ≡ mid.deadline → new.packets.items ≡ mid.packets.items → new.trace.items ≡ mid.trace.items ++ line_of e f ∷ [] → HaveHappened meaning noted old new (e ∷ [])
-    acted_happened seats deadline packets trace =
+    pub acted_happened : new.seats.items ≡ mid.seats.items → new.rules ≡ mid.rules → new.packets.items ≡ mid.packets.items → new.trace.items ≡ mid.trace.items ++ line_of e f ∷ [] → HaveHappened meaning noted old new (e ∷ [])
+    acted_happened seats rules packets trace =
         let o = h.order in
         let gone = acted_goes e f h in
-        happened meaning noted old new (ap length seats ∙ h.number) (deadline ∙ h.deadline) (ap (meanings_by meaning) seats ∙ h.meanings) e o f gone
+        happened meaning noted old new (ap length seats ∙ h.number) (rules ∙ h.rules) (ap (meanings_by meaning) seats ∙ h.meanings) e o f gone
         (w.settings o.node gone.there) (means_at meaning valid old.seats.items w.seats o.node gone.there)
         (λ m is. subst (λ xs. HaveDone noted m old.seats.items xs o f) (sym seats) (h.done m is))
         (packets ∙ h.packets) (trace ∙ ap (λ ls. ls ++ line_of e f ∷ []) h.trace)
@@ -199,5 +199,5 @@ module _ {E : Type 0} (meaning : E → EngineMeaning) (noted : E → List (List 
     acted_silent start =
         let o = h.order in
         let gone = acted_goes e f h in
-        silent_start meaning noted old mid h.number h.deadline h.meanings e o f gone (w.settings o.node gone.there) (means_at meaning valid old.seats.items w.seats o.node gone.there) h.done
+        silent_start meaning noted old mid h.number h.rules h.meanings e o f gone (w.settings o.node gone.there) (means_at meaning valid old.seats.items w.seats o.node gone.there) h.done
         (start_task old.packets.items e o start h.asked)

@@ -23,6 +23,7 @@ pub mod NodeLemmas
 pub mod OrderLemmas
 pub mod HappenedLemmas
 pub mod HeadlineLemmas
+pub mod TurnedLemmas
 pub mod RanLemmas
 pub mod ActingLemmas
 pub mod SeatLemmas

@@ -4,6 +4,8 @@ use Rattle.std.specs.Prelude.{is_some, IfSome, slice_get}
 use Rattle.std.specs.List.{All}
 use Rattle.std.proofs.lemmas.Bool.{cases_eq}
 use Rattle.std.proofs.lemmas.List.{map-append, drop-drop}
+use Rattle.sv_world.specs.declared.rules.Rules.{Rules}
+use Rattle.sv_world.specs.Rules.{setting_by}
 use Rattle.sv_world.specs.declared.seat.Seat.{Seat}
 use Rattle.sv_world.specs.Seat.{engine_in, engine_by}
 use Rattle.sv_world.specs.Worlds.{setting_in, settings_by}
@@ -46,15 +48,15 @@ module _ {X : Type 0} where
 
 module _ {E : Type 0} where
   -- one more node
-  pub one_seated : (nodes deadline : ℕ) (engines : List E) (seats : List (Seat E)) (e : E) (s : Seat E) → AreSeated nodes deadline engines seats → s.idle ≡ Some e → s.core ≡ None → s.journal.items ≡ []
-      → s.setting ≡ record { node = length seats; nodes = nodes; deadline = deadline } → AreSeated nodes deadline (engines ++ e ∷ []) (seats ++ s ∷ [])
-  one_seated nodes deadline engines seats e s h idle core journal set =
+  pub one_seated : (nodes : ℕ) (rules : Rules) (engines : List E) (seats : List (Seat E)) (e : E) (s : Seat E) → AreSeated nodes rules engines seats → s.idle ≡ Some e → s.core ≡ None → s.journal.items ≡ []
+      → s.setting ≡ setting_by rules (length seats) nodes → AreSeated nodes rules (engines ++ e ∷ []) (seats ++ s ∷ [])
+  one_seated nodes rules engines seats e s h idle core journal set =
       let engine : engine_in s ≡ Some e = engine_idle s e core idle in
       record {
         engines_in = map-append engine_in seats (s ∷ []) ∙ (λ i. h.engines_in i ++ engine i ∷ []) ∙ sym (map-append Some engines (e ∷ []));
         idle = all_push IsIdle seats s h.idle (record { core = core; journal = journal; idle = ap is_some idle });
         settings = λ n less. ⊎_elim
-            (λ (last : n ≡ length seats). ap (λ k. settings_by (seats ++ s ∷ []) k) last ∙ ap setting_in (push_last seats s) ∙ set ∙ ap (λ k. record { node = k; nodes = nodes; deadline = deadline }) (sym last))
+            (λ (last : n ≡ length seats). ap (λ k. settings_by (seats ++ s ∷ []) k) last ∙ ap setting_in (push_last seats s) ∙ set ∙ ap (λ k. setting_by rules k nodes) (sym last))
             (λ (before : n ≢ length seats). let below : n < length seats = omega (arith, length-append seats (s ∷ [])) in push_get setting_in seats s n below ∙ h.settings n below)
             (cases_eq n (length seats));
       }

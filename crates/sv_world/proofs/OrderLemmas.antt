@@ -76,8 +76,8 @@ module _ (c : Cluster) (w : World) (e : WorldEvent) where
   starts_go : (n : ℕ) (kept : Bool) (place : Durable → Place) → start_fault (is_there c n) (w.places n).up ≡ None → starts c w e n kept place ≡ done_by w e n (start_by (setting_of c n) (durable_at w n) kept place)
   starts_go n kept place h =
       let heading = heading_at (setting_of c n) (durable_at w n) None in
-      cond-true (is_there c n && not (w.places n).up) (cond (kept && not (is_spent w n)) (boots w e n place) (halt w e n None)) w (start_goes (is_there c n) (w.places n).up h)
-      ∙ split n (kept && not (is_spent w n)) (boots w e n place) (halt w e n None) (booted heading (durable_at w n) place) (halted heading (durable_at w n))
+      cond-true (is_there c n && not (w.places n).up) (cond (kept && not (is_spent w n)) (boots c w e n place) (halt w e n None)) w (start_goes (is_there c n) (w.places n).up h)
+      ∙ split n (kept && not (is_spent w n)) (boots c w e n place) (halt w e n None) (booted (setting_of c n) heading (durable_at w n) place) (halted heading (durable_at w n))
       (quiet n _ _ None) (quiet n (stopped (durable_at w n)) None None)
 
   whole_goes : (o : Order) (call : Option Call) → ((m : EngineMeaning) → happens m c w e ≡ steps m c w e call) → call_fault c w call ≡ None → option_map whole_order call ≡ Some o → Goes c w e o

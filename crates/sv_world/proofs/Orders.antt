@@ -32,7 +32,7 @@ use Rattle.sv_world.proofs.Patience.{HasCome, decide_patient}
 use Rattle.sv_model.specs.Serving.{token_of}
 use Rattle.sv_model.specs.NodeState.{Durable}
 use Rattle.sv_world.specs.World.{setting_of}
-use Rattle.sv_world.proofs.Events.{IsSentIn, IsReady, behind, behind_all}
+use Rattle.sv_world.proofs.Events.{start_boot, IsSentIn, IsReady, behind, behind_all}
 use Rattle.sv_world.proofs.Runs.{Inv, commits_snoc, happens_keeps}
 
 abbrev pub arrival_in : List Line → Token → ℕ
@@ -126,7 +126,7 @@ module _ (m : EngineMeaning) (c : Cluster) where
     cut_by = λ call is r. cut_waiting w e call is r inv j;
     silent_by = λ call is r. silent_waiting w e call is r inv j;
     halt_by = λ n asked _. lined m (set_place w.places n (stopped (durable_at w n))) w.packets w.trace _ (stop_waits m w.places w.packets (commits_in w) _ _ (grows m w _ j) n (durable_at w n) None refl tt tt);
-    boots_by = λ n p none same. lined m (set_place w.places n p) w.packets w.trace _ (boot_waits m w.places w.packets (commits_in w) _ _ (grows m w _ j) n p none (ap (λ (d : Durable). d.boot) same));
+    boots_by = λ n p none same. lined m (set_place w.places n p) w.packets w.trace _ (boot_waits m w.places w.packets (commits_in w) _ _ (grows m w _ j) n p none (ap (λ (d : Durable). d.boot) same ∙ start_boot (setting_of c n) (durable_at w n)));
   })
 
   pub first_waits : Waiting m nothing_happened

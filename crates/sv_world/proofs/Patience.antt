@@ -1,9 +1,9 @@
 -- Each step of a node keeps the invariant of what waits.
 use Rattle.std.proofs.Common.{◌≡◌, ◌≢◌, ◌⊎◌, ℕ, ◌+◌, ◌<◌, ◌≤◌, ◌==◌, ◌&&◌, Bool, true, false, cond, Option, Some, None, List, [], ◌∷◌, ◌++◌, map, length, arith, refl, sym, ap, ◌∙◌, subst, inl, inr, ⊎_elim}
-use Rattle.std.specs.Prelude.{nat_le, nat_lt, not, ◌||◌, is_some, is_none}
+use Rattle.std.specs.Prelude.{nat_le, nat_lt, not, ◌||◌, is_some}
 use Rattle.std.specs.Option.{option_map}
 use Rattle.std.specs.List.{filter, filter_map, flat_map}
-use Rattle.std.specs.FinMap.{get, len, entries}
+use Rattle.std.specs.FinMap.{get, entries}
 use Rattle.std.proofs.lemmas.List.Elements.{filter_map-append}
 use Rattle.std.proofs.lemmas.Bool.{cond_both, eqb-true, leb-true, and_parts, true≢false}
 use Rattle.sv_model.specs.declared.key.Key.{Key}
@@ -15,13 +15,13 @@ use Rattle.sv_model.specs.declared.session.Session.{Session}
 use Rattle.sv_model.specs.declared.node.Parked.{Parked}
 use Rattle.sv_model.specs.declared.state.KeyState.{KeyState}
 use Rattle.sv_model.specs.declared.state.KeyState.TheVariants.{Active, Sent, Gone, Ended}
-use Rattle.sv_model.specs.declared.state.TheConstants.{PARK_LIMIT, KEY_LIMIT}
+use Rattle.sv_model.specs.declared.state.TheConstants.{PARK_LIMIT}
 use Rattle.sv_model.specs.declared.packet.Packet.{Packet}
 use Rattle.sv_model.specs.declared.packet.Packet.TheVariants.{Want, Grant, Ack, No}
 use Rattle.sv_model.specs.declared.input.Input.{Input}
 use Rattle.sv_model.specs.declared.input.Input.TheVariants.{Ask, Packet as Incoming, Poke, Tick, Move}
 use Rattle.sv_model.specs.declared.output.Cause.{Cause}
-use Rattle.sv_model.specs.declared.output.Cause.TheVariants.{ParkFull, WantsSpent, Deadline}
+use Rattle.sv_model.specs.declared.output.Cause.TheVariants.{TableFull, ParkFull, WantsSpent, Deadline}
 use Rattle.sv_model.specs.declared.output.Output.{Output}
 use Rattle.sv_model.specs.declared.output.Output.TheVariants.{Refuse, Send, Moved}
 use Rattle.sv_model.specs.declared.commit.Commit.{Commit}
@@ -29,12 +29,12 @@ use Rattle.sv_model.specs.declared.record.Record.TheVariants.{Gone as GoneRecord
 use Rattle.sv_model.specs.Engine.{EngineMeaning}
 use Rattle.sv_model.specs.Keys.{same_key}
 use Rattle.sv_model.specs.Container.{IsExcused}
-use Rattle.sv_model.specs.NodeState.{Durable, Node, last_number, session_in, epoch_in, is_settled, is_unmade, is_dead}
+use Rattle.sv_model.specs.NodeState.{Durable, Node, last_number, session_in, epoch_in, was_given, known, is_settled, is_unmade, is_dead, lacks_room, is_crowded}
 use Rattle.sv_model.specs.Decision.{Decision, idle, with_record}
 use Rattle.sv_model.specs.Serving.{held_in, answer_of, refused, no_birth, answered_unless, served}
 use Rattle.sv_model.specs.Waiting.{others, wants, parks, waits, on_ask, first_of, without, serve_first, serve_parked}
 use Rattle.sv_model.specs.Migration.{hands_over, says_no, no_if_unmade, on_want, takes_over, on_grant, on_ack, is_wanted, sender, addressee, is_ours, on_ours, on_packet, move_refused, on_move}
-use Rattle.sv_model.specs.Time.{is_late, first_over, expire, deadlines, wants_again, grant_again}
+use Rattle.sv_model.specs.Time.{is_late, is_quiet, first_over, expire, deadlines, wants_again, grant_again}
 use Rattle.sv_model.specs.Node.{decided}
 use Rattle.sv_model.proofs.KeyLemmas.{keys_tell}
 use Rattle.sv_model.proofs.EntryLemmas.{Entry}
@@ -43,7 +43,8 @@ use Rattle.sv_model.specs.Outputs.{packet_in, sends_in}
 use Rattle.sv_model.specs.Opening.{Opening}
 use Rattle.sv_world.specs.Life.{session_of}
 use Rattle.sv_world.specs.World.{Cluster, setting_of, Place}
-use Rattle.sv_world.specs.Sane.{Sane, store_of}
+use Rattle.sv_world.specs.Sane.{Sane, IsUnmade, store_of}
+use Rattle.sv_model.proofs.KnownLemmas.{active_kept}
 use Rattle.sv_world.specs.Waits.{tok, boot_of, IsParked, Waits}
 use Rattle.sv_world.proofs.Keys.{in_last}
 use Rattle.sv_world.proofs.OneKey.{is_unborn}
@@ -58,17 +59,17 @@ module _ (m : EngineMeaning) (c : Cluster) (places : ℕ → Place) (ps : List P
   abbrev node : Node
   node = (places n).node
 
-  ended_none : (k : Key) (e : ℕ) → get (places n).node.durable.keys k ≡ Some (Ended e) → (store_of m cs).map k ≡ None
+  ended_none : (k : Key) (e : ℕ) → known (places n).node.durable k ≡ Some (Ended e) → (store_of m cs).map k ≡ None
   ended_none k e is = (s.lives k).map ∙ over_none (s.lives k).phase _ n e (s.lives k).stands is
 
-  unborn_none : (k : Key) → (c.nodes ≤ k.home) ⊎ ((disks_of places k.home).next ≤ k.serial) → (store_of m cs).map k ≡ None
+  unborn_none : (k : Key) → IsUnmade c (disks_of places) k → (store_of m cs).map k ≡ None
   unborn_none k h = (s.lives k).map ∙ ap session_of (is_unborn (s.lives k).phase _ (s.lives k).stands (λ x. s.unmade x k h))
 
   unmade_none : (k : Key) → is_unmade (setting_of c n) (places n).node.durable k ≡ true → (store_of m cs).map k ≡ None
   unmade_none k t =
       let h = and_parts (k.home == n) (nat_le (places n).node.durable.next k.serial) t in
       let home : k.home ≡ n = eqb-true k.home n h.0 in
-      unborn_none k (inr (subst (λ z. (places z).node.durable.next ≤ k.serial) (sym home) (leb-true _ _ h.1)))
+      unborn_none k (inr (inl (subst (λ z. (places z).node.durable.next ≤ k.serial) (sym home) (leb-true _ _ h.1))))
 
   dead_none : (k : Key) → is_dead (setting_of c n) (places n).node.durable k ≡ true → (store_of m cs).map k ≡ None
   dead_none k t = ⊎_elim (λ (a : nat_le c.nodes k.home ≡ true). unborn_none k (inl (leb-true _ _ a))) (λ (b : is_unmade (setting_of c n) (places n).node.durable k ≡ true). unmade_none k b) (or_cases (nat_le c.nodes k.home) (is_unmade (setting_of c n) (places n).node.durable k) t)
@@ -102,7 +103,7 @@ module _ (m : EngineMeaning) (c : Cluster) (places : ℕ → Place) (ps : List P
   unmade_patient : (from : ℕ) (k : Key) (boot want : ℕ) → In (Want from n k boot want) ps → Patient m places ps cs arr asked n (no_if_unmade (setting_of c n) (places n).node from k boot want)
   unmade_patient from k boot want i = either (is_unmade (setting_of c n) (places n).node.durable k) (says_no (setting_of c n) (places n).node from k boot want) (idle (places n).node []) (λ t. no_patient from k boot want i (unmade_none k t)) (λ t. nothing_patient)
 
-  want_patient : (from : ℕ) (k : Key) (boot want : ℕ) → In (Want from n k boot want) ps → (st : Option KeyState) → get (places n).node.durable.keys k ≡ st → Patient m places ps cs arr asked n (on_want (setting_of c n) (places n).node from k boot want st)
+  want_patient : (from : ℕ) (k : Key) (boot want : ℕ) → In (Want from n k boot want) ps → (st : Option KeyState) → known (places n).node.durable k ≡ st → Patient m places ps cs arr asked n (on_want (setting_of c n) (places n).node from k boot want st)
   want_patient from k boot want i None is = unmade_patient from k boot want i
   want_patient from k boot want i (Some (Active e u)) is = either (e == last_number) (idle (places n).node []) (hands_over (setting_of c n) (places n).node k e u from []) (λ t. nothing_patient) (λ t. quiet_patient (hands_over (setting_of c n) (places n).node k e u from []) refl refl refl refl (tt, tt))
   want_patient from k boot want i (Some (Sent e u to)) is = either (to == from) (idle (places n).node (Send (Grant n from k e u) ∷ [])) (no_if_unmade (setting_of c n) (places n).node from k boot want) (λ t. idle_patient (Send (Grant n from k e u) ∷ []) (tt, tt)) (λ t. unmade_patient from k boot want i)
@@ -112,7 +113,7 @@ module _ (m : EngineMeaning) (c : Cluster) (places : ℕ → Place) (ps : List P
   grant_patient : (from : ℕ) (k : Key) (e : ℕ) (u : Session) (st : Option KeyState) → Patient m places ps cs arr asked n (on_grant (setting_of c n) (places n).node from k e u st)
   grant_patient from k e u st = either (is_unmade (setting_of c n) (places n).node.durable k) (idle (places n).node []) _ (λ t. nothing_patient)
       (λ t. either (nat_le e (epoch_in st)) (idle (places n).node (Send (Ack n from k e) ∷ [])) _ (λ v. idle_patient (Send (Ack n from k e) ∷ []) (tt, tt))
-      (λ v. either (is_none st && nat_le KEY_LIMIT (len (places n).node.durable.keys)) (idle (places n).node []) (takes_over (setting_of c n) (places n).node from k e u) (λ x. nothing_patient) (λ x. quiet_patient (takes_over (setting_of c n) (places n).node from k e u) refl refl refl refl (tt, tt))))
+      (λ v. either (lacks_room (setting_of c n) (places n).node.durable k) (idle (places n).node []) (takes_over (setting_of c n) (places n).node from k e u) (λ x. nothing_patient) (λ x. quiet_patient (takes_over (setting_of c n) (places n).node from k e u) refl refl refl refl (tt, tt))))
 
   ack_patient : (k : Key) (e : ℕ) (st : Option KeyState) → Patient m places ps cs arr asked n (on_ack (places n).node k e st)
   ack_patient k e None = nothing_patient
@@ -154,7 +155,7 @@ module _ (m : EngineMeaning) (c : Cluster) (places : ℕ → Place) (ps : List P
 
   serve_patient : (number : ℕ) (r : Request) (waiting : List Parked) → ((p : Parked) → In p waiting → In p (places n).node.parked) → arr (tok n (boot_of (places n)) number) ≤ length cs → asked (tok n (boot_of (places n)) number) r → May number r
       → Patient m places ps cs arr asked n (served m (setting_of c n) (places n).node moment number r waiting)
-  serve_patient number r waiting old le came may = unless_patient (no_birth (places n).node.durable (answer_of m (setting_of c n) (places n).node.durable moment r).birth) number r waiting old le came may
+  serve_patient number r waiting old le came may = unless_patient (no_birth (setting_of c n) (places n).node.durable (answer_of m (setting_of c n) (places n).node.durable moment r).birth) number r waiting old le came may
 
   fit_both : (w : ℕ) (xs ys : List Packet) → AllFit (store_of m cs).map ps n (boot_of (places n)) w xs → AllFit (store_of m cs).map ps n (boot_of (places n)) w ys → AllFit (store_of m cs).map ps n (boot_of (places n)) w (xs ++ ys)
   fit_both w [] ys h k = k
@@ -164,9 +165,9 @@ module _ (m : EngineMeaning) (c : Cluster) (places : ℕ → Place) (ps : List P
   wants_by k want w lt [] = tt
   wants_by k want w lt (p ∷ to) = ((refl, refl, lt), wants_by k want w lt to)
 
-  settled_by : (st : Option KeyState) (number : ℕ) (r : Request) (named : Key × Secret) → m.names r ≡ Some named → arr (tok n (boot_of (places n)) number) ≤ length cs → get (places n).node.durable.keys named.0 ≡ st → is_settled st ≡ true → May number r
+  settled_by : (st : Option KeyState) (number : ℕ) (r : Request) (named : Key × Secret) → m.names r ≡ Some named → arr (tok n (boot_of (places n)) number) ≤ length cs → known (places n).node.durable named.0 ≡ st → is_settled st ≡ true → May number r
   settled_by None number r named is le at t other h is' = absurd (true≢false (sym t))
-  settled_by (Some (Active e u)) number r named is le at t other h is' = absurd (handed_there r named e u is at h)
+  settled_by (Some (Active e u)) number r named is le at t other h is' = absurd (handed_there r named e u is (active_kept (was_given (places n).node.durable named.0) (get (places n).node.durable.keys named.0) e u at) h)
   settled_by (Some (Sent e u to)) number r named is le at t other h is' = absurd (true≢false (sym t))
   settled_by (Some (Gone e)) number r named is le at t other h is' = absurd (true≢false (sym t))
   settled_by (Some (Ended e)) number r named is le at t other h is' = lacks r _ named le is (ended_none named.0 e at) other h is'
@@ -191,17 +192,18 @@ module _ (m : EngineMeaning) (c : Cluster) (places : ℕ → Place) (ps : List P
 
     waits_patient : (named : Key × Secret) → m.names r ≡ Some named → Patient m places ps cs arr asked n (waits (setting_of c n) (places n).node moment number r named.0)
     waits_patient named is =
-        either (nat_le PARK_LIMIT (length (places n).node.parked)) (refused (places n).node number ParkFull (places n).node.parked) (cond ((places n).node.next_want == last_number) (refused (places n).node number WantsSpent (places n).node.parked) (parks (setting_of c n) (places n).node moment number r named.0))
+        either (is_crowded (setting_of c n) (places n).node.durable named.0) (refused (places n).node number TableFull (places n).node.parked) _ (λ t. quiet_patient (refused (places n).node number TableFull (places n).node.parked) refl refl refl refl tt)
+        (λ t. either (nat_le PARK_LIMIT (length (places n).node.parked)) (refused (places n).node number ParkFull (places n).node.parked) (cond ((places n).node.next_want == last_number) (refused (places n).node number WantsSpent (places n).node.parked) (parks (setting_of c n) (places n).node moment number r named.0))
         (λ t. quiet_patient (refused (places n).node number ParkFull (places n).node.parked) refl refl refl refl tt)
-        (λ t. either ((places n).node.next_want == last_number) (refused (places n).node number WantsSpent (places n).node.parked) (parks (setting_of c n) (places n).node moment number r named.0) (λ u. quiet_patient (refused (places n).node number WantsSpent (places n).node.parked) refl refl refl refl tt) (λ u. parks_patient named is))
+        (λ t. either ((places n).node.next_want == last_number) (refused (places n).node number WantsSpent (places n).node.parked) (parks (setting_of c n) (places n).node moment number r named.0) (λ u. quiet_patient (refused (places n).node number WantsSpent (places n).node.parked) refl refl refl refl tt) (λ u. parks_patient named is)))
 
     ask_patient : (named : Option (Key × Secret)) → m.names r ≡ named → Patient m places ps cs arr asked n (on_ask m (setting_of c n) (places n).node moment number r named)
     ask_patient None is = serve_patient number r (places n).node.parked (λ p i. i) le came (λ other h is'. absurd (let e : None ≡ Some other = sym is ∙ is' in cc))
-    ask_patient (Some named) is = either (is_settled (get (places n).node.durable.keys named.0) || is_dead (setting_of c n) (places n).node.durable named.0) (served m (setting_of c n) (places n).node moment number r (places n).node.parked) (waits (setting_of c n) (places n).node moment number r named.0)
+    ask_patient (Some named) is = either (is_settled (known (places n).node.durable named.0) || is_dead (setting_of c n) (places n).node.durable named.0) (served m (setting_of c n) (places n).node moment number r (places n).node.parked) (waits (setting_of c n) (places n).node moment number r named.0)
         (λ t. serve_patient number r (places n).node.parked (λ p i. i) le came (⊎_elim
-        (λ (a : is_settled (get (places n).node.durable.keys named.0) ≡ true). settled_by (get (places n).node.durable.keys named.0) number r named is le refl a)
+        (λ (a : is_settled (known (places n).node.durable named.0) ≡ true). settled_by (known (places n).node.durable named.0) number r named is le refl a)
         (λ (b : is_dead (setting_of c n) (places n).node.durable named.0 ≡ true). lacks r _ named le is (dead_none named.0 b))
-        (or_cases (is_settled (get (places n).node.durable.keys named.0)) (is_dead (setting_of c n) (places n).node.durable named.0) t)))
+        (or_cases (is_settled (known (places n).node.durable named.0)) (is_dead (setting_of c n) (places n).node.durable named.0) t)))
         (λ t. waits_patient named is)
 
   -- ---- requests that wait
@@ -213,8 +215,8 @@ module _ (m : EngineMeaning) (c : Cluster) (places : ℕ → Place) (ps : List P
       let h = j.parked n p f.0 in
       serve_patient p.token p.request (without test (places n).node.parked) (in_without test (places n).node.parked) h.arrived h.came (may p f.0 f.1)
 
-  settled_may : (p : Parked) → In p (places n).node.parked → is_settled (get (places n).node.durable.keys p.key) ≡ true → May p.token p.request
-  settled_may p i t = let h = j.parked n p i in settled_by (get (places n).node.durable.keys h.named.0) p.token p.request h.named h.names h.arrived refl (ap (λ k. is_settled (get (places n).node.durable.keys k)) h.key ∙ t)
+  settled_may : (p : Parked) → In p (places n).node.parked → is_settled (known (places n).node.durable p.key) ≡ true → May p.token p.request
+  settled_may p i t = let h = j.parked n p i in settled_by (known (places n).node.durable h.named.0) p.token p.request h.named h.names h.arrived refl (ap (λ k. is_settled (known (places n).node.durable k)) h.key ∙ t)
 
   no_may : (from : ℕ) (k : Key) (boot want : ℕ) → In (No from n k boot want) ps → boot ≡ (places n).node.durable.boot → (p : Parked) → In p (places n).node.parked → is_wanted k want p ≡ true → May p.token p.request
   no_may from k boot want i same p at t other f is =
@@ -225,9 +227,9 @@ module _ (m : EngineMeaning) (c : Cluster) (places : ℕ → Place) (ps : List P
       subst (IsExcused m cs (arr (tok n (boot_of (places n)) p.token))) (sym key ∙ sym h.key ∙ ap (λ (z : Key × Secret). z.0) (same_name p.request h.named other h.names is)) ex
 
   ours_patient : (p : Packet) → addressee p ≡ n → In p ps → Patient m places ps cs arr asked n (on_ours m (setting_of c n) (places n).node moment p)
-  ours_patient (Want from to k boot want) me i = want_patient from k boot want (subst (λ z. In (Want from z k boot want) ps) me i) (get (places n).node.durable.keys k) refl
-  ours_patient (Grant from to k e u) me i = grant_patient from k e u (get (places n).node.durable.keys k)
-  ours_patient (Ack from to k e) me i = ack_patient k e (get (places n).node.durable.keys k)
+  ours_patient (Want from to k boot want) me i = want_patient from k boot want (subst (λ z. In (Want from z k boot want) ps) me i) (known (places n).node.durable k) refl
+  ours_patient (Grant from to k e u) me i = grant_patient from k e u (known (places n).node.durable k)
+  ours_patient (Ack from to k e) me i = ack_patient k e (known (places n).node.durable k)
   ours_patient (No from to k boot want) me i = either (boot == (places n).node.durable.boot) (serve_parked m (setting_of c n) (places n).node moment (is_wanted k want)) (idle (places n).node [])
       (λ t. parked_patient (is_wanted k want) (no_may from k boot want (subst (λ z. In (No from z k boot want) ps) me i) (eqb-true boot (places n).node.durable.boot t)) (first_of (is_wanted k want) (places n).node.parked) refl)
       (λ t. nothing_patient)
@@ -259,27 +261,27 @@ module _ (m : EngineMeaning) (c : Cluster) (places : ℕ → Place) (ps : List P
   abbrev kept : List Parked
   kept = filter (λ p. not (is_late (setting_of c n) moment.now p)) (places n).node.parked
 
-  tick_fit : (d : Durable) → d.boot ≡ boot_of (places n) → AllFit (store_of m cs).map ps n (boot_of (places n)) (places n).node.next_want (sends_in (deadlines (setting_of c n) moment.now (places n).node.parked ++ wants_again (setting_of c n) d (filter (λ p. not (is_late (setting_of c n) moment.now p)) (places n).node.parked) ++ filter_map (grant_again (setting_of c n)) (entries d.keys)))
-  tick_fit d boot =
+  tick_fit : (d : Durable) → AllFit (store_of m cs).map ps n (boot_of (places n)) (places n).node.next_want (sends_in (deadlines (setting_of c n) moment.now (places n).node.parked ++ wants_again (setting_of c n) (places n).node.durable (filter (λ p. not (is_late (setting_of c n) moment.now p)) (places n).node.parked) ++ filter_map (grant_again (setting_of c n)) (entries d.keys)))
+  tick_fit d =
       let waiting = filter (λ p. not (is_late (setting_of c n) moment.now p)) (places n).node.parked in
       let one = deadlines (setting_of c n) moment.now (places n).node.parked in
-      let two = wants_again (setting_of c n) d waiting in
+      let two = wants_again (setting_of c n) (places n).node.durable waiting in
       let three = filter_map (grant_again (setting_of c n)) (entries d.keys) in
       subst (AllFit (store_of m cs).map ps n (boot_of (places n)) (places n).node.next_want) (sym (filter_map-append packet_in (one ++ two) three ∙ ap (λ l. l ++ sends_in three) (filter_map-append packet_in one two)))
       (fit_both (places n).node.next_want (sends_in one ++ sends_in two) (sends_in three) (fit_both (places n).node.next_want (sends_in one) (sends_in two) (late_fit (places n).node.next_want (filter (is_late (setting_of c n) moment.now) (places n).node.parked))
-      (again_fit d boot (filter (λ p. not (is_settled (get d.keys p.key))) waiting) (λ p i. in_filter _ (places n).node.parked p (in_filter _ waiting p i))))
+      (again_fit (places n).node.durable refl (filter (λ p. not (is_quiet (setting_of c n) (places n).node.durable p)) waiting) (λ p i. in_filter _ (places n).node.parked p (in_filter _ waiting p i))))
       (grants_fit (places n).node.next_want (entries d.keys)))
 
   -- what expires leaves boot and want as they were
   tick_patient : (found : Option Entry) →
       let d = expire (places n).node moment.now found [] in
       let waiting = filter (λ p. not (is_late (setting_of c n) moment.now p)) (places n).node.parked in
-      Patient m places ps cs arr asked n (record d { outputs = deadlines (setting_of c n) moment.now (places n).node.parked ++ wants_again (setting_of c n) d.durable waiting ++ filter_map (grant_again (setting_of c n)) (entries d.durable.keys); parked = waiting })
-  tick_patient None = record { parked = λ p i. inl (in_filter _ (places n).node.parked p i); next_want = omega arith; boot = refl; sends = tick_fit (places n).node.durable refl; commit = tt; served = tt }
-  tick_patient (Some (k, Active e u)) = record { parked = λ p i. inl (in_filter _ (places n).node.parked p i); next_want = omega arith; boot = refl; sends = tick_fit (expire (places n).node moment.now (Some (k, Active e u)) []).durable refl; commit = tt; served = tt }
-  tick_patient (Some (k, Sent e u to)) = record { parked = λ p i. inl (in_filter _ (places n).node.parked p i); next_want = omega arith; boot = refl; sends = tick_fit (places n).node.durable refl; commit = tt; served = tt }
-  tick_patient (Some (k, Gone e)) = record { parked = λ p i. inl (in_filter _ (places n).node.parked p i); next_want = omega arith; boot = refl; sends = tick_fit (places n).node.durable refl; commit = tt; served = tt }
-  tick_patient (Some (k, Ended e)) = record { parked = λ p i. inl (in_filter _ (places n).node.parked p i); next_want = omega arith; boot = refl; sends = tick_fit (places n).node.durable refl; commit = tt; served = tt }
+      Patient m places ps cs arr asked n (record d { outputs = deadlines (setting_of c n) moment.now (places n).node.parked ++ wants_again (setting_of c n) (places n).node.durable waiting ++ filter_map (grant_again (setting_of c n)) (entries d.durable.keys); parked = waiting })
+  tick_patient None = record { parked = λ p i. inl (in_filter _ (places n).node.parked p i); next_want = omega arith; boot = refl; sends = tick_fit (places n).node.durable; commit = tt; served = tt }
+  tick_patient (Some (k, Active e u)) = record { parked = λ p i. inl (in_filter _ (places n).node.parked p i); next_want = omega arith; boot = refl; sends = tick_fit (expire (places n).node moment.now (Some (k, Active e u)) []).durable; commit = tt; served = tt }
+  tick_patient (Some (k, Sent e u to)) = record { parked = λ p i. inl (in_filter _ (places n).node.parked p i); next_want = omega arith; boot = refl; sends = tick_fit (places n).node.durable; commit = tt; served = tt }
+  tick_patient (Some (k, Gone e)) = record { parked = λ p i. inl (in_filter _ (places n).node.parked p i); next_want = omega arith; boot = refl; sends = tick_fit (places n).node.durable; commit = tt; served = tt }
+  tick_patient (Some (k, Ended e)) = record { parked = λ p i. inl (in_filter _ (places n).node.parked p i); next_want = omega arith; boot = refl; sends = tick_fit (places n).node.durable; commit = tt; served = tt }
 
   -- the request of an input came by now, under a token that is known
   abbrev pub HasCome : Input → Type 0
@@ -292,6 +294,6 @@ module _ (m : EngineMeaning) (c : Cluster) (places : ℕ → Place) (ps : List P
   pub decide_patient : (i : Input) → HasCome i → Patient m places ps cs arr asked n (decided m (setting_of c n) (places n).node moment i)
   decide_patient (Ask number r) h = ask_patient number r h.0 h.1 (m.names r) refl
   decide_patient (Incoming p) h = packet_patient p h
-  decide_patient Poke h = parked_patient (λ p. is_settled (get (places n).node.durable.keys p.key)) settled_may (first_of (λ p. is_settled (get (places n).node.durable.keys p.key)) (places n).node.parked) refl
+  decide_patient Poke h = parked_patient (λ p. is_settled (known (places n).node.durable p.key)) settled_may (first_of (λ p. is_settled (known (places n).node.durable p.key)) (places n).node.parked) refl
   decide_patient Tick h = tick_patient (first_over moment.now (entries (places n).node.durable.keys))
-  decide_patient (Move k to) h = move_patient k to (get (places n).node.durable.keys k)
+  decide_patient (Move k to) h = move_patient k to (known (places n).node.durable k)

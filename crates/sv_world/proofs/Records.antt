@@ -6,13 +6,14 @@ use Rattle.std.proofs.lemmas.List.Concat.{flat_map-append}
 use Rattle.sv_model.specs.declared.packet.Packet.{Packet}
 use Rattle.sv_model.specs.declared.record.Record.{Record}
 use Rattle.sv_model.specs.Engine.{EngineMeaning, TouchesOnlyHanded}
-use Rattle.sv_model.specs.NodeState.{Durable}
+use Rattle.sv_model.specs.NodeState.{Durable, Node}
 use Rattle.std.specs.Prelude.{IfSome}
 use Rattle.sv_model.specs.declared.node.Setting.{Setting}
 use Rattle.sv_model.specs.declared.node.Stage.{Stage}
 use Rattle.sv_model.specs.declared.node.Stage.TheVariants.{Blank}
-use Rattle.sv_model.specs.Replay.{blank, applied, applied_if, replayed, Fits, AllFit, stage_behind}
+use Rattle.sv_model.specs.Replay.{blank, boot_record, applied, applied_if, replayed, Fits, AllFit, stage_behind}
 use Rattle.sv_model.proofs.JournalLemmas.{journaled}
+use Rattle.sv_core.proofs.RangeLemmas.{starts_journaled}
 use Rattle.sv_model.specs.Step.{left}
 use Rattle.sv_world.specs.declared.event.WorldEvent.{WorldEvent}
 use Rattle.sv_world.specs.declared.line.Line.{Line}
@@ -25,6 +26,9 @@ use Rattle.sv_world.proofs.Runs.{Inv, sound_at, happens_keeps}
 pub record Kept (c : Cluster) (w : World) : Type 0 where
   pub replay : (n : ℕ) → durable_at w n ≡ replayed blank (records_at n w.trace)
   pub fits : (n : ℕ) → AllFit (setting_of c n) Blank blank (records_at n w.trace)
+
+start_fits : (set : Setting) (n : Node) (stage : Stage) → Fits set stage n.durable (boot_record set n.durable)
+start_fits set n = (starts_journaled set n).fits
 
 -- the record that may be there fits
 abbrev pub FitsIf : Setting → Durable → Option Record → Type 0
@@ -61,22 +65,31 @@ grows c w n p l packets at applies fit j = record {
       (cases_eq y n));
 }
 
-module _ (m : EngineMeaning) (touches : TouchesOnlyHanded m) (c : Cluster) where
-  fits_at : (w : World) (call : Call) → FitsIf (setting_of c call.node) (durable_at w call.node) (decision m c w call).entry
-  fits_at w call = (journaled (setting_of c call.node) (w.places call.node).node m touches call.moment call.input).fits
+-- what fits under the rules of an event fits under those that the journals are seen by
+abbrev pub IsWider : Cluster → Cluster → Type 0
+IsWider wide c = (n : ℕ) (stage : Stage) (d : Durable) (r : Record) → Fits (setting_of c n) stage d r → Fits (setting_of wide n) stage d r
 
-  happens_kept : (w : World) (e : WorldEvent) → Inv m c w → Kept c w → Kept c (happens m c w e)
-  happens_kept w e inv j = behind m c w (Kept c) e (record {
+module _ (m : EngineMeaning) (touches : TouchesOnlyHanded m) (c wide : Cluster) (wider : IsWider wide c) where
+  if_wider : (n : ℕ) (d : Durable) (o : Option Record) → FitsIf (setting_of c n) d o → FitsIf (setting_of wide n) d o
+  if_wider n d None h stage = tt
+  if_wider n d (Some r) h stage = wider n stage d r (h stage)
+
+  fits_at : (w : World) (call : Call) → FitsIf (setting_of wide call.node) (durable_at w call.node) (decision m c w call).entry
+  fits_at w call = if_wider call.node (durable_at w call.node) (decision m c w call).entry (journaled (setting_of c call.node) (w.places call.node).node m touches call.moment call.input).fits
+
+  pub happens_kept : (w : World) (e : WorldEvent) → Inv m c w → Kept wide w → Kept wide (happens m c w e)
+  happens_kept w e inv j = behind m c w (Kept wide) e (record {
     still = j;
-    whole_by = λ call is r. grows c w call.node (record { up = true; node = left (decision m c w call) }) _ _ refl (sound_at m touches c w call inv r).applies (fits_at w call) j;
-    cut_by = λ call is r. grows c w call.node (stopped (decision m c w call).durable) _ w.packets refl (sound_at m touches c w call inv r).applies (fits_at w call) j;
-    silent_by = λ call is r. grows c w call.node (record { up = true; node = left (decision m c w call) }) _ w.packets refl (sound_at m touches c w call inv r).applies (fits_at w call) j;
-    halt_by = λ n asked _. grows c w n (stopped (durable_at w n)) _ w.packets refl refl (λ stage. tt) j;
-    boots_by = λ n p none same. grows c w n p _ w.packets refl same (λ stage. refl) j;
+    whole_by = λ call is r. grows wide w call.node (record { up = true; node = left (decision m c w call) }) _ _ refl (sound_at m touches c w call inv r).applies (fits_at w call) j;
+    cut_by = λ call is r. grows wide w call.node (stopped (decision m c w call).durable) _ w.packets refl (sound_at m touches c w call inv r).applies (fits_at w call) j;
+    silent_by = λ call is r. grows wide w call.node (record { up = true; node = left (decision m c w call) }) _ w.packets refl (sound_at m touches c w call inv r).applies (fits_at w call) j;
+    halt_by = λ n asked _. grows wide w n (stopped (durable_at w n)) _ w.packets refl refl (λ stage. tt) j;
+    boots_by = λ n p none same. grows wide w n p _ w.packets refl same (if_wider n (durable_at w n) (Some (boot_record (setting_of c n) (durable_at w n))) (start_fits (setting_of c n) (w.places n).node)) j;
   })
 
+module _ (m : EngineMeaning) (touches : TouchesOnlyHanded m) (c : Cluster) where
   pub run_kept : (w : World) (es : List WorldEvent) → Inv m c w → Kept c w → Kept c (run m c w es)
-  run_kept w es inv j = behind_all m c (Inv m c) (Kept c) (happens_keeps m touches c) happens_kept w es inv j
+  run_kept w es inv j = behind_all m c (Inv m c) (Kept c) (happens_keeps m touches c) (happens_kept m touches c c (λ n stage d r f. f)) w es inv j
 
 pub first_kept : (c : Cluster) → Kept c nothing_happened
 first_kept c = record { replay = λ n. refl; fits = λ n. tt }

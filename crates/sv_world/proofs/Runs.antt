@@ -2,7 +2,7 @@
 use Rattle.std.proofs.Common.{◌≡◌, ◌≢◌, ℕ, ◌<◌, ◌≤◌, ◌==◌, true, Option, Some, None, List, [], ◌∷◌, ◌++◌, arith, refl, sym, ap, ◌∙◌, subst, inl, inr, ⊎_elim, eq-eqb, append-nil}
 use Rattle.std.specs.Option.{option_to_list}
 use Rattle.std.specs.FinMap.{get, get-empty}
-use Rattle.std.proofs.lemmas.Bool.{cases_eq, ne_eqb, cond-true, cond-false}
+use Rattle.std.proofs.lemmas.Bool.{cases_eq, ne_eqb, eqb-true, ltb-true, and_parts, cond_both, cond-true, cond-false}
 use Rattle.std.proofs.lemmas.List.{map-append}
 use Rattle.std.proofs.lemmas.List.Concat.{flat_map-append}
 use Rattle.sv_model.specs.declared.key.Key.{Key}
@@ -17,19 +17,23 @@ use Rattle.sv_model.specs.declared.input.Input.TheVariants.{Ask, Packet as Incom
 use Rattle.sv_model.specs.declared.record.Record.{Record}
 use Rattle.sv_model.specs.Keys.{key_cmp}
 use Rattle.sv_model.specs.Engine.{EngineMeaning, TouchesOnlyHanded}
-use Rattle.sv_model.specs.NodeState.{Durable}
+use Rattle.sv_model.specs.NodeState.{Durable, known}
 use Rattle.sv_model.specs.Decision.{Decision}
 use Rattle.sv_model.specs.Step.{left}
 use Rattle.sv_model.specs.Trace.{Item, commits_of}
 use Rattle.sv_model.specs.Membership.{with_last}
 use Rattle.sv_model.specs.Outputs.{sends_in}
 use Rattle.sv_model.specs.Opening.{opening_of}
-use Rattle.sv_model.specs.Replay.{applied_if}
+use Rattle.sv_model.specs.Replay.{blank, applied, applied_if}
+use Rattle.sv_model.specs.declared.record.Record.TheVariants.{Boot, Forgets}
+use Rattle.sv_model.proofs.KnownLemmas.{plainly_known, known_begun}
+use Rattle.std.specs.Prelude.{◌⊎◌, ◌+◌, ◌&&◌, nat_lt}
+use Rattle.std.proofs.lemmas.Option.{same_Some}
 use Rattle.sv_world.specs.Life.{Life, Unborn}
 use Rattle.sv_world.specs.declared.event.WorldEvent.{WorldEvent}
 use Rattle.sv_world.specs.declared.line.Line.{Line}
 use Rattle.sv_world.specs.declared.call.Call.{Call}
-use Rattle.sv_world.specs.World.{Cluster, Place, World, set_place, durable_at, stopped, nothing_happened, items, commits_in, openings_of, whole, cut, silent, becomes, decision, happens, run, item_at, boot_record, quiet_line, commit_with, token_of_call}
+use Rattle.sv_world.specs.World.{Cluster, Place, World, set_place, durable_at, stopped, nothing_happened, items, commits_in, openings_of, whole, cut, silent, becomes, decision, happens, run, item_at, record_of_start, quiet_line, commit_with, token_of_call}
 use Rattle.sv_world.specs.Sane.{Sane, acked, store_of}
 use Rattle.sv_world.specs.Headline.{states, IsLiveAt, IsOpening, IsLive, granted, opened}
 use Rattle.sv_model.specs.Node.{decided}
@@ -78,32 +82,72 @@ whole_keeps m c w e call d s =
     let r = redisk w.places n p in
     let a = s.durable _ r in
     let l = lives_packets (keys_of (disks_of (set_place w.places n p))) w.packets _ _ (sends_in d.outputs) (s.just _ r) (record { each = a.lives }) in
-    inv_by m c (set_place w.places n p) (w.packets ++ sends_in d.outputs) w.trace _ (record { lives = l.each; unmade = a.unmade; made = a.made; lawful = a.lawful })
+    inv_by m c (set_place w.places n p) (w.packets ++ sends_in d.outputs) w.trace _ (record { lives = l.each; unmade = a.unmade; made = a.made; lawful = a.lawful; counts = a.counts; own = a.own; full = a.full })
 
 cut_keeps : (m : EngineMeaning) (c : Cluster) (w : World) (e : WorldEvent) (call : Call) (d : Decision) → SoundAt m c w call.node d → Inv m c (cut c w e call d)
 cut_keeps m c w e call d s = inv_by m c (set_place w.places call.node (stopped d.durable)) w.packets w.trace _ (s.durable _ (redisk w.places call.node (stopped d.durable)))
 
--- a node with the same keys and the same next serial
-alike_keeps : (m : EngineMeaning) (c : Cluster) (w : World) (e : WorldEvent) (n : ℕ) (p : Place) (entry : Option Record) (asked : Option Token) → opening_of entry ≡ None → p.node.durable.keys ≡ (durable_at w n).keys → p.node.durable.next ≡ (durable_at w n).next → Inv m c w → Inv m c (becomes w e n p entry asked)
-alike_keeps m c w e n p entry asked none keys next inv =
+-- a node knows what it knew, and keeps what it kept; it may begin to forget its own keys
+record IsAlike (n : ℕ) (old new : Durable) : Type 0 where
+  known_is : (q : Key) → known new q ≡ known old q
+  keys : new.keys ≡ old.keys
+  next : new.next ≡ old.next
+  home : (new.home ≡ old.home) ⊎ (new.home ≡ Some n)
+
+alike_keeps : (m : EngineMeaning) (c : Cluster) (w : World) (e : WorldEvent) (n : ℕ) (p : Place) (entry : Option Record) (asked : Option Token) → opening_of entry ≡ None → IsAlike n (durable_at w n) p.node.durable → Inv m c w → Inv m c (becomes w e n p entry asked)
+alike_keeps m c w e n p entry asked none alike inv =
     let j = inv.sane in
     let r = redisk w.places n p in
     let new = disks_of (set_place w.places n p) in
-    let k : (y : ℕ) → (new y).keys ≡ (durable_at w y).keys = λ y. ⊎_elim (λ (e : y ≡ n). ap (λ z. (new z).keys) e ∙ ap (λ (d : Durable). d.keys) r.mine ∙ keys ∙ ap (λ z. (durable_at w z).keys) (sym e)) (λ (e : y ≢ n). ap (λ (d : Durable). d.keys) (r.others y e)) (cases_eq y n) in
-    let s : (y : ℕ) → (new y).next ≡ (durable_at w y).next = λ y. ⊎_elim (λ (e : y ≡ n). ap (λ z. (new z).next) e ∙ ap (λ (d : Durable). d.next) r.mine ∙ next ∙ ap (λ z. (durable_at w z).next) (sym e)) (λ (e : y ≢ n). ap (λ (d : Durable). d.next) (r.others y e)) (cases_eq y n) in
+    let f : (y : ℕ) (q : Key) → known (new y) q ≡ known (durable_at w y) q = λ y q. ⊎_elim (λ (e : y ≡ n). ap (λ z. known (new z) q) e ∙ ap (λ (d : Durable). known d q) r.mine ∙ alike.known_is q ∙ ap (λ z. known (durable_at w z) q) (sym e)) (λ (e : y ≢ n). ap (λ (d : Durable). known d q) (r.others y e)) (cases_eq y n) in
+    let k : (y : ℕ) → (new y).keys ≡ (durable_at w y).keys = λ y. ⊎_elim (λ (e : y ≡ n). ap (λ z. (new z).keys) e ∙ ap (λ (d : Durable). d.keys) r.mine ∙ alike.keys ∙ ap (λ z. (durable_at w z).keys) (sym e)) (λ (e : y ≢ n). ap (λ (d : Durable). d.keys) (r.others y e)) (cases_eq y n) in
+    let s : (y : ℕ) → (new y).next ≡ (durable_at w y).next = λ y. ⊎_elim (λ (e : y ≡ n). ap (λ z. (new z).next) e ∙ ap (λ (d : Durable). d.next) r.mine ∙ alike.next ∙ ap (λ z. (durable_at w z).next) (sym e)) (λ (e : y ≢ n). ap (λ (d : Durable). d.next) (r.others y e)) (cases_eq y n) in
+    let h : (y : ℕ) → ((new y).home ≡ (durable_at w y).home) ⊎ ((new y).home ≡ Some y) = λ y. ⊎_elim
+    (λ (e : y ≡ n). ⊎_elim
+    (λ (same : p.node.durable.home ≡ (durable_at w n).home). inl (ap (λ z. (new z).home) e ∙ ap (λ (d : Durable). d.home) r.mine ∙ same ∙ ap (λ z. (durable_at w z).home) (sym e)))
+    (λ (own : p.node.durable.home ≡ Some n). inr (ap (λ z. (new z).home) e ∙ ap (λ (d : Durable). d.home) r.mine ∙ own ∙ ap Some (sym e)))
+    alike.home)
+    (λ (e : y ≢ n). inl (ap (λ (d : Durable). d.home) (r.others y e)))
+    (cases_eq y n) in
     inv_by m c (set_place w.places n p) w.packets w.trace _ (subst (λ o. Sane m c new w.packets (with_last (openings_of w.trace) o) (commits_in w)) (sym none) (record {
-      lives = λ q. subst (λ (f : ℕ → Option KeyState). Life f (granted w.packets q) (acked w.packets q) (opened (openings_of w.trace) q) ((store_of m (commits_in w)).map q)) (λ i y. get (sym (k y) i) q) (j.lives q);
-      unmade = λ y q h. ap (λ f. get f q) (k y) ∙ j.unmade y q (⊎_elim (λ (l : c.nodes ≤ q.home). inl l) (λ (l : (new q.home).next ≤ q.serial). inr (omega (arith, s q.home))) h);
-      made = λ q h. omega (arith, s q.home, j.made q h);
+      lives = λ q. subst (λ (g : ℕ → Option KeyState). Life g (granted w.packets q) (acked w.packets q) (opened (openings_of w.trace) q) ((store_of m (commits_in w)).map q)) (λ i y. sym (f y q) i) (j.lives q);
+      unmade = λ y q u. f y q ∙ j.unmade y q (⊎_elim (λ (l : c.nodes ≤ q.home). inl l) (λ (l : ((new q.home).next ≤ q.serial) ⊎ (q.serial ≡ 0)). inr (⊎_elim (λ (l : (new q.home).next ≤ q.serial). inl (omega (arith, s q.home))) (λ (z : q.serial ≡ 0). inr z) l)) u);
+      made = λ q u. omega (arith, s q.home, j.made q u);
       lawful = j.lawful;
+      counts = λ y. omega (arith, s y, j.counts y);
+      own = λ y x is. ⊎_elim (λ (same : (new y).home ≡ (durable_at w y).home). j.own y x (sym same ∙ is)) (λ (own : (new y).home ≡ Some y). sym (same_Some y x (sym own ∙ is))) (h y);
+      full = λ y none q home some less is. ⊎_elim
+          (λ (same : (new y).home ≡ (durable_at w y).home). j.full y (sym same ∙ none) q home some (omega (arith, less, s y)) (ap (λ ks. get ks q) (sym (k y)) ∙ is))
+          (λ (own : (new y).home ≡ Some y). absurd (let no : Some y ≡ None = sym own ∙ none in cc))
+          (h y);
     }))
+
+same_alike : (n : ℕ) (old new : Durable) → new ≡ old → IsAlike n old new
+same_alike n old new is = record { known_is = λ q. ap (λ (d : Durable). known d q) is; keys = ap (λ (d : Durable). d.keys) is; next = ap (λ (d : Durable). d.next) is; home = inl (ap (λ (d : Durable). d.home) is) }
+
+-- a start, by which a node may begin to forget: it knows what it knew
+forgets_known : (d : Durable) (n boot : ℕ) (home : Option ℕ) → d.home ≡ home → ((h : ℕ) → d.home ≡ Some h → h ≡ n) → (d.home ≡ None → (q : Key) → q.home ≡ n → 0 < q.serial → q.serial < d.next → get d.keys q ≢ None)
+    → (q : Key) → known (record d { boot = boot; home = Some n }) q ≡ known d q
+forgets_known d n boot None is own full q = known_begun d n q is (λ given.
+    let a = and_parts (q.home == n) (nat_lt 0 q.serial && nat_lt q.serial d.next) given in
+    let b = and_parts (nat_lt 0 q.serial) (nat_lt q.serial d.next) a.1 in
+    full is q (eqb-true q.home n a.0) (ltb-true 0 q.serial b.0) (ltb-true q.serial d.next b.1))
+forgets_known d n boot (Some h) is own full q = ap (λ x. known (record d { home = x }) q) (ap Some (sym (own h is)) ∙ sym is)
+
+start_alike : (m : EngineMeaning) (c : Cluster) (w : World) (n : ℕ) → Inv m c w → IsAlike n (durable_at w n) (applied (record_of_start c w n) (durable_at w n))
+start_alike m c w n inv =
+    let j = inv.sane in
+    let d = durable_at w n in
+    cond_both (setting_of c n).forget (Forgets n (d.boot + 1)) (Boot (d.boot + 1)) (λ r. IsAlike n d (applied r d))
+    (λ _. record { known_is = forgets_known d n (d.boot + 1) d.home refl (j.own n) (j.full n); keys = refl; next = refl; home = inr refl })
+    (λ _. record { known_is = λ q. refl; keys = refl; next = refl; home = inl refl })
 
 -- a step of which nothing leaves its node: what it made durable, and nothing where it has no record
 silent_by : (m : EngineMeaning) (c : Cluster) (w : World) (e : WorldEvent) (call : Call) (d : Decision) → SoundAt m c w call.node d → Inv m c w → (o : Option Record) → d.entry ≡ o
     → Inv m c (record { places = set_place w.places call.node (record { up = true; node = left d }); packets = w.packets; trace = w.trace ++ quiet_line w e call.node (token_of_call c w call) o (commit_with o d.commit) ∷ [] })
 silent_by m c w e call d s inv None is =
     let same : d.durable ≡ durable_at w call.node = s.applies ∙ ap (λ o. applied_if o (durable_at w call.node)) is in
-    alike_keeps m c w e call.node (record { up = true; node = left d }) None (token_of_call c w call) refl (ap (λ (x : Durable). x.keys) same) (ap (λ (x : Durable). x.next) same) inv
+    alike_keeps m c w e call.node (record { up = true; node = left d }) None (token_of_call c w call) refl (same_alike call.node (durable_at w call.node) d.durable same) inv
 silent_by m c w e call d s inv (Some r) is =
     let p : Place = record { up = true; node = left d } in
     let new = disks_of (set_place w.places call.node p) in
@@ -111,6 +155,9 @@ silent_by m c w e call d s inv (Some r) is =
 
 silent_keeps : (m : EngineMeaning) (c : Cluster) (w : World) (e : WorldEvent) (call : Call) (d : Decision) → SoundAt m c w call.node d → Inv m c w → Inv m c (silent c w e call d)
 silent_keeps m c w e call d s inv = silent_by m c w e call d s inv d.entry refl
+
+start_opens : (c : Cluster) (w : World) (n : ℕ) → opening_of (Some (record_of_start c w n)) ≡ None
+start_opens c w n = cond_both (setting_of c n).forget (Forgets n ((durable_at w n).boot + 1)) (Boot ((durable_at w n).boot + 1)) (λ r. opening_of (Some r) ≡ None) (λ _. refl) (λ _. refl)
 
 -- ---- an event
 
@@ -131,19 +178,23 @@ module _ (m : EngineMeaning) (touches : TouchesOnlyHanded m) (c : Cluster) where
     whole_by = λ call is r. whole_keeps m c w e call (decision m c w call) (sound_at w call j r);
     cut_by = λ call is r. cut_keeps m c w e call (decision m c w call) (sound_at w call j r);
     silent_by = λ call is r. silent_keeps m c w e call (decision m c w call) (sound_at w call j r) j;
-    halt_by = λ n asked _. alike_keeps m c w e n (stopped (durable_at w n)) None asked refl refl refl j;
-    boots_by = λ n p none same. alike_keeps m c w e n p (Some (boot_record w n)) None refl (ap (λ (d : Durable). d.keys) same) (ap (λ (d : Durable). d.next) same) j;
+    halt_by = λ n asked _. alike_keeps m c w e n (stopped (durable_at w n)) None asked refl (same_alike n (durable_at w n) (durable_at w n) refl) j;
+    boots_by = λ n p none same. alike_keeps m c w e n p (Some (record_of_start c w n)) None (start_opens c w n) (subst (IsAlike n (durable_at w n)) (sym same) (start_alike m c w n j)) j;
   })
 
   pub run_keeps : (w : World) (es : List WorldEvent) → Inv m c w → Inv m c (run m c w es)
   run_keeps w es j = behind_all m c (Inv m c) (Inv m c) happens_keeps (λ v e i _. happens_keeps v e i) w es j j
+
+blank_knows : (q : Key) → known blank q ≡ None
+blank_knows q = plainly_known blank q refl ∙ get-empty key_cmp q
 
 pub at_first : (m : EngineMeaning) (c : Cluster) → Inv m c nothing_happened
 at_first m c = record {
   sane = record {
     lives = λ q. record {
       phase = Unborn;
-      stands = λ x. get-empty key_cmp q;
+      stands = λ x. blank_knows q;
+      within = omega arith;
       map = refl;
       grant = λ e s f t h. absurd h;
       apart = λ e s f t h. absurd h;
@@ -151,12 +202,15 @@ at_first m c = record {
       agree = λ e s u h i. absurd h;
       reached = λ e s h. absurd h;
       grant_opens = λ e s f t h. absurd h;
-      sent_opens = λ n e s t h. absurd (let no : None ≡ Some (Sent e s t) = sym (get-empty key_cmp q) ∙ h in cc);
-      sent_apart = λ n e s t h. absurd (let no : None ≡ Some (Sent e s t) = sym (get-empty key_cmp q) ∙ h in cc);
+      sent_opens = λ n e s t h. absurd (let no : None ≡ Some (Sent e s t) = sym (blank_knows q) ∙ h in cc);
+      sent_apart = λ n e s t h. absurd (let no : None ≡ Some (Sent e s t) = sym (blank_knows q) ∙ h in cc);
     };
-    unmade = λ x q h. get-empty key_cmp q;
+    unmade = λ x q h. blank_knows q;
     made = λ q h. absurd (cc);
     lawful = tt;
+    counts = λ x. omega arith;
+    own = λ x h is. absurd (let no : None ≡ Some h = is in cc);
+    full = λ x none q home some less. absurd (omega (arith, some, less));
   };
 }
 

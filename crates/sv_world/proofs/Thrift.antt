@@ -1,9 +1,9 @@
 -- Each step spends the request that came, or one that waits.
 use Rattle.std.proofs.Common.{◌≡◌, ◌≢◌, ◌⊎◌, ℕ, ◌+◌, ◌≤◌, ◌==◌, ◌&&◌, Bool, true, false, cond, Option, Some, None, List, [], ◌∷◌, ◌++◌, length, map, arith, refl, sym, ap, ◌∙◌, inl, inr, ⊎_elim}
-use Rattle.std.specs.Prelude.{nat_le, not, ◌||◌, is_none}
+use Rattle.std.specs.Prelude.{nat_le, not, ◌||◌}
 use Rattle.std.specs.Option.{option_to_list}
 use Rattle.std.specs.List.{filter, filter_map, flat_map}
-use Rattle.std.specs.FinMap.{get, len, entries}
+use Rattle.std.specs.FinMap.{entries}
 use Rattle.std.proofs.lemmas.List.Elements.{filter_map-append}
 use Rattle.std.proofs.lemmas.Bool.{cond_both, and_left, and_right, ne_eqb}
 use Rattle.sv_model.specs.declared.key.Key.{Key}
@@ -15,23 +15,23 @@ use Rattle.sv_model.specs.declared.session.Session.{Session}
 use Rattle.sv_model.specs.declared.node.Parked.{Parked}
 use Rattle.sv_model.specs.declared.state.KeyState.{KeyState}
 use Rattle.sv_model.specs.declared.state.KeyState.TheVariants.{Active, Sent, Gone, Ended}
-use Rattle.sv_model.specs.declared.state.TheConstants.{PARK_LIMIT, KEY_LIMIT}
+use Rattle.sv_model.specs.declared.state.TheConstants.{PARK_LIMIT}
 use Rattle.sv_model.specs.declared.packet.Packet.{Packet}
 use Rattle.sv_model.specs.declared.packet.Packet.TheVariants.{Want, Grant, Ack, No}
 use Rattle.sv_model.specs.declared.input.Input.{Input}
 use Rattle.sv_model.specs.declared.input.Input.TheVariants.{Ask, Packet as Incoming, Poke, Tick, Move}
 use Rattle.sv_model.specs.declared.output.Cause.{Cause}
-use Rattle.sv_model.specs.declared.output.Cause.TheVariants.{ParkFull, WantsSpent, Deadline}
+use Rattle.sv_model.specs.declared.output.Cause.TheVariants.{TableFull, ParkFull, WantsSpent, Deadline}
 use Rattle.sv_model.specs.declared.output.Output.TheVariants.{Refuse, Send, Moved}
 use Rattle.sv_model.specs.declared.commit.Commit.TheVariants.{Expired}
 use Rattle.sv_model.specs.declared.record.Record.TheVariants.{Gone as GoneRecord}
 use Rattle.sv_model.specs.Engine.{EngineMeaning}
-use Rattle.sv_model.specs.NodeState.{Durable, Node, last_number, epoch_in, is_settled, is_unmade, is_dead}
+use Rattle.sv_model.specs.NodeState.{Durable, Node, last_number, epoch_in, known, is_settled, is_unmade, is_dead, lacks_room, is_crowded}
 use Rattle.sv_model.specs.Decision.{Decision, idle, with_record}
 use Rattle.sv_model.specs.Serving.{answer_of, token_of, refused, no_birth, answered_unless, served}
 use Rattle.sv_model.specs.Waiting.{others, wants, parks, waits, on_ask, first_of, without, serve_first, serve_parked}
 use Rattle.sv_model.specs.Migration.{hands_over, says_no, no_if_unmade, on_want, takes_over, on_grant, on_ack, is_wanted, is_ours, on_ours, move_refused, on_move}
-use Rattle.sv_model.specs.Time.{is_late, first_over, expire, deadlines, wants_again, grant_again}
+use Rattle.sv_model.specs.Time.{is_late, is_quiet, first_over, expire, deadlines, wants_again, grant_again}
 use Rattle.sv_model.specs.Node.{decided}
 use Rattle.sv_model.specs.Trace.{refusal_in, served_of, same_token, times, asked_by}
 use Rattle.sv_model.proofs.EntryLemmas.{Entry}
@@ -87,7 +87,7 @@ module _ (m : EngineMeaning) (c : Cluster) (n : ℕ) (node : Node) (moment : Mom
 
   serve_thrifty : (new : List Token) (number : ℕ) (r : Request) (rest : List Parked) → ((t : Token) → cond (same_token t (tok n node.durable.boot number)) 1 0 + waiting t n node.durable.boot rest ≤ waiting t n node.durable.boot node.parked + times t new)
       → Thrifty c n node new (served m (setting_of c n) node moment number r rest)
-  serve_thrifty new number r rest h = unless_thrifty new (no_birth node.durable (answer_of m (setting_of c n) node.durable moment r).birth) number r rest h
+  serve_thrifty new number r rest h = unless_thrifty new (no_birth (setting_of c n) node.durable (answer_of m (setting_of c n) node.durable moment r).birth) number r rest h
 
   asked_thrifty : (number : ℕ) (r : Request) → Thrifty c n node (tok n node.durable.boot number ∷ []) (served m (setting_of c n) node moment number r node.parked)
   asked_thrifty number r = serve_thrifty (tok n node.durable.boot number ∷ []) number r node.parked (λ t. omega arith)
@@ -121,9 +121,10 @@ module _ (m : EngineMeaning) (c : Cluster) (n : ℕ) (node : Node) (moment : Mom
   ask_thrifty number r None = asked_thrifty number r
   ask_thrifty number r (Some named) =
       let new = tok n node.durable.boot number ∷ [] in
-      either new (is_settled (get node.durable.keys named.0) || is_dead (setting_of c n) node.durable named.0) (served m (setting_of c n) node moment number r node.parked) (waits (setting_of c n) node moment number r named.0) (asked_thrifty number r)
+      either new (is_settled (known node.durable named.0) || is_dead (setting_of c n) node.durable named.0) (served m (setting_of c n) node moment number r node.parked) (waits (setting_of c n) node moment number r named.0) (asked_thrifty number r)
+      (either new (is_crowded (setting_of c n) node.durable named.0) (refused node number TableFull node.parked) _ (refuse_thrifty number TableFull)
       (either new (nat_le PARK_LIMIT (length node.parked)) (refused node number ParkFull node.parked) (cond (node.next_want == last_number) (refused node number WantsSpent node.parked) (parks (setting_of c n) node moment number r named.0)) (refuse_thrifty number ParkFull)
-      (either new (node.next_want == last_number) (refused node number WantsSpent node.parked) (parks (setting_of c n) node moment number r named.0) (refuse_thrifty number WantsSpent) (parks_thrifty number r named.0)))
+      (either new (node.next_want == last_number) (refused node number WantsSpent node.parked) (parks (setting_of c n) node moment number r named.0) (refuse_thrifty number WantsSpent) (parks_thrifty number r named.0))))
 
   parked_thrifty : (test : Parked → Bool) (found : Option Parked) → first_of test node.parked ≡ found → Thrifty c n node [] (serve_first m (setting_of c n) node moment found (without test node.parked))
   parked_thrifty test None is = nothing_thrifty
@@ -142,7 +143,7 @@ module _ (m : EngineMeaning) (c : Cluster) (n : ℕ) (node : Node) (moment : Mom
   grant_thrifty : (from : ℕ) (k : Key) (e : ℕ) (s : Session) (st : Option KeyState) → Thrifty c n node [] (on_grant (setting_of c n) node from k e s st)
   grant_thrifty from k e s st = either [] (is_unmade (setting_of c n) node.durable k) (idle node []) _ nothing_thrifty
       (either [] (nat_le e (epoch_in st)) (idle node (Send (Ack n from k e) ∷ [])) _ (quiet_thrifty [] (idle node (Send (Ack n from k e) ∷ [])) refl refl refl refl)
-      (either [] (is_none st && nat_le KEY_LIMIT (len node.durable.keys)) (idle node []) (takes_over (setting_of c n) node from k e s) nothing_thrifty (quiet_thrifty [] (takes_over (setting_of c n) node from k e s) refl refl refl refl)))
+      (either [] (lacks_room (setting_of c n) node.durable k) (idle node []) (takes_over (setting_of c n) node from k e s) nothing_thrifty (quiet_thrifty [] (takes_over (setting_of c n) node from k e s) refl refl refl refl)))
 
   ack_thrifty : (k : Key) (e : ℕ) (st : Option KeyState) → Thrifty c n node [] (on_ack node k e st)
   ack_thrifty k e None = nothing_thrifty
@@ -160,9 +161,9 @@ module _ (m : EngineMeaning) (c : Cluster) (n : ℕ) (node : Node) (moment : Mom
   move_thrifty k to (Some (Ended e)) = quiet_thrifty [] (move_refused node _) refl refl refl refl
 
   ours_thrifty : (p : Packet) → Thrifty c n node [] (on_ours m (setting_of c n) node moment p)
-  ours_thrifty (Want from to k boot want) = want_thrifty from k boot want (get node.durable.keys k)
-  ours_thrifty (Grant from to k e s) = grant_thrifty from k e s (get node.durable.keys k)
-  ours_thrifty (Ack from to k e) = ack_thrifty k e (get node.durable.keys k)
+  ours_thrifty (Want from to k boot want) = want_thrifty from k boot want (known node.durable k)
+  ours_thrifty (Grant from to k e s) = grant_thrifty from k e s (known node.durable k)
+  ours_thrifty (Ack from to k e) = ack_thrifty k e (known node.durable k)
   ours_thrifty (No from to k boot want) = either [] (boot == node.durable.boot) (serve_parked m (setting_of c n) node moment (is_wanted k want)) (idle node []) (parked_thrifty (is_wanted k want) (first_of (is_wanted k want) node.parked) refl) nothing_thrifty
 
   -- ---- a tick: what waits is kept or refused
@@ -177,12 +178,12 @@ module _ (m : EngineMeaning) (c : Cluster) (n : ℕ) (node : Node) (moment : Mom
       split true h = omega (arith, h)
       split false h = omega (arith, h)
 
-  tick_outs : (t : Token) (d : Durable) (rest : List Parked) → times t (filter_map (refusal_in (token_of (setting_of c n) node.durable)) (deadlines (setting_of c n) moment.now node.parked ++ wants_again (setting_of c n) d rest ++ filter_map (grant_again (setting_of c n)) (entries d.keys)))
+  tick_outs : (t : Token) (d : Durable) (rest : List Parked) → times t (filter_map (refusal_in (token_of (setting_of c n) node.durable)) (deadlines (setting_of c n) moment.now node.parked ++ wants_again (setting_of c n) node.durable rest ++ filter_map (grant_again (setting_of c n)) (entries d.keys)))
       ≡ times t (filter_map (refusal_in (token_of (setting_of c n) node.durable)) (deadlines (setting_of c n) moment.now node.parked))
   tick_outs t d rest =
       let f = refusal_in (token_of (setting_of c n) node.durable) in
       let one = deadlines (setting_of c n) moment.now node.parked in
-      let two = wants_again (setting_of c n) d rest in
+      let two = wants_again (setting_of c n) node.durable rest in
       let three = filter_map (grant_again (setting_of c n)) (entries d.keys) in
       omega (
         arith,
@@ -190,13 +191,13 @@ module _ (m : EngineMeaning) (c : Cluster) (n : ℕ) (node : Node) (moment : Mom
         times_more t (filter_map f (one ++ two)) (filter_map f three),
         ap (times t) (filter_map-append f one two),
         times_more t (filter_map f one) (filter_map f two),
-        ap (times t) (again_by (token_of (setting_of c n) node.durable) d (filter (λ p. not (is_settled (get d.keys p.key))) rest)),
+        ap (times t) (again_by (token_of (setting_of c n) node.durable) node.durable (filter (λ p. not (is_quiet (setting_of c n) node.durable p)) rest)),
         ap (times t) (grants_by (token_of (setting_of c n) node.durable) (entries d.keys)),
       )
 
   tick_by : (d : Decision) → d.commit ≡ None ⊎ ((k : Key) × (now : ℕ) × (d.commit ≡ Some (Expired k now))) → d.durable.boot ≡ node.durable.boot →
       let rest = filter (λ p. not (is_late (setting_of c n) moment.now p)) node.parked in
-      Thrifty c n node [] (record d { outputs = deadlines (setting_of c n) moment.now node.parked ++ wants_again (setting_of c n) d.durable rest ++ filter_map (grant_again (setting_of c n)) (entries d.durable.keys); parked = rest })
+      Thrifty c n node [] (record d { outputs = deadlines (setting_of c n) moment.now node.parked ++ wants_again (setting_of c n) node.durable rest ++ filter_map (grant_again (setting_of c n)) (entries d.durable.keys); parked = rest })
   tick_by d commit boot = record {
     count = λ t.
         let none : times t (served_of (option_to_list d.commit)) ≡ 0 = ⊎_elim (λ (h : d.commit ≡ None). ap (λ o. times t (served_of (option_to_list o))) h) (λ (h : (k : Key) × (now : ℕ) × (d.commit ≡ Some (Expired k now))). ap (λ o. times t (served_of (option_to_list o))) h.2) commit in
@@ -207,7 +208,7 @@ module _ (m : EngineMeaning) (c : Cluster) (n : ℕ) (node : Node) (moment : Mom
   tick_thrifty : (found : Option Entry) →
       let d = expire node moment.now found [] in
       let rest = filter (λ p. not (is_late (setting_of c n) moment.now p)) node.parked in
-      Thrifty c n node [] (record d { outputs = deadlines (setting_of c n) moment.now node.parked ++ wants_again (setting_of c n) d.durable rest ++ filter_map (grant_again (setting_of c n)) (entries d.durable.keys); parked = rest })
+      Thrifty c n node [] (record d { outputs = deadlines (setting_of c n) moment.now node.parked ++ wants_again (setting_of c n) node.durable rest ++ filter_map (grant_again (setting_of c n)) (entries d.durable.keys); parked = rest })
   tick_thrifty None = tick_by (idle node []) (inl refl) refl
   tick_thrifty (Some (k, Active e s)) = tick_by (expire node moment.now (Some (k, Active e s)) []) (inr (k, moment.now, refl)) refl
   tick_thrifty (Some (k, Sent e s to)) = tick_by (idle node []) (inl refl) refl
@@ -217,6 +218,6 @@ module _ (m : EngineMeaning) (c : Cluster) (n : ℕ) (node : Node) (moment : Mom
   pub decide_thrifty : (i : Input) → Thrifty c n node (option_to_list (asked_by (token_of (setting_of c n) node.durable) i)) (decided m (setting_of c n) node moment i)
   decide_thrifty (Ask number r) = ask_thrifty number r (m.names r)
   decide_thrifty (Incoming p) = either [] (is_ours (setting_of c n) p) (on_ours m (setting_of c n) node moment p) (idle node []) (ours_thrifty p) nothing_thrifty
-  decide_thrifty Poke = parked_thrifty (λ p. is_settled (get node.durable.keys p.key)) (first_of (λ p. is_settled (get node.durable.keys p.key)) node.parked) refl
+  decide_thrifty Poke = parked_thrifty (λ p. is_settled (known node.durable p.key)) (first_of (λ p. is_settled (known node.durable p.key)) node.parked) refl
   decide_thrifty Tick = tick_thrifty (first_over moment.now (entries node.durable.keys))
-  decide_thrifty (Move k to) = move_thrifty k to (get node.durable.keys k)
+  decide_thrifty (Move k to) = move_thrifty k to (known node.durable k)

@@ -17,7 +17,7 @@ use Rattle.sv_model.specs.Membership.{with_last}
 use Rattle.sv_world.specs.declared.event.WorldEvent.{WorldEvent}
 use Rattle.sv_world.specs.declared.line.Line.{Line}
 use Rattle.sv_world.specs.declared.call.Call.{Call}
-use Rattle.sv_world.specs.World.{Cluster, Place, World, set_place, durable_at, stopped, nothing_happened, items, commits_in, whole, cut, silent, becomes, commit_with, is_unused, decision, happens, run, item_at, token_of_call, boot_record}
+use Rattle.sv_world.specs.World.{Cluster, Place, World, set_place, durable_at, stopped, nothing_happened, items, commits_in, whole, cut, silent, becomes, commit_with, is_unused, decision, happens, run, item_at, token_of_call, record_of_start}
 use Rattle.sv_world.specs.Waits.{boot_of}
 use Rattle.sv_world.proofs.Arrivals.{one_if, token_same, times_more, times_one, asked_snoc, items_snoc}
 use Rattle.sv_world.proofs.Waiting.{by_node}
@@ -117,14 +117,14 @@ module _ (m : EngineMeaning) (c : Cluster) where
   becomes_spent : (w : World) (e : WorldEvent) (n : ℕ) (p : Place) (entry : Option Record) (asked : Option Token) → p.node.parked ≡ [] → is_unused (asked_of (items w.trace)) asked ≡ true → Spent w → Spent (becomes w e n p entry asked)
   becomes_spent w e n p entry asked none unused j = grows w n p _ unused (λ t here. omega (arith, ap (waiting t n (boot_of p)) none)) (λ t ne. omega arith) _ j
 
-  happens_spent : (w : World) (e : WorldEvent) → Spent w → Spent (happens m c w e)
+  pub happens_spent : (w : World) (e : WorldEvent) → Spent w → Spent (happens m c w e)
   happens_spent w e j = behind m c w Spent e (record {
     still = j;
     whole_by = λ call is r. whole_spent w e call r.unused j;
     cut_by = λ call is r. cut_spent w e call r.unused j;
     silent_by = λ call is r. silent_spent w e call r.unused j;
     halt_by = λ n asked unused. becomes_spent w e n (stopped (durable_at w n)) None asked refl unused j;
-    boots_by = λ n p none same. becomes_spent w e n p (Some (boot_record w n)) None none refl j;
+    boots_by = λ n p none same. becomes_spent w e n p (Some (record_of_start c w n)) None none refl j;
   })
 
   pub run_spent : (w : World) (es : List WorldEvent) → Spent w → Spent (run m c w es)

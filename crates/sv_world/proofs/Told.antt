@@ -69,7 +69,7 @@ module _ (m : EngineMeaning) (touches : TouchesOnlyHanded m) (c : Cluster) where
   whole_tells : (w : World) (e : WorldEvent) (call : Call) → SoundAt m c w call.node (decision m c w call) → Telling m w → Telling m (whole c w e call (decision m c w call))
   whole_tells w e call s h = record { lines = more (IsToldLine m) m w _ h.lines (record { events = s.events; mark = s.mark }) }
 
-  happens_answers : (w : World) (e : WorldEvent) → Inv m c w → Answering m w → Answering m (happens m c w e)
+  pub happens_answers : (w : World) (e : WorldEvent) → Inv m c w → Answering m w → Answering m (happens m c w e)
   happens_answers w e inv h = behind m c w (Answering m) e (record {
     still = h;
     whole_by = λ call is r. whole_answers w e call (sound_at m touches c w call inv r) h;
@@ -79,7 +79,7 @@ module _ (m : EngineMeaning) (touches : TouchesOnlyHanded m) (c : Cluster) where
     boots_by = λ n p none same. quiet_answers m w e n _ _ _ _ h;
   })
 
-  happens_tells : (w : World) (e : WorldEvent) → Inv m c w → Telling m w → Telling m (happens m c w e)
+  pub happens_tells : (w : World) (e : WorldEvent) → Inv m c w → Telling m w → Telling m (happens m c w e)
   happens_tells w e inv h = behind m c w (Telling m) e (record {
     still = h;
     whole_by = λ call is r. whole_tells w e call (sound_at m touches c w call inv r) h;

@@ -1,18 +1,17 @@
 -- What is known of a core, its journal and a plan while a task is done.
-use Rattle.std.specs.Prelude.{◌≡◌, ℕ, ◌+◌, ◌==◌, ◌&&◌, Bool, cond, not, is_some, IfSome, Option, Some, None, List}
+use Rattle.std.specs.Prelude.{◌≡◌, ℕ, ◌==◌, ◌&&◌, Bool, cond, not, is_some, IfSome, Option, Some, None, List}
 use Rattle.sv_model.specs.declared.input.Input.{Input}
 use Rattle.sv_model.specs.declared.key.Moment.{Moment}
 use Rattle.sv_model.specs.declared.node.Setting.{Setting}
 use Rattle.sv_model.specs.declared.node.Stage.{Stage}
 use Rattle.sv_model.specs.declared.node.Stage.TheVariants.{Blank}
 use Rattle.sv_model.specs.declared.record.Record.{Record}
-use Rattle.sv_model.specs.declared.record.Record.TheVariants.{Boot}
 use Rattle.sv_model.specs.Engine.{EngineMeaning, heard_all}
 use Rattle.sv_model.specs.NodeState.{Durable, Node, last_number}
 use Rattle.sv_model.specs.Decision as model
 use Rattle.sv_model.specs.Journaled.{IsJournaled}
 use Rattle.sv_model.specs.Node.{decided}
-use Rattle.sv_model.specs.Replay.{blank, applied_if, replayed, Fits, AllFit}
+use Rattle.sv_model.specs.Replay.{blank, boot_record, applied_if, replayed, Fits, AllFit}
 use Rattle.sv_model.specs.Step.{left, told}
 use Rattle.sv_core.specs.declared.node.Core.{Core}
 use Rattle.sv_core.specs.declared.decision.Decision as code
@@ -70,8 +69,8 @@ rest_of kept d =
     cond (kept && is_some d.entry) (record { kept = d.entry; entry = d.entry; commit = d.commit }) (record { kept = None; entry = None; commit = None })
 
 -- the record of a start, where its node has a boot number left
-abbrev pub boot_record : Durable → Option Record
-boot_record d = cond (not (d.boot == last_number)) (Some (Boot (d.boot + 1))) None
+abbrev pub start_entry : Setting → Durable → Option Record
+start_entry set d = cond (not (d.boot == last_number)) (Some (boot_record set d)) None
 
 -- a node behind the record of its start
 abbrev pub begun : Option Record → Node → Node
@@ -90,8 +89,8 @@ abbrev pub MayFollow : Setting → Durable → Option Record → Type 0
 MayFollow set d o = (stage : Stage) → IfSome o (λ r. Fits set stage d r)
 
 -- the record of a start that comes so far
-abbrev pub boot_record_if : Bool → Durable → Option Record
-boot_record_if kept d = cond kept (boot_record d) None
+abbrev pub start_entry_if : Setting → Bool → Durable → Option Record
+start_entry_if set kept d = cond kept (start_entry set d) None
 
 -- a start, that leaves the node running where it stays
 abbrev pub start_of : Setting → Durable → Bool → Bool → Done

@@ -1,18 +1,17 @@
 -- What a task does at a node, and what has been done, as a line of the trace.
-use Rattle.std.specs.Prelude.{◌+◌, ◌==◌, ◌&&◌, false, true, Bool, cond, is_some, not, Option, Some, None, List, []}
+use Rattle.std.specs.Prelude.{◌==◌, ◌&&◌, false, true, Bool, cond, is_some, not, Option, Some, None, List, []}
 use Rattle.sv_model.specs.declared.input.Input.{Input}
 use Rattle.sv_model.specs.declared.key.Token.{Token}
 use Rattle.sv_model.specs.declared.node.Setting.{Setting}
 use Rattle.sv_model.specs.declared.event.Told.{Told}
 use Rattle.sv_model.specs.declared.output.Output.{Output}
 use Rattle.sv_model.specs.declared.record.Record.{Record}
-use Rattle.sv_model.specs.declared.record.Record.TheVariants.{Boot}
 use Rattle.sv_model.specs.declared.commit.Commit.{Commit}
 use Rattle.sv_model.specs.Engine.{EngineMeaning}
 use Rattle.sv_model.specs.NodeState.{Durable, last_number}
 use Rattle.sv_model.specs.Decision.{Decision}
 use Rattle.sv_model.specs.Node.{decided}
-use Rattle.sv_model.specs.Replay.{applied}
+use Rattle.sv_model.specs.Replay.{boot_record, applied}
 use Rattle.sv_model.specs.Serving.{token_of}
 use Rattle.sv_model.specs.Step.{left, with_mark}
 use Rattle.sv_model.specs.Trace.{asked_by}
@@ -88,13 +87,13 @@ abbrev pub silenced : Heading → Decision → Done
 silenced h d = record { place = record { up = true; node = left d }; effect = quiet_at h d.entry (commit_with d.entry d.commit) }
 
 -- a start by its record
-abbrev pub booted : Heading → Durable → (Durable → Place) → Done
-booted h d place = record { place = place (applied (Boot (d.boot + 1)) d); effect = quiet_at h (Some (Boot (d.boot + 1))) None }
+abbrev pub booted : Setting → Heading → Durable → (Durable → Place) → Done
+booted set h d place = record { place = place (applied (boot_record set d) d); effect = quiet_at h (Some (boot_record set d)) None }
 
 -- a start, that leaves the node running (`started`) or stopped, with its record or without; the last number is never gone past
 abbrev pub start_by : Setting → Durable → Bool → (Durable → Place) → Done
 start_by set d kept place =
-    cond (kept && not (d.boot == last_number)) (booted (heading_at set d None) d place) (halted (heading_at set d None) d)
+    cond (kept && not (d.boot == last_number)) (booted set (heading_at set d None) d place) (halted (heading_at set d None) d)
 
 -- what a task does at a node that may be given it
 abbrev pub deed : EngineMeaning → Setting → Place → Task → Done

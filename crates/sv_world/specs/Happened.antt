@@ -6,6 +6,7 @@ use Rattle.sv_model.specs.declared.event.Told.{Told}
 use Rattle.sv_model.specs.Engine.{EngineMeaning, heard_all}
 use Rattle.sv_model.specs.Outputs.{sends_in}
 use Rattle.sv_model.specs.Step.{with_mark}
+use Rattle.sv_world.specs.declared.rules.Rules.{Rules}
 use Rattle.sv_world.specs.declared.event.WorldEvent.{WorldEvent}
 use Rattle.sv_world.specs.declared.event.WorldEvent.TheVariants.{Ask, Deliver, Poke, Tick, Move, Crash, Torn, Silent, Restart, TornRestart}
 use Rattle.sv_world.specs.declared.fault.WorldFault.{WorldFault}
@@ -61,7 +62,7 @@ pub record HasActed {E : Type 0} (meaning : E → EngineMeaning) (noted : E → 
   pub order : Order
   pub asked : order_of (world_of old).packets e ≡ Some order
   pub number : (cluster_of new).nodes ≡ (cluster_of old).nodes
-  pub deadline : (cluster_of new).deadline ≡ (cluster_of old).deadline
+  pub rules : (cluster_of new).rules ≡ (cluster_of old).rules
   pub meanings : meanings_of meaning new ≡ meanings_of meaning old
   pub done : (m : EngineMeaning) → meanings_of meaning old order.node ≡ Some m → HaveDone noted m old.seats.items new.seats.items order f
   pub packets : (world_of new).packets ≡ (world_of old).packets ++ sends_in f.outputs
@@ -102,8 +103,8 @@ abbrev pub AllAlike : {E : Type 0} → (E → EngineMeaning) → EngineMeaning �
 AllAlike meaning m engines = All (λ e. meaning e ≡ m) engines
 
 -- nodes that have just started, each over the engine of its number
-pub record AreStarted {E : Type 0} (meaning : E → EngineMeaning) (noted : E → List (List ℕ)) (engines : List E) (deadline : ℕ) (w : Nodes E) : Type 0 where
-  pub cluster : cluster_of w ≡ record { nodes = length engines; deadline = deadline }
+pub record AreStarted {E : Type 0} (meaning : E → EngineMeaning) (noted : E → List (List ℕ)) (engines : List E) (rules : Rules) (w : Nodes E) : Type 0 where
+  pub cluster : cluster_of w ≡ record { nodes = length engines; rules = rules }
   pub world : (m : EngineMeaning) → AllAlike meaning m engines → world_of w ≡ run m (cluster_of w) nothing_happened (restarts (length engines))
   pub meanings : (n : ℕ) → meanings_of meaning w n ≡ option_map meaning (slice_get engines n)
   pub heard : (n : ℕ) → heard_of noted w n ≡ option_map noted (slice_get engines n)

@@ -1,6 +1,6 @@
 -- The theorem that the project is for, statement by statement.
 --
--- How to read it. Three files of definitions have to be believed, some 600 lines with sv_model's:
+-- How to read it. Three files of definitions have to be believed, under a thousand lines with the four that `Node.antt` names:
 --     sv_model  `Container.antt`   one container without nodes: a map of sessions, and a list of commits that leads to it
 --     sv_model  `Node.antt`        a node's step as a table of cases, with `Serving`, `Waiting`, `Migration`, `Time`
 --     here      `World.antt`       all nodes, all packets ever sent, and the ten events with what they do
@@ -20,7 +20,6 @@
 -- request that is served without a record, and not answered, has changed nothing and stands nowhere.
 use Rattle.std.specs.Prelude.{◌≡◌, ◌⊎◌, ℕ, ◌+◌, ◌<◌, ◌≤◌, cond, Option, Some, None, List, [], ◌∷◌, ◌++◌, length, ⊤}
 use Rattle.std.specs.List.{filter}
-use Rattle.std.specs.FinMap.{get}
 use Rattle.sv_model.specs.declared.key.Key.{Key}
 use Rattle.sv_model.specs.declared.session.Session.{Session}
 use Rattle.sv_model.specs.declared.state.KeyState.{KeyState}
@@ -41,7 +40,7 @@ use Rattle.sv_model.specs.Trace.{Item, commits_of, asked_of, told_of, replies_of
 use Rattle.sv_model.specs.OneContainer.{store_with, events_with, replies_with, AreDistinct, tokens_in}
 use Rattle.sv_model.specs.Replay.{blank, replayed, AllFit}
 use Rattle.sv_model.specs.declared.node.Stage.TheVariants.{Blank}
-use Rattle.sv_model.specs.NodeState.{epoch_in}
+use Rattle.sv_model.specs.NodeState.{epoch_in, known}
 use Rattle.sv_model.specs.Membership.{In}
 use Rattle.sv_model.specs.Opening.{Opening, mark_of}
 use Rattle.sv_world.specs.declared.event.WorldEvent.{WorldEvent}
@@ -51,9 +50,9 @@ use Rattle.sv_world.specs.World.{Cluster, setting_of, World, durable_at, items, 
 
 -- ---- 1. a session lives at one node at most
 
--- what each node keeps durably of a key, whether it runs or not
+-- what each node knows durably of a key, whether it runs or not
 abbrev pub states : World → Key → ℕ → Option KeyState
-states w k x = get (durable_at w x).keys k
+states w k x = known (durable_at w x) k
 
 -- what a node keeps of a key is a live copy: the session is active there, or was sent to a node that has yet to reach its epoch
 abbrev pub IsLive : (ℕ → Option KeyState) → Option KeyState → Session → Type 0

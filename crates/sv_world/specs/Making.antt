@@ -4,6 +4,8 @@ use Rattle.std.specs.List.{All}
 use Rattle.std.specs.Option.{option_map}
 use Rattle.sv_model.specs.Engine.{EngineMeaning}
 use Rattle.sv_world.specs.declared.seat.Seat.{Seat}
+use Rattle.sv_world.specs.declared.rules.Rules.{Rules}
+use Rattle.sv_world.specs.Rules.{setting_by}
 use Rattle.sv_world.specs.declared.world.World.{World as Nodes}
 use Rattle.sv_world.specs.Seat.{engine_in}
 use Rattle.sv_world.specs.Worlds.{settings_by, cluster_of, meanings_of, heard_of}
@@ -16,10 +18,10 @@ pub record IsIdle {E : Type 0} (s : Seat E) : Type 0 where
   pub idle : is_some s.idle ≡ true
 
 -- nodes that have yet to start, each with the engine of its number
-pub record AreSeated {E : Type 0} (nodes deadline : ℕ) (engines : List E) (seats : List (Seat E)) : Type 0 where
+pub record AreSeated {E : Type 0} (nodes : ℕ) (rules : Rules) (engines : List E) (seats : List (Seat E)) : Type 0 where
   pub engines_in : map engine_in seats ≡ map Some engines
   pub idle : All IsIdle seats
-  pub settings : (n : ℕ) → n < length seats → settings_by seats n ≡ record { node = n; nodes = nodes; deadline = deadline }
+  pub settings : (n : ℕ) → n < length seats → settings_by seats n ≡ setting_by rules n nodes
 
 -- all nodes were started, and nothing was told
 pub record HaveBegun {E : Type 0} (meaning : E → EngineMeaning) (noted : E → List (List ℕ)) (old new : Nodes E) : Type 0 where

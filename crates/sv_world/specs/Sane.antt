@@ -1,5 +1,5 @@
 -- What holds of all that is durable, and of all packets.
-use Rattle.std.specs.Prelude.{◌≡◌, ◌⊎◌, ℕ, ◌<◌, ◌≤◌, true, None, List}
+use Rattle.std.specs.Prelude.{◌≡◌, ◌≢◌, ◌⊎◌, ℕ, ◌<◌, ◌≤◌, true, Some, None, List}
 use Rattle.std.specs.FinMap.{get}
 use Rattle.sv_model.specs.declared.key.Key.{Key}
 use Rattle.sv_model.specs.declared.packet.Packet.{Packet}
@@ -7,7 +7,7 @@ use Rattle.sv_model.specs.declared.packet.Packet.TheVariants.{Ack}
 use Rattle.sv_model.specs.declared.commit.Commit.{Commit}
 use Rattle.sv_model.specs.Engine.{EngineMeaning}
 use Rattle.sv_model.specs.Container.{Store, nothing_stored, after, AreLawful}
-use Rattle.sv_model.specs.NodeState.{Durable}
+use Rattle.sv_model.specs.NodeState.{Durable, known}
 use Rattle.sv_model.specs.Membership.{In}
 use Rattle.sv_model.specs.Opening.{Opening}
 use Rattle.sv_world.specs.Life.{Life}
@@ -21,12 +21,17 @@ acked packets k e to = (from : ℕ) × In (Ack from to k e) packets
 abbrev pub store_of : EngineMeaning → List Commit → Store
 store_of m cs = after m nothing_stored cs
 
--- its home is no node, or has not yet handed it out
+-- its home is no node, or has not yet handed it out, or never will
 abbrev pub IsUnmade : Cluster → (ℕ → Durable) → Key → Type 0
-IsUnmade c disks q = (c.nodes ≤ q.home) ⊎ ((disks q.home).next ≤ q.serial)
+IsUnmade c disks q = (c.nodes ≤ q.home) ⊎ (((disks q.home).next ≤ q.serial) ⊎ (q.serial ≡ 0))
 
 pub record Sane (m : EngineMeaning) (c : Cluster) (disks : ℕ → Durable) (packets : List Packet) (openings : List Opening) (commits : List Commit) : Type 0 where
-  pub lives : (q : Key) → Life (λ x. get (disks x).keys q) (granted packets q) (acked packets q) (opened openings q) ((store_of m commits).map q)
-  pub unmade : (x : ℕ) (q : Key) → IsUnmade c disks q → get (disks x).keys q ≡ None
+  pub lives : (q : Key) → Life (λ x. known (disks x) q) (granted packets q) (acked packets q) (opened openings q) ((store_of m commits).map q)
+  pub unmade : (x : ℕ) (q : Key) → IsUnmade c disks q → known (disks x) q ≡ None
   pub made : (q : Key) → (store_of m commits).made q ≡ true → q.serial < (disks q.home).next
   pub lawful : AreLawful m nothing_stored commits
+  pub counts : (x : ℕ) → 0 < (disks x).next
+  -- a node forgets no keys but its own
+  pub own : (x h : ℕ) → (disks x).home ≡ Some h → h ≡ x
+  -- one that forgets none keeps all that it has handed out
+  pub full : (x : ℕ) → (disks x).home ≡ None → (q : Key) → q.home ≡ x → 0 < q.serial → q.serial < (disks x).next → get (disks x).keys q ≢ None

@@ -7,7 +7,7 @@
 --     a torn step      cut behind its record, or before it; the node stops                    `cut`, `halt`
 --     a silent step    its record is durable, nobody is told, nothing is sent; it runs on     `silent`
 --     a stop           what isn't durable is gone                                             `halt`
---     a start          one record, Boot, under the next boot number                           `boots`
+--     a start          one record, under the next boot number                                 `boots`
 -- Read this file with care: what isn't true of real nodes here, no law makes true.
 use Rattle.std.specs.Option.{option_map, option_to_list}
 use Rattle.std.specs.Prelude.{ℕ, ◌+◌, ◌==◌, ◌&&◌, nat_lt, not, is_some, Bool, true, false, cond, Option, Some, None, List, [], ◌∷◌, ◌++◌, map, slice_get}
@@ -17,7 +17,6 @@ use Rattle.sv_model.specs.declared.node.Setting.{Setting}
 use Rattle.sv_model.specs.declared.packet.Packet.{Packet}
 use Rattle.sv_model.specs.declared.input.Input.TheVariants as input
 use Rattle.sv_model.specs.declared.record.Record.{Record}
-use Rattle.sv_model.specs.declared.record.Record.TheVariants.{Boot}
 use Rattle.sv_model.specs.declared.commit.Commit.{Commit}
 use Rattle.sv_model.specs.Engine.{EngineMeaning}
 use Rattle.sv_model.specs.NodeState.{Durable, Node, last_number}
@@ -25,7 +24,7 @@ use Rattle.sv_model.specs.Decision.{Decision}
 use Rattle.sv_model.specs.Serving.{token_of}
 use Rattle.sv_model.specs.Migration.{addressee}
 use Rattle.sv_model.specs.Node.{decided}
-use Rattle.sv_model.specs.Replay.{blank, applied}
+use Rattle.sv_model.specs.Replay.{blank, boot_record, applied}
 use Rattle.sv_model.specs.Opening.{Opening, opening_of}
 use Rattle.sv_model.specs.Outputs.{sends_in}
 use Rattle.sv_model.specs.Step.{left}
@@ -33,16 +32,18 @@ use Rattle.sv_model.specs.Trace.{Item, asked_by, reply_in, refusal_in, commits_o
 use Rattle.sv_world.specs.declared.event.WorldEvent.{WorldEvent}
 use Rattle.sv_world.specs.declared.event.WorldEvent.TheVariants.{Ask, Deliver, Poke, Tick, Move, Crash, Torn, Silent, Restart, TornRestart}
 use Rattle.sv_world.specs.declared.line.Line.{Line}
+use Rattle.sv_world.specs.declared.rules.Rules.{Rules}
+use Rattle.sv_world.specs.Rules.{setting_by}
 use Rattle.sv_world.specs.declared.call.Call.{Call}
 use Rattle.sv_world.specs.Sent.{may_come}
 
--- how many nodes there are, and the seconds for which a request waits
+-- how many nodes there are, and what holds at each of them
 pub record Cluster : Type 0 where
   pub nodes : ℕ
-  pub deadline : ℕ
+  pub rules : Rules
 
 abbrev pub setting_of : Cluster → ℕ → Setting
-setting_of c n = record { node = n; nodes = c.nodes; deadline = c.deadline }
+setting_of c n = setting_by c.rules n c.nodes
 
 -- ---- the world
 
@@ -225,11 +226,11 @@ abbrev pub halt : World → WorldEvent → ℕ → Option Token → World
 halt w e n asked = becomes w e n (stopped (durable_at w n)) None asked
 
 -- a node's record of its start
-abbrev pub boot_record : World → ℕ → Record
-boot_record w n = Boot ((durable_at w n).boot + 1)
+abbrev pub record_of_start : Cluster → World → ℕ → Record
+record_of_start c w n = boot_record (setting_of c n) (durable_at w n)
 
-abbrev pub boots : World → WorldEvent → ℕ → (Durable → Place) → World
-boots w e n place = becomes w e n (place (applied (boot_record w n) (durable_at w n))) (Some (boot_record w n)) None
+abbrev pub boots : Cluster → World → WorldEvent → ℕ → (Durable → Place) → World
+boots c w e n place = becomes w e n (place (applied (record_of_start c w n) (durable_at w n))) (Some (record_of_start c w n)) None
 
 -- the boot numbers of a node are used up
 abbrev pub is_spent : World → ℕ → Bool
@@ -255,7 +256,7 @@ hushes m c w e (Some call) = cond (is_ready c w call) (silent c w e call (decisi
 -- a start, that leaves the node running (`started`) or stopped, with its record or without
 abbrev pub starts : Cluster → World → WorldEvent → ℕ → Bool → (Durable → Place) → World
 starts c w e n kept place =
-    cond (is_there c n && not (w.places n).up) (cond (kept && not (is_spent w n)) (boots w e n place) (halt w e n None)) w
+    cond (is_there c n && not (w.places n).up) (cond (kept && not (is_spent w n)) (boots c w e n place) (halt w e n None)) w
 
 -- an event that can't happen changes nothing
 abbrev pub happens : EngineMeaning → Cluster → World → WorldEvent → World

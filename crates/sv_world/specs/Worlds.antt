@@ -6,6 +6,8 @@ use Rattle.sv_model.specs.declared.packet.Packet.{Packet}
 use Rattle.sv_model.specs.Engine.{EngineMeaning}
 use Rattle.sv_model.specs.Replay.{blank}
 use Rattle.sv_world.specs.declared.line.Line.{Line}
+use Rattle.sv_world.specs.declared.rules.Rules.{Rules}
+use Rattle.sv_world.specs.Rules.{rules_for, setting_by}
 use Rattle.sv_world.specs.declared.seat.Seat.{Seat}
 use Rattle.sv_world.specs.declared.world.World.{World as Nodes}
 use Rattle.sv_world.specs.Seat.{IsSeat, place_of, meaning_in, heard_in}
@@ -21,7 +23,7 @@ abbrev pub places_by : {E : Type 0} → List (Seat E) → ℕ → Place
 places_by seats n = place_in (slice_get seats n)
 
 abbrev pub setting_in : {E : Type 0} → Option (Seat E) → Setting
-setting_in None = record { node = 0; nodes = 0; deadline = 0 }
+setting_in None = setting_by (rules_for 0) 0 0
 setting_in (Some s) = s.setting
 
 abbrev pub settings_by : {E : Type 0} → List (Seat E) → ℕ → Setting
@@ -46,8 +48,8 @@ heard_by noted seats n = noted_in noted (slice_get seats n)
 abbrev pub state_by : {E : Type 0} → List (Seat E) → List Packet → List Line → World
 state_by seats packets trace = record { places = places_by seats; packets = packets; trace = trace }
 
-abbrev pub cluster_by : {E : Type 0} → List (Seat E) → ℕ → Cluster
-cluster_by seats deadline = record { nodes = length seats; deadline = deadline }
+abbrev pub cluster_by : {E : Type 0} → List (Seat E) → Rules → Cluster
+cluster_by seats rules = record { nodes = length seats; rules = rules }
 
 -- ---- a world
 
@@ -55,7 +57,7 @@ abbrev pub world_of : {E : Type 0} → Nodes E → World
 world_of w = state_by w.seats.items w.packets.items w.trace.items
 
 abbrev pub cluster_of : {E : Type 0} → Nodes E → Cluster
-cluster_of w = cluster_by w.seats.items w.deadline
+cluster_of w = cluster_by w.seats.items w.rules
 
 abbrev pub meanings_of : {E : Type 0} → (E → EngineMeaning) → Nodes E → ℕ → Option EngineMeaning
 meanings_of meaning w = meanings_by meaning w.seats.items

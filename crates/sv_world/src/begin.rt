@@ -5,7 +5,7 @@ ghost use Rattle.std.specs.Option.{option_to_list};
 ghost use Rattle.sv_core.specs.Core.{node_at, setting_of, engine_of, durable_at, decision_at, starts, WasDecided};
 ghost use Rattle.sv_core.specs.Decision.{entry_in};
 ghost use Rattle.sv_model.specs.Engine.{heard_all};
-ghost use Rattle.sv_world.specs.Acting.{IsOver, boot_record, begun, boot_plan_of};
+ghost use Rattle.sv_world.specs.Acting.{IsOver, start_entry, begun, boot_plan_of};
 
 use crate::plan::{keep, let_go};
 use crate::traced::copied_record;
@@ -55,7 +55,7 @@ fn boot_plan_of(alloc: Global, decision: Decision) -> Result<BootPlan, AllocErro
 fn enter<E: Engine>(core: &mut Core<E>, journal: &mut Vec<Record>, plan: BootPlan) -> Option<Record>
     requires valid { E.valid (engine_of core.old) }
     requires decided { WasDecided E.meaning core.old plan.decision }
-    requires starts { decision_at core.old plan.decision ≡ starts (node_at core.old) }
+    requires starts { decision_at core.old plan.decision ≡ starts (setting_of core.old) (node_at core.old) }
     requires room { vec_len journal.old < vec_capacity journal.old }
     ensures valid { E.valid (engine_of core.new) }
     ensures meaning { E.meaning (engine_of core.new) ≡ E.meaning (engine_of core.old) }
@@ -89,7 +89,7 @@ pub fn begin<E: Engine>(
     ensures meaning { E.meaning (engine_of core.new) ≡ E.meaning (engine_of core.old) }
     ensures heard { E.heard (engine_of core.new) ≡ E.heard (engine_of core.old) }
     ensures setting { setting_of core.new ≡ setting_of core.old }
-    ensures entry { IfOk result (λ entry. entry ≡ boot_record (durable_at core.old)) }
+    ensures entry { IfOk result (λ entry. entry ≡ start_entry (setting_of core.old) (durable_at core.old)) }
     ensures node { IfOk result (λ entry. node_at core.new ≡ begun entry (node_at core.old)) }
     ensures still { OnErr result (node_at core.new ≡ node_at core.old) }
 {

@@ -5,6 +5,7 @@ ghost use Rattle.sv_world.specs.Faults.{fault_of};
 ghost use Rattle.sv_world.specs.Finding.{boot_in, start_in, stop_by, number_in, token_by, step_by, delivery_by};
 ghost use Rattle.sv_world.specs.Sent.{may_come};
 ghost use Rattle.sv_world.specs.Worlds.{state_by, cluster_by};
+ghost use Rattle.sv_world.specs.declared.rules.Rules.{Rules};
 
 use crate::call::addressee;
 use crate::event::WorldEvent;
@@ -141,7 +142,7 @@ pub fn fault_of<E>(
     trace: &[Line],
     event: &WorldEvent,
 ) -> Option<WorldFault>
-    ensures { (deadline : ℕ) → result ≡ fault_of (cluster_by seats.now deadline) (state_by seats.now packets.now trace.now) event.now }
+    ensures { (rules : Rules) → result ≡ fault_of (cluster_by seats.now rules) (state_by seats.now packets.now trace.now) event.now }
 {
     match *event {
         WorldEvent::Ask { node, token, .. } => step_fault(seats, trace, node, true, Some(token)),

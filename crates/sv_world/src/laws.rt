@@ -1,9 +1,12 @@
 //! What holds of every list of events.
 
-ghost use Rattle.std.specs.Prelude.{List, []};
+ghost use Rattle.std.specs.Prelude.{◌≡◌, ℕ, ◌<◌, List, [], map};
 ghost use Rattle.sv_model.specs.Engine.{EngineMeaning, TouchesOnlyHanded};
 ghost use Rattle.sv_world.specs.declared.event.WorldEvent.{WorldEvent};
 ghost use Rattle.sv_world.specs.World.{Cluster, World, run, nothing_happened};
+ghost use Rattle.sv_model.specs.declared.state.TheConstants.{KEY_LIMIT};
+ghost use Rattle.sv_world.specs.declared.rules.Rules.{Rules};
+ghost use Rattle.sv_world.specs.Turned.{Ruled, ruled, cluster_under, run_ruled, AreWithin};
 ghost use Rattle.sv_world.specs.Faults.{IsFaulty};
 ghost use Rattle.sv_world.specs.Disks.{NodeCall, AreCalls, AreWorld, nothing_called};
 ghost use Rattle.sv_world.specs.Processes.{AreOfProcesses};
@@ -46,6 +49,17 @@ pub fn headline()
     heard();
     journals();
 }
+
+/// All of them, where each event has rules of its own, so that a node may wait longer, know more or fewer keys, or begin to
+/// forget, from one of its starts on, while the others run on under theirs.
+///
+/// Its journal is then to fit under rules that leave room for as many keys as any of them; those of more than 65,536 keys do.
+/// Where the rules stay the same, this is `headline`.
+pub fn turned()
+    ensures headline { (m : EngineMeaning) → TouchesOnlyHanded m → (nodes : ℕ) (wide : Rules) (events : List Ruled) → AreWithin wide events → IsHeadline m (cluster_under nodes wide) (run_ruled m nodes nothing_happened events) }
+    ensures widest { (wide : Rules) (events : List Ruled) → KEY_LIMIT < wide.keys → AreWithin wide events }
+    ensures same { (m : EngineMeaning) (c : Cluster) (w : World) (events : List WorldEvent) → run_ruled m c.nodes w (map (ruled c.rules) events) ≡ run m c w events }
+{}
 
 /// An event with a fault changes nothing; any other adds its line.
 pub fn faults()

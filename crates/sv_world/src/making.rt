@@ -3,10 +3,12 @@
 ghost use Rattle.std.specs.Prelude.{◌≡◌, ◌<◌, ◌≤◌, [], length, IfOk, IfErr, OnOk, OnErr, vec_len, vec_capacity};
 ghost use Rattle.std.specs.List.{All};
 ghost use Rattle.sv_model.specs.Engine.{EngineMeaning};
+ghost use Rattle.sv_world.specs.Rules.{rules_for};
 ghost use Rattle.sv_world.specs.Headline.{IsHeadline};
 
 use crate::event::WorldEvent;
 use crate::fault::WorldFault;
+use crate::rules::Rules;
 use crate::seat::Seat;
 use crate::seating::{seat_all, unseat_all};
 use crate::world::World;
@@ -61,7 +63,7 @@ impl<E: Engine + Drop> World<E> {
         alloc: Global,
         mut engines: Vec<E>,
         mut seats: Vec<Seat<E>>,
-        deadline: u64,
+        rules: Rules,
     ) -> Result<World<E>, Unmade<E>>
         requires some { 0 < length engines.items }
         requires few { length engines.items ≤ 8 }
@@ -69,15 +71,15 @@ impl<E: Engine + Drop> World<E> {
         requires empty { seats.items ≡ [] }
         requires room { vec_len engines ≤ vec_capacity seats }
         ensures world { IfOk result (λ w. IsWorld E.valid w) }
-        ensures started { IfOk result (λ w. AreStarted E.meaning E.heard engines.items deadline w) }
+        ensures started { IfOk result (λ w. AreStarted E.meaning E.heard engines.items rules w) }
         ensures back { IfErr result (λ u. AreBack E.meaning E.heard E.valid engines.items u.engines.items) }
     {
         let nodes = engines.len() as u8;
-        seat_all(alloc, &mut engines, deadline, &mut seats);
+        seat_all(alloc, &mut engines, rules, &mut seats);
         let mut world = World {
             alloc,
             seats,
-            deadline,
+            rules,
             packets: Vec::new(alloc),
             trace: Vec::new(alloc),
         };
@@ -88,21 +90,36 @@ impl<E: Engine + Drop> World<E> {
     }
 
     /// A world of as many nodes as there are engines, 1 to 8, in which nothing has happened but that each has started, by
-    /// number. Requests wait `deadline` seconds for their session.
-    pub fn new(alloc: Global, engines: Vec<E>, deadline: u64) -> Result<World<E>, Unmade<E>>
+    /// number.
+    pub fn with(alloc: Global, engines: Vec<E>, rules: Rules) -> Result<World<E>, Unmade<E>>
         requires some { 0 < length engines.items }
         requires few { length engines.items ≤ 8 }
         requires valid { All (λ e. E.valid e) engines.items }
         ensures world { IfOk result (λ w. IsWorld E.valid w) }
-        ensures started { IfOk result (λ w. AreStarted E.meaning E.heard engines.items deadline w) }
+        ensures started { IfOk result (λ w. AreStarted E.meaning E.heard engines.items rules w) }
         ensures alike { IfOk result (λ w. (m : EngineMeaning) → AllAlike E.meaning m engines.items → AllMean E.meaning m w) }
         ensures ran { IfOk result (λ w. (m : EngineMeaning) → AllAlike E.meaning m engines.items → Ran m w) }
         ensures headline { IfOk result (λ w. (m : EngineMeaning) → AllAlike E.meaning m engines.items → IsHeadline m (cluster_of w) (world_of w)) }
         ensures back { IfErr result (λ u. AreBack E.meaning E.heard E.valid engines.items u.engines.items) }
     {
         match Vec::with_capacity(alloc, engines.len()) {
-            Ok(seats) => World::seated(alloc, engines, seats, deadline),
+            Ok(seats) => World::seated(alloc, engines, seats, rules),
             Err(_) => Err(Unmade { engines }),
         }
+    }
+
+    /// The same, of nodes that know 65,536 keys at most and forget none. Requests wait `deadline` seconds for their session.
+    pub fn new(alloc: Global, engines: Vec<E>, deadline: u64) -> Result<World<E>, Unmade<E>>
+        requires some { 0 < length engines.items }
+        requires few { length engines.items ≤ 8 }
+        requires valid { All (λ e. E.valid e) engines.items }
+        ensures world { IfOk result (λ w. IsWorld E.valid w) }
+        ensures started { IfOk result (λ w. AreStarted E.meaning E.heard engines.items (rules_for deadline) w) }
+        ensures alike { IfOk result (λ w. (m : EngineMeaning) → AllAlike E.meaning m engines.items → AllMean E.meaning m w) }
+        ensures ran { IfOk result (λ w. (m : EngineMeaning) → AllAlike E.meaning m engines.items → Ran m w) }
+        ensures headline { IfOk result (λ w. (m : EngineMeaning) → AllAlike E.meaning m engines.items → IsHeadline m (cluster_of w) (world_of w)) }
+        ensures back { IfErr result (λ u. AreBack E.meaning E.heard E.valid engines.items u.engines.items) }
+    {
+        World::with(alloc, engines, Rules::of(deadline))
     }
 }

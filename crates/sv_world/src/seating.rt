@@ -5,6 +5,7 @@ ghost use Rattle.std.specs.List.{All};
 ghost use Rattle.sv_world.specs.Making.{AreSeated};
 ghost use Rattle.sv_world.specs.Seat.{engine_in};
 
+use crate::rules::Rules;
 use crate::seat::Seat;
 use std::alloc::Global;
 use sv_model::{Engine, Setting};
@@ -25,21 +26,17 @@ fn seat_of<E>(alloc: Global, setting: Setting, engine: E) -> Seat<E>
 }
 
 /// Moves each engine into a node of its number.
-pub fn seat_all<E>(alloc: Global, engines: &mut Vec<E>, deadline: u64, seats: &mut Vec<Seat<E>>)
+pub fn seat_all<E>(alloc: Global, engines: &mut Vec<E>, rules: Rules, seats: &mut Vec<Seat<E>>)
     requires few { length engines.old.items ≤ 8 }
     requires empty { seats.old.items ≡ [] }
     requires room { vec_len engines.old ≤ vec_capacity seats.old }
-    ensures seated { AreSeated (length engines.old.items) deadline engines.old.items seats.new.items }
+    ensures seated { AreSeated (length engines.old.items) rules engines.old.items seats.new.items }
     ensures taken { engines.new.items ≡ [] }
     ensures capacity { vec_capacity engines.new ≡ vec_capacity engines.old }
 {
     let nodes = engines.len() as u8;
     for node in 0..nodes {
-        let setting = Setting {
-            node,
-            nodes,
-            deadline,
-        };
+        let setting = rules.setting(node, nodes);
         let engine = engines.remove(0);
         seats.push_reserved(seat_of(alloc, setting, engine));
     }

@@ -1,7 +1,7 @@
 //! A node that starts.
 
 ghost use Rattle.std.specs.Prelude.{◌≡◌, ◌&&◌, IsTrue, cond, is_some, false, None, IfOk, OnErr};
-ghost use Rattle.sv_world.specs.Acting.{boot_record, boot_record_if, begun, start_of};
+ghost use Rattle.sv_world.specs.Acting.{start_entry, start_entry_if, begun, start_of};
 ghost use Rattle.sv_world.specs.Deed.{quiet_at};
 ghost use Rattle.sv_world.specs.Seat.{IsSeat, place_of, engine_in, meaning_in, heard_in};
 ghost use Rattle.sv_world.specs.World.{stopped};
@@ -24,7 +24,7 @@ impl<E: Engine + Drop> Seat<E> {
         ensures meaning { meaning_in E.meaning self.new ≡ meaning_in E.meaning self.old }
         ensures heard { heard_in E.heard self.new ≡ heard_in E.heard self.old }
         ensures up { IsTrue (place_of self.new).up }
-        ensures entry { IfOk result (λ entry. entry ≡ boot_record (place_of self.old).node.durable) }
+        ensures entry { IfOk result (λ entry. entry ≡ start_entry self.old.setting (place_of self.old).node.durable) }
         ensures node { IfOk result (λ entry. (place_of self.new).node ≡ begun entry (place_of self.old).node) }
         ensures still { OnErr result ((place_of self.new).node ≡ (place_of self.old).node) }
     {
@@ -43,7 +43,7 @@ impl<E: Engine + Drop> Seat<E> {
         ensures meaning { meaning_in E.meaning self.new ≡ meaning_in E.meaning self.old }
         ensures heard { heard_in E.heard self.new ≡ heard_in E.heard self.old }
         ensures up { IsTrue (place_of self.new).up }
-        ensures entry { IfOk result (λ entry. entry ≡ boot_record_if kept (place_of self.old).node.durable) }
+        ensures entry { IfOk result (λ entry. entry ≡ start_entry_if self.old.setting kept (place_of self.old).node.durable) }
         ensures node { IfOk result (λ entry. (place_of self.new).node ≡ begun entry (place_of self.old).node) }
         ensures still { OnErr result ((place_of self.new).node ≡ (place_of self.old).node) }
     {

@@ -3,6 +3,7 @@
 ghost use Rattle.std.specs.Prelude.{◌≡◌};
 
 use crate::line::Line;
+use crate::rules::Rules;
 use crate::seat::Seat;
 use std::alloc::Global;
 use sv_model::Packet;
@@ -12,8 +13,7 @@ use sv_model::Packet;
 pub struct World<E> {
     pub(crate) alloc: Global,
     pub(crate) seats: Vec<Seat<E>>,
-    /// The seconds for which a request waits for its session.
-    pub(crate) deadline: u64,
+    pub(crate) rules: Rules,
     /// All packets that were ever sent, the first at 0.
     pub(crate) packets: Vec<Packet>,
     pub(crate) trace: Vec<Line>,

@@ -1,5 +1,5 @@
 use Rattle.sv_node.specs.Node.{setting_of, state_of, engine_of, journal_of}
-use Rattle.sv_node.proofs.CutLemmas.{step_cut, step_failed, opening_refused}
+use Rattle.sv_node.proofs.CutLemmas.{step_cut, step_failed, opening_refused, opening_cut, opening_again}
 use Rattle.sv_node.proofs.laws.cuts.Goals as goal
 
 pub returns-clause-step : goal.returns-clause-step
@@ -15,3 +15,11 @@ returns-clause-compaction g k old new answer s live told image left = (s.any_mom
 
 pub returns-clause-opening : goal.returns-clause-opening
 returns-clause-opening g k m fault set d a b new_a new_b all r x y left_a left_b = opening_refused g.D.Disk.may_leave m set d a b new_a new_b all fault r x y left_a left_b
+
+pub returns-clause-opening_cut : goal.returns-clause-opening_cut
+returns-clause-opening_cut g k m set d a b new_a new_b all w x y t =
+    opening_cut g.D.Disk.may_leave m set d a b new_a new_b all g.D.Disk.seen g.D.Disk.moment g.D.Disk.left_since w x y t
+
+pub returns-clause-opening_again : goal.returns-clause-opening_again
+returns-clause-opening_again g k m fault set before after d a b new_a new_b all now same r x y left_a left_b =
+    opening_again g.D.Disk.may_leave m set before after d a b new_a new_b all now fault same r x y left_a left_b

@@ -1,5 +1,6 @@
 use Rattle.std.proofs.Common.{◌≡◌, ◌<◌, ◌+◌, ◌∷◌, [], ◌++◌, take, length, arith, sym, ap, ◌∙◌, subst, length-drop, List}
 use Rattle.std.proofs.lemmas.List.{length_push}
+use Rattle.sv_world.specs.Rules.{setting_by}
 use Rattle.sv_world.specs.declared.seat.Seat.{Seat}
 use Rattle.sv_world.specs.Making.{AreSeated}
 use Rattle.sv_world.proofs.MakingLemmas.{first_rest, more_dropped, more_taken, one_seated}
@@ -18,12 +19,12 @@ loop-node-preserved g c =
     let nodes : c.len-nodes.result ≡ length engines = omega arith in
     let less : 0 < length rest = omega (arith, ap length h.rest, length-drop node engines) in
     let is : rest ≡ e ∷ behind = first_rest rest e behind less c.remove-engine.ensures.value c.remove-engine.ensures.by_index.2 in
-    let more : AreSeated (length engines) c.args.deadline (take node engines ++ e ∷ []) (seats ++ s ∷ []) =
-    one_seated (length engines) c.args.deadline (take node engines) seats e s h.seated c.seat_of.ensures.idle c.seat_of.ensures.core c.seat_of.ensures.journal
-    (c.seat_of.ensures.setting ∙ (λ i. record { node = sym h.long i; nodes = nodes i; deadline = c.args.deadline })) in
+    let more : AreSeated (length engines) c.args.rules (take node engines ++ e ∷ []) (seats ++ s ∷ []) =
+    one_seated (length engines) c.args.rules (take node engines) seats e s h.seated c.seat_of.ensures.idle c.seat_of.ensures.core c.seat_of.ensures.journal
+    (c.seat_of.ensures.setting ∙ c.setting-setting.ensures ∙ (λ i. setting_by c.args.rules (sym h.long i) (nodes i))) in
     record {
-      seated = subst (λ (xs : List (Seat g.row.E.Denot)). AreSeated (length engines) c.args.deadline (take (node + 1) engines) xs) (sym c.push_reserved.ensures.items)
-          (subst (λ (xs : List g.row.E.Denot). AreSeated (length engines) c.args.deadline xs (seats ++ s ∷ [])) (sym (more_taken engines node rest e behind h.rest is)) more);
+      seated = subst (λ (xs : List (Seat g.row.E.Denot)). AreSeated (length engines) c.args.rules (take (node + 1) engines) xs) (sym c.push_reserved.ensures.items)
+          (subst (λ (xs : List g.row.E.Denot). AreSeated (length engines) c.args.rules xs (seats ++ s ∷ [])) (sym (more_taken engines node rest e behind h.rest is)) more);
       rest = more_dropped engines node rest e behind h.rest is;
       long = ap length c.push_reserved.ensures.items ∙ length_push seats s ∙ ap (λ n. n + 1) h.long;
       capacity = c.remove-engine.ensures.capacity ∙ h.capacity;

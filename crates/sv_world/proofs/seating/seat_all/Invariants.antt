@@ -5,7 +5,7 @@ use Rattle.sv_world.proofs.seating.seat_all.Given as goal
 
 abbrev pub invariant-loop-node : goal.invariant-loop-node
 invariant-loop-node g l = record {
-  seated : AreSeated (length l.fn.engines.items) l.deadline (take l.node l.fn.engines.items) l.seats.items;
+  seated : AreSeated (length l.fn.engines.items) l.rules (take l.node l.fn.engines.items) l.seats.items;
   rest : l.engines.items ≡ drop l.node l.fn.engines.items;
   long : length l.seats.items ≡ l.node;
   capacity : vec_capacity l.engines ≡ vec_capacity l.fn.engines;

@@ -4,7 +4,7 @@ use Rattle.sv_core.specs.Snapshot.{snapshot_of}
 use Rattle.sv_journal.specs.declared.journal_fault.JournalFault.TheVariants.{Memory}
 use Rattle.sv_model.specs.declared.record.Record.{Record}
 use Rattle.sv_model.specs.Ranges.{IsRecord}
-use Rattle.sv_node.specs.Compaction.{len_with, HasNoRoom}
+use Rattle.sv_node.specs.Compaction.{len_with, HasNoRoom, LeavesReplaced}
 use Rattle.sv_node.specs.Node.{setting_of, state_of, durable_of}
 use Rattle.sv_node.specs.Records.{Give}
 use Rattle.sv_node.specs.declared.node.Node.{Node}
@@ -47,7 +47,7 @@ returns-clause-compaction g c =
     let d = g.D.Disk in
     let old = c.args.self.now in
     let last = c.replace.new.journal in
-    let new : Node g.row.E.Denot g.row.D.Denot = record { core = old.core; journal = last; alloc = old.alloc } in
+    let new : Node g.row.E.Denot g.row.D.Denot = record { core = old.core; journal = last; restored = old.restored; alloc = old.alloc } in
     let r = c.replace.ensures in
     let set = setting_of old in
     let before = durable_of old in
@@ -57,3 +57,4 @@ returns-clause-compaction g c =
     (λ is. subst (λ (rs : List Record). HasNoRoom old.journal rs) records_are (r.full is)) r.device r.unchanged)
     (λ dead. absurd cc) refl r.tells r.kept
     (λ told s. r.any_moment set before told (subst (λ (rs : List Record). Give set rs before) (sym records_are) (snapshot_is set s.entries before s.replays)) s)
+    (λ told. subst (λ (rs : List Record). LeavesReplaced d.seen d.may_leave d.moment d.left_since old.journal last rs) records_are (r.writes told))

@@ -1,4 +1,4 @@
-use Rattle.std.proofs.Common.{◌≡◌, inr, ◌∙◌, Bool, cond, List, Some, ap, sym, subst}
+use Rattle.std.proofs.Common.{◌≡◌, inr, ⊎_elim, ◌∙◌, ◌+◌, ◌++◌, ◌∷◌, [], ℕ, length, Bool, cond, List, Some, ap, sym, subst}
 use Rattle.sv_core.specs.Core.{node_at, durable_at, setting_of as core_setting}
 use Rattle.sv_journal.specs.Disk.{LeavesOnly, TellsOn}
 use Rattle.sv_model.specs.NodeState.{Durable, Node as State}
@@ -7,14 +7,17 @@ use Rattle.sv_model.specs.Ranges.{IsSetting, IsRanged, IsRecord}
 use Rattle.sv_model.specs.declared.node.Setting.{Setting}
 use Rattle.sv_model.specs.declared.node.Stage.TheVariants.{Blank}
 use Rattle.sv_model.specs.declared.record.Record.{Record}
-use Rattle.sv_model.specs.Replay.{blank, replayed, AllFit}
-use Rattle.sv_journal.specs.Journal.{disk_a, disk_b}
-use Rattle.sv_node.specs.Node.{IsTooLong}
-use Rattle.sv_node.specs.Opened.{StartsWithoutLoss, start_of, restarted}
+use Rattle.sv_model.specs.Replay.{blank, boot_record, replayed, AllFit}
+use Rattle.sv_journal.specs.Journal.{Holds, disk_a, disk_b}
+use Rattle.sv_record.specs.Record.{spelling}
+use Rattle.sv_node.specs.Fault.{open_fault}
+use Rattle.sv_node.specs.Node.{IsTooLong, HasAdded}
+use Rattle.sv_node.specs.Opened.{StartsWithoutLoss, restarted}
 use Rattle.sv_node.specs.Stops.{Stores, RestoresEither}
 use Rattle.sv_node.specs.declared.fault.OpenFault.TheVariants.{Damaged, Device, Full}
 use Rattle.sv_node.proofs.OpenLemmas.{was_damaged, was_bad, current_tells, both_tell, fits_too, gives_too, recovered, restarted_ranged, tell_on, at_state, refused_left, refused_unstarted, either_same}
 use Rattle.sv_node.proofs.OpeningMoments.{refused_moments, started_moments, read_then}
+use Rattle.sv_node.proofs.RecordLemmas.{spell_length}
 use Rattle.sv_node.proofs.StopLemmas.{left_behind, reading}
 use Rattle.sv_node.proofs.node.Node.open.Goals as goal
 
@@ -44,8 +47,8 @@ returns-in-Err-read-clause-left_err g c = λ ta tb d r x y left_x left_y.
     let holds = c.in-Ok.ensures.holds ta tb r.entries r.opens in
     let q = c.read.ensures.quiet in
     let is = c.not_opened.ensures in
-    inr (left_behind k.tells k.seen k.may_leave k.moment k.left_since g.met.D.Disk.counts_now j c.read.new.journal c.args.setting d (restarted d) (q.tells_after told) (ap (λ z. z.other) c.read.ensures.same) holds.other_durable
-    (reading k.tells k.seen k.may_leave k.moment k.left_since j c.read.new.journal.current c.args.setting r.entries d (restarted d) holds r.replays (q.left told)) x y
+    inr (left_behind k.tells k.seen k.may_leave k.moment k.left_since g.met.D.Disk.counts_now j c.read.new.journal c.args.setting d (restarted c.args.setting d) (q.tells_after told) (ap (λ z. z.other) c.read.ensures.same) holds.other_durable
+    (reading k.tells k.seen k.may_leave k.moment k.left_since j c.read.new.journal.current c.args.setting r.entries d (restarted c.args.setting d) holds r.replays (q.left told)) x y
     (subst (λ z. k.may_leave z x) (ap (λ z. z.a) is) left_x) (subst (λ z. k.may_leave z y) (ap (λ z. z.b) is) left_y))
 
 pub returns-in-Err-recover-clause-damaged : goal.returns-in-Err-recover-clause-damaged
@@ -67,8 +70,8 @@ returns-in-Err-recover-clause-left_err g c = λ ta tb d r x y left_x left_y.
     let holds = c.in-Ok.ensures.holds ta tb r.entries r.opens in
     let q = c.read.ensures.quiet in
     let is = c.not_opened-in-Err-recover.ensures in
-    inr (left_behind k.tells k.seen k.may_leave k.moment k.left_since g.met.D.Disk.counts_now j c.read.new.journal c.args.setting d (restarted d) (q.tells_after told) (ap (λ z. z.other) c.read.ensures.same) holds.other_durable
-    (reading k.tells k.seen k.may_leave k.moment k.left_since j c.read.new.journal.current c.args.setting r.entries d (restarted d) holds r.replays (q.left told)) x y
+    inr (left_behind k.tells k.seen k.may_leave k.moment k.left_since g.met.D.Disk.counts_now j c.read.new.journal c.args.setting d (restarted c.args.setting d) (q.tells_after told) (ap (λ z. z.other) c.read.ensures.same) holds.other_durable
+    (reading k.tells k.seen k.may_leave k.moment k.left_since j c.read.new.journal.current c.args.setting r.entries d (restarted c.args.setting d) holds r.replays (q.left told)) x y
     (subst (λ z. k.may_leave z x) (ap (λ z. z.a) is) left_x) (subst (λ z. k.may_leave z y) (ap (λ z. z.b) is) left_y))
 
 pub returns-in-Err-start-clause-damaged : goal.returns-in-Err-start-clause-damaged
@@ -95,9 +98,9 @@ returns-in-Err-start-clause-left_err g c = λ ta tb d r x y left_x left_y.
     let core = c.in-Ok-recover.core in
     let same = gives_too c.args.setting r.entries c.in-Ok-read.records.items d s r.replays ∙ ap (replayed blank) (sym c.deref.ensures.value) ∙ sym (ap (λ (n : State). n.durable) c.in-Ok-recover.ensures.ok.node) in
     let is = c.not_opened-in-Err-start.ensures in
-    let moments = at_state (λ set e. Stores k.seen k.may_leave i set e) (λ set e. LeavesOnly k.moment k.left_since i.current c.start.new.journal.current (RestoresEither set (k.seen i.other) e (restarted e)))
+    let moments = at_state (λ set e. Stores k.seen k.may_leave i set e) (λ set e. LeavesOnly k.moment k.left_since i.current c.start.new.journal.current (RestoresEither set (k.seen i.other) e (restarted set e)))
     (core_setting core) c.args.setting (durable_at core) d c.in-Ok-recover.ensures.ok.setting (sym same) (c.start.ensures.any_moment told_then) (record { entries = r.entries; holds = kept; replays = r.replays }) in
-    inr (left_behind k.tells k.seen k.may_leave k.moment k.left_since g.met.D.Disk.counts_now i c.start.new.journal c.args.setting d (restarted d) (c.start.ensures.tells.tells_after told_then) c.start.ensures.other kept.other_durable
+    inr (left_behind k.tells k.seen k.may_leave k.moment k.left_since g.met.D.Disk.counts_now i c.start.new.journal c.args.setting d (restarted c.args.setting d) (c.start.ensures.tells.tells_after told_then) c.start.ensures.other kept.other_durable
     moments x y (subst (λ z. k.may_leave z x) (ap (λ z. z.a) is) left_x) (subst (λ z. k.may_leave z y) (ap (λ z. z.b) is) left_y))
 
 pub returns-clause-node : goal.returns-clause-node
@@ -111,7 +114,7 @@ returns-clause-node g c =
     record {
       engine = c.start.ensures.valid;
       setting = subst IsSetting (sym (c.start.ensures.setting ∙ found.setting)) c.requires.setting;
-      ranged = subst IsRanged (sym c.in_default.ensures.node) (restarted_ranged (node_at core) ranged);
+      ranged = subst IsRanged (sym c.in_default.ensures.node) (restarted_ranged (core_setting core) (node_at core) (subst IsSetting (sym found.setting) c.requires.setting) ranged);
       stored = λ live told_end.
           let told_then = c.start.ensures.tells.told_before told_end.0 in
           let told = c.read.ensures.quiet.told_before told_then in
@@ -137,7 +140,7 @@ returns-clause-restarted g c = λ ta tb.
     let core = c.in-Ok-recover.core in
     let found = c.in-Ok-recover.ensures.ok in
     let replays = recovered c.args.setting o.0 c.in-Ok-read.records.items c.deref.result.now (durable_at core) (c.in-Ok-read.ensures.spelled o.0 told holds) c.deref.ensures.value found.fit (ap (λ (n : State). n.durable) found.node) in
-    (durable_at core, record { entries = o.0; opens = o.1; replays = replays }, c.in_default.ensures.left, ap (λ (n : State). n.durable) c.in_default.ensures.node)
+    (durable_at core, record { entries = o.0; opens = o.1; replays = replays }, c.in_default.ensures.left, ap (λ (n : State). n.durable) c.in_default.ensures.node ∙ ap (λ (s : Setting). restarted s (durable_at core)) found.setting)
 
 pub returns-clause-tells : goal.returns-clause-tells
 returns-clause-tells g c =
@@ -171,7 +174,7 @@ returns-in-Err-read-clause-any_moment_err g c = λ ta tb d r.
     subst (λ z. StartsWithoutLoss k.seen k.may_leave k.moment k.left_since c.args.setting d c.args.a c.args.b z.a z.b) (sym c.not_opened.ensures)
     (started_moments k.tells k.seen k.may_leave k.moment k.left_since g.met.D.Disk.reads_now c.args.setting c.args.a c.args.b d r j c.read.new.journal (t.1.tells_after tb) (ap (λ z. z.other) same) (ap (λ z. z.on_a) same)
     (c.in-Ok.ensures.any_moment ta tb) (λ e. c.in-Ok.ensures.kept_a e ta) holds.other_durable
-    (reading k.tells k.seen k.may_leave k.moment k.left_since j c.read.new.journal.current c.args.setting r.entries d (restarted d) holds r.replays (c.read.ensures.quiet.left told)))
+    (reading k.tells k.seen k.may_leave k.moment k.left_since j c.read.new.journal.current c.args.setting r.entries d (restarted c.args.setting d) holds r.replays (c.read.ensures.quiet.left told)))
 
 pub returns-in-Err-recover-clause-any_moment_err : goal.returns-in-Err-recover-clause-any_moment_err
 returns-in-Err-recover-clause-any_moment_err g c = λ ta tb d r.
@@ -184,7 +187,7 @@ returns-in-Err-recover-clause-any_moment_err g c = λ ta tb d r.
     subst (λ z. StartsWithoutLoss k.seen k.may_leave k.moment k.left_since c.args.setting d c.args.a c.args.b z.a z.b) (sym c.not_opened-in-Err-recover.ensures)
     (started_moments k.tells k.seen k.may_leave k.moment k.left_since g.met.D.Disk.reads_now c.args.setting c.args.a c.args.b d r j c.read.new.journal (t.1.tells_after tb) (ap (λ z. z.other) same) (ap (λ z. z.on_a) same)
     (c.in-Ok.ensures.any_moment ta tb) (λ e. c.in-Ok.ensures.kept_a e ta) holds.other_durable
-    (reading k.tells k.seen k.may_leave k.moment k.left_since j c.read.new.journal.current c.args.setting r.entries d (restarted d) holds r.replays (c.read.ensures.quiet.left told)))
+    (reading k.tells k.seen k.may_leave k.moment k.left_since j c.read.new.journal.current c.args.setting r.entries d (restarted c.args.setting d) holds r.replays (c.read.ensures.quiet.left told)))
 
 pub returns-in-Err-start-clause-any_moment_err : goal.returns-in-Err-start-clause-any_moment_err
 returns-in-Err-start-clause-any_moment_err g c = λ ta tb d r.
@@ -201,14 +204,14 @@ returns-in-Err-start-clause-any_moment_err g c = λ ta tb d r.
     let core = c.in-Ok-recover.core in
     let gives = gives_too c.args.setting r.entries c.in-Ok-read.records.items d s r.replays ∙ ap (replayed blank) (sym c.deref.ensures.value) ∙ sym (ap (λ (n : State). n.durable) c.in-Ok-recover.ensures.ok.node) in
     let same = c.read.ensures.same in
-    let moments = at_state (λ set e. Stores k.seen k.may_leave i set e) (λ set e. LeavesOnly k.moment k.left_since i.current last.current (RestoresEither set (k.seen i.other) e (restarted e)))
+    let moments = at_state (λ set e. Stores k.seen k.may_leave i set e) (λ set e. LeavesOnly k.moment k.left_since i.current last.current (RestoresEither set (k.seen i.other) e (restarted set e)))
     (core_setting core) c.args.setting (durable_at core) d c.in-Ok-recover.ensures.ok.setting (sym gives) (c.start.ensures.any_moment told_then) (record { entries = r.entries; holds = kept; replays = r.replays }) in
     subst (λ z. StartsWithoutLoss k.seen k.may_leave k.moment k.left_since c.args.setting d c.args.a c.args.b z.a z.b) (sym c.not_opened-in-Err-start.ensures)
     (started_moments k.tells k.seen k.may_leave k.moment k.left_since g.met.D.Disk.reads_now c.args.setting c.args.a c.args.b d r j last (t.1.tells_after tb) (c.start.ensures.other ∙ ap (λ z. z.other) same) (c.start.ensures.on_a ∙ ap (λ z. z.on_a) same)
     (c.in-Ok.ensures.any_moment ta tb) (λ e. c.in-Ok.ensures.kept_a e ta) holds.other_durable
     (read_then k.moment k.left_since c.args.setting (k.seen j.other) d j.current i.current last.current
-    (reading k.tells k.seen k.may_leave k.moment k.left_since j i.current c.args.setting r.entries d (restarted d) holds r.replays (c.read.ensures.quiet.left told))
-    (subst (λ z. LeavesOnly k.moment k.left_since i.current last.current (RestoresEither c.args.setting (k.seen z) d (restarted d))) (ap (λ z. z.other) same) moments)))
+    (reading k.tells k.seen k.may_leave k.moment k.left_since j i.current c.args.setting r.entries d (restarted c.args.setting d) holds r.replays (c.read.ensures.quiet.left told))
+    (subst (λ z. LeavesOnly k.moment k.left_since i.current last.current (RestoresEither c.args.setting (k.seen z) d (restarted c.args.setting d))) (ap (λ z. z.other) same) moments)))
 
 pub returns-in-Err-start-clause-full : goal.returns-in-Err-start-clause-full
 returns-in-Err-start-clause-full g c = λ is ta tb d r.
@@ -217,6 +220,7 @@ returns-in-Err-start-clause-full g c = λ is ta tb d r.
     let t = c.in-Ok.ensures.tells in
     let told = current_tells g.D.Disk.tells j.on_a j.current j.other (t.0.tells_after ta) (t.1.tells_after tb) in
     let holds = c.in-Ok.ensures.holds ta tb r.entries r.opens in
+    let core = c.in-Ok-recover.core in
     let refused = c.not_opened-in-Err-start.ensures in
     let fault_is : c.in-Err-start.fault ≡ Full = sym (ap (λ x. x.fault) refused) ∙ is in
     let s = c.in-Ok-read.ensures.spelled r.entries told holds in
@@ -227,7 +231,7 @@ returns-in-Err-start-clause-full g c = λ is ta tb d r.
       on_a = sym (ap (λ z. z.a) refused ∙ ap disk_a same);
       on_b = sym (ap (λ z. z.b) refused ∙ ap disk_b same);
       stores = record { entries = r.entries; holds = c.read.ensures.kept r.entries told holds; replays = r.replays };
-      too_long = subst (λ (e : Durable). IsTooLong i (Some (start_of e))) (sym gives) (c.in-Err-start.ensures.full fault_is);
+      too_long = subst (λ (s : Setting). IsTooLong i (Some (boot_record s d))) c.in-Ok-recover.ensures.ok.setting (subst (λ (e : Durable). IsTooLong i (Some (boot_record (core_setting core) e))) (sym gives) (c.in-Err-start.ensures.full fault_is));
     }
 
 pub returns-clause-any_moment : goal.returns-clause-any_moment
@@ -245,13 +249,13 @@ returns-clause-any_moment g c = λ ta tb d r.
     let core = c.in-Ok-recover.core in
     let gives = gives_too c.args.setting r.entries c.in-Ok-read.records.items d s r.replays ∙ ap (replayed blank) (sym c.deref.ensures.value) ∙ sym (ap (λ (n : State). n.durable) c.in-Ok-recover.ensures.ok.node) in
     let same = c.read.ensures.same in
-    let moments = at_state (λ set e. Stores k.seen k.may_leave i set e) (λ set e. LeavesOnly k.moment k.left_since i.current last.current (RestoresEither set (k.seen i.other) e (restarted e)))
+    let moments = at_state (λ set e. Stores k.seen k.may_leave i set e) (λ set e. LeavesOnly k.moment k.left_since i.current last.current (RestoresEither set (k.seen i.other) e (restarted set e)))
     (core_setting core) c.args.setting (durable_at core) d c.in-Ok-recover.ensures.ok.setting (sym gives) (c.start.ensures.any_moment told_then) (record { entries = r.entries; holds = kept; replays = r.replays }) in
     started_moments k.tells k.seen k.may_leave k.moment k.left_since g.met.D.Disk.reads_now c.args.setting c.args.a c.args.b d r j last (t.1.tells_after tb) (c.start.ensures.other ∙ ap (λ z. z.other) same) (c.start.ensures.on_a ∙ ap (λ z. z.on_a) same)
     (c.in-Ok.ensures.any_moment ta tb) (λ e. c.in-Ok.ensures.kept_a e ta) holds.other_durable
     (read_then k.moment k.left_since c.args.setting (k.seen j.other) d j.current i.current last.current
-    (reading k.tells k.seen k.may_leave k.moment k.left_since j i.current c.args.setting r.entries d (restarted d) holds r.replays (c.read.ensures.quiet.left told))
-    (subst (λ z. LeavesOnly k.moment k.left_since i.current last.current (RestoresEither c.args.setting (k.seen z) d (restarted d))) (ap (λ z. z.other) same) moments))
+    (reading k.tells k.seen k.may_leave k.moment k.left_since j i.current c.args.setting r.entries d (restarted c.args.setting d) holds r.replays (c.read.ensures.quiet.left told))
+    (subst (λ z. LeavesOnly k.moment k.left_since i.current last.current (RestoresEither c.args.setting (k.seen z) d (restarted c.args.setting d))) (ap (λ z. z.other) same) moments))
 
 pub returns-in-Err-clause-unstarted : goal.returns-in-Err-clause-unstarted
 returns-in-Err-clause-unstarted g c = λ other ta tb d r.
@@ -299,3 +303,98 @@ returns-in-Err-start-clause-unstarted g c = λ other ta tb d r x y left_x left_y
     inr (either_same (left_behind k.tells k.seen k.may_leave k.moment k.left_since g.met.D.Disk.counts_now j i c.args.setting d d (q.tells_after told) (ap (λ z. z.other) c.read.ensures.same) holds.other_durable
     (reading k.tells k.seen k.may_leave k.moment k.left_since j i.current c.args.setting r.entries d d holds r.replays (q.left told)) x y
     (subst (λ z. k.may_leave z x) (ap (λ z. z.a) is ∙ ap disk_a same) left_x) (subst (λ z. k.may_leave z y) (ap (λ z. z.b) is ∙ ap disk_b same) left_y)))
+
+pub returns-in-Err-clause-unchanged : goal.returns-in-Err-clause-unchanged
+returns-in-Err-clause-unchanged g c = λ is ta tb none. c.in-Err.ensures.unchanged (was_damaged c.in-Err.refused.fault (sym c.open_fault.ensures ∙ is))
+
+pub returns-in-Err-read-clause-unchanged : goal.returns-in-Err-read-clause-unchanged
+returns-in-Err-read-clause-unchanged g c = λ is ta tb none. let o = c.in-Ok.ensures.opens ta tb in absurd (none o.0 o.1)
+
+pub returns-in-Err-recover-clause-unchanged : goal.returns-in-Err-recover-clause-unchanged
+returns-in-Err-recover-clause-unchanged g c = λ is ta tb none. let o = c.in-Ok.ensures.opens ta tb in absurd (none o.0 o.1)
+
+pub returns-in-Err-start-clause-unchanged : goal.returns-in-Err-start-clause-unchanged
+returns-in-Err-start-clause-unchanged g c = λ is ta tb none. let o = c.in-Ok.ensures.opens ta tb in absurd (none o.0 o.1)
+
+pub returns-in-Err-clause-entries : goal.returns-in-Err-clause-entries
+returns-in-Err-clause-entries g c = λ other ta tb entries opens.
+    ⊎_elim (λ damaged. absurd (c.in-Err.ensures.damaged damaged ta tb entries opens)) (λ device. absurd (other (c.open_fault.ensures ∙ ap open_fault device))) c.in-Err.ensures.fault
+
+pub returns-in-Err-read-clause-entries : goal.returns-in-Err-read-clause-entries
+returns-in-Err-read-clause-entries g c = λ other ta tb entries opens.
+    let k = g.D.Disk in
+    let j = c.in-Ok.journal in
+    let i = c.read.new.journal in
+    let t = c.in-Ok.ensures.tells in
+    let told = current_tells k.tells j.on_a j.current j.other (t.0.tells_after ta) (t.1.tells_after tb) in
+    let is = c.not_opened.ensures in
+    record {
+      journal = i;
+      on_a = sym (ap (λ z. z.a) is);
+      on_b = sym (ap (λ z. z.b) is);
+      holds = c.read.ensures.kept entries told (c.in-Ok.ensures.holds ta tb entries opens);
+    }
+
+pub returns-in-Err-recover-clause-entries : goal.returns-in-Err-recover-clause-entries
+returns-in-Err-recover-clause-entries g c = λ other ta tb entries opens.
+    let k = g.D.Disk in
+    let j = c.in-Ok.journal in
+    let i = c.read.new.journal in
+    let t = c.in-Ok.ensures.tells in
+    let told = current_tells k.tells j.on_a j.current j.other (t.0.tells_after ta) (t.1.tells_after tb) in
+    let is = c.not_opened-in-Err-recover.ensures in
+    record {
+      journal = i;
+      on_a = sym (ap (λ z. z.a) is);
+      on_b = sym (ap (λ z. z.b) is);
+      holds = c.read.ensures.kept entries told (c.in-Ok.ensures.holds ta tb entries opens);
+    }
+
+pub returns-in-Err-start-clause-entries : goal.returns-in-Err-start-clause-entries
+returns-in-Err-start-clause-entries g c = λ other ta tb entries opens.
+    let k = g.D.Disk in
+    let j = c.in-Ok.journal in
+    let i = c.read.new.journal in
+    let t = c.in-Ok.ensures.tells in
+    let told = current_tells k.tells j.on_a j.current j.other (t.0.tells_after ta) (t.1.tells_after tb) in
+    let is = c.not_opened-in-Err-start.ensures in
+    let same = c.in-Err-start.ensures.unchanged (λ device. other (ap (λ z. z.fault) is ∙ device)) in
+    record {
+      journal = i;
+      on_a = sym (ap (λ z. z.a) is ∙ ap disk_a same);
+      on_b = sym (ap (λ z. z.b) is ∙ ap disk_b same);
+      holds = c.read.ensures.kept entries told (c.in-Ok.ensures.holds ta tb entries opens);
+    }
+
+pub returns-clause-added : goal.returns-clause-added
+returns-clause-added g c = λ ta tb d r.
+    let k = g.D.Disk in
+    let j = c.in-Ok.journal in
+    let i = c.read.new.journal in
+    let t = c.in-Ok.ensures.tells in
+    let told = current_tells k.tells j.on_a j.current j.other (t.0.tells_after ta) (t.1.tells_after tb) in
+    let last = c.start.new.journal in
+    let set = c.args.setting in
+    let holds = c.in-Ok.ensures.holds ta tb r.entries r.opens in
+    let core = c.in-Ok-recover.core in
+    let found = c.in-Ok-recover.ensures.ok in
+    let s = c.in-Ok-read.ensures.spelled r.entries told holds in
+    let gives = gives_too set r.entries c.in-Ok-read.records.items d s r.replays ∙ ap (replayed blank) (sym c.deref.ensures.value) ∙ sym (ap (λ (n : State). n.durable) found.node) in
+    let boot_is : boot_record (core_setting core) (durable_at core) ≡ boot_record set d = ap (λ (x : Setting). boot_record x (durable_at core)) found.setting ∙ ap (boot_record set) (sym gives) in
+    let more = subst (λ (x : Record). HasAdded i last (Some x)) boot_is c.in_default.ensures.added in
+    let same = c.read.ensures.same in
+    record {
+      opened = j;
+      holds_opened = holds;
+      moments = c.in-Ok.ensures.any_moment ta tb;
+      added = record { end = more.end ∙ ap (λ (n : ℕ). n + 5 + length (spelling (boot_record set d))) (ap (λ z. z.end) same); generation = more.generation ∙ ap (λ z. z.generation) same };
+      holds = subst (λ (x : Record). Holds k.seen k.may_leave last (r.entries ++ spelling x ∷ [])) boot_is (c.in_default.ensures.holds r.entries (c.read.ensures.quiet.tells_after told) (c.read.ensures.kept r.entries told holds));
+    }
+
+pub returns-clause-restored : goal.returns-clause-restored
+returns-clause-restored g c = λ ta tb entries opens.
+    let k = g.D.Disk in
+    let j = c.in-Ok.journal in
+    let t = c.in-Ok.ensures.tells in
+    let told = current_tells k.tells j.on_a j.current j.other (t.0.tells_after ta) (t.1.tells_after tb) in
+    c.len-restored.ensures ∙ c.in-Ok-read.records.ok.0 ∙ spell_length entries c.in-Ok-read.records.items (c.in-Ok-read.ensures.spelled entries told (c.in-Ok.ensures.holds ta tb entries opens))

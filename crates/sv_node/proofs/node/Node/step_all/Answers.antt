@@ -23,23 +23,7 @@ returns-in_default-clause-group g c =
     let d = g.D.Disk in
     let old = c.args.self.now in
     let live : IsTrue old.journal.live = cc in
-    untouched e.valid e.meaning e.heard d.tells d.seen d.may_leave d.moment d.left_since d.failed g.met.D.Disk.counts_now g.met.D.Disk.only_now old (record { core = old.core; journal = old.journal; alloc = old.alloc }) c.args.inputs.items c.requires.valid live refl refl
-
-pub returns-in_default-with_capacity-clause-group : goal.returns-in_default-with_capacity-clause-group
-returns-in_default-with_capacity-clause-group g c =
-    let e = g.E.Engine in
-    let d = g.D.Disk in
-    let old = c.args.self.now in
-    let live : IsTrue old.journal.live = cc in
-    untouched e.valid e.meaning e.heard d.tells d.seen d.may_leave d.moment d.left_since d.failed g.met.D.Disk.counts_now g.met.D.Disk.only_now old (record { core = old.core; journal = old.journal; alloc = old.alloc }) c.args.inputs.items c.requires.valid live refl refl
-
-pub returns-in_default-with_capacity-2-clause-group : goal.returns-in_default-with_capacity-2-clause-group
-returns-in_default-with_capacity-2-clause-group g c =
-    let e = g.E.Engine in
-    let d = g.D.Disk in
-    let old = c.args.self.now in
-    let live : IsTrue old.journal.live = cc in
-    untouched e.valid e.meaning e.heard d.tells d.seen d.may_leave d.moment d.left_since d.failed g.met.D.Disk.counts_now g.met.D.Disk.only_now old (record { core = old.core; journal = old.journal; alloc = old.alloc }) c.args.inputs.items c.requires.valid live refl refl
+    untouched e.valid e.meaning e.heard d.tells d.seen d.may_leave d.moment d.left_since d.failed g.met.D.Disk.counts_now g.met.D.Disk.only_now old (record { core = old.core; journal = old.journal; restored = old.restored; alloc = old.alloc }) c.args.inputs.items c.requires.valid live refl refl
 
 pub returns-in-Err-clause-group : goal.returns-in-Err-clause-group
 returns-in-Err-clause-group g c =
@@ -53,7 +37,7 @@ returns-in-Err-clause-group g c =
     let t = c.take_all.ensures.taken in
     let found = outcomes c.take_all.new.held.items in
     let rs = entries_of m set n inputs found in
-    let new : Node g.row.E.Denot g.row.D.Denot = record { core = c.take_all.new.core; journal = c.append_all.new.self; alloc = old.alloc } in
+    let new : Node g.row.E.Denot g.row.D.Denot = record { core = c.take_all.new.core; journal = c.append_all.new.self; restored = old.restored; alloc = old.alloc } in
     let live : IsTrue old.journal.live = cc in
     let is = device_alone c.in-Err.fault (λ failed. let dead = c.in-Err.ensures.failed.0 failed in absurd cc) (λ full. let f = c.in-Err.ensures.full.0 full in has_room old.journal c.take_all.new.batch c.take_all.ensures.room f.1 f.2) c.in-Err.ensures.damaged c.in-Err.ensures.memory in
     let device = c.in-Err.ensures.device (ap Err is) in
@@ -61,7 +45,8 @@ returns-in-Err-clause-group g c =
     (grouping e.valid e.meaning e.heard d.tells d.seen d.may_leave d.moment d.left_since d.failed g.met.D.Disk.counts_now old new inputs (Err (step_fault journal.Device)) c.requires.valid
     ((found, t.answers, t.node), c.take_all.ensures.meaning, c.take_all.ensures.heard, device.0, device.1)
     (λ dead. absurd cc) c.take_all.ensures.setting c.append_all.ensures.tells c.append_all.ensures.other c.append_all.ensures.on_a
-    (λ told s. adding_all e.valid e.meaning e.heard d.tells d.seen d.may_leave d.moment d.left_since d.failed g.met.D.Disk.counts_now old.journal set n (state_of new) rs c.append_all.new.self.current s t.replays (c.append_all.ensures.any_moment s.entries (map spelling rs) told s.holds t.staged)))
+    (λ told s. adding_all e.valid e.meaning e.heard d.tells d.seen d.may_leave d.moment d.left_since d.failed g.met.D.Disk.counts_now old.journal set n (state_of new) rs c.append_all.new.self.current s t.replays (c.append_all.ensures.any_moment s.entries (map spelling rs) told s.holds t.staged))
+    (λ told. (found, t.answers, t.node, λ entries holds. c.append_all.ensures.any_moment entries (map spelling rs) told holds t.staged)) c.append_all.ensures.generation)
 
 pub returns-clause-valid : goal.returns-clause-valid
 returns-clause-valid g c =
@@ -106,7 +91,7 @@ returns-clause-group g c =
     let t = c.take_all.ensures.taken in
     let found = outcomes c.take_all.new.held.items in
     let rs = entries_of m set n inputs found in
-    let new : Node g.row.E.Denot g.row.D.Denot = record { core = c.tell_all.new.core; journal = c.append_all.new.self; alloc = old.alloc } in
+    let new : Node g.row.E.Denot g.row.D.Denot = record { core = c.tell_all.new.core; journal = c.append_all.new.self; restored = old.restored; alloc = old.alloc } in
     let mid = c.take_all.new.core in
     let was = e.heard (core.engine_of old.core) in
     let events = flat_map events_held c.take_all.new.held.items in
@@ -126,4 +111,5 @@ returns-clause-group g c =
       },
     )
     (λ dead. absurd cc) (c.tell_all.ensures.setting ∙ c.take_all.ensures.setting) c.append_all.ensures.tells c.append_all.ensures.other c.append_all.ensures.on_a
-    (λ told s. adding_all e.valid e.meaning e.heard d.tells d.seen d.may_leave d.moment d.left_since d.failed g.met.D.Disk.counts_now old.journal set n (state_of new) rs c.append_all.new.self.current s replays (c.append_all.ensures.any_moment s.entries (map spelling rs) told s.holds t.staged)))
+    (λ told s. adding_all e.valid e.meaning e.heard d.tells d.seen d.may_leave d.moment d.left_since d.failed g.met.D.Disk.counts_now old.journal set n (state_of new) rs c.append_all.new.self.current s replays (c.append_all.ensures.any_moment s.entries (map spelling rs) told s.holds t.staged))
+    (λ told entries holds. c.append_all.ensures.any_moment entries (map spelling rs) told holds t.staged) c.append_all.ensures.generation)

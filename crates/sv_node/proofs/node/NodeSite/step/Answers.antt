@@ -1,5 +1,6 @@
 use Rattle.std.proofs.Common.{◌≡◌, ◌∙◌, Ok, Err, Option, IsTrue, ap, refl, sym, subst}
 use Rattle.std.specs.Prelude.{option_copied, vec_items, IfSome}
+use Rattle.std.specs.Option.{option_to_list}
 use Rattle.sv_core.specs.Core as core
 use Rattle.sv_model.specs.Decision.{Decision}
 use Rattle.sv_model.specs.NodeState.{Durable, Node as State}
@@ -13,7 +14,7 @@ use Rattle.sv_model.specs.declared.site.StepFault.TheVariants.{Memory}
 use Rattle.sv_node.specs.Fault.{step_fault}
 use Rattle.sv_node.specs.Node.{decided_at, setting_of, durable_of, IsTooLong, HasAdded}
 use Rattle.sv_node.specs.Records.{CanFollow}
-use Rattle.sv_node.specs.Stops.{Stores}
+use Rattle.sv_node.specs.Stops.{Stores, LeavesAdded}
 use Rattle.sv_node.specs.declared.node.Node.{Node}
 use Rattle.sv_node.proofs.Stepping.{Steps, Moments, stepping, quiet, refused, unchanged, still_node, whole}
 use Rattle.sv_node.proofs.node.NodeSite.step.Goals as goal
@@ -23,7 +24,7 @@ returns-in_default-clause-step g c =
     let e = g.E.Engine in
     let d = g.D.Disk in
     let old = c.args.self.now in
-    quiet e.valid e.meaning e.heard d.tells d.seen d.may_leave d.moment d.left_since d.failed g.met.D.Disk.counts_now g.met.D.Disk.only_now old (record { core = c.decide.new.self; journal = old.journal; alloc = old.alloc }) (decided_at e.meaning old c.args.moment c.args.input) (Err Memory)
+    quiet e.valid e.meaning e.heard d.tells d.seen d.may_leave d.moment d.left_since d.failed g.met.D.Disk.counts_now g.met.D.Disk.only_now old (record { core = c.decide.new.self; journal = old.journal; restored = old.restored; alloc = old.alloc }) (decided_at e.meaning old c.args.moment c.args.input) (Err Memory)
     c.requires.valid (record { view = c.decide.ensures.view; journal = refl }) (λ dead. absurd cc) c.decide.ensures.setting refl
 
 pub returns-in-Err-clause-valid : goal.returns-in-Err-clause-valid
@@ -31,7 +32,7 @@ returns-in-Err-clause-valid g c =
     let e = g.E.Engine in
     let d = g.D.Disk in
     let old = c.args.self.now in
-    still_node e.valid e.meaning e.heard d.tells d.seen d.may_leave d.moment d.left_since d.failed g.met.D.Disk.counts_now g.met.D.Disk.only_now old (record { core = c.decide.new.self; journal = c.keep.new.journal; alloc = old.alloc })
+    still_node e.valid e.meaning e.heard d.tells d.seen d.may_leave d.moment d.left_since d.failed g.met.D.Disk.counts_now g.met.D.Disk.only_now old (record { core = c.decide.new.self; journal = c.keep.new.journal; restored = old.restored; alloc = old.alloc })
     c.requires.valid c.decide.ensures.valid c.decide.ensures.setting (ap (λ (v : View). v.node) c.decide.ensures.view)
     (λ live. unchanged e.valid e.meaning e.heard d.tells d.seen d.may_leave d.moment d.left_since d.failed g.met.D.Disk.counts_now g.met.D.Disk.only_now c.keep.new.journal old.journal c.in-Err.fault live c.in-Err.ensures.device (c.in-Err.ensures.unchanged refl))
 
@@ -40,7 +41,7 @@ returns-in-Err-clause-step g c =
     let e = g.E.Engine in
     let d = g.D.Disk in
     let old = c.args.self.now in
-    let new : Node g.row.E.Denot g.row.D.Denot = record { core = c.decide.new.self; journal = c.keep.new.journal; alloc = old.alloc } in
+    let new : Node g.row.E.Denot g.row.D.Denot = record { core = c.decide.new.self; journal = c.keep.new.journal; restored = old.restored; alloc = old.alloc } in
     let set = setting_of old in
     let before = durable_of old in
     let decision = decided_at e.meaning old c.args.moment c.args.input in
@@ -53,7 +54,8 @@ returns-in-Err-clause-step g c =
     (refused e.valid e.meaning e.heard d.tells d.seen d.may_leave d.moment d.left_since d.failed g.met.D.Disk.counts_now g.met.D.Disk.only_now old new decision c.in-Err.fault c.decide.ensures.view c.in-Err.ensures.failed c.in-Err.ensures.damaged
     (λ is. subst (λ (o : Option Record). IsTooLong old.journal o) entry_is (c.in-Err.ensures.full is)) c.in-Err.ensures.device (c.in-Err.ensures.unchanged refl))
     (λ dead. absurd cc) c.decide.ensures.setting c.keep.ensures.tells c.keep.ensures.other c.keep.ensures.on_a
-    (λ told s. subst (λ (x : Durable). Moments e.valid e.meaning e.heard d.tells d.seen d.may_leave d.moment d.left_since d.failed g.met.D.Disk.counts_now g.met.D.Disk.only_now old.journal c.keep.new.journal set before x) after_is (c.keep.ensures.any_moment set before told follows s)))
+    (λ told s. subst (λ (x : Durable). Moments e.valid e.meaning e.heard d.tells d.seen d.may_leave d.moment d.left_since d.failed g.met.D.Disk.counts_now g.met.D.Disk.only_now old.journal c.keep.new.journal set before x) after_is (c.keep.ensures.any_moment set before told follows s))
+    (λ told. subst (λ (o : Option Record). LeavesAdded d.seen d.may_leave d.moment d.left_since old.journal c.keep.new.journal (option_to_list o)) entry_is (c.keep.ensures.writes told)) c.keep.ensures.generation)
 
 pub returns-clause-valid : goal.returns-clause-valid
 returns-clause-valid g c =
@@ -83,7 +85,7 @@ returns-clause-step g c =
     let e = g.E.Engine in
     let d = g.D.Disk in
     let old = c.args.self.now in
-    let new : Node g.row.E.Denot g.row.D.Denot = record { core = c.accept.new.self; journal = c.keep.new.journal; alloc = old.alloc } in
+    let new : Node g.row.E.Denot g.row.D.Denot = record { core = c.accept.new.self; journal = c.keep.new.journal; restored = old.restored; alloc = old.alloc } in
     let mid = c.decide.new.self in
     let set = setting_of old in
     let before = durable_of old in
@@ -99,3 +101,4 @@ returns-clause-step g c =
     )
     (λ dead. absurd cc) (c.accept.ensures.setting ∙ c.decide.ensures.setting) c.keep.ensures.tells c.keep.ensures.other c.keep.ensures.on_a
     (λ told s. subst (λ (x : Durable). Moments e.valid e.meaning e.heard d.tells d.seen d.may_leave d.moment d.left_since d.failed g.met.D.Disk.counts_now g.met.D.Disk.only_now old.journal c.keep.new.journal set before x) after_is (c.keep.ensures.any_moment set before told follows s))
+    (λ told. subst (λ (o : Option Record). LeavesAdded d.seen d.may_leave d.moment d.left_since old.journal c.keep.new.journal (option_to_list o)) (c.entry.ensures ∙ ap (λ (x : Decision). x.entry) c.in-Ok.ensures.decision) (c.keep.ensures.writes told)) c.keep.ensures.generation
