@@ -31,7 +31,7 @@ use Rattle.sv_model.specs.Engine.{EngineMeaning, TouchesOnlyHanded, NamesKeys}
 use Rattle.sv_model.specs.Keys.{same_key, set_key}
 use Rattle.sv_model.specs.Container.{Store, nothing_stored, after, stored, fated, born, made_with, outcome_of, handed_if, IsLawful, IsNewKey, IsExcused, MayStand, expiry_events}
 use Rattle.sv_model.specs.Session.{is_expired}
-use Rattle.sv_model.specs.NodeState.{Node, session_in}
+use Rattle.sv_model.specs.NodeState.{known, Node, session_in}
 use Rattle.sv_model.specs.Decision.{Decision, idle}
 use Rattle.sv_model.specs.Node.{decided}
 use Rattle.sv_model.specs.Migration.{on_packet, on_move}
@@ -155,18 +155,18 @@ made_with_birth made k ys BirthEnded known is q set = made_behind made k ys None
 
 -- behind an outcome the node still has the container's sessions
 holds_behind : (xs : List (Option Session)) (store : Store) (named : Option (Key × Secret)) (place : Option ℕ) (k : Key) (out : Outcome) → Holds xs store → IsPlace xs named place
-    → (held_in (keys_of xs) named ≡ None → out.fate ≡ Untouched) → k ≡ own_key (length xs + 1) → None ≡ no_birth (node_of xs).durable out.birth
+    → (held_in (keys_of xs) named ≡ None → out.fate ≡ Untouched) → k ≡ own_key (length xs + 1) → None ≡ no_birth alone (node_of xs).durable out.birth
     → Holds (born_behind out.birth (fated_at place out.fate xs)) (stored named k out store)
 holds_behind xs store named place k out h at touched is room =
     let ys = fated_at place out.fate xs in
     let same : length ys ≡ length xs = length_fated xs place out.fate in
     let key : k ≡ own_key (length ys + 1) = is ∙ ap (λ n. own_key (n + 1)) (sym same) in
-    let settled : Agree (fated named out.fate store.map) (keys_of ys) = subst (Agree (fated named out.fate store.map)) (sym (fates xs named place out.fate at)) (fated_agrees store.map (keys_of xs) named out.fate h.map touched) in
+    let settled : Agree (fated named out.fate store.map) (keys_of ys) = subst (Agree (fated named out.fate store.map)) (sym (fates xs named place out.fate at)) (fated_agrees None store.map (keys_of xs) named out.fate h.map touched) in
     record {
       few = few_born xs ys out.birth h.few room same;
       map = subst (Agree (born k out.birth (fated named out.fate store.map)))
-          (ap (λ (q : Key). born_keys q out.birth (keys_of ys)) key ∙ sym (births ys out.birth))
-          (born_agrees (fated named out.fate store.map) (keys_of ys) k out.birth settled (ap (get (keys_of ys)) key ∙ next_unknown ys));
+          (ap (λ (q : Key). born_keys None q out.birth (keys_of ys)) key ∙ sym (births ys out.birth))
+          (born_agrees None (fated named out.fate store.map) (keys_of ys) k out.birth settled (ap (get (keys_of ys)) key ∙ next_unknown ys));
       made = made_with_birth store.made k ys out.birth (λ q set. let old : (i : ℕ) × (i < length xs) × (q ≡ own_key (i + 1)) = h.made q set in (old.0, subst (λ n. old.0 < n) (sym same) old.1, old.2)) key;
     }
 
@@ -218,7 +218,7 @@ module _ (m : EngineMeaning) (untouched : TouchesOnlyHanded m) (can : NamesKeys 
             ∙ none_held named.0 (session_in (get (keys_of xs) named.0)) (ap (λ n. is_some (held_in (keys_of xs) n)) (sym names) ∙ unheld);
       }
 
-  served_follows : None ≡ no_birth (node_of xs).durable out.birth → (place : Option ℕ) → IsPlace xs (m.names r) place
+  served_follows : None ≡ no_birth alone (node_of xs).durable out.birth → (place : Option ℕ) → IsPlace xs (m.names r) place
       → Follows m xs store (Ask token r) (answered m alone (node_of xs) moment token r out [])
   served_follows room place at =
       record {
@@ -236,12 +236,12 @@ module _ (m : EngineMeaning) (untouched : TouchesOnlyHanded m) (can : NamesKeys 
         tokens = λ t. count_one (times t (named_token ∷ []));
       }
 
-  by_cause : (cause : Option Cause) → cause ≡ no_birth (node_of xs).durable out.birth → Follows m xs store (Ask token r) (answered_unless cause m alone (node_of xs) moment token r out [])
+  by_cause : (cause : Option Cause) → cause ≡ no_birth alone (node_of xs).durable out.birth → Follows m xs store (Ask token r) (answered_unless cause m alone (node_of xs) moment token r out [])
   by_cause None room = let at : (place : Option ℕ) × IsPlace xs (m.names r) place = placed xs (m.names r) in served_follows room at.0 at.1
   by_cause (Some cause) room = idle_follows m xs store (Ask token r) (Refuse token cause ∷ []) h refl (λ t. refl)
 
   pub ask_follows : Follows m xs store (Ask token r) (on_ask m alone (node_of xs) moment token r (m.names r))
-  ask_follows = subst (Follows m xs store (Ask token r)) (sym (asks m xs moment token r (m.names r) (can r))) (by_cause (no_birth (node_of xs).durable out.birth) refl)
+  ask_follows = subst (Follows m xs store (Ask token r)) (sym (asks m xs moment token r (m.names r) (can r))) (by_cause (no_birth alone (node_of xs).durable out.birth) refl)
 
 -- ---- the other inputs
 
@@ -250,10 +250,10 @@ pub packet_follows : (m : EngineMeaning) (xs : List (Option Session)) (store : S
 packet_follows m xs store moment p h = subst (Follows m xs store (Incoming p)) (sym (packets m xs moment p)) (idle_follows m xs store (Incoming p) [] h refl (λ t. refl))
 
 pub move_follows : (m : EngineMeaning) (xs : List (Option Session)) (store : Store) (k : Key) (to : ℕ) → Holds xs store
-    → Follows m xs store (Move k to) (on_move alone (node_of xs) k to (get (keys_of xs) k))
+    → Follows m xs store (Move k to) (on_move alone (node_of xs) k to (known (node_of xs).durable k))
 move_follows m xs store k to h =
-    subst (Follows m xs store (Move k to)) (sym (moves xs k to (get (keys_of xs) k)))
-    (idle_follows m xs store (Move k to) (MoveRefused (refusal_for (get (keys_of xs) k)) ∷ []) h refl (λ t. refl))
+    subst (Follows m xs store (Move k to)) (sym (moves xs k to (known (node_of xs).durable k)))
+    (idle_follows m xs store (Move k to) (MoveRefused (refusal_for (known (node_of xs).durable k)) ∷ []) h refl (λ t. refl))
 
 -- what is found to be over has expired
 over_or_later : (now : ℕ) (x : Key × KeyState) (es : List (Key × KeyState)) (e : Key × KeyState) (b : Bool) → is_over now x.1 ≡ b → cond b (Some x) (first_over now es) ≡ Some e

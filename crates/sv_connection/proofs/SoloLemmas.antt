@@ -45,22 +45,22 @@ module _ (m : EngineMeaning) (xs : List (Option Session)) (moment : Moment) (tok
   answer_is : answer_of m alone (node_of xs).durable moment r ≡ out
   answer_is = ap (m.serve r (held_in (keys_of xs) (m.names r)) moment.now) (fresh_is xs moment few) ∙ sym is
 
-  served_by : (cause : Option Cause) → cause ≡ no_birth (node_of xs).durable out.birth
+  served_by : (cause : Option Cause) → cause ≡ no_birth alone (node_of xs).durable out.birth
       → on_ask m alone (node_of xs) moment token r (m.names r) ≡ answered_unless cause m alone (node_of xs) moment token r out []
   served_by cause room =
       asks m xs moment token r (m.names r) can
-      ∙ ap (λ (o : Outcome). answered_unless (no_birth (node_of xs).durable o.birth) m alone (node_of xs) moment token r o []) answer_is
+      ∙ ap (λ (o : Outcome). answered_unless (no_birth alone (node_of xs).durable o.birth) m alone (node_of xs) moment token r o []) answer_is
       ∙ ap (λ c. answered_unless c m alone (node_of xs) moment token r out []) (sym room)
 
   pub refuses : (heard : List (List ℕ)) (cause : Cause) (ys : List (Option Session)) (new : EngineMeaning) (noted : List (List ℕ)) (outputs : List Output)
-      → Some cause ≡ no_birth (node_of xs).durable out.birth → ys ≡ xs → new ≡ m → noted ≡ heard → outputs ≡ Refuse token cause ∷ []
+      → Some cause ≡ no_birth alone (node_of xs).durable out.birth → ys ≡ xs → new ≡ m → noted ≡ heard → outputs ≡ Refuse token cause ∷ []
       → IsStep (view_at m xs heard) (on_ask m alone (node_of xs) moment token r (m.names r)) outputs (view_at new ys noted)
   refuses heard cause ys new noted outputs room same meaning quiet put =
       subst (λ d. IsStep (view_at m xs heard) d outputs (view_at new ys noted)) (sym (served_by (Some cause) room))
       (record { meaning = meaning; node = ap node_of same; heard = quiet; outputs_are = put })
 
   pub answers : (heard : List (List ℕ)) (place : Option ℕ) (ys : List (Option Session)) (new : EngineMeaning) (noted : List (List ℕ)) (outputs : List Output)
-      → None ≡ no_birth (node_of xs).durable out.birth → IsPlace xs (m.names r) place → ys ≡ born_behind out.birth (fated_at place out.fate xs) → new ≡ m
+      → None ≡ no_birth alone (node_of xs).durable out.birth → IsPlace xs (m.names r) place → ys ≡ born_behind out.birth (fated_at place out.fate xs) → new ≡ m
       → noted ≡ heard_all m heard out.events → outputs ≡ Answer token out.response ∷ []
       → IsStep (view_at m xs heard) (on_ask m alone (node_of xs) moment token r (m.names r)) outputs (view_at new ys noted)
   answers heard place ys new noted outputs room at behind meaning tells put =
@@ -82,8 +82,8 @@ IsTick m xs heard now place =
     IsStep (view_at m xs heard) (on_tick alone (node_of xs) now) [] (view_at m (without_at place xs) (heard_all m heard (end_at place xs)))
 
 pub ended_node : (xs : List (Option Session)) (place : ℕ) → place < length xs
-    → ◌≡◌ {A = Node} (record { durable = record { keys = insert (keys_of xs) (own_key (place + 1)) (Ended 1); boot = 1; next = length xs + 1 }; parked = []; next_want = 1 }) (node_of (slice_set xs place None))
-ended_node xs place less = λ i. record { durable = record { keys = sym (put_own xs place None less) i; boot = 1; next = sym (length-set xs place None) i + 1 }; parked = []; next_want = 1 }
+    → ◌≡◌ {A = Node} (record { durable = record { keys = insert (keys_of xs) (own_key (place + 1)) (Ended 1); boot = 1; next = length xs + 1; home = None }; parked = []; next_want = 1 }) (node_of (slice_set xs place None))
+ended_node xs place less = λ i. record { durable = record { keys = sym (put_own xs place None less) i; boot = 1; next = sym (length-set xs place None) i + 1; home = None }; parked = []; next_want = 1 }
 
 -- what a tick leaves of a decision, where no request waits
 abbrev pub tick_node : Decision → Node

@@ -27,7 +27,8 @@ use Rattle.sv_model.specs.declared.outcome.Birth.TheVariants.{Absent, Alive, End
 use Rattle.sv_model.specs.declared.output.Cause.{Cause}
 use Rattle.sv_model.specs.declared.output.Cause.TheVariants.{TableFull, SerialsSpent}
 use Rattle.sv_model.specs.Engine.{EngineMeaning}
-use Rattle.sv_model.specs.NodeState.{Keys, session_in, is_settled, is_dead, is_unmade, last_number}
+use Rattle.sv_model.specs.NodeState.{known, Keys, session_in, is_settled, is_dead, is_unmade, last_number}
+use Rattle.sv_model.proofs.KnownLemmas.{plainly_known}
 use Rattle.sv_model.specs.Serving.{held_in, kept_at, ended_at, fated_keys, born_keys, next_with, kept_with, is_birth, no_birth, fresh_of, served}
 use Rattle.sv_model.specs.Waiting.{on_ask, waits}
 use Rattle.sv_model.specs.Time.{first_over, grant_again}
@@ -235,7 +236,7 @@ kept_none k s (Some (Sent e old to)) keys none = refl
 kept_none k s (Some (Gone e)) keys none = refl
 kept_none k s (Some (Ended e)) keys none = refl
 
-ended_none : (k : Key) (st : Option KeyState) (keys : Keys) → option_map {U = Key × Session} (λ u. (k, u)) (session_in st) ≡ None → ended_at k st keys ≡ keys
+ended_none : (k : Key) (st : Option KeyState) (keys : Keys) → option_map {U = Key × Session} (λ u. (k, u)) (session_in st) ≡ None → ended_at None k st keys ≡ keys
 ended_none k None keys none = refl
 ended_none k (Some (Active e old)) keys none = absurd cc
 ended_none k (Some (Sent e old to)) keys none = refl
@@ -243,7 +244,7 @@ ended_none k (Some (Gone e)) keys none = refl
 ended_none k (Some (Ended e)) keys none = refl
 
 pub fates : (xs : List (Option Session)) (named : Option (Key × Secret)) (place : Option ℕ) (fate : Fate) → IsPlace xs named place
-    → keys_of (fated_at place fate xs) ≡ fated_keys named fate (keys_of xs)
+    → keys_of (fated_at place fate xs) ≡ fated_keys None named fate (keys_of xs)
 fates xs None None fate at = refl
 fates xs None (Some place) fate at = absurd at
 fates xs (Some named) None Untouched at = refl
@@ -255,9 +256,9 @@ fates xs (Some named) (Some place) (Kept s) at =
     ∙ ap (λ st. kept_at named.0 s st (keys_of xs)) (sym (get_made xs named.0 place at.key ∙ ap (option_map state_of) at.there))
 fates xs (Some named) (Some place) FateEnded at =
     put_own xs place None at.within ∙ ap (λ k. insert (keys_of xs) k (Ended 1)) (sym at.key)
-    ∙ ap (λ st. ended_at named.0 st (keys_of xs)) (sym (get_made xs named.0 place at.key ∙ ap (option_map state_of) at.there))
+    ∙ ap (λ st. ended_at None named.0 st (keys_of xs)) (sym (get_made xs named.0 place at.key ∙ ap (option_map state_of) at.there))
 
-pub births : (xs : List (Option Session)) (b : Birth) → keys_of (born_behind b xs) ≡ born_keys (own_key (length xs + 1)) b (keys_of xs)
+pub births : (xs : List (Option Session)) (b : Birth) → keys_of (born_behind b xs) ≡ born_keys None (own_key (length xs + 1)) b (keys_of xs)
 births xs Absent = refl
 births xs (Alive s) = push_own xs (Some s)
 births xs BirthEnded = push_own xs None
@@ -278,11 +279,11 @@ pub kept : (xs : List (Option Session)) (named : Option (Key × Secret)) (place 
     → (node_of (born_behind out.birth (fated_at place out.fate xs))).durable ≡ kept_with named (own_key (length xs + 1)) out (node_of xs).durable
 kept xs named place out at =
     let ys = fated_at place out.fate xs in
-    let keys : keys_of (born_behind out.birth ys) ≡ born_keys (own_key (length xs + 1)) out.birth (fated_keys named out.fate (keys_of xs)) =
-    births ys out.birth ∙ ap (λ n. born_keys (own_key (n + 1)) out.birth (keys_of ys)) (length_fated xs place out.fate)
-    ∙ ap (born_keys (own_key (length xs + 1)) out.birth) (fates xs named place out.fate at) in
+    let keys : keys_of (born_behind out.birth ys) ≡ born_keys None (own_key (length xs + 1)) out.birth (fated_keys None named out.fate (keys_of xs)) =
+    births ys out.birth ∙ ap (λ n. born_keys None (own_key (n + 1)) out.birth (keys_of ys)) (length_fated xs place out.fate)
+    ∙ ap (born_keys None (own_key (length xs + 1)) out.birth) (fates xs named place out.fate at) in
     let next : length (born_behind out.birth ys) + 1 ≡ next_with out.birth (length xs + 1) = next_is ys out.birth ∙ ap (λ n. next_with out.birth (n + 1)) (length_fated xs place out.fate) in
-    λ i. record { keys = keys i; boot = 1; next = next i }
+    λ i. record { keys = keys i; boot = 1; next = next i; home = None }
 
 -- ---- no request waits, and there is room for a key
 
@@ -304,6 +305,10 @@ foreign_home k some foreign = ⊎_elim
     (λ (ne : k.home ≢ 0). omega arith)
     (cases_eq k.home 0)
 
+-- it forgets no key, and so knows what it keeps
+pub known_is : (xs : List (Option Session)) (k : Key) → known (node_of xs).durable k ≡ get (keys_of xs) k
+known_is xs k = plainly_known (node_of xs).durable k refl
+
 served_now : (xs : List (Option Session)) (k : Key) → 0 < k.serial → (is_settled (get (keys_of xs) k) || is_dead alone (node_of xs).durable k) ≡ true
 served_now xs k some = ⊎_elim
     (λ (p : (i : ℕ) × (k ≡ own_key (i + 1))). ⊎_elim
@@ -322,14 +327,15 @@ pub asks : (m : EngineMeaning) (xs : List (Option Session)) (moment : Moment) (t
     → on_ask m alone (node_of xs) moment token r named ≡ served m alone (node_of xs) moment token r []
 asks m xs moment token r None can = refl
 asks m xs moment token r (Some named) can =
-    ap (λ b. cond b (served m alone (node_of xs) moment token r []) (waits alone (node_of xs) moment token r named.0)) (served_now xs named.0 can.1)
+    ap (λ b. cond b (served m alone (node_of xs) moment token r []) (waits alone (node_of xs) moment token r named.0))
+    (ap (λ st. is_settled st || is_dead alone (node_of xs).durable named.0) (known_is xs named.0) ∙ served_now xs named.0 can.1)
 
 pub fresh_is : (xs : List (Option Session)) (moment : Moment) → length xs ≤ 65_536 → fresh_of alone (node_of xs).durable moment ≡ (own_key (length xs + 1), moment.secret)
 fresh_is xs moment few = ap (λ b. (own_key (cond b 0 (length xs + 1)), moment.secret)) (ne_eqb (length xs + 1) last_number (λ is. omega (arith, is, few)))
 
 -- only the limit on keys can refuse a birth
 pub room : (xs : List (Option Session)) (b : Birth) → length xs ≤ 65_536
-    → no_birth (node_of xs).durable b ≡ cond (is_birth b) (cond (nat_le 65_536 (length xs)) (Some TableFull) None) None
+    → no_birth alone (node_of xs).durable b ≡ cond (is_birth b) (cond (nat_le 65_536 (length xs)) (Some TableFull) None) None
 room xs b few =
     ap (λ t. cond (is_birth b) (cond t (Some SerialsSpent) (cond (nat_le 65_536 (len (keys_of xs))) (Some TableFull) None)) None) (ne_eqb (length xs + 1) last_number (λ is. omega (arith, is, few)))
     ∙ ap (λ n. cond (is_birth b) (cond (nat_le 65_536 n) (Some TableFull) None) None) (len_is xs)
@@ -339,7 +345,7 @@ room_left xs true is none = absurd cc
 room_left xs false is none = leb-false 65_536 (length xs) is
 
 -- behind a birth there are no more keys than there may be
-pub few_born : (xs ys : List (Option Session)) (b : Birth) → length xs ≤ 65_536 → None ≡ no_birth (node_of xs).durable b → length ys ≡ length xs → length (born_behind b ys) ≤ 65_536
+pub few_born : (xs ys : List (Option Session)) (b : Birth) → length xs ≤ 65_536 → None ≡ no_birth alone (node_of xs).durable b → length ys ≡ length xs → length (born_behind b ys) ≤ 65_536
 few_born xs ys Absent few none same = omega (arith, few, same)
 few_born xs ys (Alive s) few none same =
     let less : length xs < 65_536 = room_left xs (nat_le 65_536 (length xs)) refl (none ∙ room xs (Alive s) few) in
@@ -405,7 +411,7 @@ held_found xs named place k secret at found is where_is stands there =
     let here : IsAt xs k at = subst (λ n. IsPlace xs n (Some at)) is (subst (IsPlace xs named) where_is stands) in
     held_at xs k secret at found here there ∙ ap (held_in (keys_of xs)) (sym is)
 
-pub birth_refused : (xs : List (Option Session)) (b : Birth) → length xs ≤ 65_536 → true ≡ is_birth b → 65_536 ≤ length xs → Some TableFull ≡ no_birth (node_of xs).durable b
+pub birth_refused : (xs : List (Option Session)) (b : Birth) → length xs ≤ 65_536 → true ≡ is_birth b → 65_536 ≤ length xs → Some TableFull ≡ no_birth alone (node_of xs).durable b
 birth_refused xs b few made full =
     sym (room xs b few ∙ ap (λ t. cond t (cond (nat_le 65_536 (length xs)) (Some TableFull) None) None) (sym made) ∙ ap (λ t. cond t (Some TableFull) None) (le-leb 65_536 (length xs) full))
 
@@ -417,9 +423,9 @@ no_cause : (b : Bool) → cond {A = Option Cause} b None None ≡ None
 no_cause true = refl
 no_cause false = refl
 
-pub birth_allowed : (xs : List (Option Session)) (b : Birth) → length xs ≤ 65_536 → length xs < 65_536 → None ≡ no_birth (node_of xs).durable b
+pub birth_allowed : (xs : List (Option Session)) (b : Birth) → length xs ≤ 65_536 → length xs < 65_536 → None ≡ no_birth alone (node_of xs).durable b
 birth_allowed xs b few less =
     sym (room xs b few ∙ ap (λ t. cond (is_birth b) (cond t (Some TableFull) None) None) (not_full (length xs) less (leb_tells 65_536 (length xs))) ∙ no_cause (is_birth b))
 
-pub no_birth_made : (xs : List (Option Session)) (b : Birth) → length xs ≤ 65_536 → false ≡ is_birth b → None ≡ no_birth (node_of xs).durable b
+pub no_birth_made : (xs : List (Option Session)) (b : Birth) → length xs ≤ 65_536 → false ≡ is_birth b → None ≡ no_birth alone (node_of xs).durable b
 no_birth_made xs b few none = sym (room xs b few ∙ ap (λ t. cond t (cond (nat_le 65_536 (length xs)) (Some TableFull) None) None) (sym none))

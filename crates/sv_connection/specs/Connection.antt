@@ -31,6 +31,7 @@ pub record IsFresh (c : Connection) (single : Bool) : Type 0 where
   pub single_is : is_single c ≡ single
   pub not_closed : is_closed c ≡ false
   pub not_waiting : is_waiting c ≡ false
+  pub not_leaving : is_leaving c ≡ false
 
 -- what a call sees of a connection, of what its reader has left, of what its writer holds, and of a site
 abbrev pub sight_of : {S : Type 0} → Connection → Option (List ℕ) → Option (List ℕ) → S → Sight S

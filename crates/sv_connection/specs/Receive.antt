@@ -113,3 +113,11 @@ is_request (Request request) = true
 is_request (Refused fault head_only) = false
 is_request More = false
 is_request Closed = false
+
+-- a message was taken
+abbrev pub is_taken : Received → Bool
+is_taken (Request request) = true
+is_taken (Refused (Read fault) head_only) = false
+is_taken (Refused (Target fault) head_only) = true
+is_taken More = false
+is_taken Closed = false

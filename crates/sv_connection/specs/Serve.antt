@@ -1,5 +1,5 @@
 -- What one call of a connection does.
-use Rattle.std.specs.Prelude.{◌≡◌, ◌≢◌, ◌⊎◌, ℕ, ◌||◌, List, [], Bool, true, false, Option, Some, None, Result, Ok, Err, IfSome, ⊤, codes, find}
+use Rattle.std.specs.Prelude.{◌≡◌, ◌≢◌, ◌⊎◌, ℕ, ◌||◌, ◌++◌, List, [], Bool, true, false, Option, Some, None, Result, Ok, Err, IfSome, ⊤, codes, find}
 use Rattle.std.specs.Io.KnownBytes.{Consumes, Appends}
 use Rattle.sv_model.specs.declared.key.Moment.{Moment}
 use Rattle.sv_model.specs.declared.response.Response.{Response}
@@ -80,10 +80,18 @@ outputs_of (Err fault) = []
 unfoldable pub memory_lines : List ℕ
 memory_lines = codes "HTTP/1.1 503 Service Unavailable\r\nContent-Length: 0\r\nConnection: close\r\n\r\n"
 
--- a text was written whole, or the writing failed
+-- the front of a text was written, and this is left of it
+abbrev pub AppendsPart : Option (List ℕ) → Option (List ℕ) → List ℕ → List ℕ → Type 0
+AppendsPart wo wn text rest = (front : List ℕ) × (text ≡ front ++ rest) × Appends wo wn front
+
+-- what has gone out of a text is its front: its first bytes, however many, and nothing else
+abbrev pub AppendsFront : Option (List ℕ) → Option (List ℕ) → List ℕ → Type 0
+AppendsFront wo wn text = (rest : List ℕ) × AppendsPart wo wn text rest
+
+-- a text was written whole, or the writing failed behind its front
 abbrev pub IsWritten : List ℕ → Outcome → Bool → Option (List ℕ) → Option (List ℕ) → Bool → Outcome → Type 0
 IsWritten text done closes wo wn closed outcome =
-    ((outcome ≡ done) × Appends wo wn text × (closed ≡ closes)) ⊎ ((outcome ≡ WriteFailed) × (closed ≡ true))
+    ((outcome ≡ done) × Appends wo wn text × (closed ≡ closes)) ⊎ ((outcome ≡ WriteFailed) × (closed ≡ true) × AppendsFront wo wn text)
 
 -- memory was refused, and that was written
 abbrev pub IsStarved : Option (List ℕ) → Option (List ℕ) → Bool → Outcome → Type 0

@@ -16,7 +16,7 @@ use Rattle.sv_model.specs.declared.outcome.Birth.{Birth}
 use Rattle.sv_model.specs.declared.outcome.Birth.TheVariants.{Absent, Alive, Ended as BirthEnded}
 use Rattle.sv_model.specs.Session.{is_expired}
 use Rattle.sv_model.specs.declared.node.Setting.{Setting}
-use Rattle.sv_model.specs.NodeState.{Keys, Node}
+use Rattle.sv_model.specs.NodeState.{setting_for, Keys, Node}
 use Rattle.sv_model.specs.Serving.{held_in}
 
 -- a key of the one node
@@ -100,11 +100,11 @@ end_at (Some place) sessions = told_end place (slice_get sessions place)
 
 -- one node, and no others
 abbrev pub alone : Setting
-alone = record { node = 0; nodes = 1; deadline = 0 }
+alone = setting_for 0 1 0
 
 -- a node that has made these sessions, since its first start; no request waits
 abbrev pub node_of : List (Option Session) → Node
-node_of sessions = record { durable = record { keys = keys_of sessions; boot = 1; next = length sessions + 1 }; parked = []; next_want = 1 }
+node_of sessions = record { durable = record { keys = keys_of sessions; boot = 1; next = length sessions + 1; home = None }; parked = []; next_want = 1 }
 
 -- why a session isn't handed over where there is no other node
 abbrev pub refusal_for : Option KeyState → MoveRefusal

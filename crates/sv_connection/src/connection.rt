@@ -62,7 +62,7 @@ impl Connection {
     ghost use Rattle.sv_message.specs.declared.request.RawRequest.{RawRequest as Raw};
     ghost use Rattle.sv_target.specs.declared.target.Target.{Target as TargetValue};
     ghost use Rattle.sv_connection.specs.Arrive.{Arrives};
-    ghost use Rattle.sv_connection.specs.Receive.{Ends, IsDirected, IsFound, Receives, is_request};
+    ghost use Rattle.sv_connection.specs.Receive.{Ends, IsDirected, IsFound, Receives, is_request, is_taken};
     ghost use Rattle.sv_message.specs.Message.{IsMessage};
     ghost use Rattle.sv_connection.specs.Request.{request_of};
     ghost use Rattle.sv_connection.specs.Serve.{how, is_parked, IsAnswered, IsLateAnswer, IsPage, IsServed, status_of};
@@ -118,6 +118,8 @@ impl Connection {
         ensures requests { self.new.requests ≡ self.old.requests }
         ensures single { self.new.single ≡ self.old.single }
         ensures directed { IsDirected self.old.single raw self.new.closed result }
+        ensures asked { self.new.leaving ≡ raw.close }
+        ensures taken { is_taken result ≡ true }
     {
         self.leaving = raw.close;
         match read_request(self.alloc, &raw) {
@@ -139,6 +141,9 @@ impl Connection {
         ensures received { Receives (is_single self.old) (stand_of self.old (Some piece.now)) (stand_of self.new (Some [])) result }
         ensures found { (raw : Raw) (text rest : List ℕ) → is_closed self.old ≡ false → IsMessage text raw → held_by self.old ++ piece.now ≡ text ++ rest
             → IsFound (is_single self.old) raw result }
+        ensures asked { (raw : Raw) (text rest : List ℕ) → is_closed self.old ≡ false → IsMessage text raw → held_by self.old ++ piece.now ≡ text ++ rest
+            → is_taken result ≡ true → is_leaving self.new ≡ raw.close }
+        ensures none_taken { is_taken result ≡ false → is_leaving self.new ≡ is_leaving self.old }
     {
         if self.closed {
             return Received::Closed;
@@ -170,6 +175,9 @@ impl Connection {
         ensures received { Receives (is_single self.old) (stand_of self.old (Some piece.now)) (stand_of self.new (Some [])) result }
         ensures found { (raw : Raw) (text rest : List ℕ) → is_closed self.old ≡ false → IsMessage text raw → held_by self.old ++ piece.now ≡ text ++ rest
             → IsFound (is_single self.old) raw result }
+        ensures asked { (raw : Raw) (text rest : List ℕ) → is_closed self.old ≡ false → IsMessage text raw → held_by self.old ++ piece.now ≡ text ++ rest
+            → is_taken result ≡ true → is_leaving self.new ≡ raw.close }
+        ensures none_taken { is_taken result ≡ false → is_leaving self.new ≡ is_leaving self.old }
     {
         let received = self.look(piece);
         self.waiting = received.is_request();
@@ -182,6 +190,9 @@ impl Connection {
         ensures single { is_single self.new ≡ is_single self.old }
         ensures waiting { is_waiting self.new ≡ is_request result }
         ensures ended { Ends (is_single self.old) (stand_of self.old (Some [])) (stand_of self.new (Some [])) result }
+        ensures asked { (raw : Raw) (text rest : List ℕ) → is_closed self.old ≡ false → IsMessage text raw → held_by self.old ++ [] ≡ text ++ rest
+            → is_taken result ≡ true → is_leaving self.new ≡ raw.close }
+        ensures none_taken { is_taken result ≡ false → is_leaving self.new ≡ is_leaving self.old }
     {
         match self.receive(&[]) {
             Received::More => {
@@ -208,6 +219,7 @@ impl Connection {
         ensures single { is_single self.new ≡ is_single self.old }
         ensures waiting { is_waiting self.new ≡ is_waiting self.old }
         ensures held { held_by self.new ≡ held_by self.old }
+        ensures leaving { is_leaving self.new ≡ is_leaving self.old }
         ensures closed { is_closed self.new ≡ true }
         ensures page { IsPage (status_of fault) head_only now fault (W.contents writer.old) (W.contents writer.new) true result }
     {
@@ -269,6 +281,7 @@ impl Connection {
         ensures held { held_by self.new ≡ held_by self.old }
         ensures closed { is_closed self.new ≡ is_closed self.old }
         ensures waiting { is_waiting self.new ≡ is_waiting self.old }
+        ensures leaving { is_leaving self.new ≡ is_leaving self.old }
     {
         self.single = true;
     }
@@ -282,6 +295,7 @@ impl Connection {
         ensures single { is_single self.new ≡ is_single self.old }
         ensures waiting { is_waiting self.new ≡ false }
         ensures held { held_by self.new ≡ held_by self.old }
+        ensures leaving { is_leaving self.new ≡ is_leaving self.old }
         ensures answered { IsLateAnswer response.now now (is_closed self.old) (W.contents writer.old) (W.contents writer.new) (is_closed self.new) result }
     {
         let said = say(

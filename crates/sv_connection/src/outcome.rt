@@ -29,7 +29,7 @@ pub enum Outcome {
     Refused(RequestFault),
     /// The reader failed, or gave no whole message in 1,048,576 reads.
     ReadFailed,
-    /// The writer failed; how much went out isn't known.
+    /// The writer failed; what went out is the front of the text.
     WriteFailed,
     /// The site has failed; nothing was written.
     Failed,

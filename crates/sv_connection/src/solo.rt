@@ -5,8 +5,8 @@ ghost use Rattle.sv_model.specs.Site.{with_list};
 ghost use Rattle.sv_model.specs.Serving.{no_birth};
 ghost use Rattle.sv_model.specs.declared.input.Input.TheVariants.{Ask, Tick};
 ghost use Rattle.sv_model.specs.declared.state.TheConstants.{KEY_LIMIT};
-ghost use Rattle.std.specs.FinMap.{get};
-ghost use Rattle.sv_connection.specs.Table.{own_key, keys_of, node_of, refusal_for};
+ghost use Rattle.sv_model.specs.NodeState.{known};
+ghost use Rattle.sv_connection.specs.Table.{own_key, alone, node_of, refusal_for};
 
 use crate::table::{expire, is_birth, keep, make_room, named_place, session_at, state_at};
 use std::alloc::Global;
@@ -43,7 +43,7 @@ fn fresh_of(sessions: &[Option<Session>], moment: Moment) -> (Key, Secret)
 /// Why a session can't be made beside these.
 fn no_birth(sessions: &[Option<Session>], birth: &Birth) -> Option<Cause>
     requires { length sessions.now ≤ KEY_LIMIT }
-    ensures { result ≡ no_birth (node_of sessions.now).durable birth.now }
+    ensures { result ≡ no_birth alone (node_of sessions.now).durable birth.now }
 {
     if !is_birth(birth) {
         return None;
@@ -55,8 +55,9 @@ fn no_birth(sessions: &[Option<Session>], birth: &Birth) -> Option<Cause>
 }
 
 /// Why the session of a key isn't handed to another node, of which there is none.
+#[tactic(auto, using(crate::proofs::TableLemmas::known_is))]
 fn move_refusal(sessions: &[Option<Session>], key: Key) -> MoveRefusal
-    ensures { result ≡ refusal_for (get (keys_of sessions.now) key) }
+    ensures { result ≡ refusal_for (known (node_of sessions.now).durable key) }
 {
     match state_at(sessions, key) {
         None => MoveRefusal::UnknownKey,

@@ -1,14 +1,14 @@
 //! Writes responses, and what stands in their place where memory is refused.
 
-ghost use Rattle.std.specs.Prelude.{◌≡◌, true, false, []};
+ghost use Rattle.std.specs.Prelude.{◌≡◌, true, false, [], IfSome, IfNone};
 ghost use Rattle.std.specs.Io.KnownBytes.{Appends};
 ghost use Rattle.sv_model.specs.Page.{plain_page};
-ghost use Rattle.sv_connection.specs.Serve.{IsWritten, IsSaid, IsStarved, IsPage, memory_lines, status_of, status_of_read, status_of_target};
+ghost use Rattle.sv_connection.specs.Serve.{AppendsFront, AppendsPart, IsWritten, IsSaid, IsStarved, IsPage, memory_lines, status_of, status_of_read, status_of_target};
 
 use crate::outcome::{Outcome, RequestFault};
 use http::StatusCode;
 use std::alloc::Global;
-use std::io::Write;
+use std::io::{ErrorKind, Write};
 use sv_message::fault::ReadFault;
 use sv_message::response::write_response;
 use sv_model::{Response, Sequence, plain_page};
@@ -29,14 +29,48 @@ pub fn memory_lines() -> &'static [u8]
     b"HTTP/1.1 503 Service Unavailable\r\nContent-Length: 0\r\nConnection: close\r\n\r\n"
 }
 
+/// Writes what the writer takes of a text at once, and gives what is left; none where it takes no more.
+fn write_part<'a, W: Write>(writer: &mut W, text: &'a [u8]) -> Option<&'a [u8]>
+    ensures left { IfSome result (λ rest. AppendsPart (W.contents writer.old) (W.contents writer.new) text.now rest.now) }
+    ensures stuck { IfNone result (AppendsPart (W.contents writer.old) (W.contents writer.new) text.now text.now) }
+{
+    match writer.write(text) {
+        Ok(0) => None,
+        Ok(count) => Some(&text[count..]),
+        Err(fault) => {
+            if fault.kind() == ErrorKind::Interrupted {
+                Some(text)
+            } else {
+                None
+            }
+        }
+    }
+}
+
+/// Writes a text whole. Where the writer takes no more, what it took is the front of the text, which `write_all` doesn't say.
+fn write_whole<W: Write>(writer: &mut W, text: &[u8]) -> bool
+    ensures whole { result ≡ true → Appends (W.contents writer.old) (W.contents writer.new) text.now }
+    ensures part { result ≡ false → AppendsFront (W.contents writer.old) (W.contents writer.new) text.now }
+{
+    let mut rest = text;
+    for _ in 0..u64::MAX {
+        if rest.is_empty() {
+            return true;
+        }
+        match write_part(writer, rest) {
+            Some(left) => rest = left,
+            None => return false,
+        }
+    }
+    false
+}
+
 /// Writes a text whole, and flushes it.
 fn write_text<W: Write>(writer: &mut W, text: &[u8]) -> bool
-    ensures { result ≡ true → Appends (W.contents writer.old) (W.contents writer.new) text.now }
+    ensures whole { result ≡ true → Appends (W.contents writer.old) (W.contents writer.new) text.now }
+    ensures part { result ≡ false → AppendsFront (W.contents writer.old) (W.contents writer.new) text.now }
 {
-    match writer.write_all(text) {
-        Ok(()) => writer.flush().is_ok(),
-        Err(_) => false,
-    }
+    write_whole(writer, text) && writer.flush().is_ok()
 }
 
 /// Sends a text, with the outcome where that is done.

@@ -1,3 +1,4 @@
 pub mod SendLemmas
 pub mod LifeLemmas
 pub mod GroupLemmas
+pub mod ServingLemmas

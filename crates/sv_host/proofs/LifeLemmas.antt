@@ -1,13 +1,15 @@
 -- What a call that a node was told to make has made of it, whatever its fault becomes.
-use Rattle.std.proofs.Common.{◌≡◌, ◌≤◌, inr, ℕ, true, false, cond, IsTrue, Result, Ok, Err, Bool, List, subst, arith}
-use Rattle.std.specs.Prelude.{OnOk}
+use Rattle.std.proofs.Common.{◌≡◌, ◌≤◌, inr, ℕ, true, false, cond, IsTrue, Result, Ok, Err, Bool, List, map, Vec, Global, vec_items, arith}
+use Rattle.std.specs.Prelude.{IfErr, OnOk}
 use Rattle.sv_journal.specs.declared.journal_fault.JournalFault.{JournalFault}
 use Rattle.sv_journal.specs.declared.journal_fault.JournalFault.TheVariants as journal
 use Rattle.sv_model.specs.declared.key.Moment.{Moment}
 use Rattle.sv_model.specs.declared.input.Input.{Input}
+use Rattle.sv_model.specs.declared.output.Output.{Output}
 use Rattle.sv_model.specs.declared.site.StepFault.{StepFault}
 use Rattle.sv_model.specs.declared.site.StepFault.TheVariants as step
 use Rattle.sv_model.specs.Engine.{EngineMeaning}
+use Rattle.sv_model.specs.Site.{with_list}
 use Rattle.sv_node.specs.Call.{step_ends, compaction_ends}
 use Rattle.sv_node.specs.Compaction.{IsCompaction}
 use Rattle.sv_node.specs.Group.{Answer, IsGroup}
@@ -31,10 +33,6 @@ module _ {E D : Type 0} (meaning : E → EngineMeaning) (heard : E → List (Lis
     on : {U G : Type 0} (high : ℕ) (given : Result U G) → GoesOn meaning heard tells low high old new → Gone high given
     on high given goes = gone_on meaning heard tells may_leave moment left_since low high old new given goes
 
-    -- from the number that is the same
-    pub from_same : {U G : Type 0} (first high : ℕ) (given : Result U G) → first ≡ low → HasGone meaning heard tells may_leave first high old new given → Gone high given
-    from_same {U = U} {G = G} first high given is gone = subst (λ (l : ℕ). HasGone {T = U} {F = G} meaning heard tells may_leave l high old new given) is gone
-
     module _ (high : ℕ) (inputs : List (Moment × Input)) (rise : RiseIn low (all_given inputs)) (is : numbers_in low (all_given inputs) ≤ high) where
       abbrev Grouped : Result (List Answer) StepFault → Type 0
       Grouped answer = IsGroup meaning heard tells seen may_leave moment left_since failed old inputs answer new
@@ -51,17 +49,15 @@ module _ {E D : Type 0} (meaning : E → EngineMeaning) (heard : E → List (Lis
       goes : GoesOn meaning heard tells low last old new → GoesOn meaning heard tells low high old new
       goes g = goes_wider meaning heard tells may_leave moment left_since low last high old new is g
 
-      -- a group that was done
-      pub group_done : (answers : List Answer) → Grouped (Ok answers) → GoesOn meaning heard tells low high old new
-      group_done answers g = goes (by (Ok answers) g)
-
-      -- one with a fault
-      pub group_refused : {U G : Type 0} (fault : StepFault) (given : Result U G) → Grouped (Err fault) → OnOk given (step_ends fault ≡ false) → Gone high given
-      group_refused step.Full given g ok = absurd (by (Err step.Full) g)
-      group_refused step.Failed given g ok = absurd (by (Err step.Failed) g)
-      group_refused step.Memory given g ok = on high given (goes (by (Err step.Memory) g))
-      group_refused step.Device (Ok value) g ok = absurd (let other = ok in cc)
-      group_refused step.Device (Err f) g ok = inr (fails_wider meaning heard tells may_leave moment left_since low last high old new is (by (Err step.Device) g))
+      -- a group, whatever is made of what came of it
+      pub group_served : {U G : Type 0} (answers : Result (Vec (Result (Vec Output Global) StepFault) Global) StepFault) (given : Result U G) → Grouped (with_list (λ a. map (with_list vec_items) a.items) answers)
+          → IfErr answers (λ fault. OnOk given (step_ends fault ≡ false)) → Gone high given
+      group_served (Ok answers) given g ok = on high given (goes (by (Ok (map (with_list vec_items) answers.items)) g))
+      group_served (Err step.Full) given g ok = absurd (by (Err step.Full) g)
+      group_served (Err step.Failed) given g ok = absurd (by (Err step.Failed) g)
+      group_served (Err step.Memory) given g ok = on high given (goes (by (Err step.Memory) g))
+      group_served (Err step.Device) (Ok value) g ok = absurd (let other = ok in cc)
+      group_served (Err step.Device) (Err f) g ok = inr (fails_wider meaning heard tells may_leave moment left_since low last high old new is (by (Err step.Device) g))
 
     module _ {T : Type 0} where
       abbrev CompactedTo : Result T JournalFault → Type 0

@@ -15,8 +15,10 @@ use Rattle.sv_model.specs.Ranges.{IsInput, IsRanged, IsSetting}
 use Rattle.sv_model.specs.Site.{with_list}
 use Rattle.sv_model.specs.Step.{left}
 use Rattle.sv_model.proofs.RangeLemmas.{ranged}
-use Rattle.sv_node.specs.Group.{Answered}
-use Rattle.sv_host.specs.Outputs.{AreSendable, IsHandedOn, IsSendable}
+use Rattle.sv_node.specs.Group.{Answered, GroupEnds}
+use Rattle.sv_node.specs.Node.{engine_of, setting_of, state_of, journal_of}
+use Rattle.sv_node.specs.declared.node.Node.{Node}
+use Rattle.sv_host.specs.Outputs.{AreHandedOn, AreSendable, IsHandedOn, IsSendable}
 
 -- one by one
 pub first_of : (o : Output) (os : List Output) → AreSendable (o ∷ os) → IsSendable o
@@ -47,3 +49,11 @@ module _ (m : EngineMeaning) (limits : KeepsLimits m) (names : NamesKeys m) (set
   of_group n end (i ∷ is) (Err Full ∷ answers) r all h = (tt, of_group n _ is answers r all.1 h.1)
   of_group n end (i ∷ is) (Err Device ∷ answers) r all h = absurd h.0
   of_group n end (i ∷ is) (Err Memory ∷ answers) r all h = (tt, of_group n _ is answers r all.1 h.1)
+
+-- of a group that a node was given
+module _ {E D : Type 0} (meaning : E → EngineMeaning) (heard : E → List (List ℕ)) (failed : D → ℕ) (old new : Node E D) (limits : KeepsLimits (meaning (engine_of old))) (names : NamesKeys (meaning (engine_of old))) where
+  pub of_answers : (is : List (Moment × Input)) (answers : Result (Vec (Result (Vec Output Global) StepFault) Global) StepFault) → IsSetting (setting_of old) → IsRanged (state_of old) → AllByRecursion (λ i. IsInput i.1) is
+      → GroupEnds meaning heard failed old is (with_list (λ a. map (with_list vec_items) a.items) answers) new → AreHandedOn answers
+  of_answers is (Ok answers) inside r all ends =
+      of_group (meaning (engine_of old)) limits names (setting_of old) inside (journal_of old).len (state_of old) (journal_of old).end is answers.items r all ends.0
+  of_answers is (Err fault) inside r all ends = tt

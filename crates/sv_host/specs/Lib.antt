@@ -3,7 +3,12 @@ pub mod Round
 pub mod Time
 pub mod Place
 pub mod Secrets
+pub mod Peers
+pub mod Parked
+pub mod Packets
+pub mod Room
 pub mod Host
 pub mod Frames
 pub mod Group
 pub mod Serve
+pub mod Serving

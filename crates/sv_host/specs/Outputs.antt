@@ -23,3 +23,8 @@ AreSendable outputs = AllByRecursion IsPacket (sends_in outputs)
 abbrev pub IsHandedOn : Result (Vec Output Global) StepFault → Type 0
 IsHandedOn (Ok outputs) = AreSendable outputs.items
 IsHandedOn (Err fault) = ⊤
+
+-- of a group that was taken, or of none
+abbrev pub AreHandedOn : Result (Vec (Result (Vec Output Global) StepFault) Global) StepFault → Type 0
+AreHandedOn (Ok answers) = AllByRecursion (λ a. IsHandedOn a) answers.items
+AreHandedOn (Err fault) = ⊤

@@ -11,7 +11,7 @@ abbrev pub nodes_of : Cluster → ℕ
 nodes_of c = length c.ports.items
 
 abbrev pub setting_in : Cluster → ℕ → Setting
-setting_in c number = record { node = number; nodes = nodes_of c; deadline = c.deadline }
+setting_in c number = record { node = number; nodes = nodes_of c; deadline = c.deadline; keys = c.keys; forget = c.forget }
 
 -- there are nodes, and no more than there may be
 abbrev pub HasPorts : Cluster → Type 0

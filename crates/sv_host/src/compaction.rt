@@ -1,10 +1,10 @@
 //! The journal, written anew once it has grown enough.
 
-ghost use Rattle.std.specs.Prelude.{IsTrue, OnOk, ℕ, ◌<◌, ◌≡◌, false};
+ghost use Rattle.std.specs.Prelude.{IsTrue, OnOk, ℕ, ◌≡◌, false};
 ghost use Rattle.sv_node.specs.Call.{compaction_ends};
 ghost use Rattle.sv_node.specs.History.{HasGone};
 ghost use Rattle.sv_node.specs.Node.{IsNode, journal_of};
-ghost use Rattle.sv_host.specs.Group.{IsRising, before_of};
+ghost use Rattle.sv_host.specs.Serving.{IsServing, HasServed};
 
 use crate::fault::{HostFault, Stop};
 use crate::group::Group;
@@ -61,12 +61,8 @@ pub fn compact_in_turn<E: Engine, D: Disk>(
     node: &mut Node<E, D>,
     group: &mut Group,
 ) -> Result<(), Stop>
-    requires valid { IsNode E.valid D.tells D.seen D.may_leave node.old }
-    requires live { IsTrue (journal_of node.old).live }
-    requires rising { IsRising group.old }
-    ensures valid { IsNode E.valid D.tells D.seen D.may_leave node.new }
-    ensures rising { IsRising group.new }
-    ensures gone { HasGone E.meaning E.heard D.tells D.may_leave (before_of group.old) (before_of group.new) node.old node.new result }
+    requires { IsServing E.valid D.tells D.seen D.may_leave node.old group.old }
+    ensures { HasServed E.meaning E.heard E.valid D.tells D.seen D.may_leave node.old group.old node.new group.new result }
 {
     compact(server, node)
 }

@@ -15,6 +15,9 @@ use sv_log::Report;
 /// So many connections are open at once. Behind that one that has been silent for longest is closed for a new one.
 const OPEN_LIMIT: usize = 1_000;
 
+/// In thousandths of a second: so long a turn may take, a second of it to wait for somebody.
+const MOST: u64 = 1_250;
+
 /// The connections that are open, each at a place.
 pub struct Connections {
     pub places: Vec<Option<Open>>,
@@ -91,10 +94,24 @@ impl Connections {
         self.clock
     }
 
-    /// Looks at the clock.
+    /// Looks at the clock. While a turn stood still, as one does whose disk does, nobody was heard: what is more than a turn may take
+    /// is nobody's delay.
     pub fn look_at_clock(&mut self, machine: &impl Machine) {
         if let Ok(now) = machine.monotonic() {
+            let stood = now.saturating_sub(self.clock.saturating_add(Duration::from_millis(MOST)));
             self.clock = now;
+            if !stood.is_zero() {
+                self.forgive(stood);
+            }
+        }
+    }
+
+    /// Gives everybody so much more time.
+    fn forgive(&mut self, stood: Duration) {
+        for place in 0..self.places.len() {
+            if let Some(Some(open)) = self.places.get_mut(place) {
+                open.forgive(stood);
+            }
         }
     }
 

@@ -1,9 +1,9 @@
 //! A node's turns: what has come on its connections is gathered, given to the node together, and handed out.
 
-ghost use Rattle.std.specs.Prelude.{IsTrue, ◌<◌};
-ghost use Rattle.sv_node.specs.History.{HasEnded, HasGone};
+ghost use Rattle.std.specs.Prelude.{IsTrue};
+ghost use Rattle.sv_node.specs.History.{HasEnded};
 ghost use Rattle.sv_node.specs.Node.{IsNode, journal_of};
-ghost use Rattle.sv_host.specs.Group.{IsRising, before_of};
+ghost use Rattle.sv_host.specs.Serving.{IsServing, HasServed};
 
 use crate::acceptor::Acceptor;
 use crate::compaction::compact_in_turn;
@@ -24,12 +24,8 @@ fn keep_time<M: Machine, E: Engine, D: Disk>(
     node: &mut Node<E, D>,
     group: &mut Group,
 ) -> Result<(), Stop>
-    requires valid { IsNode E.valid D.tells D.seen D.may_leave node.old }
-    requires live { IsTrue (journal_of node.old).live }
-    requires rising { IsRising group.old }
-    ensures valid { IsNode E.valid D.tells D.seen D.may_leave node.new }
-    ensures rising { IsRising group.new }
-    ensures gone { HasGone E.meaning E.heard D.tells D.may_leave (before_of group.old) (before_of group.new) node.old node.new result }
+    requires { IsServing E.valid D.tells D.seen D.may_leave node.old group.old }
+    ensures { HasServed E.meaning E.heard E.valid D.tells D.seen D.may_leave node.old group.old node.new group.new result }
 {
     tick(machine, server, node, group)?;
     expire(machine, server, node, group)
@@ -42,12 +38,8 @@ fn look_after<M: Machine, E: Engine, D: Disk>(
     node: &mut Node<E, D>,
     group: &mut Group,
 ) -> Result<(), Stop>
-    requires valid { IsNode E.valid D.tells D.seen D.may_leave node.old }
-    requires live { IsTrue (journal_of node.old).live }
-    requires rising { IsRising group.old }
-    ensures valid { IsNode E.valid D.tells D.seen D.may_leave node.new }
-    ensures rising { IsRising group.new }
-    ensures gone { HasGone E.meaning E.heard D.tells D.may_leave (before_of group.old) (before_of group.new) node.old node.new result }
+    requires { IsServing E.valid D.tells D.seen D.may_leave node.old group.old }
+    ensures { HasServed E.meaning E.heard E.valid D.tells D.seen D.may_leave node.old group.old node.new group.new result }
 {
     settle(machine, server, node, group)?;
     compact_in_turn(server, node, group)
@@ -60,12 +52,8 @@ fn end_turn<M: Machine, E: Engine, D: Disk>(
     node: &mut Node<E, D>,
     group: &mut Group,
 ) -> Result<(), Stop>
-    requires valid { IsNode E.valid D.tells D.seen D.may_leave node.old }
-    requires live { IsTrue (journal_of node.old).live }
-    requires rising { IsRising group.old }
-    ensures valid { IsNode E.valid D.tells D.seen D.may_leave node.new }
-    ensures rising { IsRising group.new }
-    ensures gone { HasGone E.meaning E.heard D.tells D.may_leave (before_of group.old) (before_of group.new) node.old node.new result }
+    requires { IsServing E.valid D.tells D.seen D.may_leave node.old group.old }
+    ensures { HasServed E.meaning E.heard E.valid D.tells D.seen D.may_leave node.old group.old node.new group.new result }
 {
     keep_time(machine, server, node, group)?;
     look_after(machine, server, node, group)
@@ -78,12 +66,8 @@ fn step_gathered<M: Machine, E: Engine, D: Disk>(
     node: &mut Node<E, D>,
     group: &mut Group,
 ) -> Result<(), Stop>
-    requires valid { IsNode E.valid D.tells D.seen D.may_leave node.old }
-    requires live { IsTrue (journal_of node.old).live }
-    requires rising { IsRising group.old }
-    ensures valid { IsNode E.valid D.tells D.seen D.may_leave node.new }
-    ensures rising { IsRising group.new }
-    ensures gone { HasGone E.meaning E.heard D.tells D.may_leave (before_of group.old) (before_of group.new) node.old node.new result }
+    requires { IsServing E.valid D.tells D.seen D.may_leave node.old group.old }
+    ensures { HasServed E.meaning E.heard E.valid D.tells D.seen D.may_leave node.old group.old node.new group.new result }
 {
     server.keep_shares(node, group);
     if group.is_empty() {
@@ -95,7 +79,7 @@ fn step_gathered<M: Machine, E: Engine, D: Disk>(
     }
 }
 
-/// Ends a turn in which all was gathered; else the node stops, now that what was gathered has been given to it.
+/// Gives what was gathered to the node, and ends the turn. Where not all could be gathered the node then stops.
 fn finish_turn<M: Machine, E: Engine, D: Disk>(
     machine: &M,
     server: &mut Server,
@@ -103,21 +87,24 @@ fn finish_turn<M: Machine, E: Engine, D: Disk>(
     group: &mut Group,
     gathered: Result<(), Stop>,
 ) -> Result<(), Stop>
-    requires valid { IsNode E.valid D.tells D.seen D.may_leave node.old }
-    requires live { IsTrue (journal_of node.old).live }
-    requires rising { IsRising group.old }
-    ensures valid { IsNode E.valid D.tells D.seen D.may_leave node.new }
-    ensures rising { IsRising group.new }
-    ensures gone { HasGone E.meaning E.heard D.tells D.may_leave (before_of group.old) (before_of group.new) node.old node.new result }
+    requires { IsServing E.valid D.tells D.seen D.may_leave node.old group.old }
+    ensures { HasServed E.meaning E.heard E.valid D.tells D.seen D.may_leave node.old group.old node.new group.new result }
 {
+    step_gathered(machine, server, node, group)?;
     match gathered {
         Ok(()) => end_turn(machine, server, node, group),
         Err(stop) => Err(stop),
     }
 }
 
-/// Waits until somebody is to be looked after, and looks who has taken too long.
-fn wait<M: Machine>(machine: &M, server: &mut Server, acceptor: &mut Acceptor) {
+/// Tells the operator what there is to tell, waits until somebody is to be looked after, and looks who has taken too long.
+fn wait<M: Machine, E, D: Disk>(
+    machine: &M,
+    server: &mut Server,
+    node: &Node<E, D>,
+    acceptor: &mut Acceptor,
+) {
+    server.count_kept_in_time(node);
     server.tell_operator(machine);
     acceptor.wait(&mut server.connections, server.expiry.is_due());
     server.is_spared = acceptor.is_spared();
@@ -135,17 +122,11 @@ fn take_turn<M: Machine, E: Engine, D: Disk>(
     group: &mut Group,
     acceptor: &mut Acceptor,
 ) -> Result<(), Stop>
-    requires valid { IsNode E.valid D.tells D.seen D.may_leave node.old }
-    requires live { IsTrue (journal_of node.old).live }
-    requires rising { IsRising group.old }
-    ensures valid { IsNode E.valid D.tells D.seen D.may_leave node.new }
-    ensures rising { IsRising group.new }
-    ensures gone { HasGone E.meaning E.heard D.tells D.may_leave (before_of group.old) (before_of group.new) node.old node.new result }
+    requires { IsServing E.valid D.tells D.seen D.may_leave node.old group.old }
+    ensures { HasServed E.meaning E.heard E.valid D.tells D.seen D.may_leave node.old group.old node.new group.new result }
 {
-    server.count_keys_in_time(node);
-    wait(machine, server, acceptor);
+    wait(machine, server, node, acceptor);
     let gathered = gather(machine, server, group, acceptor);
-    step_gathered(machine, server, node, group)?;
     finish_turn(machine, server, node, group, gathered)
 }
 

@@ -1,7 +1,8 @@
 //! What has come on the connections, gathered as the next group.
 
-ghost use Rattle.std.specs.Prelude.{IfOk, ◌<◌, ◌≡◌, false};
-ghost use Rattle.sv_host.specs.Group.{Comes, IsRising, before_of, number_of};
+ghost use Rattle.std.specs.Prelude.{IfOk, IfSome, ◌<◌};
+ghost use Rattle.sv_host.specs.Group.{Comes, IsRising, number_of};
+ghost use Rattle.sv_host.specs.Serving.{HasGathered};
 
 use crate::acceptor::{Acceptor, Arrival};
 use crate::fault::Stop;
@@ -42,8 +43,7 @@ fn add<M: Machine>(
     requires comes { Comes number came }
     requires above { number_of group.old < number }
     requires rising { IsRising group.old }
-    ensures rising { IsRising group.new }
-    ensures before { before_of group.new ≡ before_of group.old }
+    ensures { HasGathered group.old group.new }
 {
     let Came {
         input,
@@ -64,6 +64,29 @@ fn add<M: Machine>(
     }
 }
 
+/// The same of what may have come; whether anything had.
+fn add_some<M: Machine>(
+    machine: &M,
+    server: &mut Server,
+    group: &mut Group,
+    came: Result<Option<Came>, Stop>,
+    number: u64,
+) -> Result<bool, Stop>
+    requires comes { IfOk came (λ came. IfSome came (λ came. Comes number came)) }
+    requires above { number_of group.old < number }
+    requires rising { IsRising group.old }
+    ensures { HasGathered group.old group.new }
+{
+    match came {
+        Ok(Some(came)) => match add(machine, server, group, came, number) {
+            Ok(()) => Ok(true),
+            Err(stop) => Err(stop),
+        },
+        Ok(None) => Ok(false),
+        Err(stop) => Err(stop),
+    }
+}
+
 /// Gathers what has come first on a connection; whether more may have come there for the node: a peer sends packet after packet.
 fn gather_one<M: Machine>(
     machine: &M,
@@ -72,19 +95,13 @@ fn gather_one<M: Machine>(
     place: usize,
     piece: &mut [u8; PIECE],
 ) -> Result<bool, Stop>
-    requires rising { IsRising group.old }
-    ensures rising { IsRising group.new }
-    ensures before { before_of group.new ≡ before_of group.old }
+    requires { IsRising group.old }
+    ensures { HasGathered group.old group.new }
 {
     let number = next_number(group)?;
-    match serve(server, place, piece, number) {
-        Ok(Some(came)) => match add(machine, server, group, came, number) {
-            Ok(()) => Ok(server.connections.is_peer(place)),
-            Err(stop) => Err(stop),
-        },
-        Ok(None) => Ok(false),
-        Err(stop) => Err(stop),
-    }
+    let came = serve(server, place, piece, number);
+    let has_come = add_some(machine, server, group, came, number)?;
+    Ok(has_come && server.connections.is_peer(place))
 }
 
 /// Gathers what has come on a connection: one request, or some packets.
@@ -95,9 +112,8 @@ fn gather_some<M: Machine>(
     place: usize,
     piece: &mut [u8; PIECE],
 ) -> Result<(), Stop>
-    requires rising { IsRising group.old }
-    ensures rising { IsRising group.new }
-    ensures before { before_of group.new ≡ before_of group.old }
+    requires { IsRising group.old }
+    ensures { HasGathered group.old group.new }
 {
     for _ in 0..PACKETS {
         if !gather_one(machine, server, group, place, piece)? {
@@ -118,9 +134,8 @@ fn gather_reported<M: Machine>(
     group: &mut Group,
     acceptor: &mut Acceptor,
 ) -> Result<(), Stop>
-    requires rising { IsRising group.old }
-    ensures rising { IsRising group.new }
-    ensures before { before_of group.new ≡ before_of group.old }
+    requires { IsRising group.old }
+    ensures { HasGathered group.old group.new }
 {
     let mut count: usize = 0;
     let (places, piece) = acceptor.turn();
@@ -173,9 +188,8 @@ fn gather_behind<M: Machine>(
     place: usize,
     piece: &mut [u8; PIECE],
 ) -> Result<(), Stop>
-    requires rising { IsRising group.old }
-    ensures rising { IsRising group.new }
-    ensures before { before_of group.new ≡ before_of group.old }
+    requires { IsRising group.old }
+    ensures { HasGathered group.old group.new }
 {
     if !server.connections.is_peer(place) {
         return Ok(());
@@ -187,6 +201,27 @@ fn gather_behind<M: Machine>(
     gather_some(machine, server, group, place, piece)
 }
 
+/// Gathers what has come of one who was accepted, and of whom this place is to be.
+fn gather_newcomer<M: Machine>(
+    machine: &M,
+    server: &mut Server,
+    group: &mut Group,
+    newcomer: (usize, Open),
+    piece: &mut [u8; PIECE],
+) -> Result<(), Stop>
+    requires { IsRising group.old }
+    ensures { HasGathered group.old group.new }
+{
+    let (place, open) = newcomer;
+    let number = next_number(group)?;
+    let came = serve_newcomer(server, place, open, piece, number);
+    if add_some(machine, server, group, came, number)? {
+        gather_behind(machine, server, group, place, piece)
+    } else {
+        Ok(())
+    }
+}
+
 /// Accepts one who stands at the door, and gathers what has come of that one.
 fn gather_new<M: Machine>(
     machine: &M,
@@ -194,22 +229,12 @@ fn gather_new<M: Machine>(
     group: &mut Group,
     acceptor: &mut Acceptor,
 ) -> Result<(), Stop>
-    requires rising { IsRising group.old }
-    ensures rising { IsRising group.new }
-    ensures before { before_of group.new ≡ before_of group.old }
+    requires { IsRising group.old }
+    ensures { HasGathered group.old group.new }
 {
-    let number = next_number(group)?;
-    let Some((place, open)) = admit(machine, server, acceptor) else {
-        return Ok(());
-    };
-    let piece = acceptor.piece();
-    match serve_newcomer(server, place, open, piece, number) {
-        Ok(Some(came)) => match add(machine, server, group, came, number) {
-            Ok(()) => gather_behind(machine, server, group, place, piece),
-            Err(stop) => Err(stop),
-        },
-        Ok(None) => Ok(()),
-        Err(stop) => Err(stop),
+    match admit(machine, server, acceptor) {
+        Some(newcomer) => gather_newcomer(machine, server, group, newcomer, acceptor.piece()),
+        None => Ok(()),
     }
 }
 
@@ -220,9 +245,8 @@ pub fn gather<M: Machine>(
     group: &mut Group,
     acceptor: &mut Acceptor,
 ) -> Result<(), Stop>
-    requires rising { IsRising group.old }
-    ensures rising { IsRising group.new }
-    ensures before { before_of group.new ≡ before_of group.old }
+    requires { IsRising group.old }
+    ensures { HasGathered group.old group.new }
 {
     gather_reported(machine, server, group, acceptor)?;
     gather_new(machine, server, group, acceptor)

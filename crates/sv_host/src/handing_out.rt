@@ -1,10 +1,11 @@
 //! What a group has put out, handed to whom it is for.
 
-ghost use Rattle.std.specs.Prelude.{OnOk, ◌≡◌, false};
+ghost use Rattle.std.specs.Prelude.{IfErr, OnOk, ◌≡◌, false};
 ghost use Rattle.sv_model.specs.Ranges.{IsPacket};
 ghost use Rattle.sv_node.specs.Call.{step_ends};
 ghost use Rattle.std.specs.List.{AllByRecursion};
-ghost use Rattle.sv_host.specs.Outputs.{AreSendable, IsHandedOn, IsSendable};
+ghost use Rattle.sv_host.specs.Outputs.{AreHandedOn, AreSendable, IsHandedOn, IsSendable};
+ghost use Rattle.sv_host.specs.Parked.{clients_of, without};
 
 use crate::fault::Stop;
 use crate::group::{Asker, Group, Way};
@@ -36,7 +37,9 @@ impl Server {
     }
 
     /// Answers the client that waits under a token.
-    fn answer(&mut self, token: u64, response: &Response, now: u64) {
+    fn answer(&mut self, token: u64, response: &Response, now: u64)
+        ensures { clients_of self.new.parked ≡ without token (clients_of self.old.parked) }
+    {
         if let Some(place) = self.parked.take(token) {
             self.connections
                 .answer(place, token, response, now, &mut self.text);
@@ -44,7 +47,9 @@ impl Server {
     }
 
     /// Refuses the client that waits under a token.
-    pub fn refuse(&mut self, token: u64, cause: Cause, now: u64) {
+    pub fn refuse(&mut self, token: u64, cause: Cause, now: u64)
+        ensures { clients_of self.new.parked ≡ without token (clients_of self.old.parked) }
+    {
         if let Some(place) = self.parked.take(token) {
             self.connections.report.note(Event::Refused {
                 cause,
@@ -68,6 +73,21 @@ impl Server {
         }
     }
 
+    /// Hands on one output, but for a packet that isn't to be sent.
+    fn hand_on_some(
+        &mut self,
+        machine: &impl Machine,
+        output: Output,
+        now: u64,
+        sending: &mut Sending,
+    )
+        requires { IsSendable output }
+    {
+        if sending.takes(&output) {
+            self.hand_on_one(machine, output, now);
+        }
+    }
+
     /// Hands on what a step has put out, in order: packets to their nodes, answers to the clients that wait for them.
     pub fn hand_on(
         &mut self,
@@ -80,9 +100,7 @@ impl Server {
     {
         let mut sending = Sending::of(packets, self.round, outputs.as_slice());
         for output in outputs {
-            if sending.takes(&output) {
-                self.hand_on_one(machine, output, now);
-            }
+            self.hand_on_some(machine, output, now, &mut sending);
         }
         if let Sending::Share(share) = sending {
             self.round = share.end();
@@ -149,8 +167,8 @@ impl Server {
         }
     }
 
-    /// Hands on what came of a group, in order; what came of the last of them.
-    pub fn hand_out(
+    /// Hands on what came of the inputs of a group, in order; what came of the last of them.
+    fn hand_out_all(
         &mut self,
         machine: &impl Machine,
         ways: &[Way],
@@ -181,11 +199,27 @@ impl Server {
     }
 
     /// What comes of a group of which no step was taken. Where a disk has failed nobody is told: its records may be there.
-    pub fn not_taken(&mut self, ways: &[Way], fault: StepFault) -> Result<Taken, Stop>
+    fn not_taken(&mut self, ways: &[Way], fault: StepFault) -> Result<Taken, Stop>
         ensures { OnOk result (step_ends fault ≡ false) }
     {
         let taken = refused(fault)?;
         self.refuse_all(ways, fault);
         Ok(taken)
+    }
+
+    /// Hands on what came of a group; what came of the last of its inputs.
+    pub fn hand_out(
+        &mut self,
+        machine: &impl Machine,
+        ways: &[Way],
+        answers: Result<Vec<Result<Vec<Output>, StepFault>>, StepFault>,
+    ) -> Result<Taken, Stop>
+        requires { AreHandedOn answers }
+        ensures { IfErr answers (λ fault. OnOk result (step_ends fault ≡ false)) }
+    {
+        match answers {
+            Ok(answers) => Ok(self.hand_out_all(machine, ways, answers)),
+            Err(fault) => self.not_taken(ways, fault),
+        }
     }
 }

@@ -1,7 +1,7 @@
 //! What has come on a connection: a request, a frame, or a part of one.
 
-ghost use Rattle.std.specs.Prelude.{◌<◌};
-ghost use Rattle.sv_host.specs.Serve.{IsHeard};
+ghost use Rattle.std.specs.Prelude.{◌≡◌};
+ghost use Rattle.sv_host.specs.Serve.{is_of, IsHeard, IsOfPeer};
 
 use crate::client::Client;
 use crate::frames::take_in;
@@ -81,7 +81,9 @@ fn hear_framer(server: &Server, bytes: Vec<u8>, piece: &[u8]) -> Heard
 }
 
 /// It is a packet of the node of this number.
-fn is_of(frame: &Frame, node: u8) -> bool {
+fn is_of(frame: &Frame, node: u8) -> bool
+    ensures { result ≡ is_of frame.now node }
+{
     match frame {
         Frame::Peer(packet) => sender(packet) == node,
         Frame::Move { .. } | Frame::Tick | Frame::Halt => false,
@@ -90,7 +92,8 @@ fn is_of(frame: &Frame, node: u8) -> bool {
 
 /// The same of a connection that has brought a packet: what else it brings is of the same node, or it is closed.
 fn hear_peer(server: &Server, peer: Peer, piece: &[u8]) -> Heard
-    ensures { IsHeard result }
+    ensures heard { IsHeard result }
+    ensures own { IsOfPeer peer.node result }
 {
     let Peer { node, mut bytes } = peer;
     match take_in(server.alloc, &mut bytes, piece) {

@@ -7,6 +7,8 @@ ghost use Rattle.sv_node.specs.History.{HasEnded, IsLife};
 ghost use Rattle.sv_node.specs.Node.{IsNode, journal_of};
 ghost use Rattle.sv_node.specs.Opened.{LeavesStart};
 ghost use Rattle.sv_node.specs.Stops.{Restores};
+ghost use Rattle.sv_host.specs.Secrets.{first_by, last_of};
+ghost use Rattle.sv_host.specs.Serving.{HasLived};
 
 use crate::acceptor::Acceptor;
 use crate::connections::Connections;
@@ -76,15 +78,35 @@ fn open_door(machine: &impl Machine, place: &Place) -> Result<(Acceptor, Registr
 fn open_both(
     machine: &impl Machine,
     place: &Place,
-) -> Result<(Secrets, Acceptor, Registry), HostFault> {
+) -> Result<(Secrets, Acceptor, Registry), HostFault>
+    ensures { IfOk result (λ r. last_of r.0 ≡ first_by place.now.secrets) }
+{
     let secrets = Secrets::open(machine, place.secrets.as_ref())?;
     let (acceptor, registry) = open_door(machine, place)?;
     Ok((secrets, acceptor, registry))
 }
 
-/// Says that the node of this number is ready, whose journal has so many bytes; false where that can't be said.
-fn announce<M: Machine + Print>(machine: &M, server: &mut Server, number: u8, bytes: u64) -> bool {
-    server.connections.report.opened(bytes, steady(machine));
+/// What was found in a node's journal.
+#[derive(Clone, Copy)]
+struct Found {
+    /// Its length, with the start.
+    bytes: u64,
+    /// How many records it held before the start.
+    records: u64,
+}
+
+/// Says that the node of this number is ready, in whose journal this was found; false where that can't be said.
+fn announce<M: Machine + Print>(
+    machine: &M,
+    server: &mut Server,
+    number: u8,
+    found: Found,
+) -> bool {
+    let Found { bytes, records } = found;
+    server
+        .connections
+        .report
+        .opened(bytes, records, steady(machine));
     if println!(machine; "ready {number}").is_err() {
         return false;
     }
@@ -105,17 +127,44 @@ fn serve_all<M: Machine + Print, E: Engine, D: Disk>(
     ensures valid { IsNode E.valid D.tells D.seen D.may_leave node.new }
     ensures ended { HasEnded E.meaning E.heard D.tells D.may_leave node.old node.new }
 {
-    server.count_keys(node);
-    let bytes = node.journal_len();
-    if !announce(machine, server, number, bytes) {
+    server.count_kept(node);
+    let found = Found {
+        bytes: node.journal_len(),
+        records: node.restored() as u64,
+    };
+    if !announce(machine, server, number, found) {
         return server.say_stopped(machine, Stop::Fault(HostFault::Output));
     }
     let stop = run(machine, server, node, acceptor);
+    server.count_kept(node);
     server.say_stopped(machine, stop)
 }
 
+/// Has a node that is open serve until it is told to stop, and takes it apart.
+fn live<M: Machine + Print, E: Engine, D: Disk>(
+    machine: &M,
+    server: &mut Server,
+    node: Node<E, D>,
+    acceptor: &mut Acceptor,
+    number: u8,
+) -> Ended<E, D>
+    requires valid { IsNode E.valid D.tells D.seen D.may_leave node }
+    requires live { IsTrue (journal_of node).live }
+    ensures { HasLived E.meaning E.heard E.valid D.tells D.seen D.may_leave node result.engine result.a result.b }
+{
+    let mut node = node;
+    let fault = serve_all(machine, server, &mut node, acceptor, number);
+    let (engine, a, b) = node.stop();
+    Ended {
+        engine,
+        a,
+        b,
+        fault,
+    }
+}
+
 impl Host {
-    ghost use Rattle.sv_host.specs.Host.{setting_of, ports_of, persistence_of};
+    ghost use Rattle.sv_host.specs.Host.{counted_of, setting_of, ports_of, persistence_of};
 
     /// Opens the file of secrets, and listens at the node's port. Faults are found in this order.
     pub fn at(
@@ -126,6 +175,7 @@ impl Host {
         ensures setting { IfOk result (λ h. setting_of h ≡ place.setting) }
         ensures ports { IfOk result (λ h. ports_of h ≡ place.ports.items) }
         ensures persistence { IfOk result (λ h. persistence_of h ≡ persistence) }
+        ensures secrets { IfOk result (λ h. counted_of h ≡ first_by place.secrets) }
     {
         let (secrets, acceptor, registry) = open_both(machine, &place)?;
         let alloc: Global = machine.alloc();
@@ -184,14 +234,9 @@ impl Host {
             mut acceptor,
             mut server,
         } = self;
-        let mut node = Node::open(server.alloc, engine, a, b, setting)?;
-        let fault = serve_all(machine, &mut server, &mut node, &mut acceptor, setting.node);
-        let (engine, a, b) = node.stop();
-        Ok(Ended {
-            engine,
-            a,
-            b,
-            fault,
-        })
+        match Node::open(server.alloc, engine, a, b, setting) {
+            Ok(node) => Ok(live(machine, &mut server, node, &mut acceptor, setting.node)),
+            Err(refused) => Err(refused),
+        }
     }
 }

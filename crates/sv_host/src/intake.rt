@@ -1,10 +1,12 @@
 //! What is done with what has come on a connection.
 
-ghost use Rattle.std.specs.Prelude.{IfOk, IfSome, ℕ, ◌<◌};
+ghost use Rattle.std.specs.Prelude.{◌≡◌, ◌++◌, ◌∷◌, [], IfOk, IfSome, ℕ, ◌<◌};
 ghost use Rattle.sv_model.specs.Ranges.{IsInput, IsPacket};
 ghost use Rattle.sv_node.specs.History.{IsAbove};
 ghost use Rattle.sv_record.specs.Frame.{IsFrame};
 ghost use Rattle.sv_host.specs.Group.{Comes};
+ghost use Rattle.sv_host.specs.Parked.{clients_of};
+ghost use Rattle.sv_host.specs.declared.group.Asker.TheVariants.{Client as ClientAsker};
 
 use crate::client::Client;
 use crate::fault::Stop;
@@ -37,7 +39,9 @@ pub fn ask(
     request: Request,
     token: u64,
 ) -> Option<Came>
-    ensures { IfSome result (λ came. Comes token came) }
+    ensures comes { IfSome result (λ came. Comes token came) }
+    ensures parked { IfSome result (λ came. clients_of server.new.parked ≡ clients_of server.old.parked ++ (record { token = token; place = from.place }) ∷ []) }
+    ensures asker { IfSome result (λ came. came.asker ≡ ClientAsker from.place token) }
 {
     let Lifted { place, socket } = from;
     if !server.parked.add(ParkedClient { token, place }) {

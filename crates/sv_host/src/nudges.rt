@@ -1,10 +1,10 @@
 //! What a node is told by itself: that time has passed, and that requests that wait may be served.
 
-ghost use Rattle.std.specs.Prelude.{IsTrue, ℕ, ◌<◌, ◌≡◌};
+ghost use Rattle.std.specs.Prelude.{ℕ};
 ghost use Rattle.sv_model.specs.Ranges.{IsInput};
-ghost use Rattle.sv_node.specs.History.{HasGone, IsAbove};
-ghost use Rattle.sv_node.specs.Node.{IsNode, journal_of};
-ghost use Rattle.sv_host.specs.Group.{IsRising, before_of};
+ghost use Rattle.sv_node.specs.History.{IsAbove};
+ghost use Rattle.sv_host.specs.Group.{IsRising};
+ghost use Rattle.sv_host.specs.Serving.{IsServing, HasServed, HasGathered};
 
 use crate::expiry::Expiry;
 use crate::fault::Stop;
@@ -78,9 +78,8 @@ fn add_nudge<M: Machine>(
     nudge: Nudge,
     packets: Packets,
 ) -> Result<(), Stop>
-    requires rising { IsRising group.old }
-    ensures rising { IsRising group.new }
-    ensures before { before_of group.new ≡ before_of group.old }
+    requires { IsRising group.old }
+    ensures { HasGathered group.old group.new }
 {
     let moment = server.moment(machine)?;
     let _added = group.add(moment, nudge.input(), Asker::Nobody, packets);
@@ -93,9 +92,8 @@ fn add_nudges<M: Machine>(
     group: &mut Group,
     nudges: Nudges,
 ) -> Result<(), Stop>
-    requires rising { IsRising group.old }
-    ensures rising { IsRising group.new }
-    ensures before { before_of group.new ≡ before_of group.old }
+    requires { IsRising group.old }
+    ensures { HasGathered group.old group.new }
 {
     for _ in 0..nudges.count {
         add_nudge(machine, server, group, nudges.nudge, nudges.packets)?;
@@ -111,12 +109,8 @@ fn tell<M: Machine, E: Engine, D: Disk>(
     group: &mut Group,
     nudges: Nudges,
 ) -> Result<Taken, Stop>
-    requires valid { IsNode E.valid D.tells D.seen D.may_leave node.old }
-    requires live { IsTrue (journal_of node.old).live }
-    requires rising { IsRising group.old }
-    ensures valid { IsNode E.valid D.tells D.seen D.may_leave node.new }
-    ensures rising { IsRising group.new }
-    ensures gone { HasGone E.meaning E.heard D.tells D.may_leave (before_of group.old) (before_of group.new) node.old node.new result }
+    requires { IsServing E.valid D.tells D.seen D.may_leave node.old group.old }
+    ensures { HasServed E.meaning E.heard E.valid D.tells D.seen D.may_leave node.old group.old node.new group.new result }
 {
     match add_nudges(machine, server, group, nudges) {
         Ok(()) => server.step(machine, node, group),
@@ -132,12 +126,8 @@ pub fn settle<M: Machine, E: Engine, D: Disk>(
     node: &mut Node<E, D>,
     group: &mut Group,
 ) -> Result<(), Stop>
-    requires valid { IsNode E.valid D.tells D.seen D.may_leave node.old }
-    requires live { IsTrue (journal_of node.old).live }
-    requires rising { IsRising group.old }
-    ensures valid { IsNode E.valid D.tells D.seen D.may_leave node.new }
-    ensures rising { IsRising group.new }
-    ensures gone { HasGone E.meaning E.heard D.tells D.may_leave (before_of group.old) (before_of group.new) node.old node.new result }
+    requires { IsServing E.valid D.tells D.seen D.may_leave node.old group.old }
+    ensures { HasServed E.meaning E.heard E.valid D.tells D.seen D.may_leave node.old group.old node.new group.new result }
 {
     if !server.parked.may_wait() {
         return Ok(());
@@ -165,12 +155,8 @@ fn tick_all<M: Machine, E: Engine, D: Disk>(
     group: &mut Group,
     ticks: Nudges,
 ) -> Result<bool, Stop>
-    requires valid { IsNode E.valid D.tells D.seen D.may_leave node.old }
-    requires live { IsTrue (journal_of node.old).live }
-    requires rising { IsRising group.old }
-    ensures valid { IsNode E.valid D.tells D.seen D.may_leave node.new }
-    ensures rising { IsRising group.new }
-    ensures gone { HasGone E.meaning E.heard D.tells D.may_leave (before_of group.old) (before_of group.new) node.old node.new result }
+    requires { IsServing E.valid D.tells D.seen D.may_leave node.old group.old }
+    ensures { HasServed E.meaning E.heard E.valid D.tells D.seen D.may_leave node.old group.old node.new group.new result }
 {
     let before = node.journal_len();
     match tell(machine, server, node, group, ticks) {
@@ -186,12 +172,8 @@ pub fn tick<M: Machine, E: Engine, D: Disk>(
     node: &mut Node<E, D>,
     group: &mut Group,
 ) -> Result<(), Stop>
-    requires valid { IsNode E.valid D.tells D.seen D.may_leave node.old }
-    requires live { IsTrue (journal_of node.old).live }
-    requires rising { IsRising group.old }
-    ensures valid { IsNode E.valid D.tells D.seen D.may_leave node.new }
-    ensures rising { IsRising group.new }
-    ensures gone { HasGone E.meaning E.heard D.tells D.may_leave (before_of group.old) (before_of group.new) node.old node.new result }
+    requires { IsServing E.valid D.tells D.seen D.may_leave node.old group.old }
+    ensures { HasServed E.meaning E.heard E.valid D.tells D.seen D.may_leave node.old group.old node.new group.new result }
 {
     let now = server.second(machine);
     if now <= server.ticked {
@@ -214,12 +196,8 @@ fn end_some<M: Machine, E: Engine, D: Disk>(
     node: &mut Node<E, D>,
     group: &mut Group,
 ) -> Result<(), Stop>
-    requires valid { IsNode E.valid D.tells D.seen D.may_leave node.old }
-    requires live { IsTrue (journal_of node.old).live }
-    requires rising { IsRising group.old }
-    ensures valid { IsNode E.valid D.tells D.seen D.may_leave node.new }
-    ensures rising { IsRising group.new }
-    ensures gone { HasGone E.meaning E.heard D.tells D.may_leave (before_of group.old) (before_of group.new) node.old node.new result }
+    requires { IsServing E.valid D.tells D.seen D.may_leave node.old group.old }
+    ensures { HasServed E.meaning E.heard E.valid D.tells D.seen D.may_leave node.old group.old node.new group.new result }
 {
     match tick_all(machine, server, node, group, MORE_TICKS) {
         Ok(has_ended) => {
@@ -237,12 +215,8 @@ pub fn expire<M: Machine, E: Engine, D: Disk>(
     node: &mut Node<E, D>,
     group: &mut Group,
 ) -> Result<(), Stop>
-    requires valid { IsNode E.valid D.tells D.seen D.may_leave node.old }
-    requires live { IsTrue (journal_of node.old).live }
-    requires rising { IsRising group.old }
-    ensures valid { IsNode E.valid D.tells D.seen D.may_leave node.new }
-    ensures rising { IsRising group.new }
-    ensures gone { HasGone E.meaning E.heard D.tells D.may_leave (before_of group.old) (before_of group.new) node.old node.new result }
+    requires { IsServing E.valid D.tells D.seen D.may_leave node.old group.old }
+    ensures { HasServed E.meaning E.heard E.valid D.tells D.seen D.may_leave node.old group.old node.new group.new result }
 {
     let begun = steady(machine);
     for _ in 0..ENDING {

@@ -73,6 +73,12 @@ impl Open {
         }
     }
 
+    /// It has so much more time.
+    pub fn forgive(&mut self, stood: Duration) {
+        self.begun = self.begun.saturating_add(stood);
+        self.heard = self.heard.saturating_add(stood);
+    }
+
     /// It has taken longer than it may.
     pub fn is_late(&self, clock: Duration) -> bool {
         let (whole, silence) = self.state.patience();

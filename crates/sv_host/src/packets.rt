@@ -1,5 +1,7 @@
 //! Which of the packets that a step puts out are sent.
 
+ghost use Rattle.sv_host.specs.Packets.{IsSending, Passes};
+
 use crate::round::{Round, Share};
 use sv_model::Output;
 
@@ -22,7 +24,9 @@ pub enum Sending {
 }
 
 impl Sending {
-    pub fn of(packets: Packets, round: Round, outputs: &[Output]) -> Sending {
+    pub fn of(packets: Packets, round: Round, outputs: &[Output]) -> Sending
+        ensures { IsSending packets round result }
+    {
         match packets {
             Packets::All => Sending::All,
             Packets::InTurn => Sending::Share(round.share(outputs)),
@@ -31,7 +35,9 @@ impl Sending {
     }
 
     /// Whether an output is handed on.
-    pub fn takes(&mut self, output: &Output) -> bool {
+    pub fn takes(&mut self, output: &Output) -> bool
+        ensures { Passes self.old output.now result }
+    {
         match self {
             Sending::All => true,
             Sending::Share(share) => share.takes(output),

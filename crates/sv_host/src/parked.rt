@@ -1,5 +1,8 @@
 //! Clients whose requests wait for their sessions.
 
+ghost use Rattle.std.specs.Prelude.{◌≡◌, ◌++◌, [], ◌∷◌, ◌<◌, IsTrue, IsFalse, IfSome, length, position};
+ghost use Rattle.sv_host.specs.Parked.{clients_of, is_under, place_under, without};
+
 use std::alloc::{AllocFailed, Global};
 
 /// A client that waits for the answer to its request.
@@ -19,8 +22,25 @@ pub struct ParkedClients {
     has_lost: bool,
 }
 
+/// A client waits under this number.
+fn is_under(token: u64, client: &ParkedClient) -> bool
+    ensures { result ≡ is_under token client.now }
+{
+    client.token == token
+}
+
+/// Where the first one stands that waits under this number.
+fn position(clients: &[ParkedClient], token: u64) -> Option<usize>
+    ensures position { result ≡ position (is_under token) clients.now }
+    ensures within { IfSome result (λ at. at < length clients.now) }
+{
+    clients.iter().position(|client| is_under(token, client))
+}
+
 impl ParkedClients {
-    pub fn new(alloc: Global) -> ParkedClients {
+    pub fn new(alloc: Global) -> ParkedClients
+        ensures { clients_of result ≡ [] }
+    {
         ParkedClients {
             clients: Vec::new(alloc),
             has_lost: false,
@@ -29,7 +49,10 @@ impl ParkedClients {
 
     /// Keeps a client until its answer is there; false where memory is refused: the node serves its request, as that of a client
     /// which has gone away.
-    pub fn add(&mut self, client: ParkedClient) -> bool {
+    pub fn add(&mut self, client: ParkedClient) -> bool
+        ensures kept { IsTrue result → clients_of self.new ≡ clients_of self.old ++ client ∷ [] }
+        ensures refused { IsFalse result → clients_of self.new ≡ clients_of self.old }
+    {
         let kept: Result<(), AllocFailed<ParkedClient>> = self.clients.push(client);
         let is_kept = kept.is_ok();
         if !is_kept {
@@ -49,11 +72,11 @@ impl ParkedClients {
     }
 
     /// The place of the client that waits under a token, which waits no longer.
-    pub fn take(&mut self, token: u64) -> Option<usize> {
-        let at = self
-            .clients
-            .iter()
-            .position(|client| client.token == token)?;
+    pub fn take(&mut self, token: u64) -> Option<usize>
+        ensures place { result ≡ place_under token (clients_of self.old) }
+        ensures others { clients_of self.new ≡ without token (clients_of self.old) }
+    {
+        let at = position(self.clients.as_slice(), token)?;
         Some(self.clients.swap_remove(at).place)
     }
 }

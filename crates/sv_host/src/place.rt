@@ -1,6 +1,7 @@
 //! Where a node stands in its cluster.
 
-ghost use Rattle.std.specs.Prelude.{◌≡◌, ◌≢◌, IfOk, IfErr};
+ghost use Rattle.std.specs.Prelude.{◌≡◌, ◌≢◌, IfOk, IfErr, string_bytes};
+ghost use Rattle.std.specs.Option.{option_map};
 ghost use Rattle.sv_model.specs.Ranges.{IsSetting};
 ghost use Rattle.sv_host.specs.Place.{setting_in, IsFault};
 ghost use Rattle.sv_host.specs.declared.place.PlaceFault.TheVariants.{Memory};
@@ -44,7 +45,9 @@ impl From<AllocError> for PlaceFault {
 }
 
 /// An equal text, where there is one.
-fn copied(alloc: Global, text: Option<&String>) -> Result<Option<String>, AllocError> {
+fn copied(alloc: Global, text: Option<&String>) -> Result<Option<String>, AllocError>
+    ensures { IfOk result (λ copy. option_map string_bytes copy ≡ option_map (λ t. string_bytes t.now) text.entry) }
+{
     match text {
         Some(text) => Ok(Some(String::from_str(alloc, text.as_str())?)),
         None => Ok(None),
@@ -55,6 +58,7 @@ impl Place {
     /// The place of the node of this number.
     pub fn new(alloc: Global, cluster: &Cluster, number: u8) -> Result<Place, PlaceFault>
         ensures place { IfOk result (λ p. (p.setting ≡ setting_in cluster.now number) × (p.ports.items ≡ cluster.now.ports.items)) }
+        ensures secrets { IfOk result (λ p. option_map string_bytes p.secrets ≡ option_map string_bytes cluster.now.secrets) }
         ensures fault { IfErr result (λ f. IsFault cluster.now number f) }
     {
         let nodes = cluster.ports.len();
@@ -69,6 +73,8 @@ impl Place {
                 node: number,
                 nodes: nodes as u8,
                 deadline: u64::from(cluster.deadline),
+                keys: cluster.keys,
+                forget: cluster.forget,
             },
             ports: cluster.ports.as_slice().to_vec(alloc)?,
             secrets: copied(alloc, cluster.secrets.as_ref())?,

@@ -1,7 +1,11 @@
 //! Room for requests that wait, by the home of the session that each of them waits for.
 
-ghost use Rattle.std.specs.Prelude.{◌≡◌, false};
-ghost use Rattle.sv_host.specs.Group.{IsRising, before_of};
+ghost use Rattle.std.specs.Prelude.{◌≡◌, ◌+◌, cond, slice_set, IsTrue};
+ghost use Rattle.sv_core.specs.Waiting.{awaited};
+ghost use Rattle.sv_node.specs.Node.{durable_of, engine_of, setting_of};
+ghost use Rattle.sv_host.specs.Room.{count_in, has_room, may_come};
+ghost use Rattle.sv_host.specs.Group.{inputs_of, IsRising};
+ghost use Rattle.sv_host.specs.Serving.{HasGathered};
 
 use crate::group::Group;
 use crate::server::Server;
@@ -33,21 +37,24 @@ impl Room {
     }
 
     /// Counts one more that waits for a session of this home, where it may; whether it may.
-    pub fn take(&mut self, home: u8) -> bool {
-        let Some(count) = self.counts.get_mut(usize::from(home)) else {
-            return false;
-        };
-        if *count >= HOME_LIMIT {
+    pub fn take(&mut self, home: u8) -> bool
+        ensures taken { result ≡ has_room self.old home }
+        ensures counted { self.new.counts ≡ cond result (slice_set self.old.counts home (count_in self.old home + 1)) self.old.counts }
+    {
+        let at = usize::from(home);
+        if at >= NODES || self.counts[at] >= HOME_LIMIT {
             return false;
         }
-        *count += 1;
+        self.counts[at] += 1;
         true
     }
 }
 
 impl Server {
     /// Whether a request of a group may be given to the node: it wouldn't wait, or the home of its session has places left.
-    fn may_come<E: Engine, D: Disk>(node: &Node<E, D>, room: &mut Room, request: &Request) -> bool {
+    fn may_come<E: Engine, D: Disk>(node: &Node<E, D>, room: &mut Room, request: &Request) -> bool
+        ensures { result ≡ may_come room.old (awaited (setting_of node.now) (durable_of node.now) ((E.meaning (engine_of node.now)).names request.now)) }
+    {
         match node.awaited(request) {
             Some(key) => room.take(key.home),
             None => true,
@@ -62,9 +69,9 @@ impl Server {
         group: &mut Group,
         at: usize,
     ) -> bool
-        requires rising { IsRising group.old }
-        ensures rising { IsRising group.new }
-        ensures before { before_of group.new ≡ before_of group.old }
+        requires { IsRising group.old }
+        ensures gathered { HasGathered group.old group.new }
+        ensures stays { IsTrue result → inputs_of group.new ≡ inputs_of group.old }
     {
         let Some((token, request)) = group.request(at) else {
             return true;
@@ -79,9 +86,8 @@ impl Server {
 
     /// Refuses those requests of a group that would wait for sessions of a home for which as many wait as may.
     pub fn keep_shares<E: Engine, D: Disk>(&mut self, node: &Node<E, D>, group: &mut Group)
-        requires rising { IsRising group.old }
-        ensures rising { IsRising group.new }
-        ensures before { before_of group.new ≡ before_of group.old }
+        requires { IsRising group.old }
+        ensures { HasGathered group.old group.new }
     {
         if self.parked.len() <= HOME_LIMIT {
             return;

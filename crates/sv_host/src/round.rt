@@ -3,8 +3,8 @@
 //! A tick puts out again all that may have been lost: the wants of each request that waits, and each session that is on its way. Where
 //! a node is down or slow these can be thousands, each of them a connection, so only some are sent each second, in turn.
 
-ghost use Rattle.std.specs.Prelude.{◌≡◌, ◌≤◌, ◌+◌, IsTrue, IsFalse, [], ◌∷◌, length};
-ghost use Rattle.sv_model.specs.Outputs.{sends_in};
+ghost use Rattle.std.specs.Prelude.{◌≡◌, ◌≤◌, ◌+◌, true, false, IsTrue, IsFalse, [], ◌∷◌, length};
+ghost use Rattle.sv_model.specs.Outputs.{packet_in, sends_in};
 
 use sv_model::{Output, Packet};
 
@@ -20,7 +20,11 @@ struct Rank {
 }
 
 impl Rank {
-    fn of(packet: &Packet) -> Rank {
+    ghost use Rattle.sv_host.specs.Round.{is_behind, rank_of};
+
+    fn of(packet: &Packet) -> Rank
+        ensures { result ≡ rank_of packet.now }
+    {
         match packet {
             Packet::Want { want, to, .. } => Rank {
                 kind: 0,
@@ -41,7 +45,9 @@ impl Rank {
     }
 
     /// It stands behind another.
-    fn is_behind(self, other: Rank) -> bool {
+    fn is_behind(self, other: Rank) -> bool
+        ensures { result ≡ is_behind self other }
+    {
         if self.kind != other.kind {
             self.kind > other.kind
         } else if self.number != other.number {
@@ -74,11 +80,15 @@ pub struct Share {
 }
 
 impl Round {
+    ghost use Rattle.sv_host.specs.Round.{is_next};
+
     /// None was sent so far.
     pub const START: Round = Round { last: None };
 
     /// It comes behind the last one.
-    fn is_next(self, rank: Rank) -> bool {
+    fn is_next(self, rank: Rank) -> bool
+        ensures { result ≡ is_next self.last rank }
+    {
         match self.last {
             Some(last) => rank.is_behind(last),
             None => true,
@@ -102,7 +112,10 @@ impl Round {
     }
 
     /// The share of a tick that puts out these.
-    pub fn share(self, outputs: &[Output]) -> Share {
+    pub fn share(self, outputs: &[Output]) -> Share
+        ensures before { result.before ≡ self }
+        ensures last { result.last ≡ self.last }
+    {
         let (behind, front) = self.count(outputs);
         let behind = at_most(behind, ROUND_LIMIT);
         let front = at_most(front, ROUND_LIMIT - behind);
@@ -123,12 +136,14 @@ fn at_most(count: usize, limit: usize) -> usize
 }
 
 impl Share {
-    ghost use Rattle.sv_host.specs.Round.{left_in};
+    ghost use Rattle.sv_host.specs.Round.{has_left, is_next, left_in, lets};
 
     /// Whether an output is handed on, of those of the tick in order. What isn't sent is a packet that is lost.
     pub fn takes(&mut self, output: &Output) -> bool
         ensures taken { IsTrue result → left_in self.new + length (sends_in (output.now ∷ [])) ≡ left_in self.old }
         ensures left { IsFalse result → left_in self.new ≡ left_in self.old }
+        ensures lets { result ≡ lets self.old (packet_in output.now) }
+        ensures before { self.new.before ≡ self.old.before }
     {
         match output {
             Output::Send(packet) => self.takes_packet(Rank::of(packet)),
@@ -140,6 +155,8 @@ impl Share {
     fn takes_packet(&mut self, rank: Rank) -> bool
         ensures taken { IsTrue result → left_in self.new + 1 ≡ left_in self.old }
         ensures left { IsFalse result → left_in self.new ≡ left_in self.old }
+        ensures lets { result ≡ has_left self.old (is_next self.old.before.last rank) }
+        ensures before { self.new.before ≡ self.old.before }
     {
         if self.before.is_next(rank) {
             self.takes_behind(rank)
@@ -152,6 +169,8 @@ impl Share {
     fn takes_behind(&mut self, rank: Rank) -> bool
         ensures taken { IsTrue result → left_in self.new + 1 ≡ left_in self.old }
         ensures left { IsFalse result → left_in self.new ≡ left_in self.old }
+        ensures lets { result ≡ has_left self.old true }
+        ensures before { self.new.before ≡ self.old.before }
     {
         if self.behind == 0 {
             return false;
@@ -167,6 +186,8 @@ impl Share {
     fn takes_front(&mut self, rank: Rank) -> bool
         ensures taken { IsTrue result → left_in self.new + 1 ≡ left_in self.old }
         ensures left { IsFalse result → left_in self.new ≡ left_in self.old }
+        ensures lets { result ≡ has_left self.old false }
+        ensures before { self.new.before ≡ self.old.before }
     {
         if self.front == 0 {
             return false;
@@ -177,7 +198,9 @@ impl Share {
     }
 
     /// Where the next tick's packets begin.
-    pub fn end(self) -> Round {
+    pub fn end(self) -> Round
+        ensures { result.last ≡ self.last }
+    {
         Round { last: self.last }
     }
 }

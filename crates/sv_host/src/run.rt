@@ -10,7 +10,7 @@ use crate::place::Place;
 use crate::time::read;
 use sv_journal::FileDisk;
 use sv_log::{Level, Milestone, Report, ReportFault};
-use sv_model::Engine;
+use sv_model::{Engine, Setting};
 
 /// The journal's file, and the second one beside it.
 fn open_files<M: Machine>(machine: &M, journal: &str) -> Result<(FileDisk, FileDisk), HostFault> {
@@ -27,8 +27,13 @@ fn open_files<M: Machine>(machine: &M, journal: &str) -> Result<(FileDisk, FileD
 }
 
 /// Opens the log and the figures, those that are wanted.
-fn open_report<M: Machine>(machine: &M, node: u8, paths: Paths<'_>) -> Result<Report, ReportFault> {
+fn open_report<M: Machine>(
+    machine: &M,
+    setting: Setting,
+    paths: Paths<'_>,
+) -> Result<Report, ReportFault> {
     let mut report = Report::none();
+    report.know(setting.limit());
     let reading = read(machine);
     report.begin(reading.steady);
     if let Some(path) = paths.log {
@@ -36,7 +41,7 @@ fn open_report<M: Machine>(machine: &M, node: u8, paths: Paths<'_>) -> Result<Re
     }
     report.at(reading.clock / 1_000);
     if let Some(path) = paths.metrics {
-        report.count_to(machine.alloc(), machine, path, node)?;
+        report.count_to(machine.alloc(), machine, path, setting.node)?;
     }
     Ok(report)
 }
@@ -48,7 +53,7 @@ fn report_of<M: Machine>(
     paths: Paths<'_>,
 ) -> Result<Report, HostFault> {
     let node = place.setting.node;
-    let mut report = open_report(machine, node, paths)?;
+    let mut report = open_report(machine, place.setting, paths)?;
     let starting = Milestone::Starting {
         node,
         port: port_of(place.ports.as_slice(), node),

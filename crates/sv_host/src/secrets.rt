@@ -1,7 +1,7 @@
 //! The secrets under which sessions are made.
 
-ghost use Rattle.std.specs.Prelude.{◌≡◌};
-ghost use Rattle.sv_host.specs.Secrets.{secret_of};
+ghost use Rattle.std.specs.Prelude.{◌≡◌, IfOk};
+ghost use Rattle.sv_host.specs.Secrets.{secret_of, first_by, last_in, last_of, Draws};
 
 use crate::fault::{HostFault, Stop};
 use crate::machine::Machine;
@@ -50,7 +50,9 @@ fn read_secret(file: &mut File) -> Result<Secret, Stop> {
 
 impl Source {
     /// The next secret.
-    fn draw(&mut self) -> Result<Secret, Stop> {
+    fn draw(&mut self) -> Result<Secret, Stop>
+        ensures { Draws (last_in self.old) result (last_in self.new) }
+    {
         match self {
             Source::Read(file) => read_secret(file),
             Source::Counted { last } => {
@@ -66,7 +68,9 @@ impl Source {
 
 impl Secrets {
     /// Those of a file at a path, or counted ones, of which the first is 1.
-    pub fn open(machine: &impl Machine, path: Option<&String>) -> Result<Secrets, HostFault> {
+    pub fn open(machine: &impl Machine, path: Option<&String>) -> Result<Secrets, HostFault>
+        ensures { IfOk result (λ s. last_of s ≡ first_by path.entry) }
+    {
         let source = match path {
             None => Source::Counted { last: 0 },
             Some(path) => match File::open(machine, path.as_str()) {
@@ -78,7 +82,9 @@ impl Secrets {
     }
 
     /// The next secret.
-    pub fn next(&mut self) -> Result<Secret, Stop> {
+    pub fn next(&mut self) -> Result<Secret, Stop>
+        ensures { Draws (last_of self.old) result (last_of self.new) }
+    {
         self.source.draw()
     }
 }

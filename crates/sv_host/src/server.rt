@@ -1,9 +1,9 @@
 //! What a running node keeps beside its journal: its clients, its peers, its secrets, and the time.
 
-ghost use Rattle.std.specs.Prelude.{IsTrue};
-ghost use Rattle.sv_node.specs.History.{HasGone};
-ghost use Rattle.sv_node.specs.Node.{IsNode, journal_of};
-ghost use Rattle.sv_host.specs.Group.{IsRising, before_of};
+ghost use Rattle.std.specs.Prelude.{◌≡◌, ◌≤◌, IfOk};
+ghost use Rattle.sv_host.specs.Secrets.{last_of, secret_in, Draws};
+ghost use Rattle.sv_host.specs.Serving.{IsServing, HasServed};
+ghost use Rattle.sv_host.specs.Time.{seconds_of};
 
 use crate::connections::Connections;
 use crate::expiry::Expiry;
@@ -80,7 +80,11 @@ struct Write {
 
 impl Server {
     /// What is taken for the time, in seconds since 1970.
-    pub fn now(&mut self, machine: &impl Machine) -> u64 {
+    pub fn now(&mut self, machine: &impl Machine) -> u64
+        ensures time { result ≡ seconds_of self.new.time }
+        ensures never_back { seconds_of self.old.time ≤ result }
+        ensures secrets { last_of self.new.secrets ≡ last_of self.old.secrets }
+    {
         self.time = self.time.next(read(machine));
         let now = self.time.seconds();
         self.connections.report.at(now);
@@ -97,11 +101,14 @@ impl Server {
     }
 
     /// The moment of a step: the time, and a secret that no step has had.
-    pub fn moment(&mut self, machine: &impl Machine) -> Result<Moment, Stop> {
-        Ok(Moment {
-            now: self.now(machine),
-            secret: self.secrets.next()?,
-        })
+    pub fn moment(&mut self, machine: &impl Machine) -> Result<Moment, Stop>
+        ensures time { IfOk result (λ m. m.now ≡ seconds_of self.new.time) }
+        ensures never_back { seconds_of self.old.time ≤ seconds_of self.new.time }
+        ensures secret { Draws (last_of self.old.secrets) (secret_in result) (last_of self.new.secrets) }
+    {
+        let now = self.now(machine);
+        let secret = self.secrets.next()?;
+        Ok(Moment { now, secret })
     }
 
     /// The journal was written anew; its lengths in bytes.
@@ -113,23 +120,23 @@ impl Server {
             .note(Event::Compacted { before, after });
     }
 
-    /// Counts the keys that the node knows, for the figures.
-    pub fn count_keys<E, D: Disk>(&mut self, node: &Node<E, D>) {
+    /// Counts what the node keeps, for the figures: the keys that it knows, and the bytes of its journal.
+    pub fn count_kept<E, D: Disk>(&mut self, node: &Node<E, D>) {
         let Census {
             active,
             sent,
             gone,
             ended,
         } = node.census();
-        self.connections
-            .report
-            .census(active as u64, sent as u64, gone as u64, ended as u64);
+        let report = &mut self.connections.report;
+        report.census(active as u64, sent as u64, gone as u64, ended as u64);
+        report.measure(node.journal_len());
     }
 
     /// The same where the figures are about to be written.
-    pub fn count_keys_in_time<E, D: Disk>(&mut self, node: &Node<E, D>) {
+    pub fn count_kept_in_time<E, D: Disk>(&mut self, node: &Node<E, D>) {
         if self.connections.report.wants_census() {
-            self.count_keys(node);
+            self.count_kept(node);
         }
     }
 
@@ -143,7 +150,7 @@ impl Server {
         Write { begun, len }
     }
 
-    /// The group was taken, and the journal has so many bytes: where it has grown it was written and synced.
+    /// The journal has so many bytes behind it: where it has grown the group was written and synced.
     fn end_write(&mut self, machine: &impl Machine, write: Write, len: u64) {
         if let Some(begun) = write.begun
             && len != write.len
@@ -171,7 +178,7 @@ impl Server {
 
     /// Why the node has stopped, if not by a command; and whatever is still to be told to the operator.
     pub fn say_stopped(&mut self, machine: &impl Machine, stop: Stop) -> Option<HostFault> {
-        let open = self.connections.len();
+        let (waiting, open) = (self.parked.len(), self.connections.len());
         let fault = match stop {
             Stop::Done => {
                 self.connections.report.say(Level::Info, Milestone::Stopped);
@@ -179,7 +186,7 @@ impl Server {
             }
             Stop::Fault(fault) => Some(fault),
         };
-        self.connections.report.end(machine, open);
+        self.connections.report.end(machine, waiting, open);
         fault
     }
 
@@ -196,21 +203,13 @@ impl Server {
         node: &mut Node<E, D>,
         group: &mut Group,
     ) -> Result<Taken, Stop>
-        requires valid { IsNode E.valid D.tells D.seen D.may_leave node.old }
-        requires live { IsTrue (journal_of node.old).live }
-        requires rising { IsRising group.old }
-        ensures valid { IsNode E.valid D.tells D.seen D.may_leave node.new }
-        ensures rising { IsRising group.new }
-        ensures gone { HasGone E.meaning E.heard D.tells D.may_leave (before_of group.old) (before_of group.new) node.old node.new result }
+        requires { IsServing E.valid D.tells D.seen D.may_leave node.old group.old }
+        ensures { HasServed E.meaning E.heard E.valid D.tells D.seen D.may_leave node.old group.old node.new group.new result }
     {
         let (inputs, ways) = group.take();
         let write = self.begin_write(machine, node.journal_len());
-        match node.step_all(inputs) {
-            Ok(answers) => {
-                self.end_write(machine, write, node.journal_len());
-                Ok(self.hand_out(machine, ways.as_slice(), answers))
-            }
-            Err(fault) => self.not_taken(ways.as_slice(), fault),
-        }
+        let answers = node.step_all(inputs);
+        self.end_write(machine, write, node.journal_len());
+        self.hand_out(machine, ways.as_slice(), answers)
     }
 }

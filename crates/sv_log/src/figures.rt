@@ -10,7 +10,7 @@ use crate::names::{
     STEPS, TIME, WAITING, WRITE_SECONDS, WRITES,
 };
 use std::alloc::AllocError;
-use sv_model::{Cause, KEY_LIMIT};
+use sv_model::Cause;
 
 /// The causes of a refusal, in the order in which figures have them.
 const CAUSES: [Cause; 7] = [
@@ -60,6 +60,8 @@ pub struct Gauges {
     /// In seconds since 1970.
     pub now: u64,
     pub keys: Census,
+    /// So many keys the node knows at most.
+    pub limit: u64,
 }
 
 /// Writes figures that have one number each.
@@ -217,7 +219,7 @@ impl Gauges {
         let keys = self.keys;
         [
             (KNOWN, keys.known()),
-            (KNOWN_LIMIT, KEY_LIMIT as u64),
+            (KNOWN_LIMIT, self.limit),
             (GONE, keys.gone),
             (ENDED, keys.ended),
             (WAITING, self.waiting),

@@ -33,6 +33,8 @@ pub struct Report {
     now: u64,
     journal: u64,
     keys: Census,
+    /// So many keys the node knows at most.
+    limit: u64,
     /// When it was begun, by the clock that nobody sets, in milliseconds.
     begun: u64,
 }
@@ -47,6 +49,7 @@ impl Drop for Report {
             now: _,
             journal: _,
             keys: _,
+            limit: _,
             begun: _,
         } = self;
     }
@@ -62,6 +65,7 @@ impl Report {
             now: 0,
             journal: 0,
             keys: Census::default(),
+            limit: 0,
             begun: 0,
         }
     }
@@ -111,14 +115,15 @@ impl Report {
         self.begun = milliseconds;
     }
 
-    /// The journal was opened, and has so many bytes; its keys were counted.
-    pub fn opened(&mut self, bytes: u64, milliseconds: u64) {
+    /// The journal was opened, in which so many records were, and has so many bytes; its keys were counted.
+    pub fn opened(&mut self, bytes: u64, records: u64, milliseconds: u64) {
         self.journal = bytes;
         let milliseconds = milliseconds.saturating_sub(self.begun);
         self.say(
             Level::Info,
             Milestone::Opened {
                 bytes,
+                records,
                 sessions: self.keys.active,
                 keys: self.keys.known(),
                 milliseconds,
@@ -201,6 +206,11 @@ impl Report {
         }
     }
 
+    /// The node knows so many keys at most.
+    pub fn know(&mut self, limit: usize) {
+        self.limit = limit as u64;
+    }
+
     /// How many keys the node knows, by what has become of their sessions, as [`Census`] has them.
     pub fn census(&mut self, active: u64, sent: u64, gone: u64, ended: u64) {
         self.keys = Census {
@@ -224,6 +234,7 @@ impl Report {
             journal: self.journal,
             now: self.now,
             keys: self.keys,
+            limit: self.limit,
         }
     }
 
@@ -261,8 +272,13 @@ impl Report {
     }
 
     /// The same at the end, with what was counted and not said yet, and the figures as they are then.
-    pub fn end<R: Files<File = File> + Eprint>(&mut self, machine: &R, connections: usize) {
-        self.write_figures(machine, self.gauges(0, connections));
+    pub fn end<R: Files<File = File> + Eprint>(
+        &mut self,
+        machine: &R,
+        waiting: usize,
+        connections: usize,
+    ) {
+        self.write_figures(machine, self.gauges(waiting, connections));
         if let Some(log) = &mut self.log {
             log.say_counted();
             log.flush(machine);

@@ -10,7 +10,7 @@ use sv_servlet::{Answers, Before, Call, Next, Reply, Surrounds};
 use sv_session::SessionEdit;
 
 /// An [`HttpServlet`] or an [`HttpFilter`], and where it takes memory from.
-#[derive(Drop)]
+#[derive(Clone, Copy, Drop)]
 pub struct Web<T> {
     alloc: Global,
     object: T,

@@ -1,5 +1,5 @@
 use Rattle.sv_host.specs.Group.{before_of}
 use Rattle.sv_host.proofs.compaction.compact_in_turn.Goals as goal
 
-pub returns-clause-gone : goal.returns-clause-gone
-returns-clause-gone g c = c.compact.ensures.gone (before_of c.args.group.now)
+pub returns : goal.returns
+returns g c = record { valid = c.compact.ensures.valid; rising = c.requires.rising; gone = c.compact.ensures.gone (before_of c.args.group.now) }

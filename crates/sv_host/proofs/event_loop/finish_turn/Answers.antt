@@ -1,11 +1,8 @@
-use Rattle.std.proofs.Common.{inl, arith}
-use Rattle.sv_host.specs.Group.{before_of}
-use Rattle.sv_node.proofs.HistoryLemmas.{goes_nowhere}
+use Rattle.sv_host.proofs.ServingLemmas.{serves_on, served_then}
 use Rattle.sv_host.proofs.event_loop.finish_turn.Goals as goal
 
-pub returns-in-Err-clause-gone : goal.returns-in-Err-clause-gone
-returns-in-Err-clause-gone g c =
-    let e = g.E.Engine in
-    let d = g.D.Disk in
-    let low = before_of c.args.group.now in
-    inl (goes_nowhere e.meaning e.heard d.tells d.may_leave d.moment d.left_since low low c.args.node.now (omega arith) c.requires.live)
+pub end_turn-requires : goal.end_turn-requires
+end_turn-requires g c = serves_on c.in_ok-step_gathered.was c.step_gathered.ensures
+
+pub returns-in-Ok : goal.returns-in-Ok
+returns-in-Ok g c = served_then c.in_ok-step_gathered.was c.step_gathered.ensures c.end_turn.ensures

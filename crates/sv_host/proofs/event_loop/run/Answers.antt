@@ -4,8 +4,8 @@ use Rattle.sv_host.specs.Group.{before_of}
 use Rattle.sv_node.proofs.HistoryLemmas.{goes_nowhere, goes_join, gone_join}
 use Rattle.sv_host.proofs.event_loop.run.Goals as goal
 
-pub take_turn-requires-clause-live : goal.take_turn-requires-clause-live
-take_turn-requires-clause-live g c = c.loop.invariant.goes.live
+pub take_turn-requires : goal.take_turn-requires
+take_turn-requires g c = record { valid = c.loop.invariant.valid; live = c.loop.invariant.goes.live; rising = c.loop.invariant.rising }
 
 pub returns-in-Err-clause-ended : goal.returns-in-Err-clause-ended
 returns-in-Err-clause-ended g c =

@@ -1,11 +1,5 @@
-use Rattle.std.proofs.Common.{arith}
-use Rattle.sv_host.specs.Group.{before_of}
-use Rattle.sv_node.proofs.HistoryLemmas.{goes_nowhere}
+use Rattle.sv_host.proofs.ServingLemmas.{served_nothing}
 use Rattle.sv_host.proofs.event_loop.step_gathered.Goals as goal
 
-pub returns-then-is_empty-clause-gone : goal.returns-then-is_empty-clause-gone
-returns-then-is_empty-clause-gone g c =
-    let e = g.E.Engine in
-    let d = g.D.Disk in
-    let low = before_of c.args.group.now in
-    goes_nowhere e.meaning e.heard d.tells d.may_leave d.moment d.left_since low (before_of c.keep_shares.new.group) c.args.node.now (omega (arith, c.keep_shares.ensures.before)) c.requires.live
+pub returns-then-is_empty : goal.returns-then-is_empty
+returns-then-is_empty g c = served_nothing _ c.requires c.keep_shares.ensures

@@ -1,10 +1,6 @@
-use Rattle.std.proofs.Common.{◌≡◌}
-use Rattle.sv_host.specs.Group.{before_of, IsRising}
+use Rattle.sv_host.specs.Serving.{HasGathered}
 use Rattle.sv_host.proofs.gathering.gather_reported.Given as goal
 
 -- no group has been given to the node meanwhile
 abbrev pub invariant-loop-place : goal.invariant-loop-place
-invariant-loop-place g l = record {
-  rising : IsRising l.group;
-  before : before_of l.group ≡ before_of l.initial.group;
-}
+invariant-loop-place g l = HasGathered l.initial.group l.group

@@ -1,10 +1,6 @@
-use Rattle.std.proofs.Common.{◌≡◌}
-use Rattle.sv_host.specs.Group.{before_of, IsRising}
+use Rattle.sv_host.specs.Serving.{HasGathered}
 use Rattle.sv_host.proofs.nudges.add_nudges.Given as goal
 
 -- no group has been given to the node meanwhile
 abbrev pub invariant-loop : goal.invariant-loop
-invariant-loop g l = record {
-  rising : IsRising l.group;
-  before : before_of l.group ≡ before_of l.initial.group;
-}
+invariant-loop g l = HasGathered l.initial.group l.group

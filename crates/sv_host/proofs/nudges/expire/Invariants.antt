@@ -1,12 +1,8 @@
-use Rattle.sv_host.specs.Group.{before_of, IsRising}
-use Rattle.sv_node.specs.History.{GoesOn}
-use Rattle.sv_node.specs.Node.{IsNode}
+use Rattle.std.proofs.Common.{Ok}
+use Rattle.std.specs.Prelude.{⊤}
+use Rattle.sv_host.specs.Serving.{HasServed}
 use Rattle.sv_host.proofs.nudges.expire.Given as goal
 
--- groups have been given to the node
+-- all that was given to the node was taken
 abbrev pub invariant-loop : goal.invariant-loop
-invariant-loop g l = record {
-  valid : IsNode g.E.Engine.valid g.D.Disk.tells g.D.Disk.seen g.D.Disk.may_leave l.node;
-  rising : IsRising l.group;
-  goes : GoesOn g.E.Engine.meaning g.E.Engine.heard g.D.Disk.tells (before_of l.initial.group) (before_of l.group) l.initial.node l.node;
-}
+invariant-loop g l = HasServed {T = ⊤} {F = ⊤} g.E.Engine.meaning g.E.Engine.heard g.E.Engine.valid g.D.Disk.tells g.D.Disk.seen g.D.Disk.may_leave l.initial.node l.initial.group l.node l.group (Ok tt)

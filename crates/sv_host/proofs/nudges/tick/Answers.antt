@@ -1,11 +1,5 @@
-use Rattle.std.proofs.Common.{arith}
-use Rattle.sv_host.specs.Group.{before_of}
-use Rattle.sv_node.proofs.HistoryLemmas.{goes_nowhere}
+use Rattle.sv_host.proofs.ServingLemmas.{served_none}
 use Rattle.sv_host.proofs.nudges.tick.Goals as goal
 
-pub returns-then-now-server-clause-gone : goal.returns-then-now-server-clause-gone
-returns-then-now-server-clause-gone g c =
-    let e = g.E.Engine in
-    let d = g.D.Disk in
-    let low = before_of c.args.group.now in
-    goes_nowhere e.meaning e.heard d.tells d.may_leave d.moment d.left_since low low c.args.node.now (omega arith) c.requires.live
+pub returns-then-now-server : goal.returns-then-now-server
+returns-then-now-server g c = served_none _ c.requires

@@ -1,9 +1,10 @@
-use Rattle.std.proofs.Common.{Some, Ok, None, [], append-nil, ap, ◌∙◌}
+use Rattle.std.proofs.Common.{◌≡◌, Some, Ok, None, [], append-nil, ap, ◌∙◌}
 use Rattle.std.specs.Io.KnownBytes.{prepend_known}
 use Rattle.sv_message.specs.Stream.{Stream}
 use Rattle.sv_message.specs.Reader.{Gives}
+use Rattle.sv_message.specs.declared.request.RawRequest.{RawRequest}
 use Rattle.sv_connection.specs.Arrive.{Brings}
-use Rattle.sv_connection.specs.Connection.{is_closed, is_single, stand_of}
+use Rattle.sv_connection.specs.Connection.{is_closed, is_leaving, is_single, stand_of}
 use Rattle.sv_connection.specs.Receive.{IsDirected}
 use Rattle.sv_connection.proofs.ServeLemmas.{received, found, not_found}
 use Rattle.sv_connection.proofs.connection.Connection.look.Goals as goal
@@ -29,3 +30,9 @@ returns-in-Ok-Some-clause-found c = λ raw text rest was_open message is.
 pub returns-in-Err-clause-found : goal.returns-in-Err-clause-found
 returns-in-Err-clause-found c = λ raw text rest was_open message is.
     not_found (is_single c.args.self.now) raw c.in-Err.fault _ (c.in-Err.ensures.found raw text rest message is)
+
+pub returns-in-Ok-Some-clause-asked : goal.returns-in-Ok-Some-clause-asked
+returns-in-Ok-Some-clause-asked c = λ raw text rest was_open message is taken.
+    let given : Gives raw (Ok (Some c.in-Ok-Some.raw)) = rw c.in-Ok-Some.field-0-is at c.in-Ok-Some.ensures.found raw text rest message is in
+    let asked : is_leaving c.direct.new.self ≡ c.in-Ok-Some.raw.close = rw c.in-Ok-Some.raw-is at c.direct.ensures.asked in
+    asked ∙ ap (λ (m : RawRequest). m.close) given

@@ -1,7 +1,7 @@
 use Rattle.std.proofs.Common.{◌≡◌, length, [], ◌∷◌, refl, sym, ap, ◌∙◌, arith}
 use Rattle.sv_model.specs.declared.output.Output.TheVariants.{Answer}
 use Rattle.sv_model.specs.Serving.{no_birth}
-use Rattle.sv_connection.specs.Table.{fated_at, born_behind, node_of}
+use Rattle.sv_connection.specs.Table.{fated_at, born_behind, alone, node_of}
 use Rattle.sv_connection.proofs.TableLemmas.{few_born, length_fated}
 use Rattle.sv_connection.proofs.SoloLemmas.{refuses, answers, serves, stands_at, notes_all, made_of}
 use Rattle.sv_connection.proofs.solo.Solo.serve.Goals as goal
@@ -14,7 +14,7 @@ returns-in-Some-clause-step g c =
     (serves m xs c.args.moment c.args.request.now c.as_slice-3.result.now c.as_slice-2.result.now c.names-named.result c.fresh_of-fresh.result _ c.in_ok-outcome.outcome
     c.as_slice-3.ensures.value c.as_slice-2.ensures.value c.names-named.ensures c.fresh_of-fresh.ensures c.session_at-held.ensures c.in_ok-outcome.ensures.outcome)
     (g.E.Engine.heard c.args.self.now.engine) c.in-Some.cause _ _ _ _
-    (sym c.in-Some.is ∙ c.no_birth.ensures ∙ ap (λ l. no_birth (node_of l).durable c.in_ok-outcome.outcome.birth) c.as_slice-4.ensures.value)
+    (sym c.in-Some.is ∙ c.no_birth.ensures ∙ ap (λ l. no_birth alone (node_of l).durable c.in_ok-outcome.outcome.birth) c.as_slice-4.ensures.value)
     refl c.in_ok-outcome.ensures.meaning c.in_ok-outcome.ensures.heard
     refl
 
@@ -25,7 +25,7 @@ invariant_of-self-2 g c =
     let place = c.named_place-place.result in
     let behind : c.keep-response.new.sessions.items ≡ born_behind out.birth (fated_at place out.fate xs) =
     made_of xs c.make_room.new.sessions.items c.keep-response.new.sessions.items place out.fate out.birth c.in_ok-make_room.ensures.items c.keep-response.ensures.items in
-    let room = sym c.in_default.is ∙ c.no_birth.ensures ∙ ap (λ l. no_birth (node_of l).durable out.birth) c.as_slice-4.ensures.value in
+    let room = sym c.in_default.is ∙ c.no_birth.ensures ∙ ap (λ l. no_birth alone (node_of l).durable out.birth) c.as_slice-4.ensures.value in
     record { few = omega (arith, ap length behind, few_born xs (fated_at place out.fate xs) out.birth c.args.self.now.few room (length_fated xs place out.fate)) }
 
 pub returns-clause-step : goal.returns-clause-step
@@ -38,7 +38,7 @@ returns-clause-step g c =
     (serves m xs c.args.moment c.args.request.now c.as_slice-3.result.now c.as_slice-2.result.now c.names-named.result c.fresh_of-fresh.result _ out
     c.as_slice-3.ensures.value c.as_slice-2.ensures.value c.names-named.ensures c.fresh_of-fresh.ensures c.session_at-held.ensures c.in_ok-outcome.ensures.outcome)
     (g.E.Engine.heard c.args.self.now.engine) place _ _ _ _
-    (sym c.in_default.is ∙ c.no_birth.ensures ∙ ap (λ l. no_birth (node_of l).durable out.birth) c.as_slice-4.ensures.value)
+    (sym c.in_default.is ∙ c.no_birth.ensures ∙ ap (λ l. no_birth alone (node_of l).durable out.birth) c.as_slice-4.ensures.value)
     (stands_at m xs c.args.moment c.args.request.now c.as_slice.result.now c.names-named.result place c.as_slice.ensures.value c.names-named.ensures c.named_place-place.ensures)
     (made_of xs c.make_room.new.sessions.items c.keep-response.new.sessions.items place out.fate out.birth c.in_ok-make_room.ensures.items c.keep-response.ensures.items)
     (c.tell.ensures.meaning ∙ c.in_ok-outcome.ensures.meaning)

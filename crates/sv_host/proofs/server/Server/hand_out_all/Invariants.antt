@@ -2,7 +2,7 @@ use Rattle.std.proofs.Common.{◌≡◌, length}
 use Rattle.std.specs.List.{AllByRecursion}
 use Rattle.std.specs.Vec.Iter.{into_iter_items, into_iter_len}
 use Rattle.sv_host.specs.Outputs.{IsHandedOn}
-use Rattle.sv_host.proofs.server.Server.hand_out.Given as goal
+use Rattle.sv_host.proofs.server.Server.hand_out_all.Given as goal
 
 -- what is left can be sent
 abbrev pub invariant-loop-answer : goal.invariant-loop-answer
