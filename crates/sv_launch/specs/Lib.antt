@@ -2,3 +2,4 @@ pub mod Once
 pub mod Words
 pub mod Fault
 pub mod Objects
+pub mod OneOf

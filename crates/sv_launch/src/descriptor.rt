@@ -20,42 +20,6 @@ use sv_config::Deployment;
 /// The word for the built-in descriptor.
 const BUILT_IN_WORD: &str = "-";
 
-/// The built-in descriptor: the context `/shop` with each sample servlet, and a listener.
-pub const BUILT_IN: &str = r#"[[context]]
-path = "/shop"
-
-[[context.servlet]]
-name = "hello"
-patterns = ["/hello"]
-
-[[context.servlet]]
-name = "count"
-patterns = ["/count"]
-
-[[context.servlet]]
-name = "snoop"
-patterns = ["/snoop", ""]
-
-[[context.servlet]]
-name = "login"
-patterns = ["/login"]
-
-[[context.servlet]]
-name = "includer"
-patterns = ["/inc"]
-
-[[context.servlet]]
-name = "forwarder"
-patterns = ["/fwd"]
-
-[[context.servlet]]
-name = "faulty"
-patterns = ["/faulty", "/oops"]
-
-[[context.listener]]
-name = "tally"
-"#;
-
 /// The deployment that a descriptor says, or the descriptor's least fault.
 pub fn deployment_in(alloc: Global, text: &str) -> Result<Deployment, Fault>
     ensures deployment { IfOk result (λ deployment. (t : Members) × (parse_document text.now ≡ Some t) × (config.fault_of t ≡ None) × (deployment_data deployment ≡ deployment_of t)) }
@@ -74,9 +38,13 @@ fn read_file<R: Files + AllocGlobal>(rt: &R, path: &str) -> Result<String, Fault
 }
 
 /// The deployment that a CONFIG says: the built-in one where it is `-`, or else that of the file at this path.
-pub fn read_config<R: Files + AllocGlobal>(rt: &R, config: &str) -> Result<Deployment, Fault> {
+pub fn read_config<R: Files + AllocGlobal>(
+    rt: &R,
+    built_in: Option<&str>,
+    config: &str,
+) -> Result<Deployment, Fault> {
     if config == BUILT_IN_WORD {
-        return deployment_in(rt.alloc(), BUILT_IN);
+        return deployment_in(rt.alloc(), built_in.ok_or(Fault::Unreadable)?);
     }
     let text = read_file(rt, config)?;
     deployment_in(rt.alloc(), text.as_str())

@@ -92,9 +92,15 @@ fn put_down<M: Machine>(
 }
 
 /// Puts down why a node ends.
-fn put_down_any<M: Machine>(machine: &M, log: &mut Log, node: &NodeWords<'_>, fault: Fault) {
+fn put_down_any<M: Machine>(
+    machine: &M,
+    log: &mut Log,
+    built_in: Option<&str>,
+    node: &NodeWords<'_>,
+    fault: Fault,
+) {
     if matches!(fault, Fault::Socket | Fault::Secrets)
-        && let Ok(deployment) = read_config(machine, node.config)
+        && let Ok(deployment) = read_config(machine, built_in, node.config)
     {
         let found = found_in_cluster(machine, &deployment.cluster, node.number, fault);
         put_down(machine, log, fault, found);
@@ -104,7 +110,12 @@ fn put_down_any<M: Machine>(machine: &M, log: &mut Log, node: &NodeWords<'_>, fa
 }
 
 /// Adds the line to the log of a node, where it has one that can be opened.
-pub fn log_failure<M: Machine>(machine: &M, node: &NodeWords<'_>, fault: Fault) {
+pub fn log_failure<M: Machine>(
+    machine: &M,
+    built_in: Option<&str>,
+    node: &NodeWords<'_>,
+    fault: Fault,
+) {
     let Some(path) = node.options.log else {
         return;
     };
@@ -114,6 +125,6 @@ pub fn log_failure<M: Machine>(machine: &M, node: &NodeWords<'_>, fault: Fault) 
     if let Ok(now) = machine.since_1970() {
         log.at(now.as_secs());
     }
-    put_down_any(machine, &mut log, node, fault);
+    put_down_any(machine, &mut log, built_in, node, fault);
     log.flush(machine);
 }

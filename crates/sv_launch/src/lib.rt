@@ -1,29 +1,35 @@
-//! What the program `node` does with its words: the descriptor that it serves by, the objects that the descriptor names, and
-//! what they are started for.
+//! What a program of nodes does with its words: the descriptor that it serves by, the objects that the descriptor names, and what they
+//! are started for.
 //!
-//! The top of the floors, under a `main` of a few lines. [`read_words`] reads the command line, [`read_config`] the descriptor;
-//! [`serve`] serves one stream of requests on a node that stands alone ([`once`] proves that it is served call by call, to its
-//! end), and [`start`] whatever an engine is made for, as [`Running`] a node of a cluster. [`run`] does what a command line asks
-//! for, with the applications of the caller's program.
+//! The top of the floors, under a `main` of a few lines. An [`Application`] is a table of names, each with the object that it stands
+//! for, and [`launch`] is what `main` does with it. [`read_words`] reads the command line, [`read_config`] the descriptor;
+//! [`objects_of`] proves that the objects are new and what the table says of their names; [`once`] that a stream of requests is served
+//! call by call, to its end.
 #![tactic(auto)]
 
+mod application;
 mod descriptor;
 mod failure;
 mod fault;
-mod kinds;
-mod launch;
+mod idle;
+mod kind;
 mod objects;
+mod one_of;
 mod program;
 mod purpose;
 mod stream;
+mod table;
 mod words;
 
-pub use descriptor::{BUILT_IN, deployment_in, read_config};
+pub use application::{Application, Applications};
+pub use descriptor::{deployment_in, read_config};
 pub use fault::Fault;
-pub use kinds::{FilterKind, Kind, ListenerKind, ServletKind};
-pub use launch::{serve, start};
-pub use objects::{Entry, entries_of};
-pub use program::{Applications, Samples, run, words_of};
+pub use idle::Idle;
+pub use kind::{FiltersOf, Kind, ListenersOf, ServletsOf};
+pub use objects::objects_of;
+pub use one_of::OneOf;
+pub use program::{launch, number_of, words_of};
 pub use purpose::{Purpose, Running, Stream};
 pub use stream::{OnceFault, once};
+pub use table::{Empty, FilterTable, ListenerTable, ServletTable, With};
 pub use words::{Arguments, NodeWords, Options, Words, read_words};

@@ -1,18 +1,17 @@
 //! What a program of nodes does: as the words of its command line ask for, with applications of its own.
 
+use crate::application::Applications;
 use crate::descriptor::read_config;
 use crate::failure::log_failure;
 use crate::fault::Fault;
-use crate::launch::start;
-use crate::purpose::{Purpose, Running, Stream};
+use crate::purpose::{Running, Stream};
 use crate::words::{NodeWords, Words, read_words};
-use std::alloc::Global;
 use std::fs::File;
 use std::io::ErrorKind;
 use std::net::{Net, TcpListener, TcpStream};
+use std::process::ExitCode;
 use std::rt::{Clock, Env, Files};
 use std::{env, io};
-use sv_config::Deployment;
 use sv_host::{Machine, Place};
 use sv_version::version;
 
@@ -30,32 +29,6 @@ pub fn words_of<R: Env + AllocGlobal>(rt: &R) -> Result<Vec<String>, Fault> {
     Ok(words)
 }
 
-/// What the names of a descriptor stand for.
-pub trait Applications {
-    /// Starts the applications of a deployment for a purpose, and serves by them to the end.
-    fn start<P: Purpose>(
-        &self,
-        alloc: Global,
-        deployment: Deployment,
-        purpose: P,
-    ) -> Result<(), Fault>;
-}
-
-/// The objects of `sv_samples`.
-#[derive(Clone, Copy, Debug)]
-pub struct Samples;
-
-impl Applications for Samples {
-    fn start<P: Purpose>(
-        &self,
-        alloc: Global,
-        deployment: Deployment,
-        purpose: P,
-    ) -> Result<(), Fault> {
-        start(alloc, deployment, purpose)
-    }
-}
-
 /// Serves standard input to its end by the descriptor at a path, all of it at `now` in whole seconds since 1970.
 fn serve_input<A: Applications, R: Files + Input + Print + AllocGlobal>(
     applications: &A,
@@ -63,7 +36,7 @@ fn serve_input<A: Applications, R: Files + Input + Print + AllocGlobal>(
     config: &str,
     now: u64,
 ) -> Result<(), Fault> {
-    let deployment = read_config(rt, config)?;
+    let deployment = read_config(rt, applications.built_in(), config)?;
     let mut reader = rt.reader();
     let mut writer = io::writer(rt);
     applications.start(
@@ -83,7 +56,7 @@ fn serve_in_cluster<A: Applications, M: Machine + Print>(
     machine: &M,
     node: &NodeWords<'_>,
 ) -> Result<(), Fault> {
-    let deployment = read_config(machine, node.config)?;
+    let deployment = read_config(machine, applications.built_in(), node.config)?;
     let place = Place::new(machine.alloc(), &deployment.cluster, node.number)?;
     let running = Running {
         machine,
@@ -102,7 +75,7 @@ fn run_in_cluster<A: Applications, M: Machine + Print>(
 ) -> Result<(), Fault> {
     let served = serve_in_cluster(applications, machine, node);
     if let Err(fault) = served {
-        log_failure(machine, node, fault);
+        log_failure(machine, applications.built_in(), node, fault);
     }
     served
 }
@@ -162,7 +135,32 @@ fn say_version<R: Env + Print + AllocGlobal>(rt: &R) -> Result<(), Fault> {
 
 /// Does what the words of a command line ask for: serves standard input, runs a node, or says what was asked of the program itself.
 /// Other words are [`Fault::Arguments`].
-pub fn run<A, R>(applications: &A, rt: &R, words: &[String]) -> Result<(), Fault>
+fn run<A: Applications, R: Machine + Env + Print + Input>(
+    applications: &A,
+    rt: &R,
+    words: &[String],
+) -> Result<(), Fault> {
+    match read_words(words) {
+        Ok(Words::Once { config, now }) => serve_input(applications, rt, config, now),
+        Ok(Words::Node(node)) => run_in_cluster(applications, rt, &node),
+        Ok(Words::Help) => say(rt, HELP),
+        Ok(Words::Version) => say_version(rt),
+        Err(_) => Err(Fault::Arguments),
+    }
+}
+
+/// The same for the words that the program was called with.
+fn run_as_called<A: Applications, R: Machine + Env + Print + Input>(
+    applications: &A,
+    rt: &R,
+) -> Result<(), Fault> {
+    let words = words_of(rt)?;
+    run(applications, rt, words.as_slice())
+}
+
+/// What the `main` of a program does: all that its words ask for. A fault is a line on standard error, the program's name and its own, and
+/// its exit status.
+pub fn launch<A, R>(rt: &R, name: &str, applications: &A) -> ExitCode
 where
     A: Applications,
     R: Net<Listener = TcpListener, Stream = TcpStream>
@@ -174,11 +172,22 @@ where
         + Input
         + AllocGlobal,
 {
-    match read_words(words) {
-        Ok(Words::Once { config, now }) => serve_input(applications, rt, config, now),
-        Ok(Words::Node(node)) => run_in_cluster(applications, rt, &node),
-        Ok(Words::Help) => say(rt, HELP),
-        Ok(Words::Version) => say_version(rt),
-        Err(_) => Err(Fault::Arguments),
+    match run_as_called(applications, rt) {
+        Ok(()) => ExitCode::SUCCESS,
+        Err(fault) => {
+            let _ = eprintln!(rt; "{name}: {fault}");
+            ExitCode::from(fault.status())
+        }
+    }
+}
+
+/// The number of the node that the program was called as; one that stands alone has the number 0.
+pub fn number_of<R: Env + AllocGlobal>(rt: &R) -> u8 {
+    let Ok(words) = words_of(rt) else {
+        return 0;
+    };
+    match read_words(words.as_slice()) {
+        Ok(Words::Node(node)) => node.number,
+        _ => 0,
     }
 }

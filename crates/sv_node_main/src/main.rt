@@ -14,19 +14,9 @@
 #![tactic(auto)]
 
 use std::process::ExitCode;
-use sv_launch::{Fault, Samples, words_of};
-
-fn run(rt: &HostRuntime) -> Result<(), Fault> {
-    let words = words_of(rt)?;
-    sv_launch::run(&Samples, rt, words.as_slice())
-}
+use sv_launch::launch;
+use sv_showcase::showcase;
 
 fn main(rt: HostRuntime) -> ExitCode {
-    match run(&rt) {
-        Ok(()) => ExitCode::SUCCESS,
-        Err(fault) => {
-            let _ = eprintln!(rt; "node: {fault}");
-            ExitCode::from(fault.status())
-        }
-    }
+    launch(&rt, "node", &showcase(rt.alloc()))
 }

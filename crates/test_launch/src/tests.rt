@@ -16,21 +16,39 @@ mod streams;
 mod words;
 
 use std::alloc::Global;
+use std::io::{Read, Write};
 use std::process::Abort;
 use std::test::Fail;
-use sv_launch::{Fault, deployment_in, serve};
+use sv_config::Deployment;
+use sv_launch::{Applications, Fault, Stream, deployment_in};
+use sv_showcase::showcase;
 
 const NOW: u64 = 784_111_777;
 
 /// What the stream shows, the stream, and all that is written for it.
 struct Row(&'static str, &'static str, &'static str);
 
+/// Serves the reader's requests to their end by the samples of a deployment.
+fn serve<R: Read, W: Write>(
+    alloc: Global,
+    deployment: Deployment,
+    reader: &mut R,
+    writer: &mut W,
+) -> Result<(), Fault> {
+    let stream = Stream {
+        now: NOW,
+        reader,
+        writer,
+    };
+    showcase(alloc).start(alloc, deployment, stream)
+}
+
 /// What is written for a stream that the deployment of a descriptor serves.
 fn written(alloc: Global, descriptor: &str, input: &str) -> Result<Vec<u8>, Fault> {
     let deployment = deployment_in(alloc, descriptor)?;
     let mut reader = input.as_bytes();
     let mut writer = Vec::new(alloc);
-    serve(alloc, deployment, NOW, &mut reader, &mut writer)?;
+    serve(alloc, deployment, &mut reader, &mut writer)?;
     Ok(writer)
 }
 

@@ -2,7 +2,7 @@
 
 use super::{Row, expect_rows};
 use std::test::Fail;
-use sv_launch::BUILT_IN;
+use sv_showcase::BUILT_IN;
 
 const BUILT_IN_ROWS: [Row; 5] = [
     Row(

@@ -6,8 +6,9 @@ use super::overheard::Overheard;
 use super::{NOW, Row, expect_rows};
 use std::alloc::Global;
 use std::test::Fail;
-use sv_launch::{Fault, Purpose, deployment_in, once, start};
+use sv_launch::{Applications, Fault, Purpose, deployment_in, once};
 use sv_model::Engine;
+use sv_showcase::showcase;
 
 const RENEWING: &str = r#"
 [[context]]
@@ -62,7 +63,7 @@ impl Purpose for Overhearing<'_> {
 fn overheard(alloc: Global, input: &str) -> Result<String, Fault> {
     let mut noted = String::new(alloc);
     let deployment = deployment_in(alloc, RENEWING)?;
-    start(
+    showcase(alloc).start(
         alloc,
         deployment,
         Overhearing {

@@ -5,7 +5,7 @@
 
 use super::{Row, expect_rows};
 use std::test::Fail;
-use sv_launch::BUILT_IN;
+use sv_showcase::BUILT_IN;
 
 const ROWS: [Row; 10] = [
     Row(

@@ -1,11 +1,12 @@
 //! Readers that give little or fail, and writers that fail.
 
-use super::NOW;
+use super::serve;
 use std::alloc::Global;
 use std::io;
 use std::io::{ErrorKind, Read, Write};
 use std::test::Fail;
-use sv_launch::{BUILT_IN, Fault, deployment_in, serve};
+use sv_launch::{Fault, deployment_in};
+use sv_showcase::BUILT_IN;
 
 const REQUEST: &str = "GET /shop/hello HTTP/1.1\r\nHost: localhost\r\n\r\n";
 
@@ -53,7 +54,7 @@ impl Write for Shut {
 /// Serves a stream by the built-in deployment.
 fn served<R: Read, W: Write>(alloc: Global, reader: &mut R, writer: &mut W) -> Result<(), Fault> {
     let deployment = deployment_in(alloc, BUILT_IN)?;
-    serve(alloc, deployment, NOW, reader, writer)
+    serve(alloc, deployment, reader, writer)
 }
 
 #[test]

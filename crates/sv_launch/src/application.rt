@@ -1,0 +1,197 @@
+//! An application: what its names stand for, and what it is started for.
+
+ghost use Rattle.std.specs.Prelude.{◌≡◌};
+ghost use Rattle.sv_launch.specs.Objects.{or_else};
+ghost use Rattle.sv_web.specs.Work.{serving, surrounding};
+
+use crate::fault::Fault;
+use crate::kind::{FiltersOf, ListenersOf, ServletsOf};
+use crate::objects::objects_of;
+use crate::purpose::Purpose;
+use crate::table::{Empty, FilterTable, ListenerTable, ServletTable, With};
+use std::alloc::Global;
+use sv_config::Deployment;
+use sv_container::Container;
+use sv_servlet::{Answers, Listener, Surrounds};
+use sv_web::{HttpFilter, HttpServlet, Web};
+
+/// What a program of nodes serves by.
+pub trait Applications {
+    /// The descriptor that the program has built in, where it has one.
+    fn built_in(&self) -> Option<&str>;
+
+    /// Starts the applications of a deployment for a purpose, and serves by them to the end.
+    fn start<P: Purpose>(
+        &self,
+        alloc: Global,
+        deployment: Deployment,
+        purpose: P,
+    ) -> Result<(), Fault>;
+}
+
+/// An application: its servlets, its filters and its listeners, each by the name that a descriptor gives it.
+///
+/// It begins with no name, and each call adds one. A name that is there already is the new object's from then on.
+#[derive(Clone, Copy)]
+pub struct Application<'a, S, F, L> {
+    pub alloc: Global,
+    /// The descriptor that is built in, where there is one.
+    pub built_in: Option<&'a str>,
+    pub servlets: S,
+    pub filters: F,
+    pub listeners: L,
+}
+
+impl<'a> Application<'a, Empty, Empty, Empty> {
+    /// An application without names.
+    pub fn new(alloc: Global) -> Application<'a, Empty, Empty, Empty> {
+        Application {
+            alloc,
+            built_in: None,
+            servlets: Empty,
+            filters: Empty,
+            listeners: Empty,
+        }
+    }
+}
+
+impl<'a, S, F, L> Application<'a, S, F, L> {
+    /// The application with a descriptor built in.
+    pub fn descriptor(self, text: &'a str) -> Application<'a, S, F, L>
+        ensures servlets { result.servlets ≡ self.entry.servlets }
+        ensures filters { result.filters ≡ self.entry.filters }
+        ensures listeners { result.listeners ≡ self.entry.listeners }
+    {
+        Application {
+            built_in: Some(text),
+            ..self
+        }
+    }
+}
+
+impl<'a, S: ServletTable, F, L> Application<'a, S, F, L> {
+    /// The application with a servlet.
+    pub fn servlet<T: HttpServlet + Copy>(
+        self,
+        name: &'a str,
+        servlet: T,
+    ) -> Application<'a, With<'a, Web<T>, S>, F, L>
+        ensures servlets { ⟦<With<'a, Web<T>, S> as ServletTable>⟧.servlets result.servlets ≡ or_else name.now (serving (T.work servlet)) (S.servlets self.entry.servlets) }
+        ensures filters { result.filters ≡ self.entry.filters }
+        ensures listeners { result.listeners ≡ self.entry.listeners }
+    {
+        let alloc = self.alloc;
+        self.answering(name, Web::new(alloc, servlet))
+    }
+
+    /// The application with a servlet of whatever answers its requests.
+    pub fn answering<T: Answers + Copy>(
+        self,
+        name: &'a str,
+        object: T,
+    ) -> Application<'a, With<'a, T, S>, F, L>
+        ensures servlets { ⟦<With<'a, T, S> as ServletTable>⟧.servlets result.servlets ≡ or_else name.now (T.answers object) (S.servlets self.entry.servlets) }
+        ensures filters { result.filters ≡ self.entry.filters }
+        ensures listeners { result.listeners ≡ self.entry.listeners }
+    {
+        Application {
+            alloc: self.alloc,
+            built_in: self.built_in,
+            servlets: With {
+                name,
+                object,
+                rest: self.servlets,
+            },
+            filters: self.filters,
+            listeners: self.listeners,
+        }
+    }
+}
+
+impl<'a, S, F: FilterTable, L> Application<'a, S, F, L> {
+    /// The application with a filter.
+    pub fn filter<T: HttpFilter + Copy>(
+        self,
+        name: &'a str,
+        filter: T,
+    ) -> Application<'a, S, With<'a, Web<T>, F>, L>
+        ensures servlets { result.servlets ≡ self.entry.servlets }
+        ensures filters { ⟦<With<'a, Web<T>, F> as FilterTable>⟧.filters result.filters ≡ or_else name.now (surrounding (T.work filter)) (F.filters self.entry.filters) }
+        ensures listeners { result.listeners ≡ self.entry.listeners }
+    {
+        let alloc = self.alloc;
+        self.surrounding(name, Web::new(alloc, filter))
+    }
+
+    /// The application with a filter of whatever is done before and after a servlet.
+    pub fn surrounding<T: Surrounds + Copy>(
+        self,
+        name: &'a str,
+        object: T,
+    ) -> Application<'a, S, With<'a, T, F>, L>
+        ensures servlets { result.servlets ≡ self.entry.servlets }
+        ensures filters { ⟦<With<'a, T, F> as FilterTable>⟧.filters result.filters ≡ or_else name.now (T.surrounds object) (F.filters self.entry.filters) }
+        ensures listeners { result.listeners ≡ self.entry.listeners }
+    {
+        Application {
+            alloc: self.alloc,
+            built_in: self.built_in,
+            servlets: self.servlets,
+            filters: With {
+                name,
+                object,
+                rest: self.filters,
+            },
+            listeners: self.listeners,
+        }
+    }
+}
+
+impl<'a, S, F, L: ListenerTable> Application<'a, S, F, L> {
+    /// The application with a listener.
+    pub fn listener<T: Listener + Copy>(
+        self,
+        name: &'a str,
+        object: T,
+    ) -> Application<'a, S, F, With<'a, T, L>>
+        ensures servlets { result.servlets ≡ self.entry.servlets }
+        ensures filters { result.filters ≡ self.entry.filters }
+        ensures listeners { ⟦<With<'a, T, L> as ListenerTable>⟧.listeners result.listeners ≡ or_else name.now (T.hears object) (L.listeners self.entry.listeners) }
+    {
+        Application {
+            alloc: self.alloc,
+            built_in: self.built_in,
+            servlets: self.servlets,
+            filters: self.filters,
+            listeners: With {
+                name,
+                object,
+                rest: self.listeners,
+            },
+        }
+    }
+}
+
+impl<'a, S: ServletTable, F: FilterTable, L: ListenerTable> Applications
+    for Application<'a, S, F, L> {
+    fn built_in(&self) -> Option<&str> {
+        self.built_in
+    }
+
+    fn start<P: Purpose>(
+        &self,
+        alloc: Global,
+        deployment: Deployment,
+        purpose: P,
+    ) -> Result<(), Fault> {
+        let contexts = deployment.contexts.as_slice();
+        let servlets = objects_of(alloc, &ServletsOf(self.servlets), contexts)?;
+        let filters = objects_of(alloc, &FiltersOf(self.filters), contexts)?;
+        let listeners = objects_of(alloc, &ListenersOf(self.listeners), contexts)?;
+        let container = match Container::start(alloc, deployment, servlets, filters, listeners) {
+            Ok(container) => container,
+            Err(not_started) => return Err(not_started.fault.into()),
+        };
+        purpose.serve(alloc, container)
+    }
+}
