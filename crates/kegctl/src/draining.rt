@@ -5,85 +5,24 @@
 //! again.
 
 ghost use Rattle.std.specs.Prelude.{◌≡◌, OnOk};
+ghost use Rattle.sv_control.specs.Moving.{left_of};
 
-use crate::cluster::{port_of, read_cluster, takers};
 use crate::commands::{PATIENCE, halt, hand_over, tick, told};
 use crate::fault::Fault;
 use crate::journal::kept;
 use crate::limit::Limit;
 use crate::machine::Machine;
+use crate::route::{Moved, Route, route_of};
 use crate::words::Drain;
-use std::alloc::Global;
 use std::thread;
 use std::time::Duration;
 use sv_client::Address;
-use sv_config::Cluster;
-use sv_control::{Left, key_text, left_in};
+use sv_control::{Left, Replayed, key_text, left_in};
 use sv_model::{Key, KeyState, NODE_LIMIT, Record};
 use sv_script::NodeNumber;
 
 /// Between two looks, in thousandths of a second.
 const PAUSE: u64 = 250;
-
-/// A session that was handed over: its key, and when it was last named then, in seconds since 1970.
-type Moved = (Key, u64);
-
-/// Where sessions go from a node.
-struct Route {
-    /// The node's port.
-    port: u16,
-    /// The nodes that take its sessions.
-    to: Vec<NodeNumber>,
-    /// How many each has got, by its place in that list.
-    counts: Vec<u64>,
-    /// The sessions that were handed over, in order of their keys.
-    moved: Vec<Moved>,
-    /// The place in the list of nodes of the one that takes the next session.
-    next: usize,
-    limit: Limit,
-}
-
-impl Route {
-    /// Where the node is called.
-    fn address<M: Machine>(&self, machine: &M) -> Address {
-        Address {
-            port: self.port,
-            patience: self.limit.patience(machine),
-        }
-    }
-
-    /// The session was called back: it was handed over by this drain, and has been asked for since. It would be called back again.
-    fn is_called_back(&self, key: Key, last: u64) -> bool {
-        match self.moved.binary_search_by_key(&key, |moved| moved.0) {
-            Ok(at) => match self.moved.get(at) {
-                Some((_, then)) => *then != last,
-                None => false,
-            },
-            Err(_) => false,
-        }
-    }
-
-    /// One more has gone to the node at this place.
-    fn count(&mut self, at: usize) {
-        if let Some(count) = self.counts.get_mut(at) {
-            *count = count.saturating_add(1);
-        }
-    }
-}
-
-/// By hand, so that letting one go is one step.
-impl Drop for Route {
-    fn drop(self) {
-        let Route {
-            port: _,
-            to: _,
-            counts: _,
-            moved: _,
-            next: _,
-            limit: _,
-        } = self;
-    }
-}
 
 /// Says why a session stays.
 fn say_stays<M: Machine>(machine: &M, key: Key, answer: u8) -> Result<(), Fault> {
@@ -144,12 +83,12 @@ fn move_at<M: Machine>(
     machine: &M,
     route: &mut Route,
     fresh: &mut Vec<Moved>,
-    record: &Record,
+    entry: &Record,
 ) -> Result<(), Fault> {
     let Record::State {
         key,
         state: KeyState::Active { session, .. },
-    } = record
+    } = entry
     else {
         return Ok(());
     };
@@ -169,11 +108,11 @@ fn move_each<M: Machine>(
     fresh: &mut Vec<Moved>,
     kept: &[Record],
 ) -> Result<(), Fault> {
-    for record in kept {
+    for entry in kept {
         if route.limit.is_over(machine) {
             return Ok(());
         }
-        move_at(machine, route, fresh, record)?;
+        move_at(machine, route, fresh, entry)?;
     }
     Ok(())
 }
@@ -228,19 +167,38 @@ fn go_on<M: Machine>(
     }
 }
 
-/// What is left by a snapshot, where that is nothing or the time is over; else what is active is moved.
+/// Nothing is left by a snapshot, or the time is over.
+fn is_over<M: Machine>(machine: &M, limit: Limit, kept: &[Record]) -> Result<bool, Fault> {
+    let left = left_in(machine.alloc(), kept)?;
+    Ok(left.is_nothing() || limit.is_over(machine))
+}
+
+/// Whether the drain is over by a snapshot; else what is active is moved.
 fn look_at<M: Machine>(
     machine: &M,
     route: &mut Route,
     kept: &[Record],
     is_first: bool,
-) -> Result<Option<Left>, Fault> {
-    let left = left_in(machine.alloc(), kept)?;
-    if left.is_nothing() || route.limit.is_over(machine) {
-        return Ok(Some(left));
+) -> Result<bool, Fault> {
+    if is_over(machine, route.limit, kept)? {
+        return Ok(true);
     }
     match go_on(machine, route, kept, is_first) {
-        Ok(()) => Ok(None),
+        Ok(()) => Ok(false),
+        Err(fault) => Err(fault),
+    }
+}
+
+/// The same by what was read of a node's journal, which is given back if the drain is over.
+fn look_through<M: Machine>(
+    machine: &M,
+    route: &mut Route,
+    found: Replayed,
+    is_first: bool,
+) -> Result<Option<Replayed>, Fault> {
+    match look_at(machine, route, &found.kept, is_first) {
+        Ok(true) => Ok(Some(found)),
+        Ok(false) => Ok(None),
         Err(fault) => Err(fault),
     }
 }
@@ -251,19 +209,19 @@ fn look<M: Machine>(
     route: &mut Route,
     journal: &str,
     is_first: bool,
-) -> Result<Option<Left>, Fault> {
+) -> Result<Option<Replayed>, Fault> {
     match kept(machine, journal) {
-        Ok(found) => look_at(machine, route, &found.kept, is_first),
+        Ok(found) => look_through(machine, route, found, is_first),
         Err(fault) => Err(fault),
     }
 }
 
-/// Moves what is active at a node, until nothing is left, or the time is over; what is left.
-fn empty<M: Machine>(machine: &M, route: &mut Route, journal: &str) -> Result<Left, Fault> {
+/// Moves what is active at a node, until nothing is left, or the time is over; what the node keeps then.
+fn empty<M: Machine>(machine: &M, route: &mut Route, journal: &str) -> Result<Replayed, Fault> {
     let mut is_first = true;
     for _ in 0..u64::MAX {
-        if let Some(left) = look(machine, route, journal, is_first)? {
-            return Ok(left);
+        if let Some(found) = look(machine, route, journal, is_first)? {
+            return Ok(found);
         }
         is_first = false;
     }
@@ -280,66 +238,51 @@ fn say_moved<M: Machine>(machine: &M, route: &Route) -> Result<(), Fault> {
     Ok(())
 }
 
-/// Where the sessions of a node go, in a cluster.
-fn route_in(
-    alloc: Global,
-    cluster: &Cluster,
-    drain: Drain<'_>,
-    limit: Limit,
-) -> Result<Route, Fault> {
-    let port = port_of(cluster, drain.node)?;
-    let to = takers(alloc, cluster, drain.node, drain.to)?;
-    match Vec::from_elem(alloc, 0u64, to.len()) {
-        Ok(counts) => Ok(Route {
-            port,
-            to,
-            counts,
-            moved: Vec::new(alloc),
-            next: 0,
-            limit,
-        }),
-        Err(_) => Err(Fault::Memory),
-    }
-}
-
-fn route_of<M: Machine>(machine: &M, drain: Drain<'_>) -> Result<Route, Fault> {
-    let limit = Limit::new(machine, drain.seconds);
-    let cluster = read_cluster(machine, drain.config)?;
-    route_in(machine.alloc(), &cluster, drain, limit)
-}
-
-/// Says what is left of a drain, which is not done then; else the node is halted, if that was asked for.
-fn end<M: Machine>(machine: &M, port: u16, left: Left, halts: bool) -> Result<(), Fault>
-    ensures done { OnOk result (left ≡ record { active = 0; sent = 0 }) }
-{
-    if left.is_nothing() {
-        if halts {
-            let patience = PATIENCE;
-            halt(machine, Address { port, patience })?;
-        }
-        return Ok(());
-    }
+/// Says what is left of a drain, which isn't done then.
+fn say_left<M: Machine>(machine: &M, left: Left) -> Fault {
     match println!(machine;
         "{} sessions stay, and {} are not acknowledged",
         left.active, left.sent
     ) {
-        Ok(()) => Err(Fault::NotDone),
-        Err(_) => Err(Fault::Output),
+        Ok(()) => Fault::NotDone,
+        Err(_) => Fault::Output,
     }
 }
 
-/// Moves what is active at a node, and says how much went where; what is left.
-fn emptied<M: Machine>(machine: &M, route: &mut Route, journal: &str) -> Result<Left, Fault> {
-    let left = empty(machine, route, journal)?;
-    say_moved(machine, route)?;
-    Ok(left)
+/// Ends a drain by what the node keeps: says what is left by that, or halts the node if nothing is, and if that was asked for.
+fn end<M: Machine>(machine: &M, port: u16, kept: &[Record], halts: bool) -> Result<(), Fault>
+    ensures done { OnOk result (left_of kept.now ≡ (0, 0)) }
+{
+    let left = left_in(machine.alloc(), kept)?;
+    if !left.is_nothing() {
+        return Err(say_left(machine, left));
+    }
+    if halts {
+        let patience = PATIENCE;
+        halt(machine, Address { port, patience })?;
+    }
+    Ok(())
 }
 
-/// Takes a node out of use.
+/// Moves what is active at a node, and says how much went where; what the node keeps then.
+fn emptied<M: Machine>(machine: &M, route: &mut Route, journal: &str) -> Result<Replayed, Fault> {
+    match empty(machine, route, journal) {
+        Ok(found) => match say_moved(machine, route) {
+            Ok(()) => Ok(found),
+            Err(fault) => Err(fault),
+        },
+        Err(fault) => Err(fault),
+    }
+}
+
+/// Takes a node out of use, and warns if its keys get scarce.
 pub fn take_out<M: Machine>(machine: &M, drain: Drain<'_>) -> Result<(), Fault> {
     let mut route = route_of(machine, drain)?;
     match emptied(machine, &mut route, drain.journal) {
-        Ok(left) => end(machine, route.port, left, drain.halts),
+        Ok(found) => {
+            route.keys.warn(machine, &found.kept);
+            end(machine, route.port, &found.kept, drain.halts)
+        }
         Err(fault) => Err(fault),
     }
 }

@@ -17,10 +17,10 @@ impl Screen for HostRuntime {
     }
 }
 
-/// The network, the clock, files, programs, standard output, and memory.
-pub trait Machine: Network + Clock + Files + Processes + Print + Screen + AllocGlobal {}
+/// The network, the clock, files, programs, standard output and error, and memory.
+pub trait Machine: Network + Clock + Files + Processes + Print + Eprint + Screen + AllocGlobal {}
 
 impl<R> Machine for R
 where
-    R: Network + Clock + Files + Processes + Print + Screen + AllocGlobal,
+    R: Network + Clock + Files + Processes + Print + Eprint + Screen + AllocGlobal,
 {}

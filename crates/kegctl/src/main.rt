@@ -15,6 +15,8 @@ mod machine;
 mod offered;
 mod orders;
 mod program;
+mod room;
+mod route;
 mod status;
 mod stopping;
 mod watching;

@@ -10,6 +10,7 @@ use crate::fault::{DescriptorFault, Fault};
 use crate::journal::{entries, kept, records};
 use crate::machine::Machine;
 use crate::program::ask_program;
+use crate::room::Keys;
 use crate::status::show_status;
 use crate::stopping::stop;
 use crate::watching::watch;
@@ -52,6 +53,14 @@ fn check_config<M: Machine>(machine: &M, config: &str) -> Result<(), Fault> {
     check_text(machine, text.as_str())
 }
 
+/// What the descriptor at a path says of keys.
+fn keys_in<M: Machine>(machine: &M, config: &str) -> Result<Keys, Fault> {
+    match read_deployment(machine, config) {
+        Ok(deployment) => Ok(Keys::of(&deployment.cluster)),
+        Err(fault) => Err(fault),
+    }
+}
+
 /// The same, and whether a program would start with it, and a journal can be a node's.
 fn check<M: Machine>(machine: &M, order: Check<'_>) -> Result<(), Fault> {
     check_config(machine, order.config)?;
@@ -59,7 +68,7 @@ fn check<M: Machine>(machine: &M, order: Check<'_>) -> Result<(), Fault> {
         ask_program(machine, program, order.config)?;
     }
     match order.claim {
-        Some(claim) => check_claim(machine, claim),
+        Some(claim) => check_claim(machine, claim, keys_in(machine, order.config)?),
         None => Ok(()),
     }
 }

@@ -1,9 +1,10 @@
-//! Says whether a journal can be a node's.
+//! Says whether a journal can be a node's, and how many keys that node knows.
 
 use crate::fault::Fault;
 use crate::journal::{entries, records};
 use crate::machine::Machine;
-use sv_control::{RecordPlace, ShownRecord, is_anothers, is_own, places_of};
+use crate::room::Keys;
+use sv_control::{RecordPlace, ShownRecord, is_anothers, is_own, places_of, replay};
 use sv_model::Record;
 use sv_script::NodeNumber;
 
@@ -13,6 +14,13 @@ pub struct Claim<'a> {
     /// The first of its files.
     pub journal: &'a str,
     pub node: NodeNumber,
+}
+
+/// A node, and what its descriptor says of keys.
+#[derive(Clone, Copy, Debug, PartialEq, Eq)]
+struct Owner {
+    node: NodeNumber,
+    keys: Keys,
 }
 
 /// Says by which record the journal is another node's.
@@ -71,33 +79,39 @@ fn say_may<M: Machine>(machine: &M, node: NodeNumber, records: &[Record]) -> Res
     }
 }
 
+/// Says how many keys are known by records.
+fn say_room<M: Machine>(machine: &M, keys: Keys, records: &[Record]) -> Result<(), Fault> {
+    match replay(machine.alloc(), records) {
+        Ok(found) => keys.say(machine, &found.kept),
+        Err(fault) => Err(fault.into()),
+    }
+}
+
 fn look_at<M: Machine>(
     machine: &M,
-    node: NodeNumber,
+    owner: Owner,
     entries: &[Vec<u8>],
     records: &[Record],
 ) -> Result<(), Fault> {
     let places = places_of(machine.alloc(), entries)?;
-    look_for_anothers(machine, node, &places, records)?;
-    say_may(machine, node, records)
+    look_for_anothers(machine, owner.node, &places, records)?;
+    say_may(machine, owner.node, records)?;
+    say_room(machine, owner.keys, records)
 }
 
 /// The same of payloads of a journal.
-fn look_through<M: Machine>(
-    machine: &M,
-    node: NodeNumber,
-    entries: &[Vec<u8>],
-) -> Result<(), Fault> {
+fn look_through<M: Machine>(machine: &M, owner: Owner, entries: &[Vec<u8>]) -> Result<(), Fault> {
     match records(machine, entries) {
-        Ok(records) => look_at(machine, node, entries, &records),
+        Ok(records) => look_at(machine, owner, entries, &records),
         Err(fault) => Err(fault),
     }
 }
 
-/// Says whether a journal can be a node's, by its records.
-pub fn check_claim<M: Machine>(machine: &M, claim: Claim<'_>) -> Result<(), Fault> {
+/// Says whether a journal can be a node's, by its records, and how many keys the node knows then.
+pub fn check_claim<M: Machine>(machine: &M, claim: Claim<'_>, keys: Keys) -> Result<(), Fault> {
+    let node = claim.node;
     match entries(machine, claim.journal) {
-        Ok(entries) => look_through(machine, claim.node, &entries),
+        Ok(entries) => look_through(machine, Owner { node, keys }, &entries),
         Err(fault) => Err(fault),
     }
 }

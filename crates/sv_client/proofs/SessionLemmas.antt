@@ -1,9 +1,12 @@
 -- The session that a cookie names.
-use Rattle.std.proofs.Common.{◌≡◌, ℕ, List, Some}
+use Rattle.std.proofs.Common.{◌≡◌, ℕ, List, [], ◌∷◌, Some, codes}
+use Rattle.std.proofs.lemmas.List.{append-nil}
+use Rattle.http_header.specs.FieldValue.{FieldValue}
 use Rattle.sv_model.specs.Keys.{IsKey}
 use Rattle.sv_model.specs.declared.key.Key.{Key}
 use Rattle.sv_model.specs.declared.key.Secret.{Secret}
 use Rattle.sv_model.specs.declared.request.Cookie.{Cookie}
+use Rattle.sv_target.specs.Cookies.{cookies_of, is_cookie_field, pairs_of}
 use Rattle.sv_target.specs.SessionCookie.{session_cookie}
 use Rattle.sv_target.proofs.NamedLemmas.{IsCookieOf-session_cookie}
 
@@ -12,3 +15,8 @@ pub nameable : (cookies : List Cookie) (context : ℕ) (key : Key) (secret : Sec
 nameable cookies context key secret found =
     let its = IsCookieOf-session_cookie context key secret cookies found in
     (its.0.home, its.0.serial)
+
+-- the pairs of one field are those of its value
+pub pairs_alone : (value : FieldValue) → cookies_of (record { name = codes "cookie"; value = value } ∷ []) ≡ pairs_of value.bytes
+unfolding is_cookie_field
+pairs_alone value = append-nil (pairs_of value.bytes)

@@ -5,4 +5,5 @@ pub mod Moving
 pub mod Naming
 pub mod Places
 pub mod Records
+pub mod Room
 pub mod Whose

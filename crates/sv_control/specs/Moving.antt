@@ -4,7 +4,7 @@ use Rattle.std.specs.List.{flat_map}
 use Rattle.std.specs.FinMap.{entries}
 use Rattle.sv_model.specs.declared.key.Key.{Key}
 use Rattle.sv_model.specs.declared.record.Record.{Record}
-use Rattle.sv_model.specs.declared.record.Record.TheVariants.{Boot, Commit, Expired, Sent as SentRecord, Taken, Gone as GoneRecord, State, Counters}
+use Rattle.sv_model.specs.declared.record.Record.TheVariants.{Boot, Commit, Expired, Sent as SentRecord, Taken, Gone as GoneRecord, State, Counters, Forgets, Counted}
 use Rattle.sv_model.specs.declared.state.KeyState.{KeyState}
 use Rattle.sv_model.specs.declared.state.KeyState.TheVariants.{Active, Sent, Gone, Ended}
 use Rattle.sv_model.specs.NodeState.{Durable}
@@ -19,6 +19,8 @@ at_state f (Taken k e from s) = []
 at_state f (GoneRecord k e) = []
 at_state f (State k st) = f k st
 at_state f (Counters boot next) = []
+at_state f (Forgets home boot) = []
+at_state f (Counted home boot next) = []
 
 -- the key, if its session is active
 abbrev pub if_active : Key → KeyState → List Key

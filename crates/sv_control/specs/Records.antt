@@ -4,7 +4,7 @@ use Rattle.sv_model.specs.declared.key.Key.{Key}
 use Rattle.sv_model.specs.declared.record.Change.{Change}
 use Rattle.sv_model.specs.declared.record.Change.TheVariants.{Absent, Alive, Ended as ChangeEnded}
 use Rattle.sv_model.specs.declared.record.Record.{Record}
-use Rattle.sv_model.specs.declared.record.Record.TheVariants.{Boot, Commit, Expired, Sent as SentRecord, Taken, Gone as GoneRecord, State, Counters}
+use Rattle.sv_model.specs.declared.record.Record.TheVariants.{Boot, Commit, Expired, Sent as SentRecord, Taken, Gone as GoneRecord, State, Counters, Forgets, Counted}
 use Rattle.sv_model.specs.declared.state.KeyState.{KeyState}
 use Rattle.sv_model.specs.declared.state.KeyState.TheVariants.{Active, Sent, Gone, Ended}
 use Rattle.sv_control.specs.Naming.{key_text}
@@ -47,6 +47,14 @@ gone_text k e = codes "gone " ++ key_text k ++ codes ", epoch " ++ decimal e
 abbrev pub counters_text : ℕ → ℕ → List ℕ
 counters_text boot next = codes "snapshot behind start " ++ decimal boot ++ codes ", next serial " ++ decimal next
 
+-- the first start behind which the journal forgets
+abbrev pub forgets_text : ℕ → ℕ → List ℕ
+forgets_text home boot = codes "node " ++ decimal home ++ codes " forgets from start " ++ decimal boot
+
+-- the head of a snapshot of a journal that forgets
+abbrev pub counted_text : ℕ → ℕ → ℕ → List ℕ
+counted_text home boot next = codes "node " ++ decimal home ++ codes " forgets, " ++ counters_text boot next
+
 -- what a record says
 abbrev pub record_text : Record → List ℕ
 record_text (Boot boot) = codes "start " ++ decimal boot
@@ -57,3 +65,5 @@ record_text (Taken k e from s) = way_text (codes "taken") k (codes " from ") fro
 record_text (GoneRecord k e) = gone_text k e
 record_text (State k state) = state_text k state
 record_text (Counters boot next) = counters_text boot next
+record_text (Forgets home boot) = forgets_text home boot
+record_text (Counted home boot next) = counted_text home boot next

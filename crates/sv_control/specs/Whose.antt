@@ -3,7 +3,7 @@ use Rattle.std.specs.Prelude.{ℕ, Bool, true, false, ◌==◌, not}
 use Rattle.sv_model.specs.declared.record.Change.{Change}
 use Rattle.sv_model.specs.declared.record.Change.TheVariants.{Absent, Alive, Ended as ChangeEnded}
 use Rattle.sv_model.specs.declared.record.Record.{Record}
-use Rattle.sv_model.specs.declared.record.Record.TheVariants.{Boot, Commit, Expired, Sent as SentRecord, Taken, Gone as GoneRecord, State, Counters}
+use Rattle.sv_model.specs.declared.record.Record.TheVariants.{Boot, Commit, Expired, Sent as SentRecord, Taken, Gone as GoneRecord, State, Counters, Forgets, Counted}
 use Rattle.sv_model.specs.declared.state.KeyState.{KeyState}
 use Rattle.sv_model.specs.declared.state.KeyState.TheVariants.{Active, Sent, Gone, Ended}
 
@@ -20,7 +20,7 @@ is_sent_to node (Sent e s to) = to == node
 is_sent_to node (Gone e) = false
 is_sent_to node (Ended e) = false
 
--- no journal of this node has the record: another node has made a session by it, or it sends one to this node or takes one from it
+-- no journal of this node has the record: another node has made a session by it or forgets by it, or it sends one to this node or takes one from it
 abbrev pub is_anothers : ℕ → Record → Bool
 is_anothers node (Boot boot) = false
 is_anothers node (Commit named born) = is_made (λ home. not (home == node)) born
@@ -30,8 +30,10 @@ is_anothers node (Taken k e from s) = from == node
 is_anothers node (GoneRecord k e) = false
 is_anothers node (State k st) = is_sent_to node st
 is_anothers node (Counters boot next) = false
+is_anothers node (Forgets home boot) = not (home == node)
+is_anothers node (Counted home boot next) = not (home == node)
 
--- only a journal of this node has the record: the node has made a session by it
+-- only a journal of this node has the record: the node has made a session by it or forgets by it
 abbrev pub is_own : ℕ → Record → Bool
 is_own node (Boot boot) = false
 is_own node (Commit named born) = is_made (λ home. home == node) born
@@ -41,3 +43,5 @@ is_own node (Taken k e from s) = false
 is_own node (GoneRecord k e) = false
 is_own node (State k st) = false
 is_own node (Counters boot next) = false
+is_own node (Forgets home boot) = home == node
+is_own node (Counted home boot next) = home == node

@@ -13,6 +13,9 @@ use sv_config::{
 };
 use sv_mapping::{Dispatcher, Dispatchers, FilterMapping, FilterTarget};
 
+/// The keys that a node knows at most, where its descriptor says nothing of them.
+const USUAL_KEYS: u32 = 65_536;
+
 /// Which of a context's filter mappings are called first, and which behind them.
 #[derive(Clone, Copy, PartialEq, Eq)]
 enum MappedBy {
@@ -130,11 +133,24 @@ fn nodes_text(alloc: Global, ports: &[u16]) -> Result<String, AllocError> {
 fn cluster_text(alloc: Global, cluster: &Cluster) -> Result<String, AllocError> {
     let nodes = nodes_text(alloc, &cluster.ports)?;
     let deadline = cluster.deadline;
+    let keys = keys_text(alloc, cluster)?;
     match &cluster.secrets {
         Some(secrets) => {
-            format!(in alloc; "{nodes}deadline {deadline} seconds\nsecrets {secrets}")
+            format!(in alloc; "{nodes}deadline {deadline} seconds\nsecrets {secrets}{keys}")
         }
-        None => format!(in alloc; "{nodes}deadline {deadline} seconds\nsecrets counted"),
+        None => format!(in alloc; "{nodes}deadline {deadline} seconds\nsecrets counted{keys}"),
+    }
+}
+
+/// How many keys a node knows, and whether it forgets some; nothing where both are as they are of themselves.
+fn keys_text(alloc: Global, cluster: &Cluster) -> Result<String, AllocError> {
+    let keys = cluster.keys;
+    if cluster.forget {
+        format!(in alloc; "\nkeys {keys}, forgotten where they end at home")
+    } else if keys == USUAL_KEYS {
+        Ok(String::new(alloc))
+    } else {
+        format!(in alloc; "\nkeys {keys}")
     }
 }
 

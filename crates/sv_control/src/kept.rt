@@ -13,7 +13,7 @@ ghost use Rattle.sv_control.specs.declared.images.FoundFault.TheVariants.{Memory
 use crate::images::FoundFault;
 use std::alloc::{AllocError, Global};
 use sv_core::{ApplyFault, Core};
-use sv_model::{NODE_LIMIT, Record, Setting};
+use sv_model::{KEY_MOST, NODE_LIMIT, Record, Setting};
 use sv_record::{RecordFault, read_record};
 
 /// The record that a payload is, the one at this place.
@@ -57,6 +57,8 @@ fn kept_at(alloc: Global, node: u8, records: &[Record]) -> Result<Vec<Record>, A
         node,
         nodes: NODE_LIMIT,
         deadline: 1,
+        keys: KEY_MOST as u32,
+        forget: false,
     };
     let core = match Core::recover(alloc, (), setting, records) {
         Ok(core) => core,

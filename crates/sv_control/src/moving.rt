@@ -1,4 +1,4 @@
-//! Which sessions a drain moves, and what is left of one.
+//! What is left of a drain, by a snapshot of what the node keeps.
 
 ghost use Rattle.std.specs.Prelude.{◌≡◌, ◌↔◌, ◌++◌, IfOk, OnOk, IsTrue};
 ghost use Rattle.sv_control.specs.Moving.{active_at, active_in, sent_at, sent_in, left_of};
@@ -19,8 +19,8 @@ fn add_active(keys: &mut Vec<Key>, entry: &Record) -> Result<(), AllocError>
     }
 }
 
-/// The keys of the sessions that a drain moves: of all that are active by this snapshot, whenever they came, in its order.
-pub fn to_move(alloc: Global, kept: &[Record]) -> Result<Vec<Key>, AllocError>
+/// The keys of the sessions that are active by a snapshot, in its order: a drain that leaves any of them isn't done.
+pub fn active_keys(alloc: Global, kept: &[Record]) -> Result<Vec<Key>, AllocError>
     ensures { IfOk result (λ keys. keys.items ≡ active_in kept.now) }
 {
     let mut keys = Vec::new(alloc);
@@ -76,7 +76,7 @@ impl Left {
 pub fn left_in(alloc: Global, kept: &[Record]) -> Result<Left, AllocError>
     ensures { IfOk result (λ left. (left.active, left.sent) ≡ left_of kept.now) }
 {
-    let active = to_move(alloc, kept)?;
+    let active = active_keys(alloc, kept)?;
     let sent = on_their_way(alloc, kept)?;
     Ok(Left {
         active: active.len(),

@@ -3,7 +3,7 @@
 ghost use Rattle.std.specs.Prelude.{◌≡◌, ◌++◌, decimal};
 ghost use Rattle.std.specs.Fmt.{WritesOnOk};
 ghost use Rattle.sv_control.specs.Records as spec;
-ghost use Rattle.sv_control.specs.Records.{change_text, commit_text, gone_text, place_part, state_text, way_text};
+ghost use Rattle.sv_control.specs.Records.{change_text, commit_text, counted_text, counters_text, forgets_text, gone_text, place_part, state_text, way_text};
 
 use crate::naming::ShownKey;
 use std::fmt;
@@ -101,6 +101,37 @@ fn write_gone<W: fmt::Write>(f: &mut fmt::Formatter<W>, key: Key, epoch: u64) ->
     write!(f, "gone {}, epoch {epoch}", ShownKey(key))
 }
 
+/// Writes the counters of a snapshot.
+fn write_counters<W: fmt::Write>(f: &mut fmt::Formatter<W>, boot: u64, next: u64) -> fmt::Result
+    ensures { WritesOnOk W.write_str_gives f.old result (counters_text boot next) f.new }
+{
+    write_two(
+        f,
+        ("snapshot behind start ", boot),
+        (", next serial ", next),
+    )
+}
+
+/// Writes from which start on a node forgets.
+fn write_forgets<W: fmt::Write>(f: &mut fmt::Formatter<W>, home: u8, boot: u64) -> fmt::Result
+    ensures { WritesOnOk W.write_str_gives f.old result (forgets_text home boot) f.new }
+{
+    write!(f, "node {home} forgets from start {boot}")
+}
+
+/// Writes the counters of a node that forgets.
+fn write_counted<W: fmt::Write>(
+    f: &mut fmt::Formatter<W>,
+    home: u8,
+    boot: u64,
+    next: u64,
+) -> fmt::Result
+    ensures { WritesOnOk W.write_str_gives f.old result (counted_text home boot next) f.new }
+{
+    write!(f, "node {home} forgets, ")?;
+    write_counters(f, boot, next)
+}
+
 /// A record, which prints as what it says.
 #[derive(Clone, Copy)]
 pub struct ShownRecord<'a>(pub &'a Record);
@@ -127,13 +158,9 @@ impl fmt::Display for ShownRecord<'_> {
             } => { write_way(f, "taken", *key, (" from ", *from), *epoch) }
             Record::Gone { key, epoch } => write_gone(f, *key, *epoch),
             Record::State { key, state } => write_state(f, *key, state),
-            Record::Counters { boot, next } => {
-                write_two(
-                    f,
-                    ("snapshot behind start ", *boot),
-                    (", next serial ", *next),
-                )
-            }
+            Record::Counters { boot, next } => write_counters(f, *boot, *next),
+            Record::Forgets { home, boot } => write_forgets(f, *home, *boot),
+            Record::Counted { home, boot, next } => write_counted(f, *home, *boot, *next),
         }
     }
 }

@@ -35,7 +35,7 @@ fn is_sent_to(node: u8, state: &KeyState) -> bool
     }
 }
 
-/// No journal of this node has such a record: another node makes a session by it, it sends one to this node, or takes one from it.
+/// No journal of this node has such a record: another node makes a session by it or forgets by it, it sends one to this node, or takes one from it.
 pub fn is_anothers(node: u8, entry: &Record) -> bool
     ensures { result ≡ spec.is_anothers node entry.now }
 {
@@ -44,16 +44,18 @@ pub fn is_anothers(node: u8, entry: &Record) -> bool
         Record::Sent { to, .. } => *to == node,
         Record::Taken { from, .. } => *from == node,
         Record::State { state, .. } => is_sent_to(node, state),
+        Record::Forgets { home, .. } | Record::Counted { home, .. } => *home != node,
         _ => false,
     }
 }
 
-/// Only this node's journal has such a record: it makes a session by it.
+/// Only this node's journal has such a record: it makes a session by it, or forgets by it.
 pub fn is_own(node: u8, entry: &Record) -> bool
     ensures { result ≡ spec.is_own node entry.now }
 {
     match entry {
         Record::Commit { born, .. } => is_made_by(node, born),
+        Record::Forgets { home, .. } | Record::Counted { home, .. } => *home == node,
         _ => false,
     }
 }

@@ -2,12 +2,15 @@
 
 use crate::column::Column;
 use crate::figures::Figures;
-use crate::number::rate_of;
+use crate::number::{percent_of, rate_of};
 use crate::row::{Row, Shown};
 use std::alloc::{AllocError, Global};
 
 /// Figures that are older than this, in seconds, are old: a node writes them every 5.
 const OLD: u64 = 15;
+
+/// From so many in a hundred on there is little room.
+const SCARCE: u64 = 80;
 
 /// A cell of a table.
 #[derive(Drop)]
@@ -44,11 +47,19 @@ fn level(alloc: Global, number: u64, before: Option<u64>) -> Result<Cell, AllocE
     })
 }
 
-/// A number, and of how many.
+/// A number, and of how many; marked if there is little room, or none.
 fn limited(alloc: Global, number: u64, limit: u64) -> Result<Cell, AllocError> {
+    let percent = percent_of(number, limit);
+    let text = if number >= limit {
+        format!(in alloc; "FULL: {number} of {limit}")?
+    } else if percent >= SCARCE {
+        format!(in alloc; "{percent}%: {number} of {limit}")?
+    } else {
+        format!(in alloc; "{number} of {limit}")?
+    };
     Ok(Cell {
-        text: format!(in alloc; "{number} of {limit}")?,
-        stands_out: number >= limit,
+        text,
+        stands_out: percent >= SCARCE,
     })
 }
 

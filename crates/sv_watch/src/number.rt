@@ -25,6 +25,11 @@ pub fn nanoseconds_of(value: &str) -> Option<u64> {
         .checked_add(whole_of(rest)?)
 }
 
+/// How many in a hundred, rounded down; of none all.
+pub fn percent_of(number: u64, all: u64) -> u64 {
+    number.saturating_mul(100).checked_div(all).unwrap_or(100)
+}
+
 /// How often a second, in tenths.
 #[derive(Clone, Copy, Debug, PartialEq, Eq)]
 pub struct Rate {

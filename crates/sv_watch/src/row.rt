@@ -7,7 +7,7 @@ pub enum Shown {
     Age,
     /// A number as it is.
     Level,
-    /// A number, and how many there can be: a figure of the name with `_limit` behind it.
+    /// A number, and how many there can be: a figure of the name with `_limit` behind it. From 80 in a hundred on it is marked.
     Limited,
     /// A number since the start, and how often a second it rises.
     Counter,
