@@ -1,3 +1,1 @@
 pub mod Welcome
-pub mod Latch
-pub mod Visits

@@ -1,17 +1,11 @@
 -- What the servlet answers.
-use Rattle.std.specs.Prelude.{Result, Ok, Err, codes}
+use Rattle.std.specs.Prelude.{codes}
 use Rattle.sv_servlet.specs.Call.{Asked}
-use Rattle.sv_servlet.specs.Reply.{write_result}
-use Rattle.sv_servlet.specs.ReplyState.{ReplyState}
-use Rattle.sv_servlet.specs.Servlet.{Answer, Lent, answer, lent}
-use Rattle.sv_servlet.specs.declared.reply.ReplyFault.{ReplyFault}
+use Rattle.sv_servlet.specs.declared.servlet.Next.{Next}
 use Rattle.sv_servlet.specs.declared.servlet.Next.TheVariants.{Done}
+use Rattle.sv_web.specs.Steps.{plain_text, written}
+use Rattle.sv_web.specs.Work.{Work}
 
--- the reply with what was written; where it takes no more nothing is asked of the answer
-abbrev pub with_reply : Lent → Result ReplyState ReplyFault → Lent
-with_reply l (Ok reply) = lent l.edit reply
-with_reply l (Err fault) = l
-
--- a line, whatever is asked
-abbrev pub welcomed : Asked → Lent → Answer
-welcomed call l = answer (with_reply l (write_result l.reply (codes "Welcome\n"))) Done
+-- a line of plain text, whatever is asked
+abbrev pub welcome : Asked → Work Next
+welcome call = plain_text (written (codes "Welcome\n") Done)

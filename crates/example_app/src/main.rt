@@ -1,25 +1,15 @@
-//! An application of one's own: a servlet, a filter and a listener, and a program that serves them.
+//! An application of one servlet, to begin with.
 //!
-//! The program serves standard input to its end and writes the responses to standard output.
+//! The words of the program `example_app` mean what they mean to the program `node`; a descriptor's names stand for the objects below.
 #![tactic(auto)]
 
-mod latch;
-mod serve;
-mod start;
-mod visits;
 mod welcome;
 
-use serve::serve;
-use start::start;
-use std::io;
 use std::process::ExitCode;
+use sv_launch::{Application, launch};
+use welcome::Welcome;
 
 fn main(rt: HostRuntime) -> ExitCode {
-    let Some(container) = start(rt.alloc()) else {
-        return ExitCode::FAILURE;
-    };
-    let mut reader = rt.reader();
-    let mut writer = io::writer(&rt);
-    serve(rt.alloc(), container, &mut reader, &mut writer);
-    ExitCode::SUCCESS
+    let application = Application::new(rt.alloc()).servlet("welcome", Welcome);
+    launch(&rt, "example_app", &application)
 }

@@ -1,40 +1,28 @@
-//! What a servlet answers.
+//! What the servlet answers.
 
-ghost use Rattle.std.specs.Prelude.{◌≡◌, OnOk, Ok};
-ghost use Rattle.sv_servlet.specs.Reply.{write_result};
-
-use std::alloc::AllocError;
-use sv_servlet::{Answers, Call, Next, Reply};
+use std::alloc::Global;
+use sv_servlet::{Call, Next, Reply};
 use sv_session::SessionEdit;
+use sv_web::{HttpServlet, Refusal, set_plain_text};
 
 /// Welcomes whoever asks.
-#[derive(Drop)]
+#[derive(Clone, Copy)]
 pub struct Welcome;
 
-/// Writes a text. Where the reply takes no more, the request ends as one for which memory is refused.
-fn write(reply: &mut Reply, text: &str) -> Result<(), AllocError>
-    ensures { OnOk result (write_result reply.old text.now ≡ Ok reply.new) }
-{
-    match reply.write(text.as_bytes()) {
-        Ok(()) => Ok(()),
-        Err(_) => Err(AllocError),
-    }
-}
+impl HttpServlet for Welcome {
+    ghost use Rattle.example_app.specs.Welcome.{welcome};
 
-impl Answers for Welcome {
-    ghost use Rattle.example_app.specs.Welcome.{welcomed};
+    ghost work = { λ _. welcome };
 
-    ghost answers = { λ _. welcomed };
-
-    fn answer(
+    fn serve(
         &mut self,
+        _alloc: Global,
         _call: &Call<'_>,
         _edit: &mut SessionEdit,
         reply: &mut Reply,
-    ) -> Result<Next, AllocError> {
-        write(reply, "Welcome\n")?;
+    ) -> Result<Next, Refusal> {
+        set_plain_text(reply)?;
+        reply.write(b"Welcome\n")?;
         Ok(Next::Done)
     }
-
-    fn goes_on(&self) {}
 }

@@ -6,4 +6,5 @@ pub mod Kept
 pub mod Notice
 pub mod Order
 pub mod Pages
+pub mod Shape
 pub mod Visit

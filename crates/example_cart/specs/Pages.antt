@@ -1,6 +1,6 @@
 -- The pages of the shop: the markup of the program, and between it numbers, prices and texts by their references.
 use Rattle.std.specs.Prelude.{ℕ, ◌+◌, ◌==◌, Bool, List, [], ◌∷◌, ◌++◌, codes, decimal, Option, Some, None, option_and_then, option_copied, option_map, slice_get, if◌then◌else◌}
-use Rattle.std.specs.List.{concat}
+use Rattle.std.specs.List.{concat, flat_map}
 use Rattle.example_cart.specs.declared.article.Article.{Article}
 use Rattle.example_cart.specs.declared.notice.Notice.{Notice}
 use Rattle.example_cart.specs.declared.notice.Said.{Said}
@@ -12,9 +12,10 @@ use Rattle.example_cart.specs.declared.rows.Listing.{Listing}
 use Rattle.example_cart.specs.declared.rows.Listing.TheVariants.{Offers, Lines, Ordered}
 use Rattle.example_cart.specs.declared.rows.Rows.{Rows}
 use Rattle.example_cart.specs.declared.rows.Wrong.{Wrong}
-use Rattle.example_cart.specs.declared.markup.TheConstants.{ADDED, ADD_FAULT, ADD_FIELD, AGAIN, ANEW, AT_MOST, BEFORE_ADD, BEFORE_ARTICLE, BEFORE_ARTICLE_NAME, BEFORE_BASE, BEFORE_CHANGE, BEFORE_CHECKOUT, BEFORE_CODE, BEFORE_COST, BEFORE_COUNT, BEFORE_FAULT, BEFORE_FIELD, BEFORE_HEADING, BEFORE_LABEL, BEFORE_LABEL_NAME, BEFORE_MESSAGE, BEFORE_MOVES, BEFORE_NAME, BEFORE_NODE, BEFORE_NUMBER, BEFORE_ORDER, BEFORE_PAGE, BEFORE_PRICE, BEFORE_REMOVE, BEFORE_SAID, BEFORE_SKIP, BEFORE_TITLE, BEFORE_TOTAL, BEFORE_VISIT, BEHIND_ADD, BEHIND_CHECKOUT, BEHIND_COUNT, BEHIND_FAULT, BEHIND_NAME, BEHIND_ORDER, BEHIND_ORDERED, BEHIND_ORDER_TOTAL, BEHIND_REMOVE, BEHIND_SAID, BEHIND_VALUE, CART, CATALOGUE, CHANGED, CHANGE_FAULT, CHANGE_FIELD, END, GOODBYE, LINES, LINES_END, LOGIN_FORM, NEW_CART, NOTHING, NOT_ORDERED, NO_ORDER, OUTDATED, STOP, TIMES, WAYS}
+use Rattle.example_cart.specs.declared.markup.TheConstants.{ADDED, ADD_FAULT, ADD_FIELD, AGAIN, ANEW, AT_MOST, BEFORE_ADD, BEFORE_ARTICLE_NAME, BEFORE_BASE, BEFORE_CHANGE, BEFORE_CHECKOUT, BEFORE_CODE, BEFORE_COST, BEFORE_COUNT, BEFORE_FAULT, BEFORE_FIELD, BEFORE_HEADING, BEFORE_LABEL, BEFORE_LABEL_NAME, BEFORE_MESSAGE, BEFORE_MOVES, BEFORE_NAME, BEFORE_NODE, BEFORE_NUMBER, BEFORE_ORDER, BEFORE_PAGE, BEFORE_PICTURE, BEFORE_PRICE, BEFORE_REMOVE, BEFORE_SAID, BEFORE_SKIP, BEFORE_TITLE, BEFORE_TOTAL, BEFORE_VISIT, BEHIND_ADD, BEHIND_CHECKOUT, BEHIND_COUNT, BEHIND_FAULT, BEHIND_NAME, BEHIND_ORDER, BEHIND_ORDERED, BEHIND_ORDER_TOTAL, BEHIND_REMOVE, BEHIND_SAID, BEHIND_VALUE, CART, CATALOGUE, CHANGED, CHANGE_FAULT, CHANGE_FIELD, END, GOODBYE, LINES, LINES_END, LOGIN_FORM, NEW_CART, NOTHING, NOT_ORDERED, NO_ORDER, OUTDATED, STOP, TIMES, WAYS}
 use Rattle.example_cart.specs.Cart.{cost, is_empty, total}
 use Rattle.example_cart.specs.Html.{escaped, price}
+use Rattle.example_cart.specs.Shape.{shape_html}
 
 -- ---- what stands round every page, and what was typed that is no quantity
 
@@ -40,7 +41,8 @@ typed_at wrong number = option_and_then (λ w. if w.0 == number then Some w.1 el
 
 -- an article's picture and name, up to what is said of its price
 unfoldable pub name_html : Article → List ℕ
-name_html article = concat (BEFORE_ARTICLE.now ∷ article.picture.now ∷ BEFORE_ARTICLE_NAME.now ∷ escaped article.name.now ∷ BEFORE_PRICE.now ∷ [])
+name_html article =
+    concat (BEFORE_PICTURE.now ∷ []) ++ flat_map shape_html article.picture.now ++ concat (BEFORE_ARTICLE_NAME.now ∷ escaped article.name.now ∷ BEFORE_PRICE.now ∷ [])
 
 unfoldable pub price_html : Article → List ℕ
 price_html article = concat (price article.price ∷ [])

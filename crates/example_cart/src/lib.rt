@@ -19,6 +19,7 @@ mod pages;
 mod pictures;
 mod post;
 mod rows;
+mod shape;
 mod style;
 mod visit;
 

@@ -77,9 +77,27 @@ pub const LINES: &str = "<ul class=\"lines\">\n";
 
 pub const LINES_END: &str = "</ul>\n";
 
-pub const BEFORE_ARTICLE: &str = "<li>\n";
+pub const BEFORE_PICTURE: &str = r#"<li>
+<svg class="picture" viewBox="0 0 64 64" aria-hidden="true" focusable="false">
+"#;
 
-pub const BEFORE_ARTICLE_NAME: &str = r#"<h2 class="name">"#;
+pub const BEFORE_FILL: &str = r#"<path fill=""#;
+
+pub const ALONG: &str = r#"" d=""#;
+
+pub const BEFORE_ACROSS: &str = r#"<circle cx=""#;
+
+pub const BEFORE_DOWN: &str = r#"" cy=""#;
+
+pub const BEFORE_RADIUS: &str = r#"" r=""#;
+
+pub const BEFORE_CIRCLE_FILL: &str = r#"" fill=""#;
+
+pub const BEHIND_SHAPE: &str = "\"/>\n";
+
+pub const LINE_END: &str = "\n";
+
+pub const BEFORE_ARTICLE_NAME: &str = "</svg>\n<h2 class=\"name\">";
 
 pub const BEFORE_PRICE: &str = "</h2>\n<p class=\"price\">";
 

@@ -1,108 +1,115 @@
-//! The pictures of the shop, in SVG. Each is of 64 by 64 units; a reader is told the name beside it, and not the picture.
+//! The pictures of the shop, in shapes; and its mark.
+
+use crate::shape::Shape;
+use crate::shape::Shape::{Circle, Element, Path};
 
 /// An oak barrel with two hoops.
-pub const BARREL: &str =
-    r##"<svg class="picture" viewBox="0 0 64 64" aria-hidden="true" focusable="false">
-<path fill="#b5763a" d="M16 8h32c6 14 6 34 0 48H16c-6-14-6-34 0-48z"/>
-<path fill="#8a5526" d="M23 8c-3 15-3 33 0 48h3c-2-15-2-33 0-48zm15 0c2 15 2 33 0 48h3c3-15 3-33 0-48z"/>
-<path fill="#4a4f57" d="M13 17h38l1 5H12zM12 42h40l-1 5H13z"/>
-</svg>
-"##;
+pub const BARREL: [Shape; 3] = [
+    Path("#b5763a", "M16 8h32c6 14 6 34 0 48H16c-6-14-6-34 0-48z"),
+    Path(
+        "#8a5526",
+        "M23 8c-3 15-3 33 0 48h3c-2-15-2-33 0-48zm15 0c2 15 2 33 0 48h3c3-15 3-33 0-48z",
+    ),
+    Path("#4a4f57", "M13 17h38l1 5H12zM12 42h40l-1 5H13z"),
+];
 
 /// A tap with its handle.
-pub const TAP: &str =
-    r##"<svg class="picture" viewBox="0 0 64 64" aria-hidden="true" focusable="false">
-<path fill="#8a6a1f" d="M6 24h9v20H6z"/>
-<path fill="#c9982f" d="M15 28h25c8 0 13 5 13 13v11H43V42c0-2-1-3-3-3H15z"/>
-<path fill="#a87a1c" d="M27 16h6v12h-6z"/>
-<path fill="#6b3b1f" d="M18 9h24a4 4 0 0 1 0 8H18a4 4 0 0 1 0-8z"/>
-</svg>
-"##;
+pub const TAP: [Shape; 4] = [
+    Path("#8a6a1f", "M6 24h9v20H6z"),
+    Path(
+        "#c9982f",
+        "M15 28h25c8 0 13 5 13 13v11H43V42c0-2-1-3-3-3H15z",
+    ),
+    Path("#a87a1c", "M27 16h6v12h-6z"),
+    Path("#6b3b1f", "M18 9h24a4 4 0 0 1 0 8H18a4 4 0 0 1 0-8z"),
+];
 
 /// A cone of hops, and an ear of barley.
-pub const HOPS: &str =
-    r##"<svg class="picture" viewBox="0 0 64 64" aria-hidden="true" focusable="false">
-<path fill="#5d8a3a" d="M23 10c11 7 15 18 10 33-4 9-16 9-20 0-5-15-1-26 10-33z"/>
-<path fill="#44692a" d="M23 17l8 6-8 6-8-6zm0 13l10 7-10 7-10-7z"/>
-<path fill="#c99a3b" d="M47 14c4 5 4 10 0 15-4-5-4-10 0-15zm9 11c0 6-3 10-8 12 0-6 3-10 8-12zm-18 0c5 2 8 6 8 12-5-2-8-6-8-12zm18 12c0 6-3 10-8 12 0-6 3-10 8-12zm-18 0c5 2 8 6 8 12-5-2-8-6-8-12z"/>
-<path fill="#9a7327" d="M46 30h2v27h-2z"/>
-</svg>
-"##;
+pub const HOPS: [Shape; 4] = [
+    Path(
+        "#5d8a3a",
+        "M23 10c11 7 15 18 10 33-4 9-16 9-20 0-5-15-1-26 10-33z",
+    ),
+    Path("#44692a", "M23 17l8 6-8 6-8-6zm0 13l10 7-10 7-10-7z"),
+    Path(
+        "#c99a3b",
+        "M47 14c4 5 4 10 0 15-4-5-4-10 0-15zm9 11c0 6-3 10-8 12 0-6 3-10 8-12zm-18 0c5 2 8 6 8 12-5-2-8-6-8-12zm18 12c0 6-3 10-8 12 0-6 3-10 8-12zm-18 0c5 2 8 6 8 12-5-2-8-6-8-12z",
+    ),
+    Path("#9a7327", "M46 30h2v27h-2z"),
+];
 
 /// A packet of yeast.
-pub const YEAST: &str =
-    r##"<svg class="picture" viewBox="0 0 64 64" aria-hidden="true" focusable="false">
-<path fill="#e3d3a8" d="M14 10h36v46H14z"/>
-<path fill="#bfa973" d="M14 10h36v5H14zM14 51h36v5H14z"/>
-<path fill="#7a1f3d" d="M14 22h36v20H14z"/>
-<circle cx="26" cy="32" r="5" fill="#f4ecdf"/>
-<circle cx="36" cy="29" r="4" fill="#f4ecdf"/>
-<circle cx="40" cy="36" r="3" fill="#f4ecdf"/>
-</svg>
-"##;
+pub const YEAST: [Shape; 6] = [
+    Path("#e3d3a8", "M14 10h36v46H14z"),
+    Path("#bfa973", "M14 10h36v5H14zM14 51h36v5H14z"),
+    Path("#7a1f3d", "M14 22h36v20H14z"),
+    Circle(26, 32, 5, "#f4ecdf"),
+    Circle(36, 29, 4, "#f4ecdf"),
+    Circle(40, 36, 3, "#f4ecdf"),
+];
 
 /// A crate with bottles.
-pub const BOTTLES: &str =
-    r##"<svg class="picture" viewBox="0 0 64 64" aria-hidden="true" focusable="false">
-<path fill="#3f6b4a" d="M15 8h4v9l4 5v14H11V22l4-5zm15 0h4v9l4 5v14H26V22l4-5zm15 0h4v9l4 5v14H41V22l4-5z"/>
-<path fill="#c9982f" d="M14 6h6v4h-6zm15 0h6v4h-6zm15 0h6v4h-6z"/>
-<path fill="#9a6a36" d="M6 32h52v24H6z"/>
-<path fill="#7a4f22" d="M6 39h52v3H6zM6 47h52v3H6z"/>
-</svg>
-"##;
+pub const BOTTLES: [Shape; 4] = [
+    Path(
+        "#3f6b4a",
+        "M15 8h4v9l4 5v14H11V22l4-5zm15 0h4v9l4 5v14H26V22l4-5zm15 0h4v9l4 5v14H41V22l4-5z",
+    ),
+    Path("#c9982f", "M14 6h6v4h-6zm15 0h6v4h-6zm15 0h6v4h-6z"),
+    Path("#9a6a36", "M6 32h52v24H6z"),
+    Path("#7a4f22", "M6 39h52v3H6zM6 47h52v3H6z"),
+];
 
 /// Two crown caps.
-pub const CAPS: &str =
-    r##"<svg class="picture" viewBox="0 0 64 64" aria-hidden="true" focusable="false">
-<circle cx="24" cy="25" r="16" fill="#b03a2e" stroke="#7d241b" stroke-width="4" stroke-dasharray="5 3"/>
-<circle cx="24" cy="25" r="9" fill="#c8574b"/>
-<circle cx="43" cy="43" r="14" fill="#c9982f" stroke="#8a6a1f" stroke-width="4" stroke-dasharray="5 3"/>
-<circle cx="43" cy="43" r="8" fill="#dcb357"/>
-</svg>
-"##;
+pub const CAPS: [Shape; 4] = [
+    Element(
+        r##"<circle cx="24" cy="25" r="16" fill="#b03a2e" stroke="#7d241b" stroke-width="4" stroke-dasharray="5 3"/>"##,
+    ),
+    Circle(24, 25, 9, "#c8574b"),
+    Element(
+        r##"<circle cx="43" cy="43" r="14" fill="#c9982f" stroke="#8a6a1f" stroke-width="4" stroke-dasharray="5 3"/>"##,
+    ),
+    Circle(43, 43, 8, "#dcb357"),
+];
 
 /// A thermometer with its scale.
-pub const THERMOMETER: &str =
-    r##"<svg class="picture" viewBox="0 0 64 64" aria-hidden="true" focusable="false">
-<path fill="#eef2f4" stroke="#5b6770" stroke-width="3" d="M27 11a5 5 0 0 1 10 0v27a11 11 0 1 1-10 0z"/>
-<circle cx="32" cy="47" r="7" fill="#b03a2e"/>
-<path fill="#b03a2e" d="M30 20h4v24h-4z"/>
-<path fill="#5b6770" d="M41 14h7v2h-7zm0 8h5v2h-5zm0 8h7v2h-7z"/>
-</svg>
-"##;
+pub const THERMOMETER: [Shape; 4] = [
+    Element(
+        r##"<path fill="#eef2f4" stroke="#5b6770" stroke-width="3" d="M27 11a5 5 0 0 1 10 0v27a11 11 0 1 1-10 0z"/>"##,
+    ),
+    Circle(32, 47, 7, "#b03a2e"),
+    Path("#b03a2e", "M30 20h4v24h-4z"),
+    Path("#5b6770", "M41 14h7v2h-7zm0 8h5v2h-5zm0 8h7v2h-7z"),
+];
 
 /// An apron with a pocket.
-pub const APRON: &str =
-    r##"<svg class="picture" viewBox="0 0 64 64" aria-hidden="true" focusable="false">
-<path fill="none" stroke="#2c435a" stroke-width="3" d="M24 20C20 4 44 4 40 20M18 32H8M46 32h10"/>
-<path fill="#3c5a78" d="M24 16h16v10l8 6v26H16V32l8-6z"/>
-<path fill="#2c435a" d="M24 38h16v11H24z"/>
-</svg>
-"##;
+pub const APRON: [Shape; 3] = [
+    Element(
+        r##"<path fill="none" stroke="#2c435a" stroke-width="3" d="M24 20C20 4 44 4 40 20M18 32H8M46 32h10"/>"##,
+    ),
+    Path("#3c5a78", "M24 16h16v10l8 6v26H16V32l8-6z"),
+    Path("#2c435a", "M24 38h16v11H24z"),
+];
 
 /// A funnel.
-pub const FUNNEL: &str =
-    r##"<svg class="picture" viewBox="0 0 64 64" aria-hidden="true" focusable="false">
-<path fill="#8b98a3" d="M8 12h48L37 36v16l-10 6V36z"/>
-<path fill="#6d7983" d="M6 9h52v6H6z"/>
-<path fill="#a9b4bd" d="M18 19h16L29 32z"/>
-</svg>
-"##;
+pub const FUNNEL: [Shape; 3] = [
+    Path("#8b98a3", "M8 12h48L37 36v16l-10 6V36z"),
+    Path("#6d7983", "M6 9h52v6H6z"),
+    Path("#a9b4bd", "M18 19h16L29 32z"),
+];
 
 /// A glass of bramble jam.
-pub const JAM: &str =
-    r##"<svg class="picture" viewBox="0 0 64 64" aria-hidden="true" focusable="false">
-<path fill="#c9a26a" d="M17 9h30v8H17z"/>
-<path fill="#5a1836" d="M16 17h32c3 3 4 5 4 8v28a4 4 0 0 1-4 4H16a4 4 0 0 1-4-4V25c0-3 1-5 4-8z"/>
-<path fill="#f4ecdf" d="M18 28h28v20H18z"/>
-<g fill="#7a1f4d">
-<circle cx="29" cy="36" r="3"/>
-<circle cx="35" cy="36" r="3"/>
-<circle cx="32" cy="41" r="3"/>
-</g>
-<path fill="#4f7a34" d="M32 33c0-3 2-5 5-4 0 3-2 5-5 4z"/>
-</svg>
-"##;
+pub const JAM: [Shape; 7] = [
+    Path("#c9a26a", "M17 9h30v8H17z"),
+    Path(
+        "#5a1836",
+        "M16 17h32c3 3 4 5 4 8v28a4 4 0 0 1-4 4H16a4 4 0 0 1-4-4V25c0-3 1-5 4-8z",
+    ),
+    Path("#f4ecdf", "M18 28h28v20H18z"),
+    Circle(29, 36, 3, "#7a1f4d"),
+    Circle(35, 36, 3, "#7a1f4d"),
+    Circle(32, 41, 3, "#7a1f4d"),
+    Path("#4f7a34", "M32 33c0-3 2-5 5-4 0 3-2 5-5 4z"),
+];
 
 /// A bramble: the mark of the shop, as a browser shows it beside the title.
 pub const ICON: &str = r##"<svg xmlns="http://www.w3.org/2000/svg" viewBox="0 0 64 64">

@@ -6,13 +6,14 @@ ghost use Rattle.example_cart.specs.Pages.{add_html, change_html, cost_html, fie
 use crate::article::Article;
 use crate::cart::{Cart, cost};
 use crate::markup::{
-    ADD_FAULT, ADD_FIELD, BEFORE_ADD, BEFORE_ARTICLE, BEFORE_ARTICLE_NAME, BEFORE_CHANGE,
-    BEFORE_COST, BEFORE_FAULT, BEFORE_FIELD, BEFORE_LABEL, BEFORE_LABEL_NAME, BEFORE_NUMBER,
-    BEFORE_PAGE, BEFORE_PRICE, BEFORE_REMOVE, BEFORE_VISIT, BEHIND_ADD, BEHIND_FAULT,
+    ADD_FAULT, ADD_FIELD, BEFORE_ADD, BEFORE_ARTICLE_NAME, BEFORE_CHANGE, BEFORE_COST,
+    BEFORE_FAULT, BEFORE_FIELD, BEFORE_LABEL, BEFORE_LABEL_NAME, BEFORE_NUMBER, BEFORE_PAGE,
+    BEFORE_PICTURE, BEFORE_PRICE, BEFORE_REMOVE, BEFORE_VISIT, BEHIND_ADD, BEHIND_FAULT,
     BEHIND_ORDERED, BEHIND_REMOVE, BEHIND_VALUE, CHANGE_FAULT, CHANGE_FIELD,
 };
 use crate::page::{Page, Piece};
 use crate::post::Mark;
+use crate::shape::write_shapes;
 use std::alloc::AllocError;
 
 /// What the rows of a page are.
@@ -43,17 +44,17 @@ pub struct Rows<'a> {
 }
 
 /// An article's picture and name, up to what is said of its price.
-#[tactic(auto, unfolding(crate::specs::Pages::name_html))]
 fn write_name(page: &mut Page, article: Article) -> Result<(), AllocError>
     ensures { OnOk result (page.new ≡ page.old ++ name_html article) }
 {
+    page.write(&[Piece::Markup(BEFORE_PICTURE)])?;
+    write_shapes(page, article.picture)?;
     page.write(&[
-        Piece::Markup(BEFORE_ARTICLE),
-        Piece::Markup(article.picture),
         Piece::Markup(BEFORE_ARTICLE_NAME),
         Piece::Shown(article.name.as_bytes()),
         Piece::Markup(BEFORE_PRICE),
-    ])
+    ])?;
+    Ok(())
 }
 
 /// What one of an article costs.

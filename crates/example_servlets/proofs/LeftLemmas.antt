@@ -1,5 +1,5 @@
 -- What a login leaves of a session as it was: each attribute but the name.
-use Rattle.std.proofs.Common.{◌≡◌, refl, sym, ap, ◌∙◌, subst, ℕ, Bool, true, false, cond, List, [], ◌∷◌, length, Option, Some, None, Ok, Err}
+use Rattle.std.proofs.Common.{◌≡◌, refl, sym, ap, ◌∙◌, subst, ℕ, Bool, true, false, cond, List, [], ◌∷◌, length, Option, Some, None, Result, Ok, Err}
 use Rattle.std.specs.Prelude.{bytes_eq, codes, is_some, nat_lt}
 use Rattle.std.specs.Map.{lookup}
 use Rattle.std.specs.Ordering.{is_eq, match_ordering}
@@ -21,11 +21,24 @@ use Rattle.sv_model.specs.declared.session.TheConstants.{VALUE_LIMIT}
 use Rattle.sv_session.specs.Calls.{Expected, after, change_id_result, create_result, done, get_result, id_changed, is_name, is_too_large, made_session, on_session, tell, value_result, value_set}
 use Rattle.sv_session.specs.Edit.{Edit, birth_with, fate_with, has_made, has_used_secret, held_by, held_of, with_held}
 use Rattle.sv_session.specs.declared.fault.SessionFault.TheVariants.{BadName, SecondCreation, SecretUsed, SessionTooLarge, ValueTooLong}
+use Rattle.sv_session.specs.Fault.{fault_name as session_fault_name}
 use Rattle.sv_servlet.specs.Call.{Asked}
-use Rattle.sv_servlet.specs.Servlet.{Answer, Lent}
-use Rattle.example_servlets.specs.Kept.{created, has_session, kept, or_none, seen}
-use Rattle.example_servlets.specs.Login.{entered, login, taken, taken_as}
-use Rattle.example_servlets.specs.Told.{is_post, name_of}
+use Rattle.sv_servlet.specs.Reply.{fault_name as reply_fault_name}
+use Rattle.sv_servlet.specs.ReplyState.{ReplyState}
+use Rattle.sv_servlet.specs.Servlet.{Lent, answer, lent}
+use Rattle.sv_servlet.specs.declared.reply.ReplyFault.{ReplyFault}
+use Rattle.sv_servlet.specs.declared.servlet.Next.{Next}
+use Rattle.sv_servlet.specs.declared.servlet.Next.TheVariants.{Done}
+use Rattle.sv_web.specs.Attributes.{has_session}
+use Rattle.sv_web.specs.Redirect.{redirect_result}
+use Rattle.sv_web.specs.Refusal.{fault_page}
+use Rattle.sv_web.specs.Request.{is_post}
+use Rattle.sv_web.specs.Steps.{change_id, create}
+use Rattle.sv_web.specs.Work.{Ends, Work, answered, on_edit, on_reply}
+use Rattle.example_servlets.specs.Kept.{or_none, seen}
+use Rattle.example_servlets.specs.Login.{login, named, refusal, taken, taken_as}
+use Rattle.example_servlets.specs.Sent.{sent_on}
+use Rattle.example_servlets.specs.Told.{name_of}
 use Rattle.example_servlets.proofs.LoginLemmas.{held_again}
 
 -- ---- a value that is put at a name, seen at another
@@ -78,10 +91,6 @@ module _ (q : List ℕ) where
     either true x y hx hy = hx
     either false x y hx hy = hy
 
-    either_edit : (b : Bool) (x y : Edit) → seen x q ≡ seen e q → seen y q ≡ seen e q → seen (cond b x y) q ≡ seen e q
-    either_edit true x y hx hy = hx
-    either_edit false x y hx hy = hy
-
     -- another id
     changed_held : (held : Option (Key × Session)) → held_of e ≡ held
         → seen (after e (on_session held (λ h. cond (has_used_secret e) (Err SecretUsed) (done (id_changed e h))))) q ≡ seen e q
@@ -108,13 +117,9 @@ module _ (q : List ℕ) where
     created_held None is =
         either (has_made e) (Err SecondCreation) (Ok (true, born)) refl (seen_is born ∙ none_born ∙ sym (seen_is e ∙ ap seen_in is))
 
-    created_seen : seen (created e) q ≡ seen e q
+    created_seen : seen (after e (create_result e)) q ≡ seen e q
     unfolding create_result
     created_seen = created_held (held_of e) refl
-
-    entered_seen : seen (entered e) q ≡ seen e q
-    unfolding entered
-    entered_seen = either_edit (has_session e) (after e (change_id_result e)) (created e) changed_seen created_seen
 
     -- a value that is kept under another name
     module _ (name value : List ℕ) (apart : bytes_eq q name ≡ false) where
@@ -136,23 +141,43 @@ module _ (q : List ℕ) where
           (either (is_too_large (with_attribute held.1.attributes name value)) (Err SessionTooLarge) set refl (set_seen held is)))
           refl
 
-      kept_seen : seen (kept e name value) q ≡ seen e q
+      kept_seen : seen (after e (value_result e name value)) q ≡ seen e q
       unfolding value_result
       kept_seen = kept_held (held_of e) refl
 
 -- ---- logging in
 
 module _ (q : List ℕ) (apart : bytes_eq q (codes "name") ≡ false) where
-  taken_seen : (name : Option (List ℕ)) (l : Lent) → seen (taken_as name l).lent.edit q ≡ seen l.edit q
+  -- work leaves what is seen at the name as it is
+  abbrev Leaves : Work Next → Lent → Type 0
+  Leaves w l = seen (answered w l).lent.edit q ≡ seen l.edit q
+
+  either_work : (b : Bool) (l : Lent) (v w : Work Next) → Leaves v l → Leaves w l → Leaves (cond b v w) l
+  either_work true l v w hv hw = hv
+  either_work false l v w hv hw = hw
+
+  edited : {A : Type 0} (l : Lent) (x : Expected A) (more : Work Next) → seen (after l.edit x) q ≡ seen l.edit q → ((m : Lent) → Leaves more m)
+      → seen (on_edit l x (λ m. answered more m) (λ fault. answer l (fault_page (session_fault_name fault)))).lent.edit q ≡ seen l.edit q
+  edited l (Ok r) more first leaves = leaves (lent r.1 l.reply) ∙ first
+  edited l (Err fault) more first leaves = refl
+
+  replied : (l : Lent) (x : Result ReplyState ReplyFault) → seen (on_reply l x (λ m. answer m Done) (λ fault. answer l (fault_page (reply_fault_name fault)))).lent.edit q ≡ seen l.edit q
+  replied l (Ok reply) = refl
+  replied l (Err fault) = refl
+
+  named_seen : (name : List ℕ) (l : Lent) → Leaves (named name) l
+  unfolding named
+  named_seen name l =
+      edited l (value_result l.edit (codes "name") name) (sent_on (codes "cart")) (kept_seen q l.edit (codes "name") name apart) (λ m. replied m (redirect_result m.reply (codes "cart")))
+
+  taken_seen : (name : Option (List ℕ)) (l : Lent) → Leaves (taken_as name) l
   taken_seen None l = refl
-  taken_seen (Some name) l = kept_seen q (entered l.edit) (codes "name") name apart ∙ entered_seen q l.edit
+  taken_seen (Some name) l =
+      either_work (has_session l.edit) l (change_id (named name)) (create (named name)) (edited l (change_id_result l.edit) (named name) (changed_seen q l.edit) (named_seen name))
+      (edited l (create_result l.edit) (named name) (created_seen q l.edit) (named_seen name))
 
-  either_answer : (b : Bool) (l : Lent) (x y : Answer) → seen x.lent.edit q ≡ seen l.edit q → seen y.lent.edit q ≡ seen l.edit q → seen (cond b x y).lent.edit q ≡ seen l.edit q
-  either_answer true l x y hx hy = hx
-  either_answer false l x y hx hy = hy
+  pub login_seen : (call : Asked) (l : Lent) → Leaves (login call) l
+  login_seen call l = either_work (is_post call.method) l (taken call.params) (Ends refusal) (taken_seen (name_of call.params) l) refl
 
-  pub login_seen : (call : Asked) (l : Lent) → seen (login call l).lent.edit q ≡ seen l.edit q
-  login_seen call l = either_answer (is_post call.method) l (taken call.params l) _ (taken_seen (name_of call.params) l) refl
-
-pub cart_seen : (call : Asked) (l : Lent) → seen (login call l).lent.edit (codes "cart") ≡ seen l.edit (codes "cart")
+pub cart_seen : (call : Asked) (l : Lent) → seen (answered (login call) l).lent.edit (codes "cart") ≡ seen l.edit (codes "cart")
 cart_seen = login_seen (codes "cart") refl

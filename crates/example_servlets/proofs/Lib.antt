@@ -1,4 +1,2 @@
-pub mod AnswerLemmas
 pub mod LeftLemmas
 pub mod LoginLemmas
-pub mod SentLemmas

@@ -1,7 +1,6 @@
 -- A session of which somebody logs in.
 use Rattle.std.proofs.Common.{◌≡◌, refl, sym, ap, ◌∙◌, subst, Bool, true, false, cond, Option, Some, None, Result, Ok, Err}
-use Rattle.std.specs.Prelude.{◌||◌, IfSome, is_ok}
-use Rattle.std.proofs.lemmas.Bool.{cond-true}
+use Rattle.std.specs.Prelude.{◌||◌, IsSomeAnd, is_ok}
 use Rattle.std.proofs.lemmas.Option.{same_Some}
 use Rattle.sv_model.specs.declared.key.Key.{Key}
 use Rattle.sv_model.specs.declared.key.Secret.{Secret}
@@ -10,12 +9,19 @@ use Rattle.sv_model.specs.declared.outcome.Birth.TheVariants.{Absent, Alive, End
 use Rattle.sv_model.specs.declared.outcome.Fate.{Fate}
 use Rattle.sv_model.specs.declared.outcome.Fate.TheVariants.{Untouched, Kept, Ended as FateEnded}
 use Rattle.sv_model.specs.declared.session.Session.{Session}
-use Rattle.sv_session.specs.Calls.{after, change_id_result, done, id_changed, key_result, on_session}
+use Rattle.sv_session.specs.Calls.{Expected, after, change_id_result, done, id_changed, key_result, on_session}
 use Rattle.sv_session.specs.Edit.{Edit, birth_with, fate_with, has_made, has_used_secret, held_by, held_of}
+use Rattle.sv_session.specs.Fault.{fault_name}
 use Rattle.sv_session.specs.declared.fault.SessionFault.{SessionFault}
 use Rattle.sv_session.specs.declared.fault.SessionFault.TheVariants.{SecretUsed}
-use Rattle.example_servlets.specs.Kept.{created, has_session}
-use Rattle.example_servlets.specs.Login.{GoesOnAs, entered}
+use Rattle.sv_servlet.specs.ReplyState.{ReplyState}
+use Rattle.sv_servlet.specs.Servlet.{Answer, Lent, answer, lent}
+use Rattle.sv_servlet.specs.declared.servlet.Next.{Next}
+use Rattle.sv_web.specs.Attributes.{has_session}
+use Rattle.sv_web.specs.Refusal.{fault_page}
+use Rattle.sv_web.specs.Steps.{change_id, create}
+use Rattle.sv_web.specs.Work.{Work, answered, on_edit}
+use Rattle.example_servlets.specs.Login.{GoesOnAs, entered, renewed}
 
 -- the session that is held is there again, with other contents
 pub held_again : (fate : Fate) (handed : Option Key) (fresh : Key × Secret) (held : Key × Session) (s : Session) → held_by Absent fate handed fresh ≡ Some held
@@ -42,11 +48,10 @@ by_test : (used : Bool) (e : Edit) (held : Key × Session) → used ≡ false �
 by_test true e held is = absurd (cc)
 by_test false e held is = refl
 
-changed : (e : Edit) (held : Key × Session) → held_of e ≡ Some held → has_used_secret e ≡ false → after e (change_id_result e) ≡ id_changed e held
+taken : (e : Edit) (held : Key × Session) → held_of e ≡ Some held → has_used_secret e ≡ false → change_id_result e ≡ done (id_changed e held)
 unfolding change_id_result
-changed e held is fresh =
-    ap (λ (o : Option (Key × Session)). after e (on_session o (λ h. cond (has_used_secret e) (Err SecretUsed) (done (id_changed e h))))) is
-    ∙ ap (after e) (by_test (has_used_secret e) e held fresh)
+taken e held is fresh =
+    ap (λ (o : Option (Key × Session)). on_session o (λ h. cond (has_used_secret e) (Err SecretUsed) (done (id_changed e h)))) is ∙ by_test (has_used_secret e) e held fresh
 
 held_changed : (e : Edit) (held : Key × Session) → held_of e ≡ Some held → e.birth ≡ Absent → held_of (id_changed e held) ≡ Some (held.0, record held.1 { secret = e.fresh.1 })
 held_changed e held is unborn =
@@ -54,11 +59,24 @@ held_changed e held is unborn =
     let now : held_by Absent e.fate e.handed e.fresh ≡ Some held = subst (λ b. held_by b e.fate e.handed e.fresh ≡ Some held) unborn is in
     subst (λ b. held_by (birth_with b s) (fate_with b e.fate s) e.handed e.fresh ≡ Some (held.0, s)) (sym unborn) (held_again e.fate e.handed e.fresh held s now)
 
--- it goes on under another id
-pub goes_on : (e : Edit) (held : Key × Session) → held_of e ≡ Some held → e.birth ≡ Absent → e.id_changed ≡ false → IfSome (held_of (entered e)) (λ now. GoesOnAs now held e)
-unfolding entered
-goes_on e held is unborn same =
-    let ends : entered e ≡ id_changed e held =
-    cond-true (has_session e) (after e (change_id_result e)) (created e) (has_key e held is) ∙ changed e held is (not_used e unborn same) in
-    subst (λ (o : Option (Key × Session)). IfSome o (λ now. GoesOnAs now held e)) (sym (ap held_of ends ∙ held_changed e held is unborn))
-    (record { key = refl; secret = refl; attributes = refl })
+module _ (e : Edit) (held : Key × Session) (is : held_of e ≡ Some held) (unborn : e.birth ≡ Absent) (same : e.id_changed ≡ false) where
+  changed : change_id_result e ≡ done (id_changed e held)
+  changed = taken e held is (not_used e unborn same)
+
+  -- it goes on under another id
+  pub goes_on : IsSomeAnd (held_of (renewed e)) (λ now. GoesOnAs now held e)
+  goes_on =
+      subst (λ (o : Option (Key × Session)). IsSomeAnd o (λ now. GoesOnAs now held e)) (sym (ap (λ (x : Expected (Unit {0})). held_of (after e x)) changed ∙ held_changed e held is unborn))
+      (record { key = refl; secret = refl; attributes = refl })
+
+  -- and what follows goes on with it
+  on_changed : (more : Work Next) (r : ReplyState) → answered (change_id more) (lent e r) ≡ answered more (lent (renewed e) r)
+  on_changed more r =
+      let end : Lent → Answer = λ m. answered more m in
+      let refused : SessionFault → Answer = λ fault. answer (lent e r) (fault_page (fault_name fault)) in
+      ap (λ (x : Expected (Unit {0})). on_edit (lent e r) x end refused) changed ∙ sym (ap (λ (x : Expected (Unit {0})). answered more (lent (after e x) r)) changed)
+
+pub follows : (more : Work Next) (l : Lent) (held : Key × Session) → held_of l.edit ≡ Some held → l.edit.birth ≡ Absent → l.edit.id_changed ≡ false
+    → answered (entered more) l ≡ answered more (lent (renewed l.edit) l.reply)
+follows more l held is unborn same =
+    ap (λ (b : Bool). answered (cond b (change_id more) (create more)) l) (has_key l.edit held is) ∙ on_changed l.edit held is unborn same more l.reply

@@ -2,9 +2,12 @@
 use Rattle.std.specs.Prelude.{ℕ, not, nat_lt, Bool, false, List, Option, Some, None, codes, if◌then◌else◌}
 use Rattle.sv_session.specs.Edit.{Edit}
 use Rattle.sv_servlet.specs.Call.{Asked}
-use Rattle.sv_servlet.specs.Servlet.{Answer, Lent, answer, lent}
 use Rattle.sv_servlet.specs.declared.servlet.Next.{Next}
-use Rattle.sv_servlet.specs.declared.servlet.Next.TheVariants.{Done, SendError}
+use Rattle.sv_servlet.specs.declared.servlet.Next.TheVariants.{SendError}
+use Rattle.sv_web.specs.Attributes.{has_session}
+use Rattle.sv_web.specs.Request.{is_post}
+use Rattle.sv_web.specs.Steps.{editing, set_attribute}
+use Rattle.sv_web.specs.Work.{Ends, Looking, SetValue, Work}
 use Rattle.example_cart.specs.declared.article.Article.{Article}
 use Rattle.example_cart.specs.declared.form.Sent.{Sent}
 use Rattle.example_cart.specs.declared.form.Sent.TheVariants.{Asks, Wrong, NotOurs}
@@ -18,10 +21,9 @@ use Rattle.example_cart.specs.Kept.{cart_in, forms_in, kept_forms}
 use Rattle.example_cart.specs.Notice.{kept_notice, notice_in, noticed}
 use Rattle.example_cart.specs.Order.{order_in}
 use Rattle.example_cart.specs.Pages.{cart_page, catalogue_page}
-use Rattle.example_servlets.specs.declared.sent.Way.TheVariants.{Cart}
-use Rattle.example_servlets.specs.Kept.{forgotten, has_session, kept, seen, session_number}
+use Rattle.example_servlets.specs.Kept.{seen, session_number}
 use Rattle.example_servlets.specs.Sent.{sent, sent_back, sent_on}
-use Rattle.example_servlets.specs.Told.{is_post, sent_of, text}
+use Rattle.example_servlets.specs.Told.{sent_of, text}
 use Rattle.example_servlets.specs.Visits.{around, begun}
 
 -- ---- a form that is taken
@@ -38,16 +40,17 @@ notice_of post is_new e =
 unfoldable pub basket_after : Post → Edit → Basket
 basket_after post e = posted (session_number e) (basket_of e) post
 
--- the session with a cart, its forms and a notice
-unfoldable pub with_basket : Basket → Notice → Edit → Edit
-with_basket b notice e = kept (kept (kept e (codes "cart") b.cart) (codes "forms") (kept_forms b.forms)) (codes "notice") (kept_notice notice)
+-- a cart, its forms and a notice are kept, and the browser is sent on to the page
+unfoldable pub with_basket : Basket → Notice → Work Next
+with_basket b notice =
+    set_attribute (codes "cart") b.cart (set_attribute (codes "forms") (kept_forms b.forms) (set_attribute (codes "notice") (kept_notice notice) (sent_on (codes "cart"))))
 
-abbrev pub taken_in : Post → Bool → Edit → Edit
-taken_in post is_new e = with_basket (basket_after post e) (notice_of post is_new e) e
+abbrev pub taken_in : Post → Bool → Work Next
+taken_in post is_new = Looking (λ e. with_basket (basket_after post e) (notice_of post is_new e))
 
--- the session, made where there was none, with the cart after a form
-unfoldable pub changed : ℕ → Post → Edit → Edit
-changed node post e = taken_in post (not (has_session e)) (begun node e)
+-- the cart changes by a form, in a session that is made where there was none
+unfoldable pub changed : ℕ → Post → Work Next
+changed node post = Looking (λ e. begun node (taken_in post (not (has_session e))))
 
 -- ---- the pages
 
@@ -66,14 +69,12 @@ is_line Lines article e = nat_lt 0 (quantity (cart_in (seen e (codes "cart"))) a
 is_line Ordered article e = false
 
 -- the page of a form again, with what was typed in it
-abbrev pub wrong_page : List Article → List ℕ → ℕ → Listing → ℕ → List ℕ → Edit → List ℕ
+unfoldable pub wrong_page : List Article → List ℕ → ℕ → Listing → ℕ → List ℕ → Edit → List ℕ
 wrong_page articles base node listing article typed e =
     if is_line listing article e then page_of articles base node (Some (article, typed)) e else offers_of articles base node (Some (article, typed)) e
 
-abbrev pub shown_again : List Article → List ℕ → ℕ → Listing → ℕ → List ℕ → Lent → Answer
-shown_again articles base node listing article typed l =
-    let e = begun node l.edit in
-    answer (lent e (sent_back (wrong_page articles base node listing article typed e) l.reply)) Done
+unfoldable pub wrong_shown : List Article → List ℕ → ℕ → Listing → ℕ → List ℕ → Work Next
+wrong_shown articles base node listing article typed = Looking (λ e. sent_back (wrong_page articles base node listing article typed e))
 
 -- what was typed as a quantity
 abbrev pub typed : Asked → List ℕ
@@ -83,18 +84,21 @@ abbrev pub refusal : Next
 refusal = SendError 400 (codes "This form is not one of the shop's, or it has lost a field.")
 
 -- a form is taken, and the browser is sent on to the page; a quantity that is none is shown again; what is no form is refused
-abbrev pub taken_as : List Article → ℕ → Sent → Asked → Lent → Answer
-taken_as articles node (Asks post) call l = answer (lent (changed node post l.edit) (sent_on Cart l.reply)) Done
-taken_as articles node (Wrong listing article) call l =
-    shown_again articles call.context_path node listing article (typed call) l
-taken_as articles node NotOurs call l = answer l refusal
+abbrev pub taken_as : List Article → ℕ → Sent → Asked → Work Next
+taken_as articles node (Asks post) call = changed node post
+taken_as articles node (Wrong listing article) call = begun node (wrong_shown articles call.context_path node listing article (typed call))
+taken_as articles node NotOurs call = Ends refusal
 
-abbrev pub taken : List Article → ℕ → Asked → Lent → Answer
-taken articles node call l = taken_as articles node (sent_of call.params) call l
+abbrev pub taken : List Article → ℕ → Asked → Work Next
+taken articles node call = taken_as articles node (sent_of call.params) call
+
+-- the notice is forgotten, if there is a session, and a page is sent
+abbrev pub sent_once : List ℕ → Work Next
+sent_once page = Looking (λ e. if has_session e then editing (SetValue (codes "notice") None) (sent page) else sent page)
 
 -- the page is shown, and the notice that is on it is forgotten
-abbrev pub shown : List Article → List ℕ → ℕ → Lent → Answer
-shown articles base node l = answer (lent (forgotten l.edit (codes "notice")) (sent (page_of articles base node None l.edit) l.reply)) Done
+abbrev pub shown : List Article → List ℕ → ℕ → Work Next
+shown articles base node = Looking (λ e. sent_once (page_of articles base node None e))
 
-abbrev pub basket : List Article → ℕ → Asked → Lent → Answer
-basket articles node call l = if is_post call.method then taken articles node call l else shown articles call.context_path node l
+abbrev pub basket : List Article → ℕ → Asked → Work Next
+basket articles node call = if is_post call.method then taken articles node call else shown articles call.context_path node

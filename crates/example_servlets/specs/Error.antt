@@ -1,17 +1,13 @@
 -- The page of an error (Jakarta Servlet 6.0, section 10.9.1).
-use Rattle.std.specs.Prelude.{ℕ, ◌==◌, List, Option, bytes_eq, codes, length, unwrap_or, if◌then◌else◌}
+use Rattle.std.specs.Prelude.{ℕ, ◌==◌, List, bytes_eq, codes, length, unwrap_or, if◌then◌else◌}
 use Rattle.sv_model.specs.Attributes.{value_of}
 use Rattle.sv_session.specs.Edit.{Edit}
 use Rattle.sv_servlet.specs.Call.{Asked}
-use Rattle.sv_servlet.specs.Servlet.{Answer, Lent, answer, lent}
-use Rattle.sv_servlet.specs.declared.servlet.Next.TheVariants.{Done}
+use Rattle.sv_servlet.specs.declared.servlet.Next.{Next}
+use Rattle.sv_web.specs.Work.{Looking, Work}
 use Rattle.example_cart.specs.Pages.{error_page}
 use Rattle.example_servlets.specs.Sent.{sent}
 use Rattle.example_servlets.specs.Visits.{around}
-
--- the text, or another where there is none
-abbrev pub or_text : Option (List ℕ) → List ℕ → List ℕ
-or_text text other = unwrap_or text other
 
 -- what a status means to a shopper
 abbrev pub title_of : List ℕ → List ℕ
@@ -31,8 +27,8 @@ unfoldable pub page_of : List ℕ → ℕ → Edit → List ℕ → List ℕ →
 page_of base node e code message = error_page (around base node e) (title_of code) (message_of message) code
 
 -- the status of the error, and what is said of it
-abbrev pub error : ℕ → Asked → Lent → Answer
-error node call l =
-    let code = or_text (value_of call.attributes (codes "jakarta.servlet.error.status_code")) (codes "500") in
-    let message = or_text (value_of call.attributes (codes "jakarta.servlet.error.message")) (codes "") in
-    answer (lent l.edit (sent (page_of call.context_path node l.edit code message) l.reply)) Done
+abbrev pub error : ℕ → Asked → Work Next
+error node call =
+    let code = unwrap_or (value_of call.attributes (codes "jakarta.servlet.error.status_code")) (codes "500") in
+    let message = unwrap_or (value_of call.attributes (codes "jakarta.servlet.error.message")) (codes "") in
+    Looking (λ e. sent (page_of call.context_path node e code message))

@@ -1,31 +1,28 @@
 -- The filter that guards the pages.
 use Rattle.std.specs.Prelude.{ℕ, ◌&&◌, ◌||◌, not, Bool, true, false, List, bytes_eq, codes, drop, length, nat_le, take, Option, Some, None, option_map, if◌then◌else◌}
 use Rattle.std.specs.List.{find}
-use Rattle.http_header.specs.FieldValue.{plain_value}
 use Rattle.sv_model.specs.declared.field.Field.{Field}
+use Rattle.sv_session.specs.Fault.{fault_name as session_fault_name}
 use Rattle.sv_servlet.specs.Call.{Asked}
-use Rattle.sv_servlet.specs.Filter.{Filters, verdict}
-use Rattle.sv_servlet.specs.ReplyState.{ReplyState}
-use Rattle.sv_servlet.specs.Servlet.{Lent, lent}
+use Rattle.sv_servlet.specs.Reply.{fault_name as reply_fault_name}
 use Rattle.sv_servlet.specs.declared.filter.Before.{Before}
 use Rattle.sv_servlet.specs.declared.filter.Before.TheVariants.{Pass, SendError}
-use Rattle.example_servlets.specs.Kept.{has_session}
-use Rattle.example_servlets.specs.Sent.{with}
-use Rattle.example_servlets.specs.Told.{is_post}
-use Rattle.example_servlets.specs.Visits.{arrived}
+use Rattle.sv_web.specs.Attributes.{has_session}
+use Rattle.sv_web.specs.Header.{header}
+use Rattle.sv_web.specs.Refusal.{fault_sent}
+use Rattle.sv_web.specs.Request.{is_post}
+use Rattle.sv_web.specs.Work.{Ends, FilterWork, Looking, Replying, SetField, Work}
+use Rattle.example_servlets.specs.declared.guard.TheConstants.{POLICY}
+use Rattle.example_servlets.specs.Visits.{counted}
 
-abbrev pub policy : Field
-policy =
-    record {
-      name = codes "content-security-policy";
-      value = plain_value (codes "default-src 'none'; style-src 'self'; img-src 'self'; form-action 'self'; base-uri 'self'; frame-ancestors 'none'");
-    }
+unfoldable pub policy : Field
+policy = header (codes "content-security-policy") POLICY.now
 
-abbrev pub no_sniffing : Field
-no_sniffing = record { name = codes "x-content-type-options"; value = plain_value (codes "nosniff") }
+unfoldable pub no_sniffing : Field
+no_sniffing = header (codes "x-content-type-options") (codes "nosniff")
 
-abbrev pub no_store : Field
-no_store = record { name = codes "cache-control"; value = plain_value (codes "no-store") }
+unfoldable pub no_store : Field
+no_store = header (codes "cache-control") (codes "no-store")
 
 abbrev pub has_name : List ℕ → Field → Bool
 has_name name f = bytes_eq f.name name
@@ -59,19 +56,30 @@ is_foreign_by fields (Some site) = not (bytes_eq site (codes "same-origin") || b
 abbrev pub is_foreign : List Field → Bool
 is_foreign fields = is_foreign_by fields (value fields (codes "sec-fetch-site"))
 
--- the fields that every answer has
-unfoldable pub guarded : ReplyState → ReplyState
-guarded r = with (with r policy) no_sniffing
+-- a field is set before a servlet
+abbrev pub setting : Field → Work Before → Work Before
+setting f more = Replying (SetField f) more (λ fault. Ends (fault_sent (reply_fault_name fault)))
 
 -- a form of another site is refused
 abbrev pub admitted : Asked → Before
 admitted call =
     if is_post call.method && is_foreign call.fields then SendError 403 (codes "This form was sent by a page of another site.") else Pass
 
--- what has a session is kept by no cache
-abbrev pub stored : Lent → Lent
-stored l = if has_session l.edit then lent l.edit (with l.reply no_store) else l
+-- every answer has the fields
+unfoldable pub guarded : Asked → Work Before
+guarded call = setting policy (setting no_sniffing (Ends (admitted call)))
 
 -- each request of a session counts as a page that it is shown, by this node
-abbrev pub guarding : ℕ → Filters
-guarding node = record { before = λ call l. verdict (lent (arrived node l.edit) (guarded l.reply)) (admitted call); after = λ call l. stored l }
+abbrev pub arrived : ℕ → Work Before → Work Before
+arrived node more = Looking (λ e. if has_session e then counted node more (λ fault. Ends (fault_sent (session_fault_name fault))) else more)
+
+-- no cache is to keep the page, where the field fits
+unfoldable pub unstored : Work (Unit {0})
+unstored = Replying (SetField no_store) (Ends tt) (λ fault. Ends tt)
+
+-- what has a session is kept by no cache
+abbrev pub stored : Work (Unit {0})
+stored = Looking (λ e. if has_session e then unstored else Ends tt)
+
+abbrev pub guarding : ℕ → FilterWork
+guarding node = record { before = λ call. arrived node (guarded call); after = λ call. stored }

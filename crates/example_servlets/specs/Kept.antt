@@ -1,7 +1,7 @@
 -- What the shop keeps in a session.
-use Rattle.std.specs.Prelude.{ℕ, ◌+◌, ◌*◌, ◌%◌, ◌^◌, Bool, List, Option, None, Result, Ok, Err, is_ok}
+use Rattle.std.specs.Prelude.{ℕ, ◌+◌, ◌*◌, ◌%◌, ◌^◌, List, Option, None, Result, Ok, Err}
 use Rattle.sv_model.specs.declared.key.Key.{Key}
-use Rattle.sv_session.specs.Calls.{after, create_result, get_result, key_result, remove_result, value_result}
+use Rattle.sv_session.specs.Calls.{get_result, key_result}
 use Rattle.sv_session.specs.Edit.{Edit}
 use Rattle.sv_session.specs.declared.fault.SessionFault.{SessionFault}
 
@@ -13,10 +13,6 @@ or_none (Err fault) = None
 abbrev pub seen : Edit → List ℕ → Option (List ℕ)
 seen e name = or_none (get_result e name)
 
--- there is a session: it has a key
-abbrev pub has_session : Edit → Bool
-has_session e = is_ok (key_result e)
-
 -- the number of a session: that of its node, and which of that node's sessions it is
 abbrev pub number_of : Result Key SessionFault → ℕ
 number_of (Ok key) = key.serial % 2 ^ 56 * 256 + key.home
@@ -24,15 +20,3 @@ number_of (Err fault) = 0
 
 abbrev pub session_number : Edit → ℕ
 session_number e = number_of (key_result e)
-
--- the edit with a session, made where there was none
-abbrev pub created : Edit → Edit
-created e = after e (create_result e)
-
--- the edit with this value under this name
-abbrev pub kept : Edit → List ℕ → List ℕ → Edit
-kept e name value = after e (value_result e name value)
-
--- the edit with nothing under this name
-abbrev pub forgotten : Edit → List ℕ → Edit
-forgotten e name = after e (remove_result e name)

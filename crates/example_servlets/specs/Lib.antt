@@ -8,7 +8,6 @@ pub mod Login
 pub mod Logout
 pub mod Orders
 pub mod Sent
-pub mod Shop
 pub mod Still
 pub mod Told
 pub mod Visits

@@ -6,31 +6,39 @@ use Rattle.sv_model.specs.declared.session.Session.{Session}
 use Rattle.sv_session.specs.Calls.{after, change_id_result}
 use Rattle.sv_session.specs.Edit.{Edit}
 use Rattle.sv_servlet.specs.Call.{Asked}
-use Rattle.sv_servlet.specs.Servlet.{Answer, Lent, answer, lent}
 use Rattle.sv_servlet.specs.declared.servlet.Next.{Next}
-use Rattle.sv_servlet.specs.declared.servlet.Next.TheVariants.{Done, SendError}
-use Rattle.example_servlets.specs.declared.sent.Way.TheVariants.{Cart}
-use Rattle.example_servlets.specs.Kept.{created, has_session, kept}
+use Rattle.sv_servlet.specs.declared.servlet.Next.TheVariants.{SendError}
+use Rattle.sv_web.specs.Attributes.{has_session}
+use Rattle.sv_web.specs.Request.{is_post}
+use Rattle.sv_web.specs.Steps.{change_id, create, set_attribute}
+use Rattle.sv_web.specs.Work.{Ends, Looking, Work}
 use Rattle.example_servlets.specs.Sent.{sent_on}
-use Rattle.example_servlets.specs.Told.{is_post, name_of}
+use Rattle.example_servlets.specs.Told.{name_of}
 
--- the session with another id, or a new one
-unfoldable pub entered : Edit → Edit
-entered e = if has_session e then after e (change_id_result e) else created e
+-- the session goes on under another id, or a new one is made
+abbrev pub entered : Work Next → Work Next
+entered more = Looking (λ e. if has_session e then change_id more else create more)
 
 -- the name is kept, and the browser is sent on to the cart
-abbrev pub taken_as : Option (List ℕ) → Lent → Answer
-taken_as None l = answer l (SendError 400 (codes "A name has 1 to 64 letters, and not blanks alone. Please log in above."))
-taken_as (Some name) l = answer (lent (kept (entered l.edit) (codes "name") name) (sent_on Cart l.reply)) Done
+unfoldable pub named : List ℕ → Work Next
+named name = set_attribute (codes "name") name (sent_on (codes "cart"))
 
-abbrev pub taken : List Param → Lent → Answer
-taken params l = taken_as (name_of params) l
+abbrev pub taken_as : Option (List ℕ) → Work Next
+taken_as None = Ends (SendError 400 (codes "A name has 1 to 64 letters, and not blanks alone. Please log in above."))
+taken_as (Some name) = entered (named name)
+
+abbrev pub taken : List Param → Work Next
+taken params = taken_as (name_of params)
 
 abbrev pub refusal : Next
 refusal = SendError 405 (codes "Please log in above.")
 
-abbrev pub login : Asked → Lent → Answer
-login call l = if is_post call.method then taken call.params l else answer l refusal
+abbrev pub login : Asked → Work Next
+login call = if is_post call.method then taken call.params else Ends refusal
+
+-- the edit whose session goes on under another id
+abbrev pub renewed : Edit → Edit
+renewed e = after e (change_id_result e)
 
 -- a session as another one goes on: under its key, with another secret, and with all that it has
 pub record GoesOnAs (fresh : Key × Session) (old : Key × Session) (e : Edit) : Type 0 where

@@ -1,24 +1,14 @@
 -- What the shop is told by a request.
-use Rattle.std.specs.Prelude.{ℕ, ◌&&◌, not, Bool, List, bytes_eq, codes, length, nat_le, Option, Some, None, option_and_then, option_map, unwrap_or, if◌then◌else◌}
-use Rattle.std.specs.List.{find, list_all}
+use Rattle.std.specs.Prelude.{ℕ, ◌&&◌, not, Bool, List, codes, length, nat_le, Option, Some, None, option_and_then, if◌then◌else◌}
+use Rattle.std.specs.List.{list_all}
 use Rattle.sv_model.specs.declared.request.Param.{Param}
+use Rattle.sv_web.specs.Request.{parameter, parameter_or}
 use Rattle.example_cart.specs.Form.{number_between, sent_in}
 use Rattle.example_cart.specs.declared.form.Sent.{Sent}
 
--- a form is sent (RFC 9110, section 9.3.3)
-abbrev pub is_post : List ℕ → Bool
-is_post method = bytes_eq method (codes "POST")
-
-abbrev pub has_name : List ℕ → Param → Bool
-has_name name p = bytes_eq p.name name
-
--- the value of the first parameter of a name
-abbrev pub parameter : List Param → List ℕ → Option (List ℕ)
-parameter params name = option_map (λ p. p.value) (find (has_name name) params)
-
--- or an empty text
+-- the value of the first parameter of a name, or an empty text
 abbrev pub text : List Param → List ℕ → List ℕ
-text params name = unwrap_or (parameter params name) (codes "")
+text params name = parameter_or params name (codes "")
 
 -- the form of an article
 abbrev pub sent_of : List Param → Sent

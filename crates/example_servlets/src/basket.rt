@@ -1,27 +1,29 @@
 //! The cart, shown and changed.
 
-ghost use Rattle.std.specs.Prelude.{◌≡◌, IfOk, OnOk};
-ghost use Rattle.sv_servlet.specs.Servlet.{answer, lent};
+ghost use Rattle.std.specs.Prelude.{◌≡◌, IfOk};
+ghost use Rattle.sv_servlet.specs.Servlet.{lent};
+ghost use Rattle.sv_web.specs.Refusal.{Does};
 ghost use Rattle.example_cart.specs.Pages.{wrong_of};
 ghost use Rattle.example_servlets.specs.Basket as spec;
+ghost use Rattle.example_servlets.specs.Visits.{begun};
 
 use crate::catalogue::offers_of;
-use crate::kept::{CART, FORMS, NOTICE, ORDER, forget, has_session, keep, seen, session_number};
-use crate::sent::{Way, send, send_back, send_to};
+use crate::kept::{CART, FORMS, NOTICE, ORDER, seen, session_number};
+use crate::sent::{send, send_back};
 use crate::store::Store;
-use crate::told::{is_post, sent_of, text};
-use crate::visits::{begin, frame_of};
+use crate::told::{sent_of, text};
+use crate::visits::{count, frame_of};
 use example_cart::{
     Beside, Cart, Forms, Listing, Notice, Page, Post, Sent, Wrong, cart_page, kept_forms,
     read_cart, read_forms, read_order, take_post,
 };
-use std::alloc::AllocError;
-use sv_model::Text;
-use sv_servlet::{Answers, Call, Next, Reply};
+use std::alloc::{AllocError, Global};
+use sv_servlet::{Call, Next, Reply};
 use sv_session::SessionEdit;
+use sv_web::{HttpServlet, Refusal, has_session, is_post, send_error, send_redirect};
 
 /// Shows the cart; a POST changes it by the form of an article, and sends the browser on to the page, which says what happened.
-#[derive(Drop)]
+#[derive(Clone, Copy)]
 pub struct Basket {
     pub store: Store,
 }
@@ -56,27 +58,41 @@ fn basket_after(
     })
 }
 
-/// Keeps a cart, its forms and what is said in the session.
+/// Keeps a cart, its forms and what is said in the session, and sends the browser on to the page.
 #[tactic(auto, unfolding(crate::specs::Basket::with_basket))]
-fn keep_taken(store: Store, edit: &mut SessionEdit, taken: &Taken) -> Result<(), AllocError>
-    ensures { OnOk result (edit.new ≡ spec.with_basket (record { cart = taken.now.cart; forms = taken.now.forms }) taken.now.notice edit.old) }
+fn keep_taken(
+    store: Store,
+    edit: &mut SessionEdit,
+    reply: &mut Reply,
+    taken: &Taken,
+) -> Result<Next, Refusal>
+    ensures { Does (spec.with_basket (record { cart = taken.now.cart; forms = taken.now.forms }) taken.now.notice) (lent edit.old reply.old) (lent edit.new reply.new) result }
 {
     let forms = kept_forms(store.alloc, &taken.forms)?;
-    keep(edit, CART, taken.cart.as_slice())?;
-    keep(edit, FORMS, forms.as_slice())?;
-    keep(edit, NOTICE, &taken.notice.kept())?;
-    Ok(())
+    edit.set(CART, Some(taken.cart.as_slice()))?;
+    edit.set(FORMS, Some(forms.as_slice()))?;
+    edit.set(NOTICE, Some(&taken.notice.kept()))?;
+    send_redirect(reply, "cart")?;
+    Ok(Next::Done)
 }
 
 /// Changes the cart by a form, in a session that is made where there is none.
 #[tactic(auto, unfolding(crate::specs::Basket::changed))]
-fn change(store: Store, edit: &mut SessionEdit, post: Post) -> Result<(), AllocError>
-    ensures { OnOk result (edit.new ≡ spec.changed store.node post edit.old) }
+fn change(
+    store: Store,
+    edit: &mut SessionEdit,
+    reply: &mut Reply,
+    post: Post,
+) -> Result<Next, Refusal>
+    ensures { Does (spec.changed store.node post) (lent edit.old reply.old) (lent edit.new reply.new) result }
 {
     let is_new = !has_session(edit);
-    begin(edit, store.node)?;
+    if is_new {
+        edit.create()?;
+        count(edit, store.node)?;
+    }
     let taken = basket_after(store, edit, post, is_new)?;
-    keep_taken(store, edit, &taken)
+    keep_taken(store, edit, reply, &taken)
 }
 
 /// The page of the cart, for a session as it is, with what was typed that is no quantity.
@@ -117,6 +133,7 @@ fn is_line(
 }
 
 /// The page of a form again, with what was typed in it.
+#[tactic(auto, unfolding(crate::specs::Basket::wrong_page))]
 fn wrong_page<'a>(
     store: Store,
     base: &'a str,
@@ -138,6 +155,23 @@ fn wrong_page<'a>(
 }
 
 /// Shows the page of a form again, where what was typed is no quantity.
+#[tactic(auto, unfolding(crate::specs::Basket::wrong_shown))]
+fn show_wrong(
+    store: Store,
+    call: &Call<'_>,
+    edit: &SessionEdit,
+    reply: &mut Reply,
+    listing: Listing,
+    article: u8,
+) -> Result<Next, Refusal>
+    ensures { Does (spec.wrong_shown store.articles.now call.now.context_path store.node listing article (spec.typed call.now)) (lent edit.entry.now reply.old) (lent edit.entry.now reply.new) result }
+{
+    let typed = text(call.params, "quantity");
+    let page = wrong_page(store, call.context_path, edit, listing, article, typed)?;
+    send_back(edit, reply, &page)
+}
+
+/// The same, in a session that is made where there is none.
 fn show_again(
     store: Store,
     call: &Call<'_>,
@@ -145,25 +179,25 @@ fn show_again(
     reply: &mut Reply,
     listing: Listing,
     article: u8,
-) -> Result<Next, AllocError>
-    ensures { IfOk result (λ next. answer (lent edit.new reply.new) next ≡ spec.shown_again store.articles.now call.now.context_path store.node listing article (spec.typed call.now) (lent edit.old reply.old)) }
+) -> Result<Next, Refusal>
+    ensures { Does (begun store.node (spec.wrong_shown store.articles.now call.now.context_path store.node listing article (spec.typed call.now))) (lent edit.old reply.old) (lent edit.new reply.new) result }
 {
-    begin(edit, store.node)?;
-    let typed = text(call.params, "quantity");
-    let page = wrong_page(store, call.context_path, edit, listing, article, typed)?;
-    send_back(reply, &page)?;
-    Ok(Next::Done)
+    if !has_session(edit) {
+        edit.create()?;
+        count(edit, store.node)?;
+    }
+    show_wrong(store, call, edit, reply, listing, article)
 }
 
 /// Refuses what is no form.
 pub fn refuse(store: Store) -> Result<Next, AllocError>
     ensures { IfOk result (λ next. next ≡ spec.refusal) }
 {
-    let text = Text::from_str(
+    send_error(
         store.alloc,
+        400,
         "This form is not one of the shop's, or it has lost a field.",
-    )?;
-    Ok(Next::SendError { code: 400, text })
+    )
 }
 
 /// Answers a form that was sent.
@@ -172,19 +206,15 @@ fn take(
     call: &Call<'_>,
     edit: &mut SessionEdit,
     reply: &mut Reply,
-) -> Result<Next, AllocError>
-    ensures { IfOk result (λ next. answer (lent edit.new reply.new) next ≡ spec.taken store.articles.now store.node call.now (lent edit.old reply.old)) }
+) -> Result<Next, Refusal>
+    ensures { Does (spec.taken store.articles.now store.node call.now) (lent edit.old reply.old) (lent edit.new reply.new) result }
 {
     match sent_of(call.params) {
-        Sent::Asks(post) => {
-            change(store, edit, post)?;
-            send_to(reply, Way::Cart)?;
-            Ok(Next::Done)
-        }
+        Sent::Asks(post) => change(store, edit, reply, post),
         Sent::Wrong { listing, article } => {
             show_again(store, call, edit, reply, listing, article)
         }
-        Sent::NotOurs => refuse(store),
+        Sent::NotOurs => Ok(refuse(store)?),
     }
 }
 
@@ -194,31 +224,31 @@ fn show(
     base: &str,
     edit: &mut SessionEdit,
     reply: &mut Reply,
-) -> Result<Next, AllocError>
-    ensures { IfOk result (λ next. answer (lent edit.new reply.new) next ≡ spec.shown store.articles.now base.now store.node (lent edit.old reply.old)) }
+) -> Result<Next, Refusal>
+    ensures { Does (spec.shown store.articles.now base.now store.node) (lent edit.old reply.old) (lent edit.new reply.new) result }
 {
     let page = page_of(store, base, edit, None)?;
-    forget(edit, NOTICE)?;
-    send(reply, &page)?;
-    Ok(Next::Done)
+    if has_session(edit) {
+        edit.remove(NOTICE)?;
+    }
+    send(edit, reply, &page)
 }
 
-impl Answers for Basket {
+impl HttpServlet for Basket {
     ghost use Rattle.example_servlets.specs.Basket.{basket};
 
-    ghost answers = { λ s. basket s.store.articles.now s.store.node };
+    ghost work = { λ s. basket s.store.articles.now s.store.node };
 
-    fn answer(
+    fn serve(
         &mut self,
+        _alloc: Global,
         call: &Call<'_>,
         edit: &mut SessionEdit,
         reply: &mut Reply,
-    ) -> Result<Next, AllocError> {
+    ) -> Result<Next, Refusal> {
         if is_post(call.method) {
             return take(self.store, call, edit, reply);
         }
         show(self.store, call.context_path, edit, reply)
     }
-
-    fn goes_on(&self) {}
 }

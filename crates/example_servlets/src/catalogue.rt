@@ -7,14 +7,15 @@ ghost use Rattle.example_servlets.specs.Basket as spec;
 use crate::kept::{CART, seen};
 use crate::sent::send;
 use crate::store::Store;
-use crate::visits::{begin, frame_of};
+use crate::visits::{count, frame_of};
 use example_cart::{Page, Wrong, catalogue_page, read_cart};
-use std::alloc::AllocError;
-use sv_servlet::{Answers, Call, Next, Reply};
+use std::alloc::{AllocError, Global};
+use sv_servlet::{Call, Next, Reply};
 use sv_session::SessionEdit;
+use sv_web::{HttpServlet, Refusal, has_session};
 
 /// Shows the catalogue, with a form for each article, in a session that is made where there is none.
-#[derive(Drop)]
+#[derive(Clone, Copy)]
 pub struct Catalogue {
     pub store: Store,
 }
@@ -34,22 +35,23 @@ pub fn offers_of<'a>(
     catalogue_page(store.alloc, frame, store.articles, &cart, wrong)
 }
 
-impl Answers for Catalogue {
+impl HttpServlet for Catalogue {
     ghost use Rattle.example_servlets.specs.Catalogue.{catalogue};
 
-    ghost answers = { λ s. catalogue s.store.articles.now s.store.node };
+    ghost work = { λ s. catalogue s.store.articles.now s.store.node };
 
-    fn answer(
+    fn serve(
         &mut self,
+        _alloc: Global,
         call: &Call<'_>,
         edit: &mut SessionEdit,
         reply: &mut Reply,
-    ) -> Result<Next, AllocError> {
-        begin(edit, self.store.node)?;
+    ) -> Result<Next, Refusal> {
+        if !has_session(edit) {
+            edit.create()?;
+            count(edit, self.store.node)?;
+        }
         let page = offers_of(self.store, call.context_path, edit, None)?;
-        send(reply, &page)?;
-        Ok(Next::Done)
+        send(edit, reply, &page)
     }
-
-    fn goes_on(&self) {}
 }

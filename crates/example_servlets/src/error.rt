@@ -1,32 +1,23 @@
 //! The page of an error.
 
-ghost use Rattle.std.specs.Prelude.{◌≡◌, IfOk, option_copied};
+ghost use Rattle.std.specs.Prelude.{◌≡◌, IfOk};
 ghost use Rattle.example_servlets.specs.Error as spec;
-ghost use Rattle.example_servlets.specs.Error.{message_of, or_text, title_of};
+ghost use Rattle.example_servlets.specs.Error.{message_of, title_of};
 
 use crate::kept::{CART, seen};
 use crate::sent::send;
 use crate::store::Store;
 use crate::visits::frame_of;
 use example_cart::{Page, error_page, read_cart};
-use std::alloc::AllocError;
-use sv_servlet::{Answers, Call, Next, Reply};
+use std::alloc::{AllocError, Global};
+use sv_servlet::{Call, Next, Reply};
 use sv_session::SessionEdit;
+use sv_web::{HttpServlet, Refusal};
 
 /// Shows what a status means, and what is said of it, in the look of the shop (Jakarta Servlet 6.0, section 10.9.1).
-#[derive(Drop)]
+#[derive(Clone, Copy)]
 pub struct ErrorPage {
     pub store: Store,
-}
-
-/// The text, or another where there is none.
-fn or_text<'a>(text: Option<&'a str>, other: &'a str) -> &'a str
-    ensures { result.now ≡ or_text (option_copied text.entry) other.now }
-{
-    match text {
-        Some(text) => text,
-        None => other,
-    }
 }
 
 /// What a status means to a shopper.
@@ -75,26 +66,22 @@ fn page_of<'a>(
     )
 }
 
-impl Answers for ErrorPage {
+impl HttpServlet for ErrorPage {
     ghost use Rattle.example_servlets.specs.Error.{error};
 
-    ghost answers = { λ s. error s.store.node };
+    ghost work = { λ s. error s.store.node };
 
-    fn answer(
+    fn serve(
         &mut self,
+        _alloc: Global,
         call: &Call<'_>,
         edit: &mut SessionEdit,
         reply: &mut Reply,
-    ) -> Result<Next, AllocError> {
-        let code = or_text(
-            call.attributes.get("jakarta.servlet.error.status_code"),
-            "500",
-        );
-        let message = or_text(call.attributes.get("jakarta.servlet.error.message"), "");
+    ) -> Result<Next, Refusal> {
+        let code = call.attributes.get("jakarta.servlet.error.status_code");
+        let message = call.attributes.get("jakarta.servlet.error.message");
+        let (code, message) = (code.unwrap_or("500"), message.unwrap_or(""));
         let page = page_of(self.store, call.context_path, edit, code, message)?;
-        send(reply, &page)?;
-        Ok(Next::Done)
+        send(edit, reply, &page)
     }
-
-    fn goes_on(&self) {}
 }

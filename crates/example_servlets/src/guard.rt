@@ -1,65 +1,35 @@
 //! A filter that guards the pages.
 
-ghost use Rattle.std.specs.Prelude.{◌≡◌, IfOk, OnOk, option_copied};
+ghost use Rattle.std.specs.Prelude.{◌≡◌, IfOk, option_copied};
 ghost use Rattle.std.specs.List.{find};
-ghost use Rattle.sv_servlet.specs.declared.servlet.Phase.TheVariants.{New};
+ghost use Rattle.sv_servlet.specs.Servlet.{lent};
+ghost use Rattle.sv_servlet.specs.Reply.{Answers, field_result};
+ghost use Rattle.sv_web.specs.Refusal.{DoesAfter, DoesBefore};
 ghost use Rattle.example_servlets.specs.Guard as spec;
-ghost use Rattle.example_servlets.specs.Guard.{guarding};
 
-use crate::kept::has_session;
-use crate::sent::put;
-use crate::told::is_post;
-use crate::visits::arrive;
-use http_header::{HeaderName, HeaderValue};
+use crate::visits::count;
 use std::alloc::{AllocError, Global};
 use sv_model::{Field, Text};
-use sv_servlet::{Before, Call, Filter, InitFault, Phase, Reply};
+use sv_servlet::{Before, Call, Reply, ReplyFault};
 use sv_session::SessionEdit;
+use sv_web::{HttpFilter, Refusal, has_session, is_post, set_header};
 
 /// Sets the fields by which a browser guards its user, and refuses a form that a page of another site has sent.
 ///
 /// What a browser says of where a form comes from is believed: by `Sec-Fetch-Site` where it is there, else by `Origin` against
 /// `Host`. A request with neither comes from no page.
 ///
-/// A request of a session is counted as a page that the session is shown, by this node.
-#[derive(Drop)]
+/// A request of a session is counted as a page that the session is shown, by this node; and no cache keeps that page (RFC 9111, section
+/// 5.2.2.5).
+#[derive(Clone, Copy)]
 pub struct Guard {
-    phase: Phase,
-    alloc: Global,
-    node: u8,
+    /// The number of the node that it runs on.
+    pub node: u8,
 }
 
 /// Only what the shop itself serves is loaded, and its forms lead to nowhere else (Content Security Policy, level 3).
-fn policy() -> Field
-    ensures { result ≡ spec.policy }
-{
-    Field {
-        name: HeaderName::from_static("content-security-policy"),
-        value: HeaderValue::from_static(
-            "default-src 'none'; style-src 'self'; img-src 'self'; form-action 'self'; base-uri 'self'; frame-ancestors 'none'",
-        ),
-    }
-}
-
-/// A content type is what it says (Fetch Standard, `X-Content-Type-Options`).
-fn no_sniffing() -> Field
-    ensures { result ≡ spec.no_sniffing }
-{
-    Field {
-        name: HeaderName::from_static("x-content-type-options"),
-        value: HeaderValue::from_static("nosniff"),
-    }
-}
-
-/// No cache keeps the page (RFC 9111, section 5.2.2.5).
-fn no_store() -> Field
-    ensures { result ≡ spec.no_store }
-{
-    Field {
-        name: HeaderName::from_static("cache-control"),
-        value: HeaderValue::from_static("no-store"),
-    }
-}
+const POLICY: &str =
+    "default-src 'none'; style-src 'self'; img-src 'self'; form-action 'self'; base-uri 'self'; frame-ancestors 'none'";
 
 /// The first field of a name.
 fn first<'a>(fields: &'a [Field], name: &str) -> Option<&'a Field>
@@ -111,16 +81,6 @@ fn is_foreign(fields: &[Field]) -> bool
     }
 }
 
-/// Sets the fields that every answer has.
-#[tactic(auto, unfolding(crate::specs::Guard::guarded))]
-fn set_guards(reply: &mut Reply) -> Result<(), AllocError>
-    ensures { OnOk result (reply.new ≡ spec.guarded reply.old) }
-{
-    put(reply, policy())?;
-    put(reply, no_sniffing())?;
-    Ok(())
-}
-
 /// Lets a request through, or refuses a form of another site.
 fn admit(alloc: Global, call: &Call<'_>) -> Result<Before, AllocError>
     ensures { IfOk result (λ before. before ≡ spec.admitted call.now) }
@@ -132,56 +92,84 @@ fn admit(alloc: Global, call: &Call<'_>) -> Result<Before, AllocError>
     Ok(Before::Pass)
 }
 
-impl Guard {
-    /// A filter that has not been initialised.
-    pub fn new(alloc: Global, node: u8) -> Guard
-        ensures phase { ⟦<Guard as Filter>⟧.filter_phase result ≡ New }
-        ensures meaning { ⟦<Guard as Filter>⟧.filtering result ≡ guarding node }
-    {
-        Guard {
-            phase: Phase::New,
-            alloc,
-            node,
-        }
+/// Says what may be loaded, and where forms may lead.
+#[tactic(auto, unfolding(crate::specs::Guard::policy))]
+fn set_policy(reply: &mut Reply) -> Result<(), ReplyFault>
+    ensures { Answers reply.old (field_result reply.old spec.policy) result reply.new }
+{
+    set_header(reply, "content-security-policy", POLICY)
+}
+
+/// Says that a content type is what it says (Fetch Standard, `X-Content-Type-Options`).
+#[tactic(auto, unfolding(crate::specs::Guard::no_sniffing))]
+fn set_no_sniffing(reply: &mut Reply) -> Result<(), ReplyFault>
+    ensures { Answers reply.old (field_result reply.old spec.no_sniffing) result reply.new }
+{
+    set_header(reply, "x-content-type-options", "nosniff")
+}
+
+/// Says that no cache is to keep the page.
+#[tactic(auto, unfolding(crate::specs::Guard::no_store))]
+fn set_no_store(reply: &mut Reply) -> Result<(), ReplyFault>
+    ensures { Answers reply.old (field_result reply.old spec.no_store) result reply.new }
+{
+    set_header(reply, "cache-control", "no-store")
+}
+
+/// Sets the fields that every answer has, and lets a request through, or refuses it.
+#[tactic(auto, unfolding(crate::specs::Guard::guarded))]
+fn set_guards(
+    alloc: Global,
+    call: &Call<'_>,
+    edit: &SessionEdit,
+    reply: &mut Reply,
+) -> Result<Before, Refusal>
+    ensures { DoesBefore (spec.guarded call.now) (lent edit.entry.now reply.old) (lent edit.entry.now reply.new) result }
+{
+    set_policy(reply)?;
+    set_no_sniffing(reply)?;
+    Ok(admit(alloc, call)?)
+}
+
+/// Keeps the page out of caches, where the field fits.
+#[tactic(auto, unfolding(crate::specs::Guard::unstored))]
+fn keep_from_caches(edit: &SessionEdit, reply: &mut Reply) -> Result<(), AllocError>
+    ensures { DoesAfter spec.unstored (lent edit.entry.now reply.old) (lent edit.entry.now reply.new) result }
+{
+    match set_no_store(reply) {
+        Err(ReplyFault::Memory) => Err(AllocError),
+        _ => Ok(()),
     }
 }
 
-impl Filter for Guard {
+impl HttpFilter for Guard {
     ghost use Rattle.example_servlets.specs.Guard.{guarding};
 
-    ghost filtering = { λ f. guarding f.node };
-
-    ghost filter_phase = { λ f. f.phase };
-
-    fn init(&mut self) -> Result<(), InitFault> {
-        self.phase = Phase::Ready;
-        Ok(())
-    }
+    ghost work = { λ g. guarding g.node };
 
     fn before(
         &mut self,
+        alloc: Global,
         call: &Call<'_>,
         edit: &mut SessionEdit,
         reply: &mut Reply,
-    ) -> Result<Before, AllocError> {
-        arrive(edit, self.node)?;
-        set_guards(reply)?;
-        admit(self.alloc, call)
+    ) -> Result<Before, Refusal> {
+        if has_session(edit) {
+            count(edit, self.node)?;
+        }
+        set_guards(alloc, call, edit, reply)
     }
 
     fn after(
         &mut self,
+        _alloc: Global,
         _call: &Call<'_>,
         edit: &mut SessionEdit,
         reply: &mut Reply,
     ) -> Result<(), AllocError> {
         if has_session(edit) {
-            put(reply, no_store())?;
+            return keep_from_caches(edit, reply);
         }
         Ok(())
-    }
-
-    fn destroy(&mut self) {
-        self.phase = Phase::Destroyed;
     }
 }

@@ -2,7 +2,7 @@
 //!
 //! Stands on the cart and its pages, and on what servlets are lent. Of a session they keep six attributes: the cart, the forms that
 //! have counted, what is to be said of the last one, the last order, the name of whoever has logged in, and the pages that were
-//! shown. Where the edit or the reply refuses a call, the request ends as one for which memory is refused.
+//! shown. Where the edit or the reply refuses a call, the error page of 500 follows, with the fault's name.
 #![tactic(auto)]
 
 mod basket;
@@ -16,7 +16,6 @@ mod login;
 mod logout;
 mod orders;
 mod sent;
-mod shop;
 mod still;
 mod store;
 mod told;
@@ -30,6 +29,5 @@ pub use guard::Guard;
 pub use login::Login;
 pub use logout::Logout;
 pub use orders::Orders;
-pub use shop::ShopServlet;
 pub use still::{Kind, Still};
 pub use store::Store;

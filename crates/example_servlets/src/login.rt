@@ -1,33 +1,31 @@
 //! Logging in.
 
-ghost use Rattle.std.specs.Prelude.{◌≡◌, IfOk, OnOk};
-ghost use Rattle.sv_servlet.specs.Servlet.{answer, lent};
+ghost use Rattle.std.specs.Prelude.{◌≡◌};
+ghost use Rattle.sv_servlet.specs.Servlet.{lent};
+ghost use Rattle.sv_web.specs.Refusal.{Does};
 ghost use Rattle.example_servlets.specs.Login as spec;
 
-use crate::kept::{NAME, change_id, create, has_session, keep};
-use crate::sent::{Way, send_to};
-use crate::told::{is_post, name_of};
-use std::alloc::{AllocError, Global};
-use sv_model::{Param, Text};
-use sv_servlet::{Answers, Call, Next, Reply};
+use crate::kept::NAME;
+use crate::told::name_of;
+use std::alloc::Global;
+use sv_model::Param;
+use sv_servlet::{Call, Next, Reply};
 use sv_session::SessionEdit;
+use sv_web::{HttpServlet, Refusal, has_session, is_post, send_error, send_redirect, set_text};
 
 /// Takes the name of whoever logs in, and sends the browser on to the cart. The session that there is goes on under another id,
 /// so that an id that somebody else knew before is worth nothing.
-#[derive(Drop)]
-pub struct Login {
-    pub alloc: Global,
-}
+#[derive(Clone, Copy)]
+pub struct Login;
 
-/// The session with another id, or a new one.
-#[tactic(auto, unfolding(crate::specs::Login::entered))]
-fn enter(edit: &mut SessionEdit) -> Result<(), AllocError>
-    ensures { OnOk result (edit.new ≡ spec.entered edit.old) }
+/// Keeps the name, and sends the browser on.
+#[tactic(auto, unfolding(crate::specs::Login::named))]
+fn keep_name(edit: &mut SessionEdit, reply: &mut Reply, name: &str) -> Result<Next, Refusal>
+    ensures { Does (spec.named name.now) (lent edit.old reply.old) (lent edit.new reply.new) result }
 {
-    if has_session(edit) {
-        return change_id(edit);
-    }
-    create(edit)
+    set_text(edit, NAME, name)?;
+    send_redirect(reply, "cart")?;
+    Ok(Next::Done)
 }
 
 /// Answers the form.
@@ -36,46 +34,39 @@ fn take(
     params: &[Param],
     edit: &mut SessionEdit,
     reply: &mut Reply,
-) -> Result<Next, AllocError>
-    ensures { IfOk result (λ next. answer (lent edit.new reply.new) next ≡ spec.taken params.now (lent edit.old reply.old)) }
+) -> Result<Next, Refusal>
+    ensures { Does (spec.taken params.now) (lent edit.old reply.old) (lent edit.new reply.new) result }
 {
     let Some(name) = name_of(params) else {
-        let text = Text::from_str(
+        return Ok(send_error(
             alloc,
+            400,
             "A name has 1 to 64 letters, and not blanks alone. Please log in above.",
-        )?;
-        return Ok(Next::SendError { code: 400, text });
+        )?);
     };
-    enter(edit)?;
-    keep(edit, NAME, name.as_bytes())?;
-    send_to(reply, Way::Cart)?;
-    Ok(Next::Done)
+    if has_session(edit) {
+        edit.change_id()?;
+    } else {
+        edit.create()?;
+    }
+    keep_name(edit, reply, name)
 }
 
-/// Refuses what is no POST.
-fn refuse(alloc: Global) -> Result<Next, AllocError>
-    ensures { IfOk result (λ next. next ≡ spec.refusal) }
-{
-    let text = Text::from_str(alloc, "Please log in above.")?;
-    Ok(Next::SendError { code: 405, text })
-}
-
-impl Answers for Login {
+impl HttpServlet for Login {
     ghost use Rattle.example_servlets.specs.Login.{login};
 
-    ghost answers = { λ _. login };
+    ghost work = { λ _. login };
 
-    fn answer(
+    fn serve(
         &mut self,
+        alloc: Global,
         call: &Call<'_>,
         edit: &mut SessionEdit,
         reply: &mut Reply,
-    ) -> Result<Next, AllocError> {
+    ) -> Result<Next, Refusal> {
         if is_post(call.method) {
-            return take(self.alloc, call.params, edit, reply);
+            return take(alloc, call.params, edit, reply);
         }
-        refuse(self.alloc)
+        Ok(send_error(alloc, 405, "Please log in above.")?)
     }
-
-    fn goes_on(&self) {}
 }

@@ -8,7 +8,7 @@ use sv_model::{Event, Told};
 use sv_servlet::Listener;
 
 /// Counts the orders of all sessions, up to the greatest number of 64 bits.
-#[derive(Drop)]
+#[derive(Clone, Copy)]
 pub struct Orders {
     count: u64,
 }

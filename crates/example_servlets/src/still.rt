@@ -1,14 +1,13 @@
 //! What is sent as it stands: the look of the pages, and the mark of the shop.
 
-ghost use Rattle.std.specs.Prelude.{◌≡◌};
+ghost use Rattle.std.specs.Prelude.{◌≡◌, IsTrue};
+ghost use Rattle.http_header.specs.FieldValue.{is_visible_text};
 ghost use Rattle.example_servlets.specs.Still as spec;
 
-use crate::sent::{put, write};
-use http_header::{HeaderName, HeaderValue};
-use std::alloc::AllocError;
-use sv_model::Field;
-use sv_servlet::{Answers, Call, Next, Reply};
+use std::alloc::Global;
+use sv_servlet::{Call, Next, Reply};
 use sv_session::SessionEdit;
+use sv_web::{HttpServlet, Refusal, set_header};
 
 /// What a text is.
 #[derive(Clone, Copy)]
@@ -18,43 +17,37 @@ pub enum Kind {
 }
 
 /// Sends a text as it stands.
-#[derive(Drop)]
+#[derive(Clone, Copy)]
 pub struct Still {
     pub kind: Kind,
     pub text: &'static str,
 }
 
-/// `content-type: text/css`, or `image/svg+xml`.
-fn type_of(kind: Kind) -> Field
-    ensures { result ≡ spec.type_of kind }
+/// The media type of a text (RFC 9110, section 8.3.1).
+fn media_type(kind: Kind) -> &'static str
+    ensures text { result.now ≡ spec.media_type kind }
+    ensures visible { IsTrue (is_visible_text result.now) }
 {
     match kind {
-        Kind::Css => Field {
-            name: HeaderName::from_static("content-type"),
-            value: HeaderValue::from_static("text/css"),
-        },
-        Kind::Svg => Field {
-            name: HeaderName::from_static("content-type"),
-            value: HeaderValue::from_static("image/svg+xml"),
-        },
+        Kind::Css => "text/css",
+        Kind::Svg => "image/svg+xml",
     }
 }
 
-impl Answers for Still {
+impl HttpServlet for Still {
     ghost use Rattle.example_servlets.specs.Still.{still};
 
-    ghost answers = { λ s. still s.kind s.text.now };
+    ghost work = { λ s. still s.kind s.text.now };
 
-    fn answer(
+    fn serve(
         &mut self,
+        _alloc: Global,
         _call: &Call<'_>,
         _edit: &mut SessionEdit,
         reply: &mut Reply,
-    ) -> Result<Next, AllocError> {
-        put(reply, type_of(self.kind))?;
-        write(reply, self.text.as_bytes())?;
+    ) -> Result<Next, Refusal> {
+        set_header(reply, "content-type", media_type(self.kind))?;
+        reply.write(self.text.as_bytes())?;
         Ok(Next::Done)
     }
-
-    fn goes_on(&self) {}
 }

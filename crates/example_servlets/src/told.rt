@@ -1,46 +1,18 @@
 //! What the shop is told by a request.
 
 ghost use Rattle.std.specs.Prelude.{◌≡◌, option_copied};
-ghost use Rattle.std.specs.List.{find};
 ghost use Rattle.example_servlets.specs.Told as spec;
-ghost use Rattle.example_servlets.specs.Told.{parameter, text};
+ghost use Rattle.example_servlets.specs.Told.{text};
 
 use example_cart::{Sent, read_between, read_sent};
-use http::Method;
 use sv_model::Param;
-
-/// A form is sent (RFC 9110, section 9.3.3).
-pub fn is_post(method: &Method) -> bool
-    ensures { result ≡ spec.is_post method.now }
-{
-    method.as_str() == "POST"
-}
-
-/// The first parameter of a name.
-fn first<'a>(params: &'a [Param], name: &str) -> Option<&'a Param>
-    ensures { option_copied result ≡ find (spec.has_name name.now) params.now }
-{
-    params.iter().find(|param| param.name.as_str() == name)
-}
-
-/// The value of the first parameter of a name.
-pub fn parameter<'a>(params: &'a [Param], name: &str) -> Option<&'a str>
-    ensures { option_copied result ≡ parameter params.now name.now }
-{
-    match first(params, name) {
-        Some(param) => Some(param.value.as_str()),
-        None => None,
-    }
-}
+use sv_web::parameter;
 
 /// The value of the first parameter of a name, or an empty text.
 pub fn text<'a>(params: &'a [Param], name: &str) -> &'a str
     ensures { result.now ≡ text params.now name.now }
 {
-    match parameter(params, name) {
-        Some(text) => text,
-        None => "",
-    }
+    parameter(params, name).unwrap_or("")
 }
 
 /// The form of an article.

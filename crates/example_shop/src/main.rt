@@ -7,35 +7,42 @@
 //! A fault prints one line `example_shop: ` and its name on standard error and ends the program with its status.
 #![tactic(auto)]
 
-mod kinds;
-mod start;
-
-use start::Shop;
+use example_cart::{ARTICLES, ICON, STYLE};
+use example_servlets::{
+    Basket, Catalogue, Checkout, ErrorPage, Guard, Kind, Login, Logout, Orders, Still, Store,
+};
 use std::process::ExitCode;
-use sv_launch::{Fault, Words, read_words, words_of};
+use sv_launch::{Application, launch, number_of};
 
-/// The node that the words ask for; one alone has the number 0.
-fn node_of(words: &[String]) -> u8 {
-    match read_words(words) {
-        Ok(Words::Node(node)) => node.number,
-        _ => 0,
-    }
-}
+/// What is sent as it stands.
+const LOOK: Still = Still {
+    kind: Kind::Css,
+    text: STYLE,
+};
 
-fn run(rt: &HostRuntime) -> Result<(), Fault> {
-    let words = words_of(rt)?;
-    let shop = Shop {
-        node: node_of(words.as_slice()),
-    };
-    sv_launch::run(&shop, rt, words.as_slice())
-}
+const MARK: Still = Still {
+    kind: Kind::Svg,
+    text: ICON,
+};
 
 fn main(rt: HostRuntime) -> ExitCode {
-    match run(&rt) {
-        Ok(()) => ExitCode::SUCCESS,
-        Err(fault) => {
-            let _ = eprintln!(rt; "example_shop: {fault}");
-            ExitCode::from(fault.status())
-        }
-    }
+    let alloc = rt.alloc();
+    let node = number_of(&rt);
+    let store = Store {
+        alloc,
+        articles: &ARTICLES,
+        node,
+    };
+    let shop = Application::new(alloc)
+        .servlet("catalogue", Catalogue { store })
+        .servlet("cart", Basket { store })
+        .servlet("login", Login)
+        .servlet("logout", Logout { store })
+        .servlet("checkout", Checkout { store })
+        .servlet("style", LOOK)
+        .servlet("icon", MARK)
+        .servlet("error", ErrorPage { store })
+        .filter("guard", Guard { node })
+        .listener("orders", Orders::new());
+    launch(&rt, "example_shop", &shop)
 }

@@ -1,0 +1,4 @@
+pub mod Login
+pub mod Members
+pub mod Oops
+pub mod Seats
