@@ -33,11 +33,7 @@ fn records(rt: &HostRuntime, cluster: &Cluster, node: u8) -> Result<Vec<Record>,
 
 /// A node of three that has these records. Nothing is served by it.
 fn recovered(alloc: Global, node: u8, records: &[Record]) -> Result<Core<()>, Trouble> {
-    let setting = Setting {
-        node,
-        nodes: 3,
-        deadline: 30,
-    };
+    let setting = Setting::of(node, 3, 30);
     match Core::recover(alloc, (), setting, records) {
         Ok(core) => Ok(core),
         Err(refused) => Err(refused.fault.into()),

@@ -18,24 +18,25 @@ mod secrets;
 mod trouble;
 
 use std::process::ExitCode;
-use sv_launch::{Fault, Samples, words_of};
+use sv_launch::{Fault, launch, words_of};
+use sv_showcase::showcase;
 
-/// Runs a node where there are words, or else all cases.
-fn run(rt: &HostRuntime) -> Result<(), Fault> {
-    let words = words_of(rt)?;
-    if words.is_empty() {
-        return match cases::run_all(rt) {
-            Ok(()) => Ok(()),
-            Err(_) => Err(Fault::Output),
-        };
+/// The program was called with words, or with what can't be read as words.
+fn has_words(rt: &HostRuntime) -> bool {
+    match words_of(rt) {
+        Ok(words) => !words.is_empty(),
+        Err(_) => true,
     }
-    sv_launch::run(&Samples, rt, words.as_slice())
 }
 
 fn main(rt: HostRuntime) -> ExitCode {
-    match run(&rt) {
+    if has_words(&rt) {
+        return launch(&rt, "node", &showcase(rt.alloc()));
+    }
+    match cases::run_all(&rt) {
         Ok(()) => ExitCode::SUCCESS,
-        Err(fault) => {
+        Err(_) => {
+            let fault = Fault::Output;
             let _ = eprintln!(rt; "node: {fault}");
             ExitCode::from(fault.status())
         }

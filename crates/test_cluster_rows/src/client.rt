@@ -45,11 +45,7 @@ fn node(alloc: Global, number: u8) -> Result<Node<Shop, MemoryDisk>, RowFault>
     requires { number < 2 }
     ensures { IfOk result (λ n. ⟦<Node<Shop, MemoryDisk> as Site>⟧.site_valid n) }
 {
-    let setting = Setting {
-        node: number,
-        nodes: 2,
-        deadline: 30,
-    };
+    let setting = Setting::of(number, 2, 30);
     let shop = shop(alloc, "built-in")?;
     match Node::open(
         alloc,

@@ -5,7 +5,7 @@
 //! event. What the file `stdout` expects is taken from the table of a node's step and from what the applications are written down
 //! to do, and never from the program.
 //!
-//! - `world SHOP`: three nodes and all packets that they have sent; `nodes`, `event`.
+//! - `world SHOP RULES`: three nodes and all packets that they have sent; `nodes`, `event`, `rules`.
 //! - `node SHOP BYTES`: one of three nodes, over a disk A of these bytes and a blank disk B; `running`.
 //! - `fails DISK`: the same over blank disks, once for each call of the disk A or B, which fails; `failing`.
 //! - `client TARGET COOKIE`: two nodes, and a client that waits at one of them for the other; `client`.
@@ -27,7 +27,9 @@ mod nodes;
 mod outputs;
 mod packets;
 mod records;
+mod reopening;
 mod request;
+mod rules;
 mod running;
 mod said;
 mod sessions;

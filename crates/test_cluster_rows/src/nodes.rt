@@ -8,10 +8,7 @@ use crate::fault::RowFault;
 use crate::shop::{Shop, shop};
 use std::alloc::Global;
 use sv_model::Engine;
-use sv_world::World;
-
-/// The seconds for which a request waits for its session.
-pub const DEADLINE: u64 = 30;
+use sv_world::{Rules, World};
 
 /// One more engine behind those that are there.
 #[tactic(auto, using(crate::proofs::EngineLemmas::all_behind))]
@@ -36,14 +33,14 @@ fn no_engines<E: Engine>(alloc: Global) -> Vec<E>
 }
 
 /// Three nodes in their first start, which serve by the same applications.
-pub fn three_nodes(alloc: Global, name: &str) -> Result<World<Shop>, RowFault>
+pub fn three_nodes(alloc: Global, name: &str, rules: Rules) -> Result<World<Shop>, RowFault>
     ensures { IfOk result (λ world. IsWorld ⟦<Shop as Engine>⟧.valid world) }
 {
     let engines = no_engines(alloc);
     let engines = with_one(engines, shop(alloc, name)?)?;
     let engines = with_one(engines, shop(alloc, name)?)?;
     let engines = with_one(engines, shop(alloc, name)?)?;
-    match World::new(alloc, engines, DEADLINE) {
+    match World::with(alloc, engines, rules) {
         Ok(world) => Ok(world),
         Err(_) => Err(RowFault::Start),
     }

@@ -103,5 +103,7 @@ pub fn push_record(text: &mut String, record: &Record) -> Result<(), AllocError>
         Record::Gone { key, epoch } => push_gone(text, *key, *epoch),
         Record::State { key, state } => push_kept(text, *key, state),
         Record::Counters { boot, next } => write!(text, "Counters {boot} {next}"),
+        Record::Forgets { home, boot } => write!(text, "Forgets {home} {boot}"),
+        Record::Counted { home, boot, next } => write!(text, "Counted {home} {boot} {next}"),
     }
 }

@@ -5,16 +5,19 @@
 //! - `compact`, and the length of the journal behind it.
 //! - `reopen`: the node is stopped, what stands on its disks is told, and it is opened over them.
 //! - `reopen-without-b`: the same, with the first byte of the disk B closed between.
+//! - `reopen-as NODE RULES`: the node is stopped, and opened over its disks as this one (`rules`). Where it isn't opened, why, and what
+//!   stands on its disks then, is told, and it is opened as it was at first.
 //!
 //! At the end what stands on the disks is told.
 
 ghost use Rattle.std.specs.Prelude.{IfOk};
 
-use crate::disks::{both, closed};
 use crate::fault::RowFault;
 use crate::group::{is_group, stepped_together};
 use crate::input::input;
 use crate::outputs::push_output;
+use crate::reopening::{opened_as, reopened, tell_disks};
+use crate::rules::setting;
 use crate::said::next_part;
 use crate::shop::shop;
 use crate::words::word;
@@ -29,6 +32,8 @@ const SETTING: Setting = Setting {
     node: 0,
     nodes: 3,
     deadline: 30,
+    keys: 65_536,
+    forget: false,
 };
 
 /// The node over its disks, started once more.
@@ -131,40 +136,6 @@ fn act<E: Engine + Drop>(
     Ok(node)
 }
 
-/// Tells what stands on both disks.
-fn tell_disks(
-    told: &mut String,
-    alloc: Global,
-    line: &str,
-    a: &MemoryDisk,
-    b: &MemoryDisk,
-) -> Result<(), AllocError> {
-    let said = both(alloc, a, b)?;
-    push_row(told, line, said.as_str())
-}
-
-/// A node that is stopped, and opened over what it left; a disk B whose first byte is closed before isn't read.
-fn reopened<E: Engine + Drop>(
-    alloc: Global,
-    node: Node<E, MemoryDisk>,
-    line: &str,
-    told: &mut String,
-) -> Result<Node<E, MemoryDisk>, RowFault>
-    requires { ⟦<Node<E, MemoryDisk> as Site>⟧.site_valid node }
-    ensures { IfOk result (λ n. ⟦<Node<E, MemoryDisk> as Site>⟧.site_valid n) }
-{
-    let (engine, a, b) = node.stop();
-    tell_disks(told, alloc, line, &a, &b)?;
-    let b = match line {
-        "reopen-without-b" => closed(alloc, &b)?,
-        _ => b,
-    };
-    match open(alloc, engine, a, b) {
-        Ok(node) => Ok(node),
-        Err(_) => Err(RowFault::Start),
-    }
-}
-
 /// What happens to a node by a line.
 fn take<E: Engine + Drop>(
     alloc: Global,
@@ -183,6 +154,7 @@ fn take<E: Engine + Drop>(
             Ok(node)
         }
         ("reopen" | "reopen-without-b", _) => reopened(alloc, node, line, told),
+        ("reopen-as", words) => opened_as(alloc, node, setting(words)?, line, told),
         _ => act(alloc, node, moment, token, line, told),
     }
 }

@@ -8,7 +8,7 @@ use std::alloc::{AllocError, Global};
 /// What happens by the lines behind that which says to what.
 fn play(alloc: Global, stage: &str, lines: &str, told: &mut String) -> Result<(), RowFault> {
     match word(stage) {
-        ("world", name) => worlds::play(alloc, name, lines, told),
+        ("world", words) => worlds::play(alloc, words, lines, told),
         ("node", words) => running::play(alloc, words, lines, told),
         ("fails", disk) => failing::play(alloc, disk, lines, told),
         ("client", words) => client::play(alloc, words, told),

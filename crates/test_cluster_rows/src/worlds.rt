@@ -11,6 +11,7 @@ use crate::clock;
 use crate::event::event;
 use crate::fault::RowFault;
 use crate::nodes::three_nodes;
+use crate::rules::rules;
 use crate::said::{said, sent};
 use crate::words::{number, word};
 use std::alloc::{AllocError, Global};
@@ -223,8 +224,9 @@ fn happen_all<E: Engine + Drop>(
     Ok(())
 }
 
-/// A world of three nodes with the applications of a name, and what happens to it.
-pub fn play(alloc: Global, name: &str, lines: &str, told: &mut String) -> Result<(), RowFault> {
-    let mut world = three_nodes(alloc, name)?;
+/// A world of three nodes with the applications of a name, and what happens to it: `NAME RULES`.
+pub fn play(alloc: Global, words: &str, lines: &str, told: &mut String) -> Result<(), RowFault> {
+    let (name, rest) = word(words);
+    let mut world = three_nodes(alloc, name, rules(rest)?)?;
     happen_all(alloc, &mut world, lines, told)
 }

@@ -1,18 +1,11 @@
 //! Why a node ends before it is told to.
 
+use crate::files::own_path;
 use crate::town::{Town, answer, heard, serve_all};
+use std::fs;
 use std::net::TcpStream;
 use std::test::Fail;
-use std::{env, fs, process};
 use sv_host::{Host, HostFault, Persistence, Place};
-
-/// The path of a file of this test's process alone, which is left where temporary files go.
-fn own_path(rt: &HostRuntime, name: &str) -> Result<String, Fail> {
-    let folder = env::temp_dir(rt)?;
-    let folder = folder.as_path();
-    let id = process::id(rt.process());
-    Ok(format!(in rt.alloc(); "{}/sv_host-{id}-{name}", folder.to_string_lossy())?)
-}
 
 /// The place of node 0, with a deadline in seconds and a file of so many secrets.
 fn place_of(rt: &HostRuntime, town: &Town, deadline: u32, secrets: usize) -> Result<Place, Fail> {

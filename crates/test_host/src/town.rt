@@ -116,6 +116,8 @@ impl Town {
             ports,
             deadline,
             secrets,
+            keys: 65_536,
+            forget: false,
         };
         Ok(Place::new(rt.alloc(), &cluster, 0)?)
     }

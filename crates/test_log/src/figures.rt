@@ -89,6 +89,7 @@ const NONE: Gauges = Gauges {
         gone: 0,
         ended: 0,
     },
+    limit: 65_536,
 };
 
 fn text_of(rt: &HostRuntime, event: Event, gauges: Gauges) -> Result<String, Fail> {
@@ -157,6 +158,7 @@ fn gauges_come_last(rt: HostRuntime) -> Result<(), Fail> {
             gone: 2,
             ended: 4,
         },
+        limit: 65_536,
     };
     let text = text_of(&rt, Event::Moved, gauges)?;
     assert!(rt; text.as_str().ends_with(GAUGES));
@@ -220,7 +222,7 @@ fn the_file_is_written_anew(rt: HostRuntime) -> Result<(), Fail> {
         seen.push_str(moved_in(fs::read_to_string(&rt, &path)?.as_str()))?;
     }
     report.note(Event::Moved);
-    report.end(&rt, 0);
+    report.end(&rt, 0, 0);
     seen.push_str(moved_in(fs::read_to_string(&rt, &path)?.as_str()))?;
     fs::remove_file(&rt, &path)?;
     assert_eq!(rt; seen.as_str(), "1134");

@@ -120,7 +120,7 @@ fn a_peer_is_silent_once(rt: HostRuntime) -> Result<(), Fail> {
     report.lost(1, Loss::Late);
     report.sent(1);
     report.sent(1);
-    report.end(&rt, 0);
+    report.end(&rt, 0, 0);
     let text = written(&rt, &path)?;
     assert_eq!(rt; text.as_str(), SILENT);
     Ok(())

@@ -3,6 +3,7 @@
 
 mod faults;
 mod frames;
+mod largest;
 mod written;
 
 use std::alloc::Global;

@@ -14,6 +14,7 @@ fn of_figures(alloc: Global, kind: &str, parts: &str) -> Result<String, RowFault
         "cut-figures" => watched::cut(alloc, parts),
         "figure" => watched::figure(alloc, parts),
         "rate" => watched::rate(alloc, parts),
+        "known-keys" => watched::keys(alloc, parts),
         "table" => watched::plain(alloc, parts),
         "screen" => watched::drawn(alloc, parts),
         _ => Err(RowFault::Kind),

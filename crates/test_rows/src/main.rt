@@ -15,7 +15,7 @@
 //! - `application`, paths: `context`, `below`, `servlet`, `pattern`, `long-pattern`, `filters` and `dispatcher`;
 //! - `record`: `record`, `old-record`, `packet`, `old-packet`, `frame`, `old-frame`, `attributes`, `changed` and `count`, whose
 //!   bytes are in hexadecimal;
-//! - `watched`, figures: `figures`, `cut-figures`, `figure`, `rate`, `table` and `screen`.
+//! - `watched`, figures: `figures`, `cut-figures`, `figure`, `rate`, `known-keys`, `table` and `screen`.
 #![tactic(auto)]
 
 mod answer;

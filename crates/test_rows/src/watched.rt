@@ -4,7 +4,7 @@
 use crate::escape::{bytes_of, shown};
 use crate::fault::RowFault;
 use crate::row::{first, number};
-use std::alloc::Global;
+use std::alloc::{AllocError, Global};
 use sv_watch::{Column, Figures, FiguresFault, Medium, rate_of, screen_of, table_of};
 
 /// The text that a part spells.
@@ -85,6 +85,37 @@ fn table_on(alloc: Global, parts: &str, medium: Medium) -> Result<String, RowFau
         look(alloc, column, texts)?;
     }
     Ok(table_of(alloc, &columns, now, medium)?)
+}
+
+/// Figures of a node that knows so many keys, of so many.
+fn keys_text(alloc: Global, known: &str, limit: &str) -> Result<String, AllocError> {
+    format!(in alloc;
+        "kegbramble_known_keys{{node=\"0\"}} {known}\nkegbramble_known_keys_limit{{node=\"0\"}} {limit}\nkegbramble_time_seconds{{node=\"0\"}} 5\n"
+    )
+}
+
+/// What a table says of known keys.
+fn keys_in(table: &str) -> Option<&str> {
+    for line in table.lines() {
+        if let Some(cell) = line.strip_prefix("known keys") {
+            return Some(cell.trim());
+        }
+    }
+    None
+}
+
+/// The known keys of a node in the table that a terminal draws: how many, and of how many.
+pub fn keys(alloc: Global, parts: &str) -> Result<String, RowFault> {
+    let (known, limit) = first(parts);
+    let mut columns = vec![in alloc; Column::new("FILE")]?;
+    if let Some(column) = columns.first_mut() {
+        column.look(Figures::read(keys_text(alloc, known, limit)?));
+    }
+    let table = table_of(alloc, &columns, 5, Medium::Terminal)?;
+    match keys_in(table.as_str()) {
+        Some(cell) => Ok(shown(alloc, cell.as_bytes())?),
+        None => Err(RowFault::Part),
+    }
 }
 
 /// Such a table as lines of text.

@@ -9,13 +9,19 @@
 #[cfg(test)]
 mod act;
 #[cfg(test)]
+mod alone;
+#[cfg(test)]
 mod cluster;
 #[cfg(test)]
 mod faults;
 #[cfg(test)]
+mod forgets;
+#[cfg(test)]
 mod limits;
 #[cfg(test)]
 mod member;
+#[cfg(test)]
+mod room;
 #[cfg(test)]
 mod rows;
 #[cfg(test)]

@@ -21,11 +21,7 @@ pub struct Member {
 
 /// One of three nodes, at which requests wait for 30 seconds.
 pub fn setting(node: u8) -> Setting {
-    Setting {
-        node,
-        nodes: 3,
-        deadline: 30,
-    }
+    Setting::of(node, 3, 30)
 }
 
 /// A core of these records.

@@ -54,6 +54,8 @@ fn record_text(alloc: Global, record: &Record) -> Result<String, AllocError> {
         Record::Gone { epoch, .. } => format!(in alloc; "Gone {epoch}"),
         Record::State { .. } => format!(in alloc; "State"),
         Record::Counters { .. } => format!(in alloc; "Counters"),
+        Record::Forgets { boot, .. } => format!(in alloc; "Forgets {boot}"),
+        Record::Counted { .. } => format!(in alloc; "Counted"),
     }
 }
 

@@ -18,6 +18,8 @@ const SETTING: Setting = Setting {
     node: 0,
     nodes: 3,
     deadline: 30,
+    keys: 65_536,
+    forget: false,
 };
 
 fn engine(alloc: Global) -> Counter {
@@ -28,7 +30,7 @@ fn engine(alloc: Global) -> Counter {
 }
 
 /// What a core is given, one behind the other: a session is made, wanted by node 1, handed to it and acknowledged; it is asked for
-/// here, waits, and comes back.
+/// here, waits, comes back, and is handed on. Another one is made, and expires, by which the core forgets it; and a third.
 #[derive(Clone, Copy)]
 enum Step {
     Make,
@@ -39,9 +41,10 @@ enum Step {
     Poke,
     Move,
     Tick,
+    Late,
 }
 
-const STEPS: [Step; 8] = [
+const STEPS: [Step; 11] = [
     Step::Make,
     Step::Want,
     Step::Ack,
@@ -50,7 +53,21 @@ const STEPS: [Step; 8] = [
     Step::Poke,
     Step::Move,
     Step::Tick,
+    Step::Make,
+    Step::Late,
+    Step::Make,
 ];
+
+/// When a step is taken; by then a session of a step before has expired where it is late.
+fn moment_of(step: Step) -> Moment {
+    match step {
+        Step::Late => Moment {
+            now: 1_061,
+            secret: given::SECRET,
+        },
+        _ => MOMENT,
+    }
+}
 
 fn asked(alloc: Global, token: u64, named: &[u8]) -> Result<Input, AllocError> {
     Ok(Input::Ask {
@@ -90,13 +107,17 @@ fn input(alloc: Global, step: Step) -> Result<Input, AllocError> {
         Step::Grant => granted(alloc),
         Step::Poke => Ok(Input::Poke),
         Step::Move => Ok(Input::Move { key, to: 2 }),
-        Step::Tick => Ok(Input::Tick),
+        Step::Tick | Step::Late => Ok(Input::Tick),
     }
 }
 
 /// A step is decided, and accepted.
-fn take_step(core: &mut Core<Counter>, input: Input) -> Result<Vec<Output>, AllocError> {
-    match core.decide(MOMENT, input) {
+fn take_step(
+    core: &mut Core<Counter>,
+    moment: Moment,
+    input: Input,
+) -> Result<Vec<Output>, AllocError> {
+    match core.decide(moment, input) {
         Ok(decision) => Ok(core.accept(decision)),
         Err(_) => Err(AllocError),
     }
@@ -109,11 +130,12 @@ fn step_again(
     one: Step,
 ) -> Result<Vec<Output>, AllocError> {
     let first = input(alloc, one)?;
-    match take_step(core, first) {
+    let moment = moment_of(one);
+    match take_step(core, moment, first) {
         Ok(outputs) => Ok(outputs),
         Err(AllocError) => {
             refusals.add();
-            take_step(core, input(alloc, one)?)
+            take_step(core, moment, input(alloc, one)?)
         }
     }
 }
@@ -136,7 +158,7 @@ fn core_of(alloc: Global, records: &[Record]) -> Result<Core<Counter>, Unshown> 
 }
 
 pub fn decide(alloc: Global, refusals: &mut Refusals) -> Shown {
-    let mut core = core_of(alloc, &[Record::Boot(1)])?;
+    let mut core = core_of(alloc, &[Record::Forgets { home: 0, boot: 1 }])?;
     let mut line = String::new(alloc);
     for one in STEPS {
         let outputs = step_again(alloc, refusals, &mut core, one)?;

@@ -24,6 +24,8 @@ const SETTING: Setting = Setting {
     node: 0,
     nodes: 3,
     deadline: 30,
+    keys: 65_536,
+    forget: false,
 };
 
 /// A node on these disks; where memory is refused, on those that are handed back.

@@ -47,6 +47,8 @@ fn place_of_record(record: &Record) -> usize {
         Record::Gone { .. } => 5,
         Record::State { .. } => 6,
         Record::Counters { .. } => 7,
+        Record::Forgets { .. } => 8,
+        Record::Counted { .. } => 9,
     }
 }
 
@@ -164,7 +166,13 @@ fn record(alloc: Global, place: usize) -> Result<Record, Fail> {
             key: KEY,
             state: KeyState::Ended { epoch: 4 },
         }),
-        _ => Ok(Record::Counters { boot: 0, next: 2 }),
+        7 => Ok(Record::Counters { boot: 0, next: 2 }),
+        8 => Ok(Record::Forgets { home: 6, boot: 8 }),
+        _ => Ok(Record::Counted {
+            home: 6,
+            boot: 0,
+            next: 2,
+        }),
     }
 }
 
@@ -176,7 +184,7 @@ fn copied_record(alloc: Global, place: usize) -> Result<usize, Fail> {
 
 #[test]
 fn records_are_copied(rt: HostRuntime) -> Result<(), Fail> {
-    for place in 0..8 {
+    for place in 0..10 {
         assert_eq!(rt; copied_record(rt.alloc(), place)?, place);
     }
     Ok(())

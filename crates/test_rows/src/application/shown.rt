@@ -11,14 +11,27 @@ fn ports_text(alloc: Global, ports: &[u16]) -> Result<String, AllocError> {
     Ok(text)
 }
 
-/// The ports, the deadline, and where the secrets come from.
+/// How many keys a node knows, and whether it forgets some; nothing where neither is asked for.
+fn keys_text(alloc: Global, cluster: &Cluster) -> Result<String, AllocError> {
+    match (cluster.keys, cluster.forget) {
+        (65_536, false) => Ok(String::new(alloc)),
+        (keys, false) => format!(in alloc; ", keys {keys}"),
+        (keys, true) => format!(in alloc; ", keys {keys}, forgets"),
+    }
+}
+
+/// The ports, the deadline, where the secrets come from, and how many keys a node knows where that is asked for.
 pub fn cluster_text(alloc: Global, cluster: &Cluster) -> Result<String, AllocError> {
     let ports = ports_text(alloc, &cluster.ports)?;
+    let keys = keys_text(alloc, cluster)?;
     match &cluster.secrets {
         Some(secrets) => {
-            format!(in alloc; "{ports}, deadline {}, secrets {secrets}", cluster.deadline)
+            format!(in alloc;
+                "{ports}, deadline {}, secrets {secrets}{keys}",
+                cluster.deadline
+            )
         }
-        None => format!(in alloc; "{ports}, deadline {}, no secrets", cluster.deadline),
+        None => format!(in alloc; "{ports}, deadline {}, no secrets{keys}", cluster.deadline),
     }
 }
 

@@ -117,6 +117,10 @@ pub fn record_text(alloc: Global, record: &Record) -> Result<String, AllocError>
         }
         Record::State { key, state } => key_state_text(alloc, *key, state),
         Record::Counters { boot, next } => format!(in alloc; "counters {boot} {next}"),
+        Record::Forgets { home, boot } => format!(in alloc; "forgets {home} {boot}"),
+        Record::Counted { home, boot, next } => {
+            format!(in alloc; "counted {home} {boot} {next}")
+        }
     }
 }
 

@@ -1,0 +1,12 @@
+//! Files of a test's own.
+
+use std::test::Fail;
+use std::{env, process};
+
+/// The path of a file of this test's process alone, which is left where temporary files go.
+pub fn own_path(rt: &HostRuntime, name: &str) -> Result<String, Fail> {
+    let folder = env::temp_dir(rt)?;
+    let folder = folder.as_path();
+    let id = process::id(rt.process());
+    Ok(format!(in rt.alloc(); "{}/sv_host-{id}-{name}", folder.to_string_lossy())?)
+}
