@@ -25,7 +25,8 @@ class History:
         self.key = int(cookie[2:4], 16), int(cookie[4:20], 16)
         self.lock = threading.Lock()
         self.requests = [] if user else [Request(time.monotonic(), time.monotonic(), 1)]
-        self.at = 0
+        # When a request to end it was first sent, and when one was answered.
+        self.end_begun = self.ended = None
 
     def begin(self):
         with self.lock:
@@ -40,9 +41,31 @@ class History:
     def refused(self, request):
         request.refused = True
 
+    def begin_end(self):
+        """Whether this is the first who ends it."""
+        with self.lock:
+            is_first = self.end_begun is None
+            if is_first:
+                self.end_begun = time.monotonic()
+            return is_first
+
+    def end_refused(self):
+        with self.lock:
+            self.end_begun = None
+
+    def end(self):
+        with self.lock:
+            self.ended = time.monotonic()
+
+    def may_have_ended(self):
+        with self.lock:
+            return self.end_begun is not None
+
     def look_at(self, request):
         """No number is given twice; a request that begins behind an answer has a greater one; and no number is above the
         count of requests that had begun and weren't refused."""
+        if self.ended is not None and self.ended < request.begun:
+            raise Breach(f"session {self.cookie} has ended, and comes back with the number {request.number}")
         begun = 0
         for other in self.requests:
             if other is request:
@@ -58,6 +81,8 @@ class History:
 
     def look_at_the_end(self, attributes):
         """The session that is kept counts each answered request, and at most those besides whose answers were cut off."""
+        if self.ended is not None:
+            raise Breach(f"session {self.cookie} has ended, and is kept")
         if self.user and attributes.get("user") != self.user.encode():
             raise Breach(f"session {self.cookie} has lost its user")
         count = int(attributes.get("count", 0))

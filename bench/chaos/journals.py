@@ -22,16 +22,30 @@ class Held:
     to: int = -1
 
 
+# The epoch of a key that isn't held since it ended at its own home.
+LAST = 2**64 - 1
+
+
 @dataclass
 class State:
-    """What a node's records lead to: what it holds under each key (home, serial), its starts and its next serial."""
+    """What a node's records lead to: what it holds under each key (home, serial), its starts and its next serial, and, where it
+    forgets what ends at its own home, which home that is.
+    """
 
     held: dict = field(default_factory=dict)
     boot: int = 0
     next: int = 1
+    home: int = -1
 
     def epoch(self, key):
-        return self.held[key].epoch if key in self.held else 0
+        if key in self.held:
+            return self.held[key].epoch
+        return LAST if key[0] == self.home and 0 < key[1] < self.next else 0
+
+    def end(self, key, epoch):
+        self.held[key] = Held("ended", epoch)
+        if key[0] == self.home:
+            del self.held[key]
 
 
 # How many bytes the length of an attribute's value takes, by the version of its record.
@@ -99,11 +113,14 @@ def replay_commit(state, record):
         state.held[key] = Held("active", state.epoch(key), record.session())
     elif named == 2:
         key = record.key()
-        state.held[key] = Held("ended", state.epoch(key))
+        state.end(key, state.epoch(key))
     birth = record.number(1)
     if birth:
         key = record.key()
-        state.held[key] = Held("active", 1, record.session()) if birth == 1 else Held("ended", 1)
+        if birth == 1:
+            state.held[key] = Held("active", 1, record.session())
+        else:
+            state.end(key, 1)
         state.next += 1
 
 
@@ -127,7 +144,7 @@ def replay_record(state, payload):
         replay_commit(state, record)
     elif kind == 3:
         key = record.key()
-        state.held[key] = Held("ended", state.epoch(key))
+        state.end(key, state.epoch(key))
     elif kind == 4:
         key, epoch, to = record.key(), record.number(8), record.number(1)
         state.held[key] = Held("sent", epoch, record.session(), to)
@@ -141,6 +158,10 @@ def replay_record(state, payload):
         replay_state(state, record)
     elif kind == 8:
         state.boot, state.next = record.number(8), record.number(8)
+    elif kind == 9:
+        state.home, state.boot = record.number(1), record.number(8)
+    elif kind == 10:
+        state.home, state.boot, state.next = record.number(1), record.number(8), record.number(8)
     else:
         raise Damaged("a record of no kind")
     if record.at != len(payload):

@@ -1,0 +1,120 @@
+"""A machine of one's own with a systemd, which plays steps and is gone afterwards.
+
+systemd is started in namespaces, over a layer on this machine's files. That takes root, a systemd that is installed and a kernel that
+allows it.
+"""
+import os
+import re
+import shutil
+import subprocess
+
+from patience import PATIENCE
+
+SYSTEMD = "/lib/systemd/systemd"
+UNSHARED = ["unshare", "--pid", "--mount", "--uts", "--ipc", "--net", "--cgroup", "--fork", "--kill-child"]
+
+# The root of the new machine: a layer over this one's, with devices, a loopback interface, and /mnt for the room.
+BOOT = r"""
+set -eu
+mount -t tmpfs tmpfs "$1/layer"
+cd "$1/layer"
+mkdir up work root
+mount -t overlay overlay -o lowerdir=/,upperdir=up,workdir=work root
+cd root
+mount -t proc proc proc
+mount -t sysfs sysfs sys
+mount -t cgroup2 cgroup2 sys/fs/cgroup
+mount -t tmpfs tmpfs run
+mount -t tmpfs tmpfs dev
+mkdir dev/shm dev/pts
+mknod -m 666 dev/null c 1 3; mknod -m 666 dev/zero c 1 5; mknod -m 666 dev/full c 1 7; mknod -m 666 dev/random c 1 8
+mknod -m 666 dev/urandom c 1 9; mknod -m 666 dev/tty c 5 0; mknod -m 600 dev/console c 5 1; mknod -m 666 dev/ptmx c 5 2
+ln -s /proc/self/fd dev/fd; ln -s fd/0 dev/stdin; ln -s fd/1 dev/stdout; ln -s fd/2 dev/stderr
+mkdir -p mnt old
+mount --bind "$1" mnt
+ip link set lo up
+rm -rf etc/systemd/system/*.wants
+cp "$1"/units/* etc/systemd/system/
+pivot_root . old
+umount -l old
+mount --make-rshared /
+exec env -i container=other PATH=/usr/sbin:/usr/bin:/sbin:/bin \
+  /lib/systemd/systemd --system --unit=steps.target --log-target=journal --show-status=no
+"""
+
+SERVICE = """[Service]
+Type=oneshot
+ExecStart=/bin/bash /mnt/steps
+ExecStopPost=/bin/systemctl poweroff --no-block
+StandardOutput=append:/mnt/said
+StandardError=append:/mnt/trouble
+"""
+
+TARGET = """[Unit]
+Wants=steps.service
+AllowIsolate=yes
+"""
+
+
+def missing(*programs):
+    """What is missing for such a machine, on which these programs are called; none where nothing is."""
+    if os.geteuid() != 0:
+        return "it takes root"
+    for program in (SYSTEMD, *(shutil.which(name) or name for name in ("systemctl", "ip", "curl", *programs))):
+        if not os.path.exists(program):
+            return f"{program} isn't installed"
+    tried = subprocess.run([*UNSHARED, "mount", "-t", "cgroup2", "cgroup2", "/sys/fs/cgroup"], capture_output=True, text=True)
+    return f"no namespaces: {tried.stderr.strip()}" if tried.returncode else None
+
+
+class Room:
+    """A folder that the machine has as /mnt."""
+
+    def __init__(self, path):
+        self.path = path
+        os.chmod(path, 0o755)
+        os.mkdir(f"{path}/layer")
+        os.mkdir(f"{path}/units")
+
+    def bring(self, program, name):
+        """Copies a program into the room. One that is a script over a program beside it brings that along."""
+        with open(program, "rb") as file:
+            text = file.read()
+        beside = re.search(rb"(\S+\.made) ", text) if text.startswith(b"#!") else None
+        if beside:
+            shutil.copy(beside[1], f"{self.path}/{name}.made")
+            os.chmod(f"{self.path}/{name}.made", 0o755)
+            text = text.replace(beside[1], f"/mnt/{name}.made".encode())
+        with open(f"{self.path}/{name}", "wb") as file:
+            file.write(text)
+        os.chmod(f"{self.path}/{name}", 0o755)
+
+    def write(self, name, text):
+        with open(f"{self.path}/{name}", "w", encoding="utf-8") as file:
+            file.write(text)
+
+    def read(self, name):
+        """What a file has; nothing where it isn't there."""
+        try:
+            with open(f"{self.path}/{name}", encoding="utf-8") as file:
+                return file.read()
+        except FileNotFoundError:
+            return ""
+
+    def play(self, steps):
+        """What these steps of a shell say on the machine, with the units that the room has, until it has shut down."""
+        for name, text in (("boot", BOOT), ("units/steps.service", SERVICE), ("units/steps.target", TARGET), ("steps", steps)):
+            self.write(name, text)
+        with open(f"{self.path}/console", "w", encoding="utf-8") as console:
+            words = [*UNSHARED, "bash", f"{self.path}/boot", self.path]
+            boot = subprocess.Popen(words, stdin=subprocess.DEVNULL, stdout=console, stderr=console)
+            try:
+                boot.wait(timeout=3 * PATIENCE)
+            except subprocess.TimeoutExpired:
+                boot.kill()
+                boot.wait()
+        return "".join(f"{line.rstrip()}\n" for line in self.read("said").splitlines())
+
+    def trouble(self):
+        """What the machine and the steps said of what went wrong."""
+        return self.read("console") + self.read("trouble")
