@@ -1,15 +1,43 @@
 //! A core by itself, node 0 of three: what it is recovered from, what it is given, and what it puts out.
 
 use crate::member::{NOW, SECRET};
-use std::alloc::Global;
+use std::alloc::{AllocError, Global};
+use std::process::Abort;
 use std::test::Fail;
 use sv_core::{ApplyFault, Core};
 use sv_model::{
-    Attributes, Input, Key, KeyState, Moment, Packet, Record, Request, Session, Setting,
+    Attributes, Input, Key, KeyState, Moment, Output, Packet, Record, Request, Session, Setting,
 };
-use test_engine::{Counter, output_text, state_text};
+use test_engine::{Counter, hello, output_text, request, state_text};
 
-pub fn key((home, serial): (u8, u64)) -> Key {
+/// A key, by its home and its serial.
+pub type KeyName = (u8, u64);
+
+/// What a core is given, or asked.
+#[derive(Clone, Copy)]
+pub enum Given {
+    /// A request that touches nothing.
+    Hello,
+    /// One that counts, with no session.
+    First,
+    /// One that names a session, whose serial is of one byte.
+    Again(u8, u8),
+    /// What node 1 sends of a key.
+    Want(KeyName),
+    Grant(KeyName, u64),
+    Ack(KeyName, u64),
+    /// The key is to go to node 1.
+    Move(KeyName),
+    /// A minute and a second have passed: each session's time is over.
+    Later,
+    /// What is known of a key.
+    Known(KeyName),
+}
+
+/// What a core is given, and what it puts out, `+` before it where a record says so; or what is known.
+pub type Row = (Given, &'static str);
+
+pub fn key((home, serial): KeyName) -> Key {
     Key { home, serial }
 }
 
@@ -48,11 +76,11 @@ pub fn recovered(
     }
 }
 
-pub fn counted(next: u64) -> Record {
-    Record::Counted {
-        home: 0,
-        boot: 1,
-        next,
+/// The records are refused, since one of them doesn't fit.
+pub fn is_refused(alloc: Global, setting: Setting, records: &[Record]) -> bool {
+    match recover(alloc, setting, records) {
+        Ok(_) => false,
+        Err(fault) => fault == ApplyFault::BadRecord,
     }
 }
 
@@ -68,7 +96,7 @@ pub fn session(alloc: Global) -> Session {
     }
 }
 
-pub fn active(alloc: Global, name: (u8, u64)) -> Record {
+pub fn active(alloc: Global, name: KeyName) -> Record {
     Record::State {
         key: key(name),
         state: KeyState::Active {
@@ -78,7 +106,24 @@ pub fn active(alloc: Global, name: (u8, u64)) -> Record {
     }
 }
 
-/// A head with this next serial, and the first keys of node 0 up to this one, active.
+/// A session of another node, which was here and has gone.
+pub fn gone(name: KeyName) -> Record {
+    Record::State {
+        key: key(name),
+        state: KeyState::Gone { epoch: 2 },
+    }
+}
+
+/// The head of a node that counts what it has forgotten.
+pub fn counted(next: u64) -> Record {
+    Record::Counted {
+        home: 0,
+        boot: 1,
+        next,
+    }
+}
+
+/// Such a head, and the first keys of node 0 up to this one, active.
 pub fn first(alloc: Global, next: u64, last: u64) -> Result<Vec<Record>, Fail> {
     let mut records = Vec::new(alloc);
     records.push(counted(next))?;
@@ -88,73 +133,112 @@ pub fn first(alloc: Global, next: u64, last: u64) -> Result<Vec<Record>, Fail> {
     Ok(records)
 }
 
-/// What a core puts out at an input in a second; `+` before it where a record says so.
-pub fn taken(
-    core: &mut Core<Counter>,
-    alloc: Global,
-    now: u64,
-    input: Input,
-) -> Result<String, Fail> {
-    let moment = Moment {
-        now,
-        secret: SECRET,
-    };
-    let decision = core.decide(moment, input)?;
+fn asked(request: Request) -> Input {
+    Input::Ask { token: 1, request }
+}
+
+/// A packet of node 1 about a key, or an order to move it there.
+fn carried(alloc: Global, given: Given) -> Input {
+    let (from, to) = (1, 0);
+    match given {
+        Given::Want(name) => Input::Packet(Packet::Want {
+            from,
+            to,
+            key: key(name),
+            boot: 1,
+            want: 1,
+        }),
+        Given::Grant(name, epoch) => Input::Packet(Packet::Grant {
+            from,
+            to,
+            key: key(name),
+            epoch,
+            session: session(alloc),
+        }),
+        Given::Ack(name, epoch) => Input::Packet(Packet::Ack {
+            from,
+            to,
+            key: key(name),
+            epoch,
+        }),
+        Given::Move(name) => Input::Move {
+            key: key(name),
+            to: from,
+        },
+        _ => Input::Tick,
+    }
+}
+
+fn input(alloc: Global, given: Given) -> Result<Input, AllocError> {
+    match given {
+        Given::Hello => Ok(asked(hello(alloc)?)),
+        Given::First => Ok(asked(request(alloc, &[])?)),
+        Given::Again(home, serial) => Ok(asked(request(alloc, &[home, serial])?)),
+        _ => Ok(carried(alloc, given)),
+    }
+}
+
+/// The second in which something is given.
+fn second(given: Given) -> u64 {
+    match given {
+        Given::Later => NOW + 61,
+        _ => NOW,
+    }
+}
+
+fn outputs_text(alloc: Global, kept: bool, outputs: &[Output]) -> Result<String, AllocError> {
     let mut text = String::new(alloc);
-    if decision.entry().is_some() {
+    if kept {
         text.push_str("+")?;
     }
-    let outputs = core.accept(decision);
-    for output in &outputs {
+    for output in outputs {
         text.push_str(output_text(alloc, output)?.as_str())?;
         text.push_str(";")?;
     }
     Ok(text)
 }
 
-pub fn asked(core: &mut Core<Counter>, alloc: Global, request: Request) -> Result<String, Fail> {
-    taken(core, alloc, NOW, Input::Ask { token: 1, request })
+fn taken(core: &mut Core<Counter>, alloc: Global, given: Given) -> Result<String, Fail> {
+    let moment = Moment {
+        now: second(given),
+        secret: SECRET,
+    };
+    let decision = core.decide(moment, input(alloc, given)?)?;
+    let kept = decision.entry().is_some();
+    let outputs = core.accept(decision);
+    Ok(outputs_text(alloc, kept, &outputs)?)
 }
 
-pub fn granted(
+fn told(core: &mut Core<Counter>, alloc: Global, given: Given) -> Result<String, Fail> {
+    match given {
+        Given::Known(name) => Ok(state_text(alloc, core.state(key(name)))?),
+        _ => taken(core, alloc, given),
+    }
+}
+
+/// A core is given these in order, each with what it puts out.
+pub fn expect(
+    rt: &impl Abort,
     core: &mut Core<Counter>,
     alloc: Global,
-    name: (u8, u64),
-    epoch: u64,
-) -> Result<String, Fail> {
-    let grant = Packet::Grant {
-        from: 1,
-        to: 0,
-        key: key(name),
-        epoch,
-        session: session(alloc),
-    };
-    taken(core, alloc, NOW, Input::Packet(grant))
-}
-
-pub fn wanted(core: &mut Core<Counter>, alloc: Global, name: (u8, u64)) -> Result<String, Fail> {
-    let want = Packet::Want {
-        from: 1,
-        to: 0,
-        key: key(name),
-        boot: 1,
-        want: 1,
-    };
-    taken(core, alloc, NOW, Input::Packet(want))
-}
-
-pub fn known(core: &Core<Counter>, alloc: Global, name: (u8, u64)) -> Result<String, Fail> {
-    Ok(state_text(alloc, core.state(key(name)))?)
-}
-
-pub fn forgets(home: u8, boot: u64) -> Record {
-    Record::Forgets { home, boot }
-}
-
-/// A session of another node, which was here and has gone.
-pub fn gone(name: (u8, u64)) -> Record {
-    Record::State {
-        key: key(name),
-        state: KeyState::Gone { epoch: 2 },
+    rows: &[Row],
+) -> Result<(), Fail> {
+    for (place, (given, want)) in rows.iter().enumerate() {
+        let told = told(core, alloc, *given)?;
+        assert_eq!(rt; told.as_str(), *want, "row {place}");
     }
+    Ok(())
+}
+
+/// The snapshot of a core that was recovered from these records and given these rows.
+pub fn expect_of(
+    rt: &impl Abort,
+    alloc: Global,
+    setting: Setting,
+    records: &[Record],
+    rows: &[Row],
+) -> Result<Vec<Record>, Fail> {
+    let mut core = recovered(alloc, setting, records)?;
+    expect(rt, &mut core, alloc, rows)?;
+    Ok(core.snapshot()?)
 }

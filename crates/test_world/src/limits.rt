@@ -1,40 +1,19 @@
 //! Numbers at their ends: keys, serials and epochs; and records that don't fit.
 
-use crate::member::{NOW, SECRET, recovered, setting};
+use crate::alone::{Given, Row, expect_of, is_refused, key, session};
+use crate::member::{recovered, setting};
 use std::alloc::Global;
 use std::process::Abort;
 use std::test::Fail;
-use sv_core::{ApplyFault, Census, Core};
-use sv_model::{
-    Attributes, Change, Input, KEY_LIMIT, Key, KeyState, Moment, Packet, Record, Request, Session,
-};
-use test_engine::{Counter, hello, output_text, request, state_text};
-
-fn key((home, serial): (u8, u64)) -> Key {
-    Key { home, serial }
-}
+use sv_core::Census;
+use sv_model::{Change, KEY_LIMIT, KeyState, Record};
 
 fn counters(boot: u64, next: u64) -> Record {
     Record::Counters { boot, next }
 }
 
 fn ended(home: u8, serial: u64) -> Record {
-    Record::State {
-        key: key((home, serial)),
-        state: KeyState::Ended { epoch: 1 },
-    }
-}
-
-fn session(alloc: Global) -> Session {
-    Session {
-        context: 0,
-        secret: SECRET,
-        created: 1,
-        last: NOW,
-        interval: 60,
-        fresh: true,
-        attributes: Attributes::new(alloc),
-    }
+    state(home, serial, KeyState::Ended { epoch: 1 })
 }
 
 fn born(alloc: Global, serial: u64) -> Record {
@@ -45,48 +24,6 @@ fn born(alloc: Global, serial: u64) -> Record {
             session: session(alloc),
         },
     }
-}
-
-/// What a core puts out at an input.
-fn taken(core: &mut Core<Counter>, alloc: Global, input: Input) -> Result<String, Fail> {
-    let moment = Moment {
-        now: NOW,
-        secret: SECRET,
-    };
-    let decision = core.decide(moment, input)?;
-    let outputs = core.accept(decision);
-    let mut text = String::new(alloc);
-    for output in &outputs {
-        text.push_str(output_text(alloc, output)?.as_str())?;
-        text.push_str(";")?;
-    }
-    Ok(text)
-}
-
-fn asked(core: &mut Core<Counter>, alloc: Global, request: Request) -> Result<String, Fail> {
-    taken(core, alloc, Input::Ask { token: 1, request })
-}
-
-fn granted(core: &mut Core<Counter>, alloc: Global, epoch: u64) -> Result<String, Fail> {
-    let grant = Packet::Grant {
-        from: 1,
-        to: 0,
-        key: key((1, 1)),
-        epoch,
-        session: session(alloc),
-    };
-    taken(core, alloc, Input::Packet(grant))
-}
-
-fn wanted(core: &mut Core<Counter>, alloc: Global) -> Result<String, Fail> {
-    let want = Packet::Want {
-        from: 1,
-        to: 0,
-        key: key((1, 1)),
-        boot: 1,
-        want: 1,
-    };
-    taken(core, alloc, Input::Packet(want))
 }
 
 fn state(home: u8, serial: u64, state: KeyState) -> Record {
@@ -148,85 +85,50 @@ fn full(alloc: Global) -> Result<Vec<Record>, Fail> {
     Ok(records)
 }
 
-/// The core is as full as it was, and takes nothing more.
-fn expect_full(rt: &impl Abort, core: &mut Core<Counter>, alloc: Global) -> Result<(), Fail> {
-    assert_eq!(rt; asked(core, alloc, hello(alloc)?)?.as_str(), "answer 0;");
-    assert_eq!(rt;
-        asked(core, alloc, request(alloc, &[])?)?.as_str(),
-        "refuse TableFull;"
-    );
-    assert_eq!(rt; granted(core, alloc, 2)?.as_str(), "");
-    assert_eq!(rt;
-        state_text(alloc, core.state(key((0, 65_536))))?.as_str(),
-        "Ended 1"
-    );
-    assert_eq!(rt;
-        state_text(alloc, core.state(key((0, 65_537))))?.as_str(),
-        "Nothing"
-    );
-    Ok(())
+const IS_FULL: [Row; 5] = [
+    (Given::Hello, "answer 0;"),
+    (Given::First, "refuse TableFull;"),
+    (Given::Grant((1, 1), 2), ""),
+    (Given::Known((0, 65_536)), "Ended 1"),
+    (Given::Known((0, 65_537)), "Nothing"),
+];
+
+fn is_head_of_all(record: Option<&Record>) -> bool {
+    match record {
+        Some(Record::Counters { boot, next }) => *boot == 1 && *next == 65_537,
+        _ => false,
+    }
 }
 
-/// A snapshot of all keys, recovered from, is the same.
+/// A snapshot of all keys, recovered from, is the same: as full as it was, and it takes nothing more.
 #[test]
 fn a_full_table(rt: HostRuntime) -> Result<(), Fail> {
     let alloc = rt.alloc();
-    let mut core = recovered(alloc, 0, &full(alloc)?)?;
-    expect_full(&rt, &mut core, alloc)?;
-    let snapshot = core.snapshot()?;
-    assert_eq!(rt; snapshot.len(), KEY_LIMIT + 1);
-    let mut again = recovered(alloc, 0, &snapshot)?;
-    assert_eq!(rt; again.boot(), 1);
-    expect_full(&rt, &mut again, alloc)
-}
-
-fn expect_no_serial(rt: &impl Abort, alloc: Global) -> Result<(), Fail> {
-    let mut core = recovered(alloc, 0, &[counters(1, u64::MAX)])?;
-    assert_eq!(rt;
-        asked(&mut core, alloc, hello(alloc)?)?.as_str(),
-        "answer 0;"
-    );
-    assert_eq!(rt;
-        asked(&mut core, alloc, request(alloc, &[])?)?.as_str(),
-        "refuse SerialsSpent;"
-    );
+    let snapshot = expect_of(&rt, alloc, setting(0), &full(alloc)?, &IS_FULL)?;
+    assert_eq!(&rt; snapshot.len(), KEY_LIMIT + 1);
+    assert!(&rt; is_head_of_all(snapshot.first()));
+    expect_of(&rt, alloc, setting(0), &snapshot, &IS_FULL)?;
     Ok(())
 }
 
-fn expect_no_epoch(rt: &impl Abort, alloc: Global) -> Result<(), Fail> {
-    let mut core = recovered(alloc, 0, &[])?;
-    assert_eq!(rt;
-        granted(&mut core, alloc, u64::MAX)?.as_str(),
-        "Ack 0 to 1 epoch 18446744073709551615;"
-    );
-    let to_1 = Input::Move {
-        key: key((1, 1)),
-        to: 1,
-    };
-    assert_eq!(rt;
-        taken(&mut core, alloc, to_1)?.as_str(),
-        "refused EpochsSpent;"
-    );
-    assert_eq!(rt; wanted(&mut core, alloc)?.as_str(), "");
-    Ok(())
-}
+const NO_SERIAL: [Row; 2] = [
+    (Given::Hello, "answer 0;"),
+    (Given::First, "refuse SerialsSpent;"),
+];
+
+const NO_EPOCH: [Row; 3] = [
+    (
+        Given::Grant((1, 1), u64::MAX),
+        "+Ack 0 to 1 epoch 18446744073709551615;",
+    ),
+    (Given::Move((1, 1)), "refused EpochsSpent;"),
+    (Given::Want((1, 1)), ""),
+];
 
 fn expect_no_start(rt: &impl Abort, alloc: Global) -> Result<(), Fail> {
     let mut core = recovered(alloc, 0, &[counters(u64::MAX, 1)])?;
     assert!(rt; core.decide_start()?.is_none());
     Ok(())
-}
-
-/// The records are refused, since one of them doesn't fit.
-fn is_refused(alloc: Global, records: &[Record]) -> bool {
-    let engine = Counter {
-        alloc,
-        secret: SECRET,
-    };
-    match Core::recover(alloc, engine, setting(0), records) {
-        Ok(_) => false,
-        Err(unrecovered) => unrecovered.fault == ApplyFault::BadRecord,
-    }
 }
 
 /// The last record doesn't fit behind those before it, which fit.
@@ -237,16 +139,16 @@ fn expect_refused(
     why: &str,
 ) -> Result<(), Fail> {
     let (_, before) = records.split_last().ok_or("no records")?;
-    assert!(rt; !is_refused(alloc, before), "before: {why}");
-    assert!(rt; is_refused(alloc, records), "{why}");
+    assert!(rt; !is_refused(alloc, setting(0), before), "before: {why}");
+    assert!(rt; is_refused(alloc, setting(0), records), "{why}");
     Ok(())
 }
 
 #[test]
 fn numbers_at_their_ends(rt: HostRuntime) -> Result<(), Fail> {
     let alloc = rt.alloc();
-    expect_no_serial(&rt, alloc)?;
-    expect_no_epoch(&rt, alloc)?;
+    expect_of(&rt, alloc, setting(0), &[counters(1, u64::MAX)], &NO_SERIAL)?;
+    expect_of(&rt, alloc, setting(0), &[], &NO_EPOCH)?;
     expect_no_start(&rt, alloc)
 }
 

@@ -1,14 +1,23 @@
 //! A node whose setting says how many keys it knows.
 
-use crate::alone::{active, asked, first, gone, granted, known, recover, recovered, setting};
+use crate::alone::{Given, KeyName, Row, active, expect_of, first, gone, is_refused, setting};
 use std::alloc::Global;
 use std::process::Abort;
 use std::test::Fail;
-use sv_core::ApplyFault;
-use sv_model::Record;
-use test_engine::request;
+use sv_model::{Record, Setting};
 
 const FULL: &str = "refuse TableFull;";
+
+const NEW: Row = (Given::First, "+answer 1;");
+
+/// None has become known, and the one that comes back is taken.
+const FEWER: [Row; 5] = [
+    (Given::First, FULL),
+    (Given::Grant((1, 2), 2), ""),
+    (Given::Grant((1, 1), 3), "+Ack 0 to 1 epoch 3;"),
+    (Given::Known((1, 1)), "Active 3 count 1"),
+    (Given::Again(0, 2), "+answer 2;"),
+];
 
 /// More keys are known than the setting says: nothing is lost, no further one becomes known, and what comes back is taken.
 #[test]
@@ -16,21 +25,8 @@ fn fewer_keys_than_are_known(rt: HostRuntime) -> Result<(), Fail> {
     let alloc = rt.alloc();
     let mut records = first(alloc, 3, 2)?;
     records.push(gone((1, 1)))?;
-    let mut core = recovered(alloc, setting(2, false), &records)?;
-    assert_eq!(rt;
-        asked(&mut core, alloc, request(alloc, &[])?)?.as_str(),
-        FULL
-    );
-    assert_eq!(rt; granted(&mut core, alloc, (1, 2), 2)?.as_str(), "");
-    assert_eq!(rt;
-        granted(&mut core, alloc, (1, 1), 3)?.as_str(),
-        "+Ack 0 to 1 epoch 3;"
-    );
-    assert_eq!(rt; known(&core, alloc, (1, 1))?.as_str(), "Active 3 count 1");
-    assert_eq!(rt;
-        asked(&mut core, alloc, request(alloc, &[0, 2])?)?.as_str(),
-        "+answer 2;"
-    );
+    let left = expect_of(&rt, alloc, setting(2, false), &records, &FEWER)?;
+    assert_eq!(&rt; left.len(), 4);
     Ok(())
 }
 
@@ -44,29 +40,42 @@ fn many(alloc: Global, keys: u64) -> Result<Vec<Record>, Fail> {
     Ok(records)
 }
 
+const LAST: KeyName = (1, 65_537);
+
+/// A node that knows so many keys has all of the records, and one request more that makes a session is answered so.
+fn expect_known(
+    rt: &impl Abort,
+    alloc: Global,
+    keys: u32,
+    records: &[Record],
+    row: Row,
+) -> Result<(), Fail> {
+    let rows = [(Given::Known(LAST), "Gone 2"), row];
+    expect_of(rt, alloc, setting(keys, false), records, &rows)?;
+    Ok(())
+}
+
 /// 65,537 keys are too many for a node that knows 65,536 or fewer; one that knows one more has them all, and is full.
 #[test]
 fn more_keys_than_is_usual(rt: HostRuntime) -> Result<(), Fail> {
     let alloc = rt.alloc();
-    let records = many(alloc, 65_537)?;
-    for keys in [1, 65_536] {
-        let refused = match recover(alloc, setting(keys, false), &records) {
-            Ok(_) => None,
-            Err(fault) => Some(fault),
-        };
-        assert!(rt; refused == Some(ApplyFault::BadRecord), "{keys}");
-    }
-    let mut core = recovered(alloc, setting(65_537, false), &records)?;
-    assert_eq!(rt; known(&core, alloc, (1, 65_537))?.as_str(), "Gone 2");
-    assert_eq!(rt;
-        asked(&mut core, alloc, request(alloc, &[])?)?.as_str(),
-        FULL
-    );
-    let mut core = recovered(alloc, setting(65_538, false), &records)?;
-    assert_eq!(rt;
-        asked(&mut core, alloc, request(alloc, &[])?)?.as_str(),
-        "+answer 1;"
-    );
+    let records = many(alloc, LAST.1)?;
+    assert!(&rt; is_refused(alloc, setting(1, false), &records));
+    assert!(&rt; is_refused(alloc, setting(65_536, false), &records));
+    expect_known(&rt, alloc, 65_537, &records, (Given::First, FULL))?;
+    expect_known(&rt, alloc, 65_538, &records, NEW)
+}
+
+/// A node that knows one key, which is its own, is asked for one of node 1.
+fn expect_asked(
+    rt: &impl Abort,
+    alloc: Global,
+    forget: bool,
+    records: &[Record],
+    want: &'static str,
+) -> Result<(), Fail> {
+    let set: Setting = setting(1, forget);
+    expect_of(rt, alloc, set, records, &[(Given::Again(1, 1), want)])?;
     Ok(())
 }
 
@@ -74,18 +83,8 @@ fn more_keys_than_is_usual(rt: HostRuntime) -> Result<(), Fail> {
 #[test]
 fn no_want_for_want_of_room(rt: HostRuntime) -> Result<(), Fail> {
     let alloc = rt.alloc();
-    let mut core = recovered(alloc, setting(1, true), &first(alloc, 2, 1)?)?;
-    assert_eq!(rt;
-        asked(&mut core, alloc, request(alloc, &[1, 1])?)?.as_str(),
-        FULL
-    );
-    let plain = Record::Counters { boot: 1, next: 2 };
-    let records = [plain, active(alloc, (0, 1))];
-    let mut other = recovered(alloc, setting(1, false), &records)?;
-    let asks = "Want 0 to 1;Want 0 to 2;";
-    assert_eq!(rt;
-        asked(&mut other, alloc, request(alloc, &[1, 1])?)?.as_str(),
-        asks
-    );
-    Ok(())
+    let head = Record::Counters { boot: 1, next: 2 };
+    expect_asked(&rt, alloc, true, &first(alloc, 2, 1)?, FULL)?;
+    let plain = [head, active(alloc, (0, 1))];
+    expect_asked(&rt, alloc, false, &plain, "Want 0 to 1;Want 0 to 2;")
 }
