@@ -1,3 +1,4 @@
+pub mod PlaceLemmas
 pub mod SendLemmas
 pub mod LifeLemmas
 pub mod GroupLemmas

@@ -2,6 +2,7 @@ pub mod Outputs
 pub mod Round
 pub mod Time
 pub mod Place
+pub mod Places
 pub mod Secrets
 pub mod Peers
 pub mod Parked

@@ -2,7 +2,6 @@
 use Rattle.std.specs.Prelude.{◌≡◌, ℕ, ◌==◌, Bool, true, false, ⊤}
 use Rattle.sv_host.specs.declared.hearing.Heard.{Heard}
 use Rattle.sv_host.specs.declared.hearing.Heard.TheVariants.{More, Request, Refused, Frame, Nothing}
-use Rattle.sv_host.specs.declared.state.State.{State}
 use Rattle.sv_host.specs.declared.state.State.TheVariants as state
 use Rattle.sv_host.specs.declared.serve.Progress.{Progress}
 use Rattle.sv_host.specs.declared.serve.Progress.TheVariants as progress

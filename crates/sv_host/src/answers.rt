@@ -1,5 +1,8 @@
 //! What clients are told.
 
+ghost use Rattle.std.specs.Prelude.{◌≡◌, None, is_some};
+ghost use Rattle.sv_host.specs.Places.{elsewhere, manner_at};
+
 use crate::connections::Connections;
 use crate::open::Open;
 use crate::socket::{Socket, Written};
@@ -11,7 +14,9 @@ use sv_model::{Cause, Response};
 
 impl Connections {
     /// Says a text at a place. What isn't taken of it is kept, and leaves `text`.
-    pub fn say(&mut self, place: usize, socket: Socket, text: &mut Vec<u8>, next: Next) {
+    pub fn say(&mut self, place: usize, socket: Socket, text: &mut Vec<u8>, next: Next)
+        ensures { elsewhere place self.new ≡ elsewhere place self.old }
+    {
         let mut socket = socket;
         self.report.answered(text.as_slice());
         match socket.write(text) {
@@ -59,7 +64,9 @@ impl Connections {
 
     /// What follows once a text is written. A client that is listened to further is gone on with in the next turn, so that each has
     /// one request a turn.
-    pub fn follow(&mut self, place: usize, socket: Socket, next: Next) {
+    pub fn follow(&mut self, place: usize, socket: Socket, next: Next)
+        ensures { elsewhere place self.new ≡ elsewhere place self.old }
+    {
         match next {
             Next::Close => self.leave(place),
             Next::Part => self.half_close(place, socket),
@@ -71,7 +78,9 @@ impl Connections {
     }
 
     /// Says one byte, and closes the connection.
-    pub fn tell(&mut self, place: usize, socket: Socket, byte: u8) {
+    pub fn tell(&mut self, place: usize, socket: Socket, byte: u8)
+        ensures { elsewhere place self.new ≡ elsewhere place self.old }
+    {
         let mut text = Vec::new(self.alloc);
         if text.push(byte).is_ok() {
             self.say(place, socket, &mut text, Next::Close);
@@ -82,7 +91,9 @@ impl Connections {
 
     /// How the client that waits at a place for the answer under a token wants a refusal: the head alone, and whether its connection
     /// closes; none where no such client is there, be the place another's by now.
-    fn manner_at(&self, place: usize, token: u64) -> Option<(bool, bool)> {
+    fn manner_at(&self, place: usize, token: u64) -> Option<(bool, bool)>
+        ensures { result ≡ manner_at self.now place token }
+    {
         match self.places.get(place) {
             Some(
                 Some(
@@ -102,7 +113,9 @@ impl Connections {
     }
 
     /// Whether a client waits at a place for the answer under a token.
-    pub fn waits_at(&self, place: usize, token: u64) -> bool {
+    pub fn waits_at(&self, place: usize, token: u64) -> bool
+        ensures { result ≡ is_some (manner_at self.now place token) }
+    {
         self.manner_at(place, token).is_some()
     }
 
@@ -114,7 +127,10 @@ impl Connections {
         response: &Response,
         now: u64,
         text: &mut Vec<u8>,
-    ) {
+    )
+        ensures nobody { manner_at self.old place token ≡ None → self.new ≡ self.old }
+        ensures others { elsewhere place self.new ≡ elsewhere place self.old }
+    {
         if !self.waits_at(place, token) {
             return;
         }
@@ -132,7 +148,9 @@ impl Connections {
     }
 
     /// Says to a client that memory was refused, and parts from it.
-    fn refuse_for_memory(&mut self, place: usize, socket: Socket) {
+    fn refuse_for_memory(&mut self, place: usize, socket: Socket)
+        ensures { elsewhere place self.new ≡ elsewhere place self.old }
+    {
         match Vec::from_slice(self.alloc, memory_lines()) {
             Ok(lines) => {
                 let mut text = lines;
@@ -143,7 +161,10 @@ impl Connections {
     }
 
     /// Refuses the client that waits at a place for the answer under a token. The connection of one that has waited in vain closes.
-    pub fn refuse(&mut self, place: usize, token: u64, cause: Cause, now: u64, text: &mut Vec<u8>) {
+    pub fn refuse(&mut self, place: usize, token: u64, cause: Cause, now: u64, text: &mut Vec<u8>)
+        ensures nobody { manner_at self.old place token ≡ None → self.new ≡ self.old }
+        ensures others { elsewhere place self.new ≡ elsewhere place self.old }
+    {
         let Some((head_only, close)) = self.manner_at(place, token) else {
             return;
         };

@@ -1,5 +1,8 @@
 //! The connections that are open.
 
+ghost use Rattle.std.specs.Prelude.{◌≡◌};
+ghost use Rattle.sv_host.specs.Places.{places_of, elsewhere};
+
 use crate::links::Links;
 use crate::machine::Machine;
 use crate::open::Open;
@@ -116,15 +119,19 @@ impl Connections {
     }
 
     /// What stands at a place, which keeps the place.
-    pub fn take(&mut self, place: usize) -> Option<Open> {
-        match self.places.get_mut(place) {
-            Some(slot) => slot.take(),
-            None => None,
+    pub fn take(&mut self, place: usize) -> Option<Open>
+        ensures { elsewhere place self.new ≡ elsewhere place self.old }
+    {
+        if place >= self.places.len() {
+            return None;
         }
+        self.places[place].take()
     }
 
     /// Puts a connection to its place.
-    pub fn put(&mut self, place: usize, socket: Socket, state: State, begun: Duration) {
+    pub fn put(&mut self, place: usize, socket: Socket, state: State, begun: Duration)
+        ensures { elsewhere place self.new ≡ elsewhere place self.old }
+    {
         let heard = self.clock;
         self.seat(
             place,
@@ -138,20 +145,26 @@ impl Connections {
     }
 
     /// Sets a connection at its place.
-    fn seat(&mut self, place: usize, open: Open) {
-        if let Some(slot) = self.places.get_mut(place) {
-            *slot = Some(open);
+    fn seat(&mut self, place: usize, open: Open)
+        ensures { elsewhere place self.new ≡ elsewhere place self.old }
+    {
+        if place < self.places.len() {
+            self.places[place] = Some(open);
         }
     }
 
     /// Puts a connection that begins a state to its place.
-    pub fn begin(&mut self, place: usize, socket: Socket, state: State) {
+    pub fn begin(&mut self, place: usize, socket: Socket, state: State)
+        ensures { elsewhere place self.new ≡ elsewhere place self.old }
+    {
         let begun = self.clock;
         self.put(place, socket, state, begun);
     }
 
     /// Puts a connection back as it was, and has the poll report it. Where that can't be, it is closed.
-    pub fn keep(&mut self, place: usize, open: Open) {
+    pub fn keep(&mut self, place: usize, open: Open)
+        ensures { elsewhere place self.new ≡ elsewhere place self.old }
+    {
         let mut open = open;
         if self.watch(place, &mut open) {
             self.seat(place, open);
@@ -168,28 +181,41 @@ impl Connections {
         }
     }
 
+    /// What has come at a place already is to be gone on with, which no poll reports.
+    fn has_come(&self, place: usize) -> bool {
+        match self.places.get(place) {
+            Some(Some(open)) => open.state.has_come(),
+            _ => false,
+        }
+    }
+
+    /// Has the poll report once more what comes at a place.
+    fn watch_anew(&mut self, place: usize)
+        ensures { elsewhere place self.new ≡ elsewhere place self.old }
+    {
+        if let Some(mut open) = self.take(place) {
+            let _ = open
+                .socket
+                .watch_anew(&self.registry, place, Interest::READABLE);
+            self.seat(place, open);
+        }
+    }
+
     /// Has a connection gone on with again, of which more may be there.
-    pub fn call_again(&mut self, place: usize) {
-        match self.places.get_mut(place) {
-            Some(
-                Some(
-                    Open {
-                        state: State::Asked(_) | State::Taken(_) | State::Peer(_),
-                        ..
-                    },
-                ),
-            ) => self.put_down(place),
-            Some(Some(open)) => {
-                let _ = open
-                    .socket
-                    .watch_anew(&self.registry, place, Interest::READABLE);
-            }
-            _ => {}
+    pub fn call_again(&mut self, place: usize)
+        ensures { elsewhere place self.new ≡ elsewhere place self.old }
+    {
+        if self.has_come(place) {
+            self.put_down(place);
+        } else {
+            self.watch_anew(place);
         }
     }
 
     /// Puts a place down as one where something is to be done. Where there is no memory for it the connection is closed.
-    pub fn put_down(&mut self, place: usize) {
+    pub fn put_down(&mut self, place: usize)
+        ensures { elsewhere place self.new ≡ elsewhere place self.old }
+    {
         let put: Result<(), AllocFailed<usize>> = self.due.push(place);
         if put.is_err() {
             let _closed = self.take(place);
@@ -223,7 +249,9 @@ impl Connections {
     }
 
     /// Gives a place up whose connection was taken.
-    pub fn leave(&mut self, place: usize) {
+    pub fn leave(&mut self, place: usize)
+        ensures { places_of self.new ≡ places_of self.old }
+    {
         self.count = self.count.saturating_sub(1);
         let _: Result<(), AllocFailed<usize>> = self.free.push(place);
     }

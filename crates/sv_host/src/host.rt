@@ -164,6 +164,11 @@ fn live<M: Machine + Print, E: Engine, D: Disk>(
 }
 
 impl Host {
+    ghost use Rattle.std.specs.Prelude.{◌⊎◌};
+    ghost use Rattle.sv_model.specs.NodeState.{last_number};
+    ghost use Rattle.sv_journal.specs.Disk.{HasRisen};
+    ghost use Rattle.sv_node.specs.Opened.{LacksRoom};
+    ghost use Rattle.sv_node.specs.declared.fault.OpenFault.TheVariants.{Damaged, Device, Full};
     ghost use Rattle.sv_host.specs.Host.{counted_of, setting_of, ports_of, persistence_of};
 
     /// Opens the file of secrets, and listens at the node's port. Faults are found in this order.
@@ -228,6 +233,10 @@ impl Host {
         // Where it isn't opened, what is lost is at most the start itself.
         ensures unopened { IfErr result (λ r. D.tells a → D.tells b → (d : Durable) → Restores (setting_of self) (D.seen a) (D.seen b) d → LeavesStart D.may_leave (setting_of self) a b d r.a r.b) }
         ensures engine { IfErr result (λ r. r.engine ≡ engine) }
+        // Why it isn't opened, want of memory apart.
+        ensures damaged { IfErr result (λ r. r.fault ≡ Damaged → D.tells a → D.tells b → (d : Durable) → Restores (setting_of self) (D.seen a) (D.seen b) d → d.boot ≡ last_number) }
+        ensures full { IfErr result (λ r. r.fault ≡ Full → D.tells a → D.tells b → (d : Durable) → Restores (setting_of self) (D.seen a) (D.seen b) d → LacksRoom D.seen D.may_leave (setting_of self) d r.a r.b) }
+        ensures device { IfErr result (λ r. r.fault ≡ Device → HasRisen (D.failed a) (D.failed r.a) ⊎ HasRisen (D.failed b) (D.failed r.b)) }
     {
         let Host {
             setting,

@@ -1,5 +1,8 @@
 //! Clients that are told all, and those that wait: what they still send, and whether they are there.
 
+ghost use Rattle.std.specs.Prelude.{◌≡◌};
+ghost use Rattle.sv_host.specs.Places.{elsewhere};
+
 use crate::connections::Connections;
 use crate::open::Open;
 use crate::socket::{Sign, Socket, comes_later};
@@ -14,7 +17,9 @@ const LAST_PIECES: u32 = 32;
 impl Connections {
     /// Says that nothing more is written, and reads on until the other end has closed too (RFC 9112, section 9.6). What came before
     /// may be unread.
-    pub fn half_close(&mut self, place: usize, socket: Socket) {
+    pub fn half_close(&mut self, place: usize, socket: Socket)
+        ensures { elsewhere place self.new ≡ elsewhere place self.old }
+    {
         let mut socket = socket;
         if socket.end_writing().is_err() {
             self.leave(place);

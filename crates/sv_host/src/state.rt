@@ -166,6 +166,11 @@ impl State {
         matches!(self, State::Taken(_) | State::Peer(_))
     }
 
+    /// What it goes on with may have come already: a client's next request, or a node's next packet.
+    pub fn has_come(&self) -> bool {
+        matches!(self, State::Asked(_) | State::Taken(_) | State::Peer(_))
+    }
+
     /// Between two requests or packets: what comes next begins when it comes.
     pub fn is_between(&self) -> bool {
         match self {
