@@ -1,6 +1,7 @@
 //! An application: what its names stand for, and what it is started for.
 
-ghost use Rattle.std.specs.Prelude.{◌≡◌};
+ghost use Rattle.std.specs.Prelude.{◌≡◌, IfOk};
+ghost use Rattle.sv_container.specs.Life.{AreNamedNew};
 ghost use Rattle.sv_launch.specs.Objects.{or_else};
 ghost use Rattle.sv_web.specs.Work.{serving, surrounding};
 
@@ -10,8 +11,9 @@ use crate::objects::objects_of;
 use crate::purpose::Purpose;
 use crate::table::{Empty, FilterTable, ListenerTable, ServletTable, With};
 use std::alloc::Global;
-use sv_config::Deployment;
-use sv_container::Container;
+use sv_config::{Context, Deployment};
+use sv_container::{Container, Named};
+use sv_model::Engine;
 use sv_servlet::{Answers, Listener, Surrounds};
 use sv_web::{HttpFilter, HttpServlet, Web};
 
@@ -172,6 +174,51 @@ impl<'a, S, F, L: ListenerTable> Application<'a, S, F, L> {
     }
 }
 
+/// The objects that contexts declare, each as it was made.
+#[derive(Drop)]
+struct Objects<S, F, L> {
+    servlets: Vec<Named<S>>,
+    filters: Vec<Named<F>>,
+    listeners: Vec<Named<L>>,
+}
+
+impl<'a, S: ServletTable, F: FilterTable, L: ListenerTable> Application<'a, S, F, L> {
+    /// The objects that contexts declare, in order.
+    fn objects(
+        &self,
+        alloc: Global,
+        contexts: &[Context],
+    ) -> Result<Objects<S::Servlet, F::Filter, L::Listener>, Fault>
+        ensures servlets { IfOk result (λ objects. AreNamedNew S.Servlet.servlet_phase objects.servlets.items) }
+        ensures filters { IfOk result (λ objects. AreNamedNew F.Filter.filter_phase objects.filters.items) }
+    {
+        Ok(Objects {
+            servlets: objects_of(alloc, &ServletsOf(self.servlets), contexts)?,
+            filters: objects_of(alloc, &FiltersOf(self.filters), contexts)?,
+            listeners: objects_of(alloc, &ListenersOf(self.listeners), contexts)?,
+        })
+    }
+
+    /// The container of a deployment, with the objects that it declares.
+    fn container(
+        &self,
+        alloc: Global,
+        deployment: Deployment,
+    ) -> Result<Container<S::Servlet, F::Filter, L::Listener>, Fault>
+        ensures { IfOk result (λ container. ⟦<Container<S::Servlet, F::Filter, L::Listener> as Engine>⟧.valid container) }
+    {
+        let Objects {
+            servlets,
+            filters,
+            listeners,
+        } = self.objects(alloc, deployment.contexts.as_slice())?;
+        match Container::start(alloc, deployment, servlets, filters, listeners) {
+            Ok(container) => Ok(container),
+            Err(not_started) => Err(not_started.fault.into()),
+        }
+    }
+}
+
 impl<'a, S: ServletTable, F: FilterTable, L: ListenerTable> Applications
     for Application<'a, S, F, L> {
     fn built_in(&self) -> Option<&str> {
@@ -184,14 +231,7 @@ impl<'a, S: ServletTable, F: FilterTable, L: ListenerTable> Applications
         deployment: Deployment,
         purpose: P,
     ) -> Result<(), Fault> {
-        let contexts = deployment.contexts.as_slice();
-        let servlets = objects_of(alloc, &ServletsOf(self.servlets), contexts)?;
-        let filters = objects_of(alloc, &FiltersOf(self.filters), contexts)?;
-        let listeners = objects_of(alloc, &ListenersOf(self.listeners), contexts)?;
-        let container = match Container::start(alloc, deployment, servlets, filters, listeners) {
-            Ok(container) => container,
-            Err(not_started) => return Err(not_started.fault.into()),
-        };
+        let container = self.container(alloc, deployment)?;
         purpose.serve(alloc, container)
     }
 }
