@@ -8,8 +8,9 @@
 // (each client goes on with the session of its first answer), `last` (with that of its last answer that began one) or `turns` (so
 // does one client with that of its first, which goes round all the ports, so that its session moves at each request). It prints
 // three numbers of microseconds: those of a request, whole time by whole number, the mean of what each client waited for an answer,
-// and what the slowest hundredth waited at least. It stops with status 1 where an answer isn't 200, or a connection of `keep` is
-// closed early.
+// and what the slowest hundredth waited at least. Connections that are kept are opened one after the other before the clock begins,
+// since a listener's queue has room for 128, and who finds it full tries again after a second. It stops with status 1 where an
+// answer isn't 200, or a connection of `keep` is closed early.
 //
 //     client idle PORT PATH COUNT
 //
@@ -116,10 +117,22 @@ int main(int argc, char **argv) {
   for (int n = 7; n < argc && many < 8; n++) ports[many++] = atoi(argv[n]);
   float *waited = mmap(0, sizeof *waited * count * clients, PROT_READ | PROT_WRITE, MAP_SHARED | MAP_ANONYMOUS, -1, 0);
   if (waited == MAP_FAILED) return 1;
+  int gate[2], keeps = strncmp(how, "ke", 2) == 0;
+  if (pipe(gate) != 0) return 1;
+  for (int n = 0; n < clients; n++) {
+    if (keeps && (kept = reach(ports[0])) < 0) return 1;
+    if (fork() == 0) {
+      char end;
+      close(gate[1]);
+      if (read(gate[0], &end, 1) != 0) exit(1);
+      work(ports, many, argv[3], count, waited + n * count);
+    }
+    if (keeps) close(kept);
+  }
   struct timespec start;
   clock_gettime(CLOCK_MONOTONIC, &start);
-  for (int n = 0; n < clients; n++)
-    if (fork() == 0) work(ports, many, argv[3], count, waited + n * count);
+  // The last end of the pipe at which somebody could write: all clients begin.
+  close(gate[1]);
   int status, failed = 0;
   while (wait(&status) > 0) failed |= status != 0;
   double micros = micros_since(start);
