@@ -1,6 +1,6 @@
 //! An application: what its names stand for, and what it is started for.
 
-ghost use Rattle.std.specs.Prelude.{◌≡◌, IfOk};
+ghost use Rattle.std.specs.Prelude.{◌≡◌, IfOk, None, Some};
 ghost use Rattle.sv_container.specs.Life.{AreNamedNew};
 ghost use Rattle.sv_launch.specs.Objects.{or_else};
 ghost use Rattle.sv_web.specs.Work.{serving, surrounding};
@@ -46,7 +46,9 @@ pub struct Application<'a, S, F, L> {
 
 impl<'a> Application<'a, Empty, Empty, Empty> {
     /// An application without names.
-    pub fn new(alloc: Global) -> Application<'a, Empty, Empty, Empty> {
+    pub fn new(alloc: Global) -> Application<'a, Empty, Empty, Empty>
+        ensures { result.built_in ≡ None }
+    {
         Application {
             alloc,
             built_in: None,
@@ -60,6 +62,7 @@ impl<'a> Application<'a, Empty, Empty, Empty> {
 impl<'a, S, F, L> Application<'a, S, F, L> {
     /// The application with a descriptor built in.
     pub fn descriptor(self, text: &'a str) -> Application<'a, S, F, L>
+        ensures built_in { result.built_in ≡ Some text.entry }
         ensures servlets { result.servlets ≡ self.entry.servlets }
         ensures filters { result.filters ≡ self.entry.filters }
         ensures listeners { result.listeners ≡ self.entry.listeners }
@@ -78,6 +81,7 @@ impl<'a, S: ServletTable, F, L> Application<'a, S, F, L> {
         name: &'a str,
         servlet: T,
     ) -> Application<'a, With<'a, Web<T>, S>, F, L>
+        ensures built_in { result.built_in ≡ self.entry.built_in }
         ensures servlets { ⟦<With<'a, Web<T>, S> as ServletTable>⟧.servlets result.servlets ≡ or_else name.now (serving (T.work servlet)) (S.servlets self.entry.servlets) }
         ensures filters { result.filters ≡ self.entry.filters }
         ensures listeners { result.listeners ≡ self.entry.listeners }
@@ -92,6 +96,7 @@ impl<'a, S: ServletTable, F, L> Application<'a, S, F, L> {
         name: &'a str,
         object: T,
     ) -> Application<'a, With<'a, T, S>, F, L>
+        ensures built_in { result.built_in ≡ self.entry.built_in }
         ensures servlets { ⟦<With<'a, T, S> as ServletTable>⟧.servlets result.servlets ≡ or_else name.now (T.answers object) (S.servlets self.entry.servlets) }
         ensures filters { result.filters ≡ self.entry.filters }
         ensures listeners { result.listeners ≡ self.entry.listeners }
@@ -117,6 +122,7 @@ impl<'a, S, F: FilterTable, L> Application<'a, S, F, L> {
         name: &'a str,
         filter: T,
     ) -> Application<'a, S, With<'a, Web<T>, F>, L>
+        ensures built_in { result.built_in ≡ self.entry.built_in }
         ensures servlets { result.servlets ≡ self.entry.servlets }
         ensures filters { ⟦<With<'a, Web<T>, F> as FilterTable>⟧.filters result.filters ≡ or_else name.now (surrounding (T.work filter)) (F.filters self.entry.filters) }
         ensures listeners { result.listeners ≡ self.entry.listeners }
@@ -131,6 +137,7 @@ impl<'a, S, F: FilterTable, L> Application<'a, S, F, L> {
         name: &'a str,
         object: T,
     ) -> Application<'a, S, With<'a, T, F>, L>
+        ensures built_in { result.built_in ≡ self.entry.built_in }
         ensures servlets { result.servlets ≡ self.entry.servlets }
         ensures filters { ⟦<With<'a, T, F> as FilterTable>⟧.filters result.filters ≡ or_else name.now (T.surrounds object) (F.filters self.entry.filters) }
         ensures listeners { result.listeners ≡ self.entry.listeners }
@@ -156,6 +163,7 @@ impl<'a, S, F, L: ListenerTable> Application<'a, S, F, L> {
         name: &'a str,
         object: T,
     ) -> Application<'a, S, F, With<'a, T, L>>
+        ensures built_in { result.built_in ≡ self.entry.built_in }
         ensures servlets { result.servlets ≡ self.entry.servlets }
         ensures filters { result.filters ≡ self.entry.filters }
         ensures listeners { ⟦<With<'a, T, L> as ListenerTable>⟧.listeners result.listeners ≡ or_else name.now (T.hears object) (L.listeners self.entry.listeners) }

@@ -2,7 +2,8 @@
 
 use super::written;
 use std::test::Fail;
-use sv_launch::Fault;
+use sv_launch::{Application, Applications, Fault};
+use sv_showcase::showcase;
 
 /// A descriptor, its fault, and the fault's name and exit status.
 struct Row(&'static str, Fault, &'static str, u8);
@@ -81,5 +82,18 @@ fn descriptors(rt: HostRuntime) -> Result<(), Fail> {
         let text = format!(in alloc; "{fault}")?;
         assert_eq!(rt; text.as_str(), *name);
     }
+    Ok(())
+}
+
+/// A program has a descriptor built in where it is given one, and another in the place of its own.
+#[test]
+fn a_descriptor_is_built_in(rt: HostRuntime) -> Result<(), Fail> {
+    let alloc = rt.alloc();
+    let descriptor = "[[context]]\npath = \"\"\n";
+    let bare = Application::new(alloc);
+    assert_eq!(rt; bare.built_in(), None);
+    assert_eq!(rt; bare.descriptor(descriptor).built_in(), Some(descriptor));
+    let samples = showcase(alloc).descriptor(descriptor);
+    assert_eq!(rt; samples.built_in(), Some(descriptor));
     Ok(())
 }
