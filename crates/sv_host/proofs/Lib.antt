@@ -1,4 +1,3 @@
-pub mod PlaceLemmas
 pub mod SendLemmas
 pub mod LifeLemmas
 pub mod GroupLemmas

@@ -2,8 +2,9 @@
 use Rattle.std.specs.Prelude.{ℕ, List, Option}
 use Rattle.sv_host.specs.Secrets.{last_of}
 use Rattle.sv_host.specs.declared.host.Host.{Host}
-use Rattle.sv_host.specs.declared.persistence.Persistence.{Persistence}
 use Rattle.sv_model.specs.declared.node.Setting.{Setting}
+use Rattle.sv_net.specs.Places as places
+use Rattle.sv_net.specs.declared.persistence.Persistence.{Persistence}
 
 abbrev pub setting_of : Host → Setting
 setting_of h = h.setting
@@ -14,7 +15,7 @@ ports_of h = h.server.ports.items
 
 -- how many requests a client's connection brings
 abbrev pub persistence_of : Host → Persistence
-persistence_of h = h.server.persistence
+persistence_of h = places.persistence_of h.server.connections
 
 -- the number of its last secret where they are counted; none where they are read
 abbrev pub counted_of : Host → Option ℕ

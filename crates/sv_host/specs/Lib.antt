@@ -2,14 +2,11 @@ pub mod Outputs
 pub mod Round
 pub mod Time
 pub mod Place
-pub mod Places
 pub mod Secrets
-pub mod Peers
 pub mod Parked
 pub mod Packets
 pub mod Room
 pub mod Host
-pub mod Frames
 pub mod Group
 pub mod Serve
 pub mod Serving

@@ -1,42 +1,11 @@
 -- What comes on a connection, as what may be given to the node.
-use Rattle.std.specs.Prelude.{◌≡◌, ℕ, ◌==◌, Bool, true, false, ⊤}
-use Rattle.sv_host.specs.declared.hearing.Heard.{Heard}
-use Rattle.sv_host.specs.declared.hearing.Heard.TheVariants.{More, Request, Refused, Frame, Nothing}
-use Rattle.sv_host.specs.declared.state.State.TheVariants as state
+use Rattle.std.specs.Prelude.{ℕ, ⊤}
 use Rattle.sv_host.specs.declared.serve.Progress.{Progress}
 use Rattle.sv_host.specs.declared.serve.Progress.TheVariants as progress
 use Rattle.sv_host.specs.Group.{Comes}
-use Rattle.sv_model.specs.Migration.{sender}
-use Rattle.sv_record.specs.declared.frame.Frame.{Frame as FrameValue}
-use Rattle.sv_record.specs.declared.frame.Frame.TheVariants as frame
-use Rattle.sv_record.specs.Frame.{IsFrame}
-
--- a frame is one that can be spelled
-abbrev pub IsHeard : Heard → Type 0
-IsHeard (More state) = ⊤
-IsHeard (Request client request) = ⊤
-IsHeard (Refused client fault head_only) = ⊤
-IsHeard (Frame frame rest) = IsFrame frame
-IsHeard Nothing = ⊤
 
 -- what has come for the node may be given to it, a request under this number
 abbrev pub Brings : ℕ → Progress → Type 0
 Brings number progress.More = ⊤
 Brings number progress.Done = ⊤
 Brings number (progress.Came came) = Comes number came
-
--- a packet of the node of this number, and no command
-abbrev pub is_of : FrameValue → ℕ → Bool
-is_of (frame.Peer p) node = sender p == node
-is_of (frame.Move key to) node = false
-is_of frame.Tick node = false
-is_of frame.Halt node = false
-
--- what a connection brings that has brought a packet of a node: packets of that node, and nothing else
-abbrev pub IsOfPeer : ℕ → Heard → Type 0
-IsOfPeer node (More (state.Peer peer)) = peer.node ≡ node
-IsOfPeer node (More other) = ⊥
-IsOfPeer node (Request client request) = ⊥
-IsOfPeer node (Refused client fault head_only) = ⊥
-IsOfPeer node (Frame frame rest) = is_of frame node ≡ true
-IsOfPeer node Nothing = ⊤

@@ -5,16 +5,15 @@ ghost use Rattle.sv_node.specs.History.{HasEnded};
 ghost use Rattle.sv_node.specs.Node.{IsNode, journal_of};
 ghost use Rattle.sv_host.specs.Serving.{IsServing, HasServed};
 
-use crate::acceptor::Acceptor;
 use crate::compaction::compact_in_turn;
 use crate::fault::Stop;
 use crate::gathering::gather;
 use crate::group::Group;
-use crate::machine::Machine;
 use crate::nudges::{expire, settle, tick};
 use crate::server::Server;
 use sv_journal::Disk;
 use sv_model::Engine;
+use sv_net::{Acceptor, Machine};
 use sv_node::Node;
 
 /// What is done at the end of each turn as time passes.

@@ -4,16 +4,13 @@ ghost use Rattle.std.specs.Prelude.{IfOk, IfSome, ◌<◌};
 ghost use Rattle.sv_host.specs.Group.{Comes, IsRising, number_of};
 ghost use Rattle.sv_host.specs.Serving.{HasGathered};
 
-use crate::acceptor::{Acceptor, Arrival};
 use crate::fault::Stop;
 use crate::group::{Came, Group};
-use crate::hearing::PIECE;
-use crate::machine::Machine;
-use crate::open::Open;
 use crate::serve::{serve, serve_newcomer};
 use crate::server::Server;
 use sv_log::Event;
 use sv_model::Input;
+use sv_net::{Acceptor, Arrival, Machine, Open, PIECE};
 
 /// So many packets of one connection are gathered in a turn, at most.
 const PACKETS: u32 = 16;

@@ -8,9 +8,10 @@ use crate::packets::Packets;
 use std::alloc::{AllocError, Global};
 use std::mem::replace;
 use sv_model::{Input, Moment, Request};
+use sv_net::TURN_LIMIT;
 
-/// So many inputs are made durable together, at most.
-pub const GROUP_LIMIT: usize = 64;
+/// So many inputs are made durable together, at most: those of the connections of a turn, and that of a newcomer.
+pub const GROUP_LIMIT: usize = TURN_LIMIT + 1;
 
 /// Who is told what has come of an input, beside those that its outputs name.
 #[derive(Clone, Copy, Debug, PartialEq, Eq)]

@@ -9,14 +9,13 @@ ghost use Rattle.sv_host.specs.Parked.{clients_of, without};
 
 use crate::fault::Stop;
 use crate::group::{Asker, Group, Way};
-use crate::machine::Machine;
 use crate::outcome::{Taken, answer_byte, cause_of, refused, sum_up};
 use crate::packets::{Packets, Sending};
-use crate::peers::{address_of, addressee};
 use crate::round::Share;
 use crate::server::Server;
 use sv_log::{Event, Loss};
 use sv_model::{Cause, Output, Packet, Response, StepFault};
+use sv_net::{Machine, address_of, addressee};
 
 /// Where what comes of an input goes that nobody asked for.
 const NO_WAY: Way = Way {

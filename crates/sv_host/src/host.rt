@@ -10,16 +10,10 @@ ghost use Rattle.sv_node.specs.Stops.{Restores};
 ghost use Rattle.sv_host.specs.Secrets.{first_by, last_of};
 ghost use Rattle.sv_host.specs.Serving.{HasLived};
 
-use crate::acceptor::Acceptor;
-use crate::connections::Connections;
-use crate::deadline::listen;
 use crate::event_loop::run;
 use crate::expiry::Expiry;
 use crate::fault::{HostFault, Stop};
-use crate::machine::Machine;
 use crate::parked::ParkedClients;
-use crate::peers::loopback;
-use crate::persistence::Persistence;
 use crate::place::Place;
 use crate::round::Round;
 use crate::secrets::Secrets;
@@ -30,6 +24,7 @@ use std::alloc::Global;
 use sv_journal::Disk;
 use sv_log::Report;
 use sv_model::{Engine, Setting};
+use sv_net::{Acceptor, Connections, Machine, Persistence, loopback};
 use sv_node::{Node, NotOpened};
 
 /// What a node has of its machine beside its disks: the port at which it listens, and its secrets.
@@ -68,8 +63,8 @@ fn open_door(machine: &impl Machine, place: &Place) -> Result<(Acceptor, Registr
         .get(usize::from(place.setting.node))
         .copied()
         .unwrap_or(0);
-    match listen(machine, loopback(port)) {
-        Ok(listener) => Acceptor::new(machine, listener),
+    match Acceptor::bind(machine, loopback(port)) {
+        Ok(opened) => Ok(opened),
         Err(_) => Err(HostFault::Socket),
     }
 }
@@ -199,7 +194,6 @@ impl Host {
                 connections: Connections::new(registry, persistence, alloc),
                 parked: ParkedClients::new(alloc),
                 text: Vec::new(alloc),
-                persistence,
                 time,
                 ticked: time.seconds(),
                 is_spared: false,
@@ -231,7 +225,8 @@ impl Host {
         // What the disks give behind it is what some calls of the node lead to, from what they gave before it.
         ensures life { IfOk result (λ r. IsLife E.meaning E.heard D.tells D.seen D.may_leave (setting_of self) engine a b r.engine r.a r.b) }
         // Where it isn't opened, what is lost is at most the start itself.
-        ensures unopened { IfErr result (λ r. D.tells a → D.tells b → (d : Durable) → Restores (setting_of self) (D.seen a) (D.seen b) d → LeavesStart D.may_leave (setting_of self) a b d r.a r.b) }
+        ensures unopened { IfErr result (λ r. D.tells a → D.tells b → (d : Durable) → Restores (setting_of self) (D.seen a) (D.seen b) d →
+            LeavesStart D.may_leave (setting_of self) a b d r.a r.b) }
         ensures engine { IfErr result (λ r. r.engine ≡ engine) }
         // Why it isn't opened, want of memory apart.
         ensures damaged { IfErr result (λ r. r.fault ≡ Damaged → D.tells a → D.tells b → (d : Durable) → Restores (setting_of self) (D.seen a) (D.seen b) d → d.boot ≡ last_number) }

@@ -8,19 +8,15 @@ ghost use Rattle.sv_host.specs.Group.{Comes};
 ghost use Rattle.sv_host.specs.Parked.{clients_of};
 ghost use Rattle.sv_host.specs.declared.group.Asker.TheVariants.{Client as ClientAsker};
 
-use crate::client::Client;
 use crate::fault::Stop;
 use crate::group::{Asker, Came};
 use crate::packets::Packets;
 use crate::parked::ParkedClient;
-use crate::peers::sender;
 use crate::server::Server;
-use crate::socket::Socket;
-use crate::state::{Next, Peer, State};
-use crate::unread::name_of;
 use sv_connection::RequestFault;
 use sv_log::Event;
 use sv_model::{Input, Packet, Request, is_head};
+use sv_net::{Client, Next, Peer, Socket, State, name_of, sender};
 use sv_record::Frame;
 
 /// A connection that was taken from its place, which is kept for it.

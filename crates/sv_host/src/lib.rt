@@ -7,53 +7,32 @@
 //! ranges of the formats, and each packet that is put out can be sent.
 #![tactic(auto)]
 
-mod acceptor;
-mod answers;
-mod calls;
-mod client;
 mod compaction;
-mod connections;
-mod deadline;
-mod ending;
 mod event_loop;
 mod expiry;
 mod fault;
-mod frames;
 mod gathering;
 mod group;
 mod handing_out;
-mod hearing;
 mod host;
 mod intake;
-mod lingering;
-mod links;
-mod machine;
 mod nudges;
-mod open;
 mod outcome;
 mod packets;
 mod parked;
 mod paths;
-mod peers;
-mod persistence;
 mod place;
-mod queue;
 mod room;
 mod round;
 mod run;
 mod secrets;
 mod serve;
 mod server;
-mod socket;
-mod state;
 mod time;
-mod unread;
 
 pub use fault::HostFault;
 pub use host::{Ended, Host};
-pub use machine::Machine;
 pub use paths::Paths;
-pub use persistence::Persistence;
 pub use place::{Place, PlaceFault};
 pub use round::{ROUND_LIMIT, Round, Share};
 pub use run::run_node;

@@ -9,13 +9,13 @@ ghost use Rattle.sv_host.specs.Serving.{IsServing, HasServed, HasGathered};
 use crate::expiry::Expiry;
 use crate::fault::Stop;
 use crate::group::{Asker, GROUP_LIMIT, Group};
-use crate::machine::Machine;
 use crate::outcome::Taken;
 use crate::packets::Packets;
 use crate::server::Server;
 use crate::time::steady;
 use sv_journal::Disk;
 use sv_model::{Engine, Input};
+use sv_net::Machine;
 use sv_node::Node;
 
 /// So many sessions end in a group, at most.

@@ -2,15 +2,13 @@
 
 use crate::fault::HostFault;
 use crate::host::{Ended, Host};
-use crate::machine::Machine;
 use crate::paths::Paths;
-use crate::peers::port_of;
-use crate::persistence::Persistence;
 use crate::place::Place;
 use crate::time::read;
 use sv_journal::FileDisk;
 use sv_log::{Level, Milestone, Report, ReportFault};
 use sv_model::{Engine, Setting};
+use sv_net::{Machine, Persistence, port_of};
 
 /// The journal's file, and the second one beside it.
 fn open_files<M: Machine>(machine: &M, journal: &str) -> Result<(FileDisk, FileDisk), HostFault> {

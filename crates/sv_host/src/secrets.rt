@@ -4,10 +4,10 @@ ghost use Rattle.std.specs.Prelude.{◌≡◌, IfOk};
 ghost use Rattle.sv_host.specs.Secrets.{secret_of, first_by, last_in, last_of, Draws};
 
 use crate::fault::{HostFault, Stop};
-use crate::machine::Machine;
 use std::fs::File;
 use std::io::Read;
 use sv_model::Secret;
+use sv_net::Machine;
 
 /// Where a node's secrets come from.
 #[derive(Drop)]

@@ -6,13 +6,10 @@ ghost use Rattle.sv_host.specs.Serve.{Brings};
 
 use crate::fault::Stop;
 use crate::group::Came;
-use crate::hearing::{Heard, PIECE, begun, hear};
 use crate::intake::{Lifted, ask, refuse, take_frame};
-use crate::open::Open;
 use crate::server::Server;
-use crate::socket::{Socket, comes_later};
-use crate::state::Turn;
 use sv_model::Request;
+use sv_net::{Heard, Open, PIECE, Socket, Turn, comes_later};
 use sv_record::Frame;
 
 /// So many pieces of a connection are read in turn, before others come in.
@@ -45,9 +42,9 @@ fn take(
 ) -> Result<Progress, Stop>
     ensures { IfOk result (λ progress. Brings token progress) }
 {
-    let (socket, state, since) = begun(server, open, piece);
+    let (socket, state, since) = server.connections.begun(open, piece);
     let from = Lifted { place, socket };
-    match hear(server, state, piece) {
+    match server.connections.hear(state, piece) {
         Heard::More(state) => {
             server.connections.put(place, from.socket, state, since);
             Ok(Progress::More)

@@ -5,15 +5,11 @@ ghost use Rattle.sv_host.specs.Secrets.{last_of, secret_in, Draws};
 ghost use Rattle.sv_host.specs.Serving.{IsServing, HasServed};
 ghost use Rattle.sv_host.specs.Time.{seconds_of};
 
-use crate::connections::Connections;
 use crate::expiry::Expiry;
 use crate::fault::{HostFault, Stop};
 use crate::group::Group;
-use crate::machine::Machine;
 use crate::outcome::Taken;
 use crate::parked::ParkedClients;
-use crate::peers::port_of;
-use crate::persistence::Persistence;
 use crate::round::Round;
 use crate::secrets::Secrets;
 use crate::time::{Time, read};
@@ -23,6 +19,7 @@ use sv_core::Census;
 use sv_journal::Disk;
 use sv_log::{Event, Level, Milestone, Report};
 use sv_model::{Engine, Moment};
+use sv_net::{Connections, Machine, port_of};
 use sv_node::Node;
 
 /// What a running node keeps beside its journal.
@@ -34,8 +31,6 @@ pub struct Server {
     pub parked: ParkedClients,
     /// A text on its way to whom it is for; empty between two steps.
     pub text: Vec<u8>,
-    /// How many requests a client's connection brings.
-    pub persistence: Persistence,
     pub time: Time,
     /// When the node last looked at the time, in seconds since 1970.
     pub ticked: u64,
@@ -57,7 +52,6 @@ impl Drop for Server {
             connections: _,
             parked: _,
             text: _,
-            persistence: _,
             time: _,
             ticked: _,
             is_spared: _,

@@ -1,8 +1,8 @@
 -- The words of the command line.
 use Rattle.std.specs.Prelude.{ℕ, List, [], ◌∷◌, codes, Option, Some, None, option_map, Result, Ok, Err, if◌then◌else◌, ◌||◌}
 use Rattle.std.specs.Str.{bytes_eq}
-use Rattle.sv_host.specs.declared.persistence.Persistence.{Persistence}
-use Rattle.sv_host.specs.declared.persistence.Persistence.TheVariants.{Single, Kept}
+use Rattle.sv_net.specs.declared.persistence.Persistence.{Persistence}
+use Rattle.sv_net.specs.declared.persistence.Persistence.TheVariants.{Single, Kept}
 use Rattle.sv_web.specs.Numeral.{number_in}
 use Rattle.sv_launch.specs.declared.words.Words.{Words}
 use Rattle.sv_launch.specs.declared.words.Words.TheVariants.{Once, Node, Help, Version}

@@ -7,8 +7,8 @@ use std::fs::{File, OpenOptions};
 use std::io;
 use std::net::{Ipv4Addr, OpenListener, SocketAddr, TcpListener};
 use sv_config::Cluster;
-use sv_host::Machine;
 use sv_log::{Failure, Level, Log, Site};
+use sv_net::Machine;
 
 /// What the system says where a file is opened to be written and locked, as a journal is.
 fn refused_file<M: Machine>(machine: &M, path: &str) -> io::Result<()> {

@@ -12,7 +12,8 @@ use std::net::{Net, TcpListener, TcpStream};
 use std::process::ExitCode;
 use std::rt::{Clock, Env, Files};
 use std::{env, io};
-use sv_host::{Machine, Place};
+use sv_host::Place;
+use sv_net::Machine;
 use sv_version::version;
 
 /// The words behind the program's name. One that is no UTF-8 text is [`Fault::Arguments`].

@@ -4,8 +4,9 @@ use crate::fault::Fault;
 use crate::stream::once;
 use std::alloc::Global;
 use std::io::{Read, Write};
-use sv_host::{Machine, Paths, Persistence, Place, run_node};
+use sv_host::{Paths, Place, run_node};
 use sv_model::Engine;
+use sv_net::{Machine, Persistence};
 
 /// What an engine is made for.
 pub trait Purpose: Drop {

@@ -4,7 +4,8 @@ ghost use Rattle.std.specs.Prelude.{◌≡◌, map, string_bytes};
 ghost use Rattle.sv_web.specs.Numeral.{number_in};
 ghost use Rattle.sv_launch.specs.Words.{command_of, command_in, once_at, node_at, of_one, of_three, of_more, option_of, options_of, last_of};
 
-use sv_host::{Paths, Persistence};
+use sv_host::Paths;
+use sv_net::Persistence;
 use sv_web::{read_u8, read_u64};
 use thiserror::Error;
 

@@ -5,7 +5,7 @@ use crate::town::{HALT, Town};
 use std::rt::Clock;
 use std::test::Fail;
 use std::time::Duration;
-use sv_host::Persistence;
+use sv_net::Persistence;
 
 /// A session's first two requests, and one of its own for another client: no session has the key of these two bytes.
 #[test]

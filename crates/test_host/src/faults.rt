@@ -5,7 +5,8 @@ use crate::town::{Town, answer, heard, serve_all};
 use std::fs;
 use std::net::TcpStream;
 use std::test::Fail;
-use sv_host::{Host, HostFault, Persistence, Place};
+use sv_host::{Host, HostFault, Place};
+use sv_net::Persistence;
 
 /// The place of node 0, with a deadline in seconds and a file of so many secrets.
 fn place_of(rt: &HostRuntime, town: &Town, deadline: u32, secrets: usize) -> Result<Place, Fail> {

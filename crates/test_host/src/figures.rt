@@ -5,9 +5,10 @@ use crate::town::{HALT, Town, live};
 use std::fs;
 use std::net::TcpStream;
 use std::test::Fail;
-use sv_host::{Ended, Host, Persistence};
+use sv_host::{Ended, Host};
 use sv_journal::MemoryDisk;
 use sv_log::Report;
+use sv_net::Persistence;
 
 /// Two clients make a session each, one more names the first of them, and the last one waits for a session of the other node. A node
 /// writes its figures when it starts, and then only every five seconds.

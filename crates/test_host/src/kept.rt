@@ -3,7 +3,7 @@
 use crate::scene::{GRANT, Said, play};
 use crate::town::{HALT, Town};
 use std::test::Fail;
-use sv_host::Persistence;
+use sv_net::Persistence;
 
 /// A node reads 16,384 bytes at once, so each large request comes in two pieces or three, the first of them with a part of the
 /// next. The first session has the first secret, as the piece behind which its request wasn't whole has used none. Each connection has

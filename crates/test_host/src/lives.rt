@@ -2,8 +2,9 @@
 
 use crate::town::{HALT, Town, answer, live};
 use std::test::Fail;
-use sv_host::{Ended, Host, Persistence};
+use sv_host::{Ended, Host};
 use sv_journal::MemoryDisk;
+use sv_net::Persistence;
 
 /// A life in which the session of these two bytes is asked for once: the answer, and the disks.
 fn life(

@@ -5,7 +5,7 @@ use crate::town::{HALT, Town};
 use std::alloc::Global;
 use std::io;
 use std::test::Fail;
-use sv_host::Persistence;
+use sv_net::Persistence;
 
 /// What node 0 sends for clients that name the first and the second session of node 1: its first two wants since its first start.
 const WANT: &[u8] = b"\xE1\0\0\0\x1D\x02\x01\0\x01\x01\0\0\0\0\0\0\0\x01\

@@ -6,7 +6,8 @@ use std::io;
 use std::io::Write;
 use std::net::{OpenStream, Shutdown, TcpStream};
 use std::test::Fail;
-use sv_host::{Host, Persistence};
+use sv_host::Host;
+use sv_net::Persistence;
 
 /// The head of a request that is counted, and whose body of 20,000 bytes names no session: one is made.
 const LARGE: &[u8] = b"POST /count HTTP/1.1\r\nHost: h\r\nContent-Length: 20000\r\n\r\n";

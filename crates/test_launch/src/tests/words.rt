@@ -3,8 +3,8 @@
 use super::NOW;
 use std::alloc::Global;
 use std::test::Fail;
-use sv_host::Persistence;
 use sv_launch::{Arguments, NodeWords, Options, Words, read_words};
+use sv_net::Persistence;
 
 /// Three words, and what they ask for.
 struct Line([&'static str; 3], Result<Words<'static>, Arguments>);

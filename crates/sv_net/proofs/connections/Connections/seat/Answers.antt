@@ -1,7 +1,7 @@
 use Rattle.std.specs.Prelude.{Some, None}
-use Rattle.sv_host.proofs.PlaceLemmas.{set_twice}
-use Rattle.sv_host.specs.Places.{places_of}
-use Rattle.sv_host.proofs.connections.Connections.seat.Goals as goal
+use Rattle.sv_net.proofs.PlaceLemmas.{set_twice}
+use Rattle.sv_net.specs.Places.{places_of}
+use Rattle.sv_net.proofs.connections.Connections.seat.Goals as goal
 
 pub returns-then-place-len : goal.returns-then-place-len
 returns-then-place-len c = set_twice (places_of c.args.self.now) c.args.place (Some c.args.open) None

@@ -1,15 +1,16 @@
 //! What has come on a connection: a request, a frame, or a part of one.
 
 ghost use Rattle.std.specs.Prelude.{◌≡◌};
-ghost use Rattle.sv_host.specs.Serve.{is_of, IsHeard, IsOfPeer};
+ghost use Rattle.sv_net.specs.Hearing.{is_of, IsHeard, IsOfPeer};
 
 use crate::client::Client;
+use crate::connections::Connections;
 use crate::frames::take_in;
 use crate::open::Open;
 use crate::peers::sender;
-use crate::server::Server;
 use crate::socket::Socket;
 use crate::state::{Peer, State};
+use std::alloc::Global;
 use std::time::Duration;
 use sv_connection::{Received, RequestFault};
 use sv_model::Request;
@@ -69,11 +70,11 @@ fn hear_client(client: Client, piece: &[u8]) -> Heard
 }
 
 /// Puts a piece behind what came before it of a connection's first frame, and takes the frame that is then whole.
-fn hear_framer(server: &Server, bytes: Vec<u8>, piece: &[u8]) -> Heard
+fn hear_framer(alloc: Global, bytes: Vec<u8>, piece: &[u8]) -> Heard
     ensures { IsHeard result }
 {
     let mut bytes = bytes;
-    match take_in(server.alloc, &mut bytes, piece) {
+    match take_in(alloc, &mut bytes, piece) {
         Ok(Some(frame)) => Heard::Frame { frame, rest: bytes },
         Ok(None) => Heard::More(State::Framing(bytes)),
         Err(_) => Heard::Nothing,
@@ -91,43 +92,47 @@ fn is_of(frame: &Frame, node: u8) -> bool
 }
 
 /// The same of a connection that has brought a packet: what else it brings is of the same node, or it is closed.
-fn hear_peer(server: &Server, peer: Peer, piece: &[u8]) -> Heard
+fn hear_peer(alloc: Global, peer: Peer, piece: &[u8]) -> Heard
     ensures heard { IsHeard result }
     ensures own { IsOfPeer peer.node result }
 {
     let Peer { node, mut bytes } = peer;
-    match take_in(server.alloc, &mut bytes, piece) {
+    match take_in(alloc, &mut bytes, piece) {
         Ok(Some(frame)) if is_of(&frame, node) => Heard::Frame { frame, rest: bytes },
         Ok(None) => Heard::More(State::Peer(Peer { node, bytes })),
         Ok(Some(_)) | Err(_) => Heard::Nothing,
     }
 }
 
-/// Takes what has come on a connection that is at a state.
-pub fn hear(server: &Server, state: State, piece: &[u8]) -> Heard
-    ensures { IsHeard result }
-{
-    match state {
-        State::Asking(client) | State::Asked(client) | State::Resting(client) => {
-            hear_client(client, piece)
+impl Connections {
+    /// Takes what has come on a connection that is at a state.
+    pub fn hear(&self, state: State, piece: &[u8]) -> Heard
+        ensures { IsHeard result }
+    {
+        match state {
+            State::Asking(client) | State::Asked(client) | State::Resting(client) => {
+                hear_client(client, piece)
+            }
+            State::Framing(bytes) => hear_framer(self.alloc, bytes, piece),
+            State::Taken(peer) | State::Peer(peer) => hear_peer(self.alloc, peer, piece),
+            other => Heard::More(other),
         }
-        State::Framing(bytes) => hear_framer(server, bytes, piece),
-        State::Taken(peer) | State::Peer(peer) => hear_peer(server, peer, piece),
-        other => Heard::More(other),
     }
-}
 
-/// The state of a connection on which this comes.
-fn state_at(server: &Server, state: State, piece: &[u8]) -> State {
-    match (state, piece) {
-        (State::New, [first, ..]) => State::begin(server.alloc, server.persistence, *first),
-        (other, _) => other,
+    /// The state of a connection on which this comes.
+    fn state_at(&self, state: State, piece: &[u8]) -> State {
+        match (state, piece) {
+            (State::New, [first, ..]) => {
+                State::begin(self.alloc, self.links.persistence(), *first)
+            }
+            (other, _) => other,
+        }
     }
-}
 
-/// A connection on which this comes: its socket, its state, and when that began.
-pub fn begun(server: &Server, open: Open, piece: &[u8]) -> (Socket, State, Duration) {
-    let (socket, state, since, _) = open.into_parts();
-    let since = server.connections.since(&state, since);
-    (socket, state_at(server, state, piece), since)
+    /// A connection on which this comes: its socket, its state, and when that began.
+    pub fn begun(&self, open: Open, piece: &[u8]) -> (Socket, State, Duration) {
+        let (socket, state, since, _) = open.into_parts();
+        let since = self.since(&state, since);
+        (socket, self.state_at(state, piece), since)
+    }
 }

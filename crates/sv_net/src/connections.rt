@@ -1,7 +1,7 @@
 //! The connections that are open.
 
 ghost use Rattle.std.specs.Prelude.{◌≡◌};
-ghost use Rattle.sv_host.specs.Places.{places_of, elsewhere};
+ghost use Rattle.sv_net.specs.Places.{places_of, elsewhere, persistence_of};
 
 use crate::links::Links;
 use crate::machine::Machine;
@@ -23,22 +23,22 @@ const MOST: u64 = 1_250;
 
 /// The connections that are open, each at a place.
 pub struct Connections {
-    pub places: Vec<Option<Open>>,
-    pub free: Vec<usize>,
-    pub count: usize,
-    pub registry: Registry,
+    pub(crate) places: Vec<Option<Open>>,
+    pub(crate) free: Vec<usize>,
+    pub(crate) count: usize,
+    pub(crate) registry: Registry,
     /// The clock that never goes back, when it was last looked at.
-    pub clock: Duration,
+    pub(crate) clock: Duration,
     /// When it was last looked who has taken too long.
-    pub looked: Duration,
+    pub(crate) looked: Duration,
     /// Where something is to be done that the poll may not report.
-    pub due: Vec<usize>,
+    pub(crate) due: Vec<usize>,
     /// Where the last packet is still being sent.
-    pub calling: Option<usize>,
-    pub links: Links,
+    pub(crate) calling: Option<usize>,
+    pub(crate) links: Links,
     /// What is told to the operator.
     pub report: Report,
-    pub alloc: Global,
+    pub(crate) alloc: Global,
 }
 
 /// By hand, so that the proof of a caller has one step for it.
@@ -61,7 +61,9 @@ impl Drop for Connections {
 }
 
 impl Connections {
-    pub fn new(registry: Registry, persistence: Persistence, alloc: Global) -> Connections {
+    pub fn new(registry: Registry, persistence: Persistence, alloc: Global) -> Connections
+        ensures { persistence_of result ≡ persistence }
+    {
         Connections {
             places: Vec::new(alloc),
             free: Vec::new(alloc),
@@ -213,7 +215,7 @@ impl Connections {
     }
 
     /// Puts a place down as one where something is to be done. Where there is no memory for it the connection is closed.
-    pub fn put_down(&mut self, place: usize)
+    pub(crate) fn put_down(&mut self, place: usize)
         ensures { elsewhere place self.new ≡ elsewhere place self.old }
     {
         let put: Result<(), AllocFailed<usize>> = self.due.push(place);
@@ -224,7 +226,7 @@ impl Connections {
     }
 
     /// Hands over the places where something is to be done that the poll may not report.
-    pub fn hand_over(&mut self, queue: &mut Queue) {
+    pub(crate) fn hand_over(&mut self, queue: &mut Queue) {
         for place in &self.due {
             queue.add(*place);
         }
@@ -232,7 +234,7 @@ impl Connections {
     }
 
     /// When that began which a connection now brings: for one that has rested it is what comes next.
-    pub fn since(&self, state: &State, begun: Duration) -> Duration {
+    pub(crate) fn since(&self, state: &State, begun: Duration) -> Duration {
         if state.is_between() {
             self.clock
         } else {
@@ -267,7 +269,7 @@ impl Connections {
     }
 
     /// A place for one more connection, which is kept for it; none where as many are open as may be, or there is no memory for it.
-    pub fn free_place(&mut self) -> Option<usize> {
+    pub(crate) fn free_place(&mut self) -> Option<usize> {
         if self.count >= OPEN_LIMIT {
             return None;
         }

@@ -28,7 +28,7 @@ impl Drop for Client {
 }
 
 impl Client {
-    pub fn new(alloc: Global, persistence: Persistence) -> Client {
+    pub(crate) fn new(alloc: Global, persistence: Persistence) -> Client {
         Client {
             connection: Connection::new(alloc, persistence == Persistence::Single),
             answered: 0,
@@ -37,7 +37,7 @@ impl Client {
     }
 
     /// The piece by which its request became whole was as large as one may be, so that more may lie unread.
-    pub fn with_piece(self, is_whole: bool) -> Client {
+    pub(crate) fn with_piece(self, is_whole: bool) -> Client {
         let mut client = self;
         client.unread = is_whole;
         client
@@ -45,7 +45,7 @@ impl Client {
 
     /// What follows behind an answer (RFC 9112, section 9.6): the next request; or, where the connection closes, the close, at
     /// once where the client asked for it, as it sends no more then.
-    pub fn next(self) -> Next {
+    pub(crate) fn next(self) -> Next {
         if !self.connection.closed() {
             Next::Listen(self.counted())
         } else if self.connection.leaving() && !self.unread {

@@ -1,12 +1,17 @@
 -- The connections that are open, each at its place.
 use Rattle.std.specs.Prelude.{ℕ, ◌==◌, Bool, cond, List, Option, Some, None, slice_get, slice_set}
-use Rattle.sv_host.specs.declared.connections.Connections.{Connections}
-use Rattle.sv_host.specs.declared.open.Open.{Open}
-use Rattle.sv_host.specs.declared.state.State.{State}
-use Rattle.sv_host.specs.declared.state.State.TheVariants.{New, Asking, Asked, Resting, Framing, Taken, Peer, Waiting, Ordering, Holding, Saying, Parting, Calling}
+use Rattle.sv_net.specs.declared.connections.Connections.{Connections}
+use Rattle.sv_net.specs.declared.open.Open.{Open}
+use Rattle.sv_net.specs.declared.persistence.Persistence.{Persistence}
+use Rattle.sv_net.specs.declared.state.State.{State}
+use Rattle.sv_net.specs.declared.state.State.TheVariants.{New, Asking, Asked, Resting, Framing, Taken, Peer, Waiting, Ordering, Holding, Saying, Parting, Calling}
 
 abbrev pub places_of : Connections → List (Option Open)
 places_of c = c.places.items
+
+-- how many requests a client's connection brings
+abbrev pub persistence_of : Connections → Persistence
+persistence_of c = c.links.persistence
 
 -- what stands at all places but one
 abbrev pub elsewhere : ℕ → Connections → List (Option Open)

@@ -129,7 +129,7 @@ impl Peer {
     }
 
     /// Nothing has come behind its last packet.
-    pub fn is_resting(&self) -> bool {
+    pub(crate) fn is_resting(&self) -> bool {
         self.bytes.is_empty()
     }
 }
@@ -154,7 +154,7 @@ impl State {
     }
 
     /// Who sends this byte first is a peer or gives a command, or is a client.
-    pub fn begin(alloc: Global, persistence: Persistence, first: u8) -> State {
+    pub(crate) fn begin(alloc: Global, persistence: Persistence, first: u8) -> State {
         match first {
             PEER | CONTROL => State::Framing(Vec::new(alloc)),
             _ => State::Asking(Client::new(alloc, persistence)),
@@ -162,17 +162,17 @@ impl State {
     }
 
     /// A node whose packets were taken.
-    pub fn is_peer(&self) -> bool {
+    pub(crate) fn is_peer(&self) -> bool {
         matches!(self, State::Taken(_) | State::Peer(_))
     }
 
     /// What it goes on with may have come already: a client's next request, or a node's next packet.
-    pub fn has_come(&self) -> bool {
+    pub(crate) fn has_come(&self) -> bool {
         matches!(self, State::Asked(_) | State::Taken(_) | State::Peer(_))
     }
 
     /// Between two requests or packets: what comes next begins when it comes.
-    pub fn is_between(&self) -> bool {
+    pub(crate) fn is_between(&self) -> bool {
         match self {
             State::Resting(_) => true,
             State::Peer(peer) => peer.is_resting(),
@@ -182,7 +182,7 @@ impl State {
 
     /// Whether it is closed where there is no room for another: its other end is to say or to take something, has been told all, or
     /// may have gone away.
-    pub fn yielding(&self) -> Yielding {
+    pub(crate) fn yielding(&self) -> Yielding {
         match self {
             State::New
             | State::Asking(_)
@@ -202,7 +202,7 @@ impl State {
     }
 
     /// What the poll is to report, if anything.
-    pub fn interest(&self) -> Option<Interest> {
+    pub(crate) fn interest(&self) -> Option<Interest> {
         match self {
             State::New
             | State::Asking(_)
@@ -219,7 +219,7 @@ impl State {
     }
 
     /// How far it has come, as the log has it.
-    pub fn phase(&self) -> Phase {
+    pub(crate) fn phase(&self) -> Phase {
         match self {
             State::New => Phase::New,
             State::Asking(_) | State::Asked(_) => Phase::Asking,
@@ -238,7 +238,7 @@ impl State {
     }
 
     /// The state of a client whose request waits, once it sends no more.
-    pub fn silenced(self) -> State {
+    pub(crate) fn silenced(self) -> State {
         match self {
             State::Waiting {
                 client,
@@ -258,7 +258,7 @@ impl State {
     }
 
     /// How many seconds it may take, and how many of them in silence.
-    pub fn patience(&self) -> (u64, u64) {
+    pub(crate) fn patience(&self) -> (u64, u64) {
         match self {
             State::Resting(_) => (RESTING, RESTING),
             State::Peer(peer) if peer.is_resting() => (RESTING, RESTING),

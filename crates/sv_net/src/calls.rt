@@ -28,7 +28,7 @@ fn spelled(alloc: Global, packet: Packet) -> Option<Vec<u8>>
 
 impl Connections {
     /// How many packets are on their way.
-    pub fn calls(&self) -> usize {
+    pub(crate) fn calls(&self) -> usize {
         let mut count: usize = 0;
         for slot in &self.places {
             if let Some(
@@ -55,7 +55,7 @@ impl Connections {
     }
 
     /// A packet is sent or lost: the command that waits for that is answered.
-    pub fn release(&mut self, holder: Option<usize>) {
+    pub(crate) fn release(&mut self, holder: Option<usize>) {
         let Some(place) = holder else {
             return;
         };
@@ -166,7 +166,7 @@ impl Connections {
     }
 
     /// Sends more of a packet.
-    pub fn call_on(&mut self, place: usize, open: Open) {
+    pub(crate) fn call_on(&mut self, place: usize, open: Open) {
         let (mut socket, state, begun, heard) = open.into_parts();
         let State::Calling {
             to,

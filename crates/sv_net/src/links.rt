@@ -1,5 +1,7 @@
 //! Connections to other nodes that are kept.
 
+ghost use Rattle.std.specs.Prelude.{◌≡◌};
+
 use crate::machine::Machine;
 use crate::persistence::Persistence;
 use crate::socket::{Sign, Socket};
@@ -38,11 +40,20 @@ impl Drop for Links {
 }
 
 impl Links {
-    pub fn new(alloc: Global, persistence: Persistence) -> Links {
+    pub fn new(alloc: Global, persistence: Persistence) -> Links
+        ensures { result.persistence ≡ persistence }
+    {
         Links {
             persistence,
             links: Vec::new(alloc),
         }
+    }
+
+    /// How many requests a client's connection brings, and whether one to a node is kept.
+    pub fn persistence(&self) -> Persistence
+        ensures { result ≡ self.now.persistence }
+    {
+        self.persistence
     }
 
     /// The connection to a node, whose address this is: the one that is kept, or a new one; none where none can be had.

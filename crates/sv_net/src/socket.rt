@@ -94,13 +94,13 @@ impl Socket {
     }
 
     /// A socket that never waits.
-    pub fn quick(stream: TcpStream) -> io::Result<Socket> {
+    pub(crate) fn quick(stream: TcpStream) -> io::Result<Socket> {
         stream.set_nonblocking(true)?;
         Ok(Socket::new(stream, Patience::None))
     }
 
     /// A socket that waits for what comes first, a moment.
-    pub fn patient(stream: TcpStream) -> io::Result<Socket> {
+    pub(crate) fn patient(stream: TcpStream) -> io::Result<Socket> {
         stream.set_read_timeout(Some(Duration::from_millis(MOMENT)))?;
         Ok(Socket::new(stream, Patience::Hearing))
     }
@@ -158,13 +158,13 @@ impl Socket {
     }
 
     /// Says that nothing more is written.
-    pub fn end_writing(&mut self) -> io::Result<()> {
+    pub(crate) fn end_writing(&mut self) -> io::Result<()> {
         self.hurry()?;
         self.stream.shutdown(Shutdown::Write)
     }
 
     /// What the other end does meanwhile, as far as that can be told without taking what it has sent.
-    pub fn sign(&mut self) -> Sign {
+    pub(crate) fn sign(&mut self) -> Sign {
         if self.hurry().is_err() {
             return Sign::Broken;
         }
@@ -178,12 +178,17 @@ impl Socket {
     }
 
     /// Has the poll report under a place when the socket becomes ready. False where it can't.
-    pub fn watch(&mut self, registry: &Registry, place: usize, interest: Interest) -> bool {
+    pub(crate) fn watch(&mut self, registry: &Registry, place: usize, interest: Interest) -> bool {
         self.watched == Some(interest) || self.watch_anew(registry, place, interest)
     }
 
     /// Has the poll report the socket again, also where it has been ready for long.
-    pub fn watch_anew(&mut self, registry: &Registry, place: usize, interest: Interest) -> bool {
+    pub(crate) fn watch_anew(
+        &mut self,
+        registry: &Registry,
+        place: usize,
+        interest: Interest,
+    ) -> bool {
         if self.hurry().is_err() {
             return false;
         }

@@ -4,7 +4,7 @@ ghost use Rattle.std.specs.Prelude.{◌≡◌, IfSome, slice_get};
 ghost use Rattle.std.specs.Option.{option_map};
 ghost use Rattle.std.specs.Net.Socket.{socket_port};
 ghost use Rattle.sv_model.specs.Migration.{addressee, sender};
-ghost use Rattle.sv_host.specs.Peers.{port_at, IsLoopback};
+ghost use Rattle.sv_net.specs.Peers.{port_at, IsLoopback};
 
 use std::net::{IpAddr, Ipv4Addr, SocketAddr};
 use sv_model::Packet;

@@ -1,7 +1,7 @@
 //! What clients are told.
 
 ghost use Rattle.std.specs.Prelude.{◌≡◌, None, is_some};
-ghost use Rattle.sv_host.specs.Places.{elsewhere, manner_at};
+ghost use Rattle.sv_net.specs.Places.{elsewhere, manner_at};
 
 use crate::connections::Connections;
 use crate::open::Open;
@@ -31,7 +31,7 @@ impl Connections {
     }
 
     /// Says more of a text that was begun.
-    pub fn say_on(&mut self, place: usize, open: Open) {
+    pub(crate) fn say_on(&mut self, place: usize, open: Open) {
         let (mut socket, state, begun, heard) = open.into_parts();
         let State::Saying { mut text, next } = state else {
             self.leave(place);
@@ -64,7 +64,7 @@ impl Connections {
 
     /// What follows once a text is written. A client that is listened to further is gone on with in the next turn, so that each has
     /// one request a turn.
-    pub fn follow(&mut self, place: usize, socket: Socket, next: Next)
+    pub(crate) fn follow(&mut self, place: usize, socket: Socket, next: Next)
         ensures { elsewhere place self.new ≡ elsewhere place self.old }
     {
         match next {
@@ -78,7 +78,7 @@ impl Connections {
     }
 
     /// Says one byte, and closes the connection.
-    pub fn tell(&mut self, place: usize, socket: Socket, byte: u8)
+    pub(crate) fn tell(&mut self, place: usize, socket: Socket, byte: u8)
         ensures { elsewhere place self.new ≡ elsewhere place self.old }
     {
         let mut text = Vec::new(self.alloc);

@@ -1,9 +1,7 @@
 //! Where those stand who connect, and where a node waits.
 
 use crate::connections::Connections;
-use crate::deadline::TURN;
-use crate::fault::HostFault;
-use crate::group::GROUP_LIMIT;
+use crate::deadline::{TURN, listen};
 use crate::hearing::PIECE;
 use crate::machine::Machine;
 use crate::queue::Queue;
@@ -13,15 +11,15 @@ use mio::{Events, Interest, Poll, Registry, Token};
 use std::alloc::Global;
 use std::io;
 use std::io::ErrorKind;
-use std::net::{OpenListener, OpenStream, TcpListener, TcpStream};
+use std::net::{OpenListener, OpenStream, SocketAddr, TcpListener, TcpStream};
 use std::os::fd::{AsRawFd, RawFd};
 use std::time::Duration;
 
 /// In milliseconds: so long a node waits before it tries again to accept somebody for whom there was no room.
 const RETRY: u64 = 50;
 
-/// So many connections are gone on with in a turn, before somebody who has come is let in: with that one they make a whole group.
-const TURN_LIMIT: usize = GROUP_LIMIT - 1;
+/// So many connections are gone on with in a turn, before somebody who has come is let in.
+pub const TURN_LIMIT: usize = 63;
 
 /// So many events are told in one turn.
 const EVENTS: usize = 256;
@@ -86,18 +84,21 @@ fn poll_of(machine: &impl Machine, listener: RawFd) -> io::Result<(Poll, Registr
 }
 
 impl Acceptor {
-    /// Has a poll report who comes to a listener, and all who are registered with it.
-    pub fn new(
-        machine: &impl Machine,
-        listener: TcpListener,
-    ) -> Result<(Acceptor, Registry), HostFault> {
+    /// Listens at an address of this machine. Its poll reports who comes there, and all who are registered with it.
+    ///
+    /// # Errors
+    ///
+    /// The system refuses the address, the poll, or memory.
+    pub fn bind(machine: &impl Machine, addr: SocketAddr) -> io::Result<(Acceptor, Registry)> {
+        let listener = listen(machine, addr)?;
+        Acceptor::new(machine, listener)
+    }
+
+    /// Has a poll report who comes to a listener.
+    fn new(machine: &impl Machine, listener: TcpListener) -> io::Result<(Acceptor, Registry)> {
         let alloc: Global = machine.alloc();
-        let Ok((poll, registry)) = poll_of(machine, listener.as_raw_fd()) else {
-            return Err(HostFault::Socket);
-        };
-        let Ok(events) = Events::with_capacity(alloc, EVENTS) else {
-            return Err(HostFault::Socket);
-        };
+        let (poll, registry) = poll_of(machine, listener.as_raw_fd())?;
+        let events = Events::with_capacity(alloc, EVENTS)?;
         Ok((
             Acceptor {
                 listener,

@@ -9,8 +9,8 @@ pub struct Open {
     pub socket: Socket,
     pub state: State,
     /// When the state began, and when something was last read, by the clock that never goes back.
-    pub begun: Duration,
-    pub heard: Duration,
+    pub(crate) begun: Duration,
+    pub(crate) heard: Duration,
 }
 
 /// By hand, so that the proof of a caller has one step for it and not one for each state.
@@ -37,7 +37,7 @@ impl Open {
     }
 
     /// A connection that begins a state at a moment.
-    pub fn at(socket: Socket, state: State, begun: Duration) -> Open {
+    pub(crate) fn at(socket: Socket, state: State, begun: Duration) -> Open {
         Open {
             socket,
             state,
@@ -47,7 +47,7 @@ impl Open {
     }
 
     /// Its socket, its state, when that began, and when something was last read.
-    pub fn into_parts(self) -> (Socket, State, Duration, Duration) {
+    pub(crate) fn into_parts(self) -> (Socket, State, Duration, Duration) {
         let Open {
             socket,
             state,
@@ -58,7 +58,7 @@ impl Open {
     }
 
     /// A client whose request waits, and that sends no more: it has been silent for longer than any other.
-    pub fn silenced(self) -> Open {
+    pub(crate) fn silenced(self) -> Open {
         let Open {
             socket,
             state,
@@ -74,13 +74,13 @@ impl Open {
     }
 
     /// It has so much more time.
-    pub fn forgive(&mut self, stood: Duration) {
+    pub(crate) fn forgive(&mut self, stood: Duration) {
         self.begun = self.begun.saturating_add(stood);
         self.heard = self.heard.saturating_add(stood);
     }
 
     /// It has taken longer than it may.
-    pub fn is_late(&self, clock: Duration) -> bool {
+    pub(crate) fn is_late(&self, clock: Duration) -> bool {
         let (whole, silence) = self.state.patience();
         clock >= self.begun.saturating_add(Duration::from_secs(whole))
             || clock >= self.heard.saturating_add(Duration::from_secs(silence))

@@ -3,7 +3,7 @@
 ghost use Rattle.std.specs.Prelude.{◌≡◌, ◌++◌, IfOk, OnOk, IfSome};
 ghost use Rattle.sv_record.specs.Frame.{IsFrame};
 ghost use Rattle.sv_record.specs.Reading.{Gives};
-ghost use Rattle.sv_host.specs.Frames.{first_frame, behind_first};
+ghost use Rattle.sv_net.specs.Frames.{first_frame, behind_first};
 
 use std::alloc::Global;
 use sv_record::{Frame, RecordFault, read_frame};

@@ -1,7 +1,7 @@
 //! Clients that are told all, and those that wait: what they still send, and whether they are there.
 
 ghost use Rattle.std.specs.Prelude.{◌≡◌};
-ghost use Rattle.sv_host.specs.Places.{elsewhere};
+ghost use Rattle.sv_net.specs.Places.{elsewhere};
 
 use crate::connections::Connections;
 use crate::open::Open;
@@ -17,7 +17,7 @@ const LAST_PIECES: u32 = 32;
 impl Connections {
     /// Says that nothing more is written, and reads on until the other end has closed too (RFC 9112, section 9.6). What came before
     /// may be unread.
-    pub fn half_close(&mut self, place: usize, socket: Socket)
+    pub(crate) fn half_close(&mut self, place: usize, socket: Socket)
         ensures { elsewhere place self.new ≡ elsewhere place self.old }
     {
         let mut socket = socket;
@@ -31,7 +31,7 @@ impl Connections {
 
     /// Looks whether a client whose request waits is still there. One whose connection has broken gives its place back; one that
     /// sends no more may have gone away or not, and is the first to give way.
-    pub fn look_at_client(&mut self, place: usize, open: Open) {
+    pub(crate) fn look_at_client(&mut self, place: usize, open: Open) {
         let mut open = open;
         match open.socket.sign() {
             Sign::Open => self.keep(place, open),
@@ -51,7 +51,7 @@ impl Connections {
     }
 
     /// Reads what a client goes on sending behind its last answer, up to so many bytes, until it has closed too.
-    pub fn part(&mut self, place: usize, open: Open, bytes: usize) {
+    pub(crate) fn part(&mut self, place: usize, open: Open, bytes: usize) {
         let mut open = open;
         let mut left = bytes;
         let mut has_more = true;

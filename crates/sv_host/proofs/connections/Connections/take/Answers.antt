@@ -1,7 +1,0 @@
-use Rattle.std.specs.Prelude.{None}
-use Rattle.sv_host.proofs.PlaceLemmas.{set_twice}
-use Rattle.sv_host.specs.Places.{places_of}
-use Rattle.sv_host.proofs.connections.Connections.take.Goals as goal
-
-pub returns : goal.returns
-returns c = set_twice (places_of c.args.self.now) c.args.place c.take.new.self None

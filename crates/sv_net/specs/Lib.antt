@@ -1,0 +1,4 @@
+pub mod Peers
+pub mod Places
+pub mod Frames
+pub mod Hearing
