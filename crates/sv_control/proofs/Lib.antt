@@ -1,2 +1,3 @@
 pub mod MovingLemmas
 pub mod NamingLemmas
+pub mod RoomLemmas

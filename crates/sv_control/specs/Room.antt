@@ -1,7 +1,10 @@
--- How full a node's table of keys is.
-use Rattle.std.specs.Prelude.{◌≤◌, ◌*◌, ◌-◌, ℕ, List, ◌++◌, length, codes, decimal}
+-- How full a node's table of keys is, and of what.
+use Rattle.std.specs.Prelude.{◌≤◌, ◌*◌, ◌-◌, ℕ, List, [], ◌∷◌, ◌++◌, length, codes, decimal}
+use Rattle.std.specs.List.{concat}
 use Rattle.sv_model.specs.declared.record.Record.{Record}
+use Rattle.sv_core.specs.declared.census.Census.{Census}
 use Rattle.sv_control.specs.declared.room.Room.{Room}
+use Rattle.sv_control.specs.declared.room.KeysLine.{KeysLine}
 
 -- how many keys are known by a snapshot: a record each, behind the first
 abbrev pub known_in : List Record → ℕ
@@ -17,3 +20,16 @@ IsFull room = room.limit ≤ room.known
 
 abbrev pub room_text : Room → List ℕ
 room_text room = decimal room.known ++ codes " of " ++ decimal room.limit ++ codes " keys are known"
+
+-- what is to be seen of the keys of a snapshot, which are counted so by what is known of them, at a node that may know so many; of one
+-- that knows more none are left
+abbrev pub keys_to_see : List Record → Census → ℕ → KeysLine
+keys_to_see records census limit =
+    record { known = known_in records; limit = limit; left = limit - known_in records; active = census.active; sent = census.sent; gone = census.gone; ended = census.ended }
+
+-- how full the table is by such a line
+abbrev pub room_of : KeysLine → Room
+room_of line = record { known = line.known; limit = line.limit }
+
+abbrev pub keys_text : KeysLine → List ℕ
+keys_text line = concat (room_text (room_of line) ∷ codes ": " ∷ decimal line.active ∷ codes " active, " ∷ decimal line.sent ∷ codes " sent, " ∷ decimal line.gone ∷ codes " gone, " ∷ decimal line.ended ∷ codes " ended; " ∷ decimal line.left ∷ codes " are left" ∷ [])

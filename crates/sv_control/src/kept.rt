@@ -1,6 +1,7 @@
 //! What the records of a journal give.
 
 ghost use Rattle.std.specs.Prelude.{◌≡◌, ◌≢◌, ◌∷◌, [], ◌++◌, IfErr, IfOk, OnOk, Ok, map};
+ghost use Rattle.sv_core.specs.Census.{census_of};
 ghost use Rattle.sv_core.specs.Snapshot.{snapshot_of};
 ghost use Rattle.sv_core.specs.declared.fault.ApplyFault.TheVariants.{BadRecord};
 ghost use Rattle.sv_journal.specs.Format.{payloads};
@@ -12,7 +13,7 @@ ghost use Rattle.sv_control.specs.declared.images.FoundFault.TheVariants.{Memory
 
 use crate::images::FoundFault;
 use std::alloc::{AllocError, Global};
-use sv_core::{ApplyFault, Core};
+use sv_core::{ApplyFault, Census, Core};
 use sv_model::{KEY_MOST, NODE_LIMIT, Record, Setting};
 use sv_record::{RecordFault, read_record};
 
@@ -47,9 +48,32 @@ pub fn records_of(alloc: Global, entries: &[Vec<u8>]) -> Result<Vec<Record>, Fou
     Ok(records)
 }
 
-/// A snapshot of what the records give, at a node of this number.
-fn kept_at(alloc: Global, node: u8, records: &[Record]) -> Result<Vec<Record>, ApplyFault>
-    ensures kept { IfOk result (λ kept. kept.items ≡ snapshot_of (replayed blank records.now)) }
+/// What a node keeps, as its journal has it.
+pub struct Replayed {
+    /// The least number of a node at which the records fit: that of the node, where it has ever made a session.
+    pub node: u8,
+    /// The counters, and then what is known of each key, in order of the keys.
+    pub kept: Vec<Record>,
+    /// How many keys are known, by what is known of them.
+    pub census: Census,
+}
+
+/// By hand, so that letting one go is one step for a caller.
+impl Drop for Replayed {
+    fn drop(self) {
+        let Replayed {
+            node: _,
+            kept: _,
+            census: _,
+        } = self;
+    }
+}
+
+/// What the records give at a node of this number.
+fn replayed_at(alloc: Global, node: u8, records: &[Record]) -> Result<Replayed, ApplyFault>
+    ensures node { IfOk result (λ found. found.node ≡ node) }
+    ensures kept { IfOk result (λ found. found.kept.items ≡ snapshot_of (replayed blank records.now)) }
+    ensures census { IfOk result (λ found. found.census ≡ census_of (replayed blank records.now)) }
     ensures fit { IfOk result (λ _. Fit node records.now) }
     ensures bad { IfErr result (λ fault. fault ≡ BadRecord → ¬ (Fit node records.now)) }
 {
@@ -64,38 +88,25 @@ fn kept_at(alloc: Global, node: u8, records: &[Record]) -> Result<Vec<Record>, A
         Ok(core) => core,
         Err(refused) => return Err(refused.fault),
     };
+    let census = core.census();
     match core.snapshot() {
-        Ok(kept) => Ok(kept),
+        Ok(kept) => Ok(Replayed { node, kept, census }),
         Err(_) => Err(ApplyFault::Memory),
-    }
-}
-
-/// What a node keeps, as its journal has it.
-pub struct Replayed {
-    /// The least number of a node at which the records fit: that of the node, where it has ever made a session.
-    pub node: u8,
-    /// The counters, and then what is known of each key, in order of the keys.
-    pub kept: Vec<Record>,
-}
-
-/// By hand, so that letting one go is one step for a caller.
-impl Drop for Replayed {
-    fn drop(self) {
-        let Replayed { node: _, kept: _ } = self;
     }
 }
 
 /// What the records give, one behind the other.
 pub fn replay(alloc: Global, records: &[Record]) -> Result<Replayed, FoundFault>
     ensures kept { IfOk result (λ found. found.kept.items ≡ snapshot_of (replayed blank records.now)) }
+    ensures census { IfOk result (λ found. found.census ≡ census_of (replayed blank records.now)) }
     ensures fit { IfOk result (λ found. Fit found.node records.now) }
     ensures least { IfOk result (λ found. FitNowhere found.node records.now) }
     // They don't fit at any node, unless memory is refused.
     ensures unfit { IfErr result (λ fault. fault ≢ Memory → (fault ≡ Unfit) × FitNowhere NODES records.now) }
 {
     for node in 0..NODE_LIMIT {
-        match kept_at(alloc, node, records) {
-            Ok(kept) => return Ok(Replayed { node, kept }),
+        match replayed_at(alloc, node, records) {
+            Ok(found) => return Ok(found),
             Err(ApplyFault::Memory) => return Err(FoundFault::Memory),
             Err(ApplyFault::BadRecord) => {}
         }

@@ -4,9 +4,9 @@
 //! Under the program `kegctl`, a `main` over it, which has the files and the sockets. [`entries_of`] reads a journal from images of
 //! its two files, in memory, so that nothing is ever written; [`replay`] gives what its records give. [`session_line`] is
 //! what is shown of a session and [`ShownRecord`] of a record, and [`places_of`] says where each record stands; [`active_keys`] says
-//! which sessions are at a node, [`left_in`] how many are left of a drain, and [`Room`] how full the node's table of keys is;
-//! [`look_at`] tells of a descriptor, and [`losses`] of one that takes the place of another; [`is_anothers`] and [`is_own`] say whose
-//! journal a record can be in.
+//! which sessions are at a node, [`left_in`] how many are left of a drain, [`Room`] how full the node's table of keys is, and
+//! [`KeysLine`] of what; [`look_at`] tells of a descriptor, and [`losses`] of one that takes the place of another; [`is_anothers`] and
+//! [`is_own`] say whose journal a record can be in.
 #![tactic(auto)]
 
 mod descriptor;
@@ -31,5 +31,6 @@ pub use moving::{Left, active_keys, left_in};
 pub use naming::{ShownKey, key_text, shown_key};
 pub use places::{RecordPlace, places_of};
 pub use records::ShownRecord;
-pub use room::{Room, known_in};
+pub use room::{KeysLine, Room, known_in};
+pub use sv_core::Census;
 pub use whose::{is_anothers, is_own};

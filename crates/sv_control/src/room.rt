@@ -1,9 +1,11 @@
-//! How full a node's table of keys is.
+//! How full a node's table of keys is, and of what.
 
 ghost use Rattle.std.specs.Prelude.{◌≡◌, ◌↔◌, IsTrue};
 ghost use Rattle.sv_control.specs.Room as spec;
 ghost use Rattle.sv_control.specs.Room.{IsFull, IsScarce};
 
+use crate::kept::Replayed;
+use serde::Serialize;
 use std::fmt;
 use sv_model::Record;
 
@@ -45,5 +47,70 @@ impl fmt::Display for Room {
 
     fn fmt<W: fmt::Write>(&self, f: &mut fmt::Formatter<W>) -> fmt::Result {
         write!(f, "{} of {} keys are known", self.known, self.limit)
+    }
+}
+
+/// What is shown of the keys that a node knows: how many, of how many, and by what it knows of them.
+#[derive(Clone, Copy, Debug, PartialEq, Eq, Serialize)]
+pub struct KeysLine {
+    pub known: usize,
+    /// How many it may know: `keys` of its descriptor.
+    pub limit: usize,
+    /// How many more it may come to know.
+    pub left: usize,
+    /// Sessions that live at the node.
+    pub active: usize,
+    /// Sessions that were handed over, and not yet acknowledged.
+    pub sent: usize,
+    /// Sessions that were here and live elsewhere, or have ended there.
+    pub gone: usize,
+    /// Sessions that have ended here.
+    pub ended: usize,
+}
+
+impl KeysLine {
+    ghost use Rattle.sv_control.specs.Room.{keys_to_see, room_of};
+
+    /// Of a node that keeps this, and may know so many.
+    pub fn of(found: &Replayed, limit: usize) -> KeysLine
+        ensures { result ≡ keys_to_see found.now.kept.items found.now.census limit }
+    {
+        let known = known_in(&found.kept);
+        KeysLine {
+            known,
+            limit,
+            left: limit.saturating_sub(known),
+            active: found.census.active,
+            sent: found.census.sent,
+            gone: found.census.gone,
+            ended: found.census.ended,
+        }
+    }
+
+    /// How full the node's table is then.
+    fn room(self) -> Room
+        ensures { result ≡ room_of self }
+    {
+        Room {
+            known: self.known,
+            limit: self.limit,
+        }
+    }
+}
+
+impl fmt::Display for KeysLine {
+    ghost use Rattle.std.specs.Prelude.{Some};
+    ghost use Rattle.sv_control.specs.Room.{keys_text};
+
+    ghost output = { λ line. Some (keys_text line) };
+
+    fn fmt<W: fmt::Write>(&self, f: &mut fmt::Formatter<W>) -> fmt::Result {
+        let room = self.room();
+        write!(f, "{room}: {} active, {} sent, ", self.active, self.sent)?;
+        write!(
+            f,
+            "{} gone, {} ended; {} are left",
+            self.gone, self.ended, self.left
+        )
     }
 }

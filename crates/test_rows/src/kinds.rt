@@ -2,7 +2,7 @@
 
 use crate::application::{contexts, deployed, descriptors, filters, patterns, servlets};
 use crate::fault::RowFault;
-use crate::record::{self, attributes, changed, frames, spelled};
+use crate::record::{self, attributes, changed, frames, keys, spelled};
 use crate::watched;
 use crate::web::{cookies, fields, forms, lengths, responses, streams, targets};
 use std::alloc::Global;
@@ -21,6 +21,14 @@ fn of_figures(alloc: Global, kind: &str, parts: &str) -> Result<String, RowFault
     }
 }
 
+fn of_journal(alloc: Global, kind: &str, parts: &str) -> Result<String, RowFault> {
+    match kind {
+        "journal-keys" => keys::text(alloc, parts),
+        "journal-keys-json" => keys::json(alloc, parts),
+        _ => of_figures(alloc, kind, parts),
+    }
+}
+
 fn of_record(alloc: Global, kind: &str, parts: &str) -> Result<String, RowFault> {
     match kind {
         "record" => spelled::now::<Record>(alloc, parts),
@@ -32,7 +40,7 @@ fn of_record(alloc: Global, kind: &str, parts: &str) -> Result<String, RowFault>
         "attributes" => attributes::attributes(alloc, parts),
         "changed" => changed::changed(alloc, parts),
         "count" => record::count(alloc, parts),
-        _ => of_figures(alloc, kind, parts),
+        _ => of_journal(alloc, kind, parts),
     }
 }
 

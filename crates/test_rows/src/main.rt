@@ -13,8 +13,8 @@
 //! - `application`, descriptors: `config`, `counted`, `checked`, `cluster`, `contexts`, `deployed-context`, `deployed-servlet` and
 //!   `deployed-filters`;
 //! - `application`, paths: `context`, `below`, `servlet`, `pattern`, `long-pattern`, `filters` and `dispatcher`;
-//! - `record`: `record`, `old-record`, `packet`, `old-packet`, `frame`, `old-frame`, `attributes`, `changed` and `count`, whose
-//!   bytes are in hexadecimal;
+//! - `record`: `record`, `old-record`, `packet`, `old-packet`, `frame`, `old-frame`, `attributes`, `changed`, `count`,
+//!   `journal-keys` and `journal-keys-json`, whose bytes are in hexadecimal;
 //! - `watched`, figures: `figures`, `cut-figures`, `figure`, `rate`, `known-keys`, `table` and `screen`.
 #![tactic(auto)]
 
