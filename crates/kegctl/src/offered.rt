@@ -52,14 +52,32 @@ fn check<'a>(alloc: Global) -> Result<Command<'a>, AllocError> {
         .arg(journal)
 }
 
+/// A command that lists something of a journal.
+fn listing<'a>(alloc: Global, name: &'a str, about: &'a str) -> Result<Command<'a>, AllocError> {
+    let keys = Arg::new(alloc, "keys")
+        .long("keys")
+        .value_name("CONFIG")
+        .help(
+            "the node's descriptor: a last line says how many of its keys are known, by what has become of their sessions, and how many are left",
+        );
+    let journal = word(
+        alloc,
+        "JOURNAL",
+        "the first file of the journal; the other has .b behind its name",
+    );
+    Command::new(alloc, name)
+        .about(about)
+        .arg(journal)?
+        .arg(keys)
+}
+
 fn sessions<'a>(alloc: Global) -> Result<Command<'a>, AllocError> {
-    Command::new(alloc, "sessions")
-        .about("lists the sessions that a node keeps, by its journal, which is only read")
-        .arg(word(
-            alloc,
-            "JOURNAL",
-            "the first file of the journal; the other has .b behind its name",
-        ))?
+    let sessions = listing(
+        alloc,
+        "sessions",
+        "lists the sessions that a node keeps, by its journal, which is only read",
+    )?;
+    sessions
         .arg(choice(
             alloc,
             "values",
@@ -69,15 +87,11 @@ fn sessions<'a>(alloc: Global) -> Result<Command<'a>, AllocError> {
 }
 
 fn records<'a>(alloc: Global) -> Result<Command<'a>, AllocError> {
-    Command::new(alloc, "records")
-        .about(
-            "lists the records of a journal, the oldest first; behind a compaction from its snapshot on",
-        )
-        .arg(word(
-            alloc,
-            "JOURNAL",
-            "the first file of the journal; the other has .b behind its name",
-        ))
+    listing(
+        alloc,
+        "records",
+        "lists the records of a journal, the oldest first; behind a compaction from its snapshot on",
+    )
 }
 
 fn to_move<'a>(alloc: Global) -> Result<Command<'a>, AllocError> {

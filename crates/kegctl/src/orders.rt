@@ -15,12 +15,14 @@ use crate::status::show_status;
 use crate::stopping::stop;
 use crate::watching::watch;
 use crate::whose::check_claim;
-use crate::words::{Check, Form, Order};
+use crate::words::{Check, Form, Listing, Order};
+use serde::Serialize;
+use std::fmt::Display;
 use sv_client::session_named;
 use sv_config::Deployment;
 use sv_control::{
-    Look, RecordPlace, SessionLine, Shown, ShownRecord, look_at, losses, places_of, session_line,
-    shown_key,
+    Look, RecordPlace, Replayed, SessionLine, Shown, ShownRecord, look_at, losses, places_of,
+    replay, session_line, shown_key,
 };
 use sv_model::{Key, Record};
 use sv_script::NodeNumber;
@@ -61,7 +63,15 @@ fn keys_in<M: Machine>(machine: &M, config: &str) -> Result<Keys, Fault> {
     }
 }
 
-/// The same, and whether a program would start with it, and a journal can be a node's.
+/// The same, where a descriptor is named.
+fn keys_by<M: Machine>(machine: &M, config: Option<&str>) -> Result<Option<Keys>, Fault> {
+    match config {
+        Some(config) => Ok(Some(keys_in(machine, config)?)),
+        None => Ok(None),
+    }
+}
+
+/// Says what a descriptor has, whether a program would start with it, and whether a journal can be a node's.
 fn check<M: Machine>(machine: &M, order: Check<'_>) -> Result<(), Fault> {
     check_config(machine, order.config)?;
     if let Some(program) = order.program {
@@ -104,8 +114,12 @@ fn compare_configs<M: Machine>(machine: &M, old: &str, new: &str) -> Result<(), 
     }
 }
 
-/// A session in the form that is asked for.
-fn text_of<M: Machine>(machine: &M, line: &SessionLine, form: Form) -> Result<String, Fault> {
+/// A line in the form that is asked for.
+fn text_of<M: Machine, L: Display + Serialize>(
+    machine: &M,
+    line: &L,
+    form: Form,
+) -> Result<String, Fault> {
     let alloc = machine.alloc();
     match form {
         Form::Text => Ok(format!(in alloc; "{line}")?),
@@ -156,14 +170,45 @@ fn show_all<M: Machine>(
     Ok(())
 }
 
-fn show_sessions<M: Machine>(
+/// A line of how many keys a node knows that keeps this, and a warning if they get scarce.
+fn show_keys<M: Machine>(
     machine: &M,
-    journal: &str,
+    keys: Keys,
+    found: &Replayed,
+    form: Form,
+) -> Result<(), Fault> {
+    match text_of(machine, &keys.line(found), form) {
+        Ok(text) => say(machine, text.as_str())?,
+        Err(fault) => return Err(fault),
+    }
+    keys.warn(machine, &found.kept);
+    Ok(())
+}
+
+/// A line for each session of what a node keeps, and behind them one of its keys, where that is asked for.
+fn show_found<M: Machine>(
+    machine: &M,
+    found: &Replayed,
+    keys: Option<Keys>,
     shown: Shown,
     form: Form,
 ) -> Result<(), Fault> {
-    let found = kept(machine, journal)?;
-    show_all(machine, &found.kept, shown, form)
+    show_all(machine, &found.kept, shown, form)?;
+    match keys {
+        Some(keys) => show_keys(machine, keys, found, form),
+        None => Ok(()),
+    }
+}
+
+fn show_sessions<M: Machine>(
+    machine: &M,
+    listing: Listing<'_>,
+    shown: Shown,
+    form: Form,
+) -> Result<(), Fault> {
+    let keys = keys_by(machine, listing.keys)?;
+    let found = kept(machine, listing.journal)?;
+    show_found(machine, &found, keys, shown, form)
 }
 
 /// A line for a record, behind its place.
@@ -187,15 +232,33 @@ fn show_placed<M: Machine>(
     Ok(())
 }
 
-fn show_entries<M: Machine>(machine: &M, entries: &[Vec<u8>]) -> Result<(), Fault> {
-    let records = records(machine, entries)?;
-    let places = places_of(machine.alloc(), entries)?;
-    show_placed(machine, &places, &records)
+/// A line of how many keys are known by records.
+fn show_known<M: Machine>(machine: &M, keys: Keys, records: &[Record]) -> Result<(), Fault> {
+    match replay(machine.alloc(), records) {
+        Ok(found) => show_keys(machine, keys, &found, Form::Text),
+        Err(fault) => Err(fault.into()),
+    }
 }
 
-fn show_records<M: Machine>(machine: &M, journal: &str) -> Result<(), Fault> {
-    let entries = entries(machine, journal)?;
-    show_entries(machine, &entries)
+/// A line for each record, and behind them one of the keys, where that is asked for.
+fn show_entries<M: Machine>(
+    machine: &M,
+    entries: &[Vec<u8>],
+    keys: Option<Keys>,
+) -> Result<(), Fault> {
+    let records = records(machine, entries)?;
+    let places = places_of(machine.alloc(), entries)?;
+    show_placed(machine, &places, &records)?;
+    match keys {
+        Some(keys) => show_known(machine, keys, &records),
+        None => Ok(()),
+    }
+}
+
+fn show_records<M: Machine>(machine: &M, listing: Listing<'_>) -> Result<(), Fault> {
+    let keys = keys_by(machine, listing.keys)?;
+    let entries = entries(machine, listing.journal)?;
+    show_entries(machine, &entries, keys)
 }
 
 /// Says what a node's answer means.
@@ -246,11 +309,11 @@ pub fn carry_out<M: Machine>(machine: &M, order: Order<'_>) -> Result<(), Fault>
         Order::Check(order) => check(machine, order),
         Order::Compare { old, new } => compare_configs(machine, old, new),
         Order::Sessions {
-            journal,
+            listing,
             shown,
             form,
-        } => show_sessions(machine, journal, shown, form),
-        Order::Records { journal } => show_records(machine, journal),
+        } => show_sessions(machine, listing, shown, form),
+        Order::Records(listing) => show_records(machine, listing),
         Order::Move { port, session, to } => move_session(machine, port, session, to),
         Order::Tick { port } => tick_node(machine, port),
         Order::Halt { port } => halt_node(machine, port),

@@ -3,7 +3,7 @@
 use crate::fault::Fault;
 use crate::machine::Machine;
 use sv_config::Cluster;
-use sv_control::{Room, known_in};
+use sv_control::{KeysLine, Replayed, Room, known_in};
 use sv_model::{KEY_MOST, Record};
 
 /// What a descriptor says of keys.
@@ -37,6 +37,11 @@ impl Keys {
             limit: cluster.keys as usize,
             forget: cluster.forget,
         }
+    }
+
+    /// What is shown of the keys of a node that keeps this.
+    pub fn line(self, found: &Replayed) -> KeysLine {
+        KeysLine::of(found, self.limit)
     }
 
     fn room(self, kept: &[Record]) -> Room {

@@ -33,13 +33,11 @@ pub enum Order<'a> {
         new: &'a str,
     },
     Sessions {
-        journal: &'a str,
+        listing: Listing<'a>,
         shown: Shown,
         form: Form,
     },
-    Records {
-        journal: &'a str,
-    },
+    Records(Listing<'a>),
     Move {
         port: u16,
         /// A session cookie's value, or `HOME.SERIAL`.
@@ -70,6 +68,15 @@ pub struct Check<'a> {
     pub program: Option<&'a str>,
     /// A journal that is looked at, too.
     pub claim: Option<Claim<'a>>,
+}
+
+/// A journal of which something is to be listed.
+#[derive(Clone, Copy, Debug, PartialEq, Eq)]
+pub struct Listing<'a> {
+    /// The first of its files.
+    pub journal: &'a str,
+    /// The descriptor of its node, by which it is said how many keys are known and left; none where that isn't asked for.
+    pub keys: Option<&'a str>,
 }
 
 /// Figures that are to be shown.
@@ -171,9 +178,16 @@ fn watch_of<'a>(alloc: Global, matches: &ArgMatches<'a>) -> Result<Order<'a>, Fa
     }
 }
 
+fn listing_of<'a>(matches: &ArgMatches<'a>) -> Listing<'a> {
+    Listing {
+        journal: text(matches, "JOURNAL"),
+        keys: matches.get_str("keys"),
+    }
+}
+
 fn sessions_of<'a>(matches: &ArgMatches<'a>) -> Order<'a> {
     Order::Sessions {
-        journal: text(matches, "JOURNAL"),
+        listing: listing_of(matches),
         shown: if matches.get_flag("values") {
             Shown::Values
         } else {
@@ -213,9 +227,7 @@ fn check_of<'a>(matches: &ArgMatches<'a>) -> Result<Order<'a>, Fault> {
 /// What a command on files asks for.
 fn order_on_files<'a>(name: &str, matches: &ArgMatches<'a>) -> Order<'a> {
     match name {
-        "records" => Order::Records {
-            journal: text(matches, "JOURNAL"),
-        },
+        "records" => Order::Records(listing_of(matches)),
         _ => sessions_of(matches),
     }
 }
