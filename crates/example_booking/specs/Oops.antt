@@ -9,4 +9,6 @@ use Rattle.sv_web.specs.Steps.{html, write}
 use Rattle.sv_web.specs.Work.{Ends, Work}
 
 abbrev pub oops : Asked → Work Next
-oops call = html (write (codes "<!DOCTYPE html><title>Booking</title><p>") (write_escaped (unwrap_or (value_of call.attributes (codes "jakarta.servlet.error.message")) (codes "")) (Ends Done)))
+oops call =
+    html (write (codes "<!DOCTYPE html><title>Booking</title><p>")
+    (write_escaped (unwrap_or (value_of call.attributes (codes "jakarta.servlet.error.message")) (codes "")) (Ends Done)))

@@ -33,7 +33,8 @@ amount Remove = 0
 -- two forms of one page ask for one change of one article
 abbrev pub is_same : Post → Post → Bool
 is_same p q =
-    (p.mark.visit == q.mark.visit) && (p.mark.page == q.mark.page) && (p.article == q.article) && (kind p.change == kind q.change) && (amount p.change == amount q.change)
+    (p.mark.visit == q.mark.visit) && (p.mark.page == q.mark.page) && (p.article == q.article) && (kind p.change == kind q.change) &&
+    (amount p.change == amount q.change)
 
 -- the pages of a session are as old as their numbers tell, and a page of another session is older than all of them
 abbrev pub age : ℕ → Post → ℕ

@@ -7,7 +7,8 @@ use Rattle.example_cart.specs.declared.page.Piece.TheVariants.{Markup, Shown, Nu
 -- `<`, `>`, `&`, `"` and `'` by a reference, and every other byte as it is
 abbrev pub escaped_byte : ℕ → List ℕ
 escaped_byte c =
-    if c == 60 then codes "&lt;" else if c == 62 then codes "&gt;" else if c == 38 then codes "&amp;" else if c == 34 then codes "&quot;" else if c == 39 then codes "&#39;" else c ∷ []
+    if c == 60 then codes "&lt;" else if c == 62 then codes "&gt;" else if c == 38 then codes "&amp;"
+    else if c == 34 then codes "&quot;" else if c == 39 then codes "&#39;" else c ∷ []
 
 -- a text, byte by byte
 unfoldable pub escaped : List ℕ → List ℕ

@@ -62,4 +62,6 @@ new_visit node = record { page = 0; node = node; moves = 0 }
 abbrev pub visit_in : ℕ → Option (List ℕ) → Visit
 visit_in node None = new_visit node
 visit_in node (Some bytes) =
-    if length bytes == 9 then record { page = from_be_bytes w32 bytes; node = slice_index bytes 4; moves = from_be_bytes w32 (drop 5 bytes) } else new_visit node
+    if length bytes == 9
+    then record { page = from_be_bytes w32 bytes; node = slice_index bytes 4; moves = from_be_bytes w32 (drop 5 bytes) }
+    else new_visit node

@@ -53,5 +53,10 @@ abbrev pub notice_in : Option (List ℕ) → Option Notice
 notice_in None = None
 notice_in (Some bytes) =
     if length bytes == 4
-    then Some (record { said = said_in (slice_index bytes 0); article = slice_index bytes 1; quantity = slice_index bytes 2; is_new = slice_index bytes 3 == 1 })
+    then Some (record {
+      said = said_in (slice_index bytes 0);
+      article = slice_index bytes 1;
+      quantity = slice_index bytes 2;
+      is_new = slice_index bytes 3 == 1;
+    })
     else None

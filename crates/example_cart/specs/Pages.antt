@@ -1,5 +1,6 @@
 -- The pages of the shop: the markup of the program, and between it numbers, prices and texts by their references.
-use Rattle.std.specs.Prelude.{ℕ, ◌+◌, ◌==◌, Bool, List, [], ◌∷◌, ◌++◌, codes, decimal, Option, Some, None, option_and_then, option_copied, option_map, slice_get, if◌then◌else◌}
+use Rattle.std.specs.Prelude.{ℕ, ◌+◌, ◌==◌, Bool, List, [], ◌∷◌, ◌++◌, codes}
+use Rattle.std.specs.Prelude.{decimal, Option, Some, None, option_and_then, option_copied, option_map, slice_get, if◌then◌else◌}
 use Rattle.std.specs.List.{concat, flat_map}
 use Rattle.example_cart.specs.declared.article.Article.{Article}
 use Rattle.example_cart.specs.declared.notice.Notice.{Notice}
@@ -12,7 +13,17 @@ use Rattle.example_cart.specs.declared.rows.Listing.{Listing}
 use Rattle.example_cart.specs.declared.rows.Listing.TheVariants.{Offers, Lines, Ordered}
 use Rattle.example_cart.specs.declared.rows.Rows.{Rows}
 use Rattle.example_cart.specs.declared.rows.Wrong.{Wrong}
-use Rattle.example_cart.specs.declared.markup.TheConstants.{ADDED, ADD_FAULT, ADD_FIELD, AGAIN, ANEW, AT_MOST, BEFORE_ADD, BEFORE_ARTICLE_NAME, BEFORE_BASE, BEFORE_CHANGE, BEFORE_CHECKOUT, BEFORE_CODE, BEFORE_COST, BEFORE_COUNT, BEFORE_FAULT, BEFORE_FIELD, BEFORE_HEADING, BEFORE_LABEL, BEFORE_LABEL_NAME, BEFORE_MESSAGE, BEFORE_MOVES, BEFORE_NAME, BEFORE_NODE, BEFORE_NUMBER, BEFORE_ORDER, BEFORE_PAGE, BEFORE_PICTURE, BEFORE_PRICE, BEFORE_REMOVE, BEFORE_SAID, BEFORE_SKIP, BEFORE_TITLE, BEFORE_TOTAL, BEFORE_VISIT, BEHIND_ADD, BEHIND_CHECKOUT, BEHIND_COUNT, BEHIND_FAULT, BEHIND_NAME, BEHIND_ORDER, BEHIND_ORDERED, BEHIND_ORDER_TOTAL, BEHIND_REMOVE, BEHIND_SAID, BEHIND_VALUE, CART, CATALOGUE, CHANGED, CHANGE_FAULT, CHANGE_FIELD, END, GOODBYE, LINES, LINES_END, LOGIN_FORM, NEW_CART, NOTHING, NOT_ORDERED, NO_ORDER, OUTDATED, STOP, TIMES, WAYS}
+use Rattle.example_cart.specs.declared.markup.TheConstants.{ADDED, ADD_FAULT, ADD_FIELD, AGAIN, ANEW, AT_MOST}
+use Rattle.example_cart.specs.declared.markup.TheConstants.{BEFORE_ADD, BEFORE_ARTICLE_NAME, BEFORE_BASE, BEFORE_CHANGE, BEFORE_CHECKOUT, BEFORE_CODE}
+use Rattle.example_cart.specs.declared.markup.TheConstants.{BEFORE_COST, BEFORE_COUNT, BEFORE_FAULT, BEFORE_FIELD, BEFORE_HEADING, BEFORE_LABEL}
+use Rattle.example_cart.specs.declared.markup.TheConstants.{BEFORE_LABEL_NAME, BEFORE_MESSAGE, BEFORE_MOVES, BEFORE_NAME, BEFORE_NODE, BEFORE_NUMBER}
+use Rattle.example_cart.specs.declared.markup.TheConstants.{BEFORE_ORDER, BEFORE_PAGE, BEFORE_PICTURE, BEFORE_PRICE, BEFORE_REMOVE, BEFORE_SAID}
+use Rattle.example_cart.specs.declared.markup.TheConstants.{BEFORE_SKIP, BEFORE_TITLE, BEFORE_TOTAL, BEFORE_VISIT, BEHIND_ADD, BEHIND_CHECKOUT}
+use Rattle.example_cart.specs.declared.markup.TheConstants.{BEHIND_COUNT, BEHIND_FAULT, BEHIND_NAME, BEHIND_ORDER, BEHIND_ORDERED, BEHIND_ORDER_TOTAL}
+use Rattle.example_cart.specs.declared.markup.TheConstants.{BEHIND_REMOVE, BEHIND_SAID, BEHIND_VALUE, CART, CATALOGUE, CHANGED}
+use Rattle.example_cart.specs.declared.markup.TheConstants.{CHANGE_FAULT, CHANGE_FIELD, END, GOODBYE, LINES, LINES_END}
+use Rattle.example_cart.specs.declared.markup.TheConstants.{LOGIN_FORM, NEW_CART, NOTHING, NOT_ORDERED, NO_ORDER, OUTDATED}
+use Rattle.example_cart.specs.declared.markup.TheConstants.{STOP, TIMES, WAYS}
 use Rattle.example_cart.specs.Cart.{cost, is_empty, total}
 use Rattle.example_cart.specs.Html.{escaped, price}
 use Rattle.example_cart.specs.Shape.{shape_html}
@@ -42,7 +53,8 @@ typed_at wrong number = option_and_then (λ w. if w.0 == number then Some w.1 el
 -- an article's picture and name, up to what is said of its price
 unfoldable pub name_html : Article → List ℕ
 name_html article =
-    concat (BEFORE_PICTURE.now ∷ []) ++ flat_map shape_html article.picture.now ++ concat (BEFORE_ARTICLE_NAME.now ∷ escaped article.name.now ∷ BEFORE_PRICE.now ∷ [])
+    concat (BEFORE_PICTURE.now ∷ []) ++ flat_map shape_html article.picture.now
+    ++ concat (BEFORE_ARTICLE_NAME.now ∷ escaped article.name.now ∷ BEFORE_PRICE.now ∷ [])
 
 unfoldable pub price_html : Article → List ℕ
 price_html article = concat (price article.price ∷ [])
@@ -77,12 +89,14 @@ change_html article = concat (BEFORE_CHANGE.now ∷ escaped article.name.now ∷
 -- an article of the catalogue
 unfoldable pub offer_html : Mark → ℕ → Article → Option (List ℕ) → List ℕ
 offer_html mark number article typed =
-    name_html article ++ price_html article ++ fields_html mark number ++ label_html number article ++ value_html ADD_FIELD.now 1 typed ADD_FAULT.now ++ add_html article
+    name_html article ++ price_html article ++ fields_html mark number ++ label_html number article ++ value_html ADD_FIELD.now 1 typed ADD_FAULT.now
+    ++ add_html article
 
 -- a line of the cart
 unfoldable pub line_html : Mark → ℕ → Article → ℕ → Option (List ℕ) → List ℕ
 line_html mark number article quantity typed =
-    name_html article ++ cost_html article quantity ++ fields_html mark number ++ label_html number article ++ value_html CHANGE_FIELD.now quantity typed CHANGE_FAULT.now ++ change_html article
+    name_html article ++ cost_html article quantity ++ fields_html mark number ++ label_html number article
+    ++ value_html CHANGE_FIELD.now quantity typed CHANGE_FAULT.now ++ change_html article
 
 -- a line of an order
 unfoldable pub ordered_html : Article → ℕ → List ℕ
@@ -185,7 +199,8 @@ new_html is_new = if is_new then NEW_CART.now else []
 unfoldable pub said_html : Notice → Option Article → List ℕ
 said_html n None = concat (BEFORE_SAID.now ∷ new_html n.is_new ∷ before_said n.said ∷ BEHIND_SAID.now ∷ [])
 said_html n (Some article) =
-    concat (BEFORE_SAID.now ∷ new_html n.is_new ∷ before_said n.said ∷ decimal n.quantity ∷ TIMES.now ∷ escaped article.name.now ∷ behind_said n.said ∷ BEHIND_SAID.now ∷ [])
+    concat (BEFORE_SAID.now ∷ new_html n.is_new ∷ before_said n.said ∷ decimal n.quantity ∷ TIMES.now ∷ escaped article.name.now ∷ behind_said n.said
+    ∷ BEHIND_SAID.now ∷ [])
 
 -- what is said of the last form; nothing where there is nothing to say
 abbrev pub notice_html : List Article → Option Notice → List ℕ
@@ -207,7 +222,8 @@ sum_html cents = concat (BEFORE_TOTAL.now ∷ price cents ∷ BEHIND_ORDER_TOTAL
 -- an order's number, its lines and what they cost
 unfoldable pub ordered : Mark → List Article → Order → List ℕ
 ordered mark articles order =
-    number_html order.number ++ rows_html (record { listing = Ordered; mark = mark; wrong = None }) 0 articles order.cart ++ sum_html (total articles order.cart)
+    number_html order.number ++ rows_html (record { listing = Ordered; mark = mark; wrong = None }) 0 articles order.cart
+    ++ sum_html (total articles order.cart)
 
 -- or that there was none
 abbrev pub order_html : Mark → List Article → Order → List ℕ

@@ -287,7 +287,8 @@ pub fn cart_page(
     cart: &Cart,
     beside: Beside<'_>,
 ) -> Result<Page, AllocError>
-    ensures { IfOk result (λ page. page ≡ spec.cart_page (around_of frame.entry) articles.now cart.now beside.entry.notice (wrong_of beside.entry.wrong) beside.entry.form) }
+    ensures { IfOk result (λ page. page ≡ spec.cart_page (around_of frame.entry) articles.now cart.now beside.entry.notice
+        (wrong_of beside.entry.wrong) beside.entry.form) }
 {
     let mut page = Page::new(alloc);
     write_head(&mut page, frame, "Your cart", "cart")?;

@@ -1,7 +1,8 @@
 //! The rows of a page: an entry for each article.
 
 ghost use Rattle.std.specs.Prelude.{◌≡◌, ◌++◌, OnOk, option_copied};
-ghost use Rattle.example_cart.specs.Pages.{add_html, change_html, cost_html, fields_html, label_html, line_html, name_html, offer_html, ordered_html, price_html, row_html, rows_html, sheet_of, typed_at, value_html, wrong_of};
+ghost use Rattle.example_cart.specs.Pages.{add_html, change_html, cost_html, fields_html, label_html, line_html, name_html, offer_html};
+ghost use Rattle.example_cart.specs.Pages.{ordered_html, price_html, row_html, rows_html, sheet_of, typed_at, value_html, wrong_of};
 
 use crate::article::Article;
 use crate::cart::{Cart, cost};

@@ -43,7 +43,8 @@ basket_after post e = posted (session_number e) (basket_of e) post
 -- a cart, its forms and a notice are kept, and the browser is sent on to the page
 unfoldable pub with_basket : Basket → Notice → Work Next
 with_basket b notice =
-    set_attribute (codes "cart") b.cart (set_attribute (codes "forms") (kept_forms b.forms) (set_attribute (codes "notice") (kept_notice notice) (sent_on (codes "cart"))))
+    set_attribute (codes "cart") b.cart (set_attribute (codes "forms") (kept_forms b.forms)
+    (set_attribute (codes "notice") (kept_notice notice) (sent_on (codes "cart"))))
 
 abbrev pub taken_in : Post → Bool → Work Next
 taken_in post is_new = Looking (λ e. with_basket (basket_after post e) (notice_of post is_new e))
@@ -57,7 +58,8 @@ changed node post = Looking (λ e. begun node (taken_in post (not (has_session e
 -- the page of the cart, for a session as it is, with what was typed that is no quantity
 unfoldable pub page_of : List Article → List ℕ → ℕ → Option (ℕ × List ℕ) → Edit → List ℕ
 page_of articles base node wrong e =
-    cart_page (around base node e) articles (cart_in (seen e (codes "cart"))) (notice_in (seen e (codes "notice"))) wrong (order_in (seen e (codes "order"))).number
+    cart_page (around base node e) articles (cart_in (seen e (codes "cart"))) (notice_in (seen e (codes "notice"))) wrong
+    (order_in (seen e (codes "order"))).number
 
 unfoldable pub offers_of : List Article → List ℕ → ℕ → Option (ℕ × List ℕ) → Edit → List ℕ
 offers_of articles base node wrong e = catalogue_page (around base node e) articles (cart_in (seen e (codes "cart"))) wrong

@@ -1,5 +1,6 @@
 -- The filter that guards the pages.
-use Rattle.std.specs.Prelude.{ℕ, ◌&&◌, ◌||◌, not, Bool, true, false, List, bytes_eq, codes, drop, length, nat_le, take, Option, Some, None, option_map, if◌then◌else◌}
+use Rattle.std.specs.Prelude.{ℕ, ◌&&◌, ◌||◌, not, Bool, true, false, List, bytes_eq, codes}
+use Rattle.std.specs.Prelude.{drop, length, nat_le, take, Option, Some, None, option_map, if◌then◌else◌}
 use Rattle.std.specs.List.{find}
 use Rattle.sv_model.specs.declared.field.Field.{Field}
 use Rattle.sv_session.specs.Fault.{fault_name as session_fault_name}

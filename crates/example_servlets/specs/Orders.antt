@@ -1,7 +1,8 @@
 -- What the listener notes that counts orders.
 use Rattle.std.specs.Prelude.{ℕ, ◌+◌, ◌-◌, ◌^◌, Bool, false, bytes_eq, codes, map, min, List, if◌then◌else◌}
 use Rattle.sv_model.specs.declared.event.Event.{Event}
-use Rattle.sv_model.specs.declared.event.Event.TheVariants.{ContextUp, ContextDown, RequestIn, RequestOut, Created, Destroyed, Added, Removed, Replaced, Passivate, Activate, IdChanged}
+use Rattle.sv_model.specs.declared.event.Event.TheVariants.{ContextUp, ContextDown, RequestIn, RequestOut, Created, Destroyed}
+use Rattle.sv_model.specs.declared.event.Event.TheVariants.{Added, Removed, Replaced, Passivate, Activate, IdChanged}
 use Rattle.sv_model.specs.declared.event.Told.{Told}
 
 -- an order was kept in a session, as its first or in the place of the last

@@ -12,7 +12,9 @@ text params name = parameter_or params name (codes "")
 
 -- the form of an article
 abbrev pub sent_of : List Param → Sent
-sent_of params = sent_in (text params (codes "article")) (text params (codes "visit")) (text params (codes "page")) (text params (codes "do")) (text params (codes "quantity"))
+sent_of params =
+    sent_in (text params (codes "article")) (text params (codes "visit")) (text params (codes "page")) (text params (codes "do"))
+    (text params (codes "quantity"))
 
 -- the number of an order's form
 abbrev pub order_form : List Param → Option ℕ

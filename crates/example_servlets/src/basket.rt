@@ -66,7 +66,8 @@ fn keep_taken(
     reply: &mut Reply,
     taken: &Taken,
 ) -> Result<Next, Refusal>
-    ensures { Does (spec.with_basket (record { cart = taken.now.cart; forms = taken.now.forms }) taken.now.notice) (lent edit.old reply.old) (lent edit.new reply.new) result }
+    ensures { Does (spec.with_basket (record { cart = taken.now.cart; forms = taken.now.forms }) taken.now.notice) (lent edit.old reply.old)
+        (lent edit.new reply.new) result }
 {
     let forms = kept_forms(store.alloc, &taken.forms)?;
     edit.set(CART, Some(taken.cart.as_slice()))?;
@@ -164,7 +165,8 @@ fn show_wrong(
     listing: Listing,
     article: u8,
 ) -> Result<Next, Refusal>
-    ensures { Does (spec.wrong_shown store.articles.now call.now.context_path store.node listing article (spec.typed call.now)) (lent edit.entry.now reply.old) (lent edit.entry.now reply.new) result }
+    ensures { Does (spec.wrong_shown store.articles.now call.now.context_path store.node listing article (spec.typed call.now)) (lent edit.entry.now reply.old)
+        (lent edit.entry.now reply.new) result }
 {
     let typed = text(call.params, "quantity");
     let page = wrong_page(store, call.context_path, edit, listing, article, typed)?;
@@ -180,7 +182,8 @@ fn show_again(
     listing: Listing,
     article: u8,
 ) -> Result<Next, Refusal>
-    ensures { Does (begun store.node (spec.wrong_shown store.articles.now call.now.context_path store.node listing article (spec.typed call.now))) (lent edit.old reply.old) (lent edit.new reply.new) result }
+    ensures { Does (begun store.node (spec.wrong_shown store.articles.now call.now.context_path store.node listing article (spec.typed call.now)))
+        (lent edit.old reply.old) (lent edit.new reply.new) result }
 {
     if !has_session(edit) {
         edit.create()?;

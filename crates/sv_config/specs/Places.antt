@@ -1,5 +1,6 @@
 -- The places of a document at which a fault stands, table by table in the order of the document.
-use Rattle.std.specs.Prelude.{ℕ, ◌+◌, ℤ, drop, pos, negsuc, Bool, false, not, ◌||◌, ◌++◌, List, [], ◌∷◌, length, codes, bytes_eq, is_none, Option, Some, None, option_map, if◌then◌else◌}
+use Rattle.std.specs.Prelude.{ℕ, ◌+◌, ℤ, drop, pos, negsuc, Bool, false, not, ◌||◌, ◌++◌, List}
+use Rattle.std.specs.Prelude.{[], ◌∷◌, length, codes, bytes_eq, is_none, Option, Some, None, option_map, if◌then◌else◌}
 use Rattle.std.specs.Option.{option_map_or}
 use Rattle.std.specs.List.{flat_map, list_any}
 use Rattle.std.specs.Ordering.{int_eq}

@@ -1,6 +1,7 @@
 -- What a document says: its deployment, with the defaults filled in. Total: where a document has a fault, something
 -- stands for what is not there, and no deployment is made of it.
-use Rattle.std.specs.Prelude.{ℕ, ◌+◌, ℤ, pos, negsuc, Bool, false, ◌&&◌, not, List, [], ◌∷◌, map, filter, fold, codes, bytes_eq, string_bytes, Option, Some, None, option_map, unwrap_or, is_none, option_and_then, if◌then◌else◌}
+use Rattle.std.specs.Prelude.{ℕ, ◌+◌, ℤ, pos, negsuc, Bool, false, ◌&&◌, not, List, [], ◌∷◌, map}
+use Rattle.std.specs.Prelude.{filter, fold, codes, bytes_eq, string_bytes, Option, Some, None, option_map, unwrap_or, is_none, option_and_then, if◌then◌else◌}
 use Rattle.std.specs.Option.{option_map_or}
 use Rattle.std.specs.List.{position_or_len}
 use Rattle.std.specs.FinMap as finite
@@ -175,7 +176,8 @@ deployment_of t = record {
 -- ---- a deployment of the code
 
 abbrev pub cluster_data : Cluster → ClusterData
-cluster_data c = record { ports = map pos c.ports.items; deadline = pos c.deadline; secrets = option_map string_bytes c.secrets; keys = pos c.keys; forget = c.forget }
+cluster_data c =
+    record { ports = map pos c.ports.items; deadline = pos c.deadline; secrets = option_map string_bytes c.secrets; keys = pos c.keys; forget = c.forget }
 
 abbrev pub choice_data : PageFor → Choice
 choice_data (Status status) = of_status (pos status)

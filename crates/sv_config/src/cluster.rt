@@ -20,7 +20,8 @@ const DEFAULT_KEYS: u32 = 65_536;
 
 /// The nodes that a document names.
 pub(crate) fn read_cluster(alloc: Global, document: &Table) -> Result<Cluster, AllocError>
-    ensures { IfOk result (λ cluster. spec.cluster_data cluster ≡ spec.cluster_of (unwrap_or (table_at (codes "cluster") (table_view document.now)) no_members)) }
+    ensures { IfOk result (λ cluster. spec.cluster_data cluster
+        ≡ spec.cluster_of (unwrap_or (table_at (codes "cluster") (table_view document.now)) no_members)) }
 {
     match table_at(document, "cluster") {
         Some(table) => cluster_of(alloc, table),

@@ -160,7 +160,8 @@ fn add_patterns<'a>(
     place: TablePlace,
     servlet: &'a Table,
 ) -> Result<(), AllocError>
-    ensures { OnOk result (map (λ i. (i.0.now, spot i.1)) items.new.items ≡ map (λ i. (i.0.now, spot i.1)) items.old.items ++ spec.texts_from place (codes "patterns") 0 (values_at (codes "patterns") (table_view servlet.now))) }
+    ensures { OnOk result (map (λ i. (i.0.now, spot i.1)) items.new.items ≡ map (λ i. (i.0.now, spot i.1)) items.old.items
+        ++ spec.texts_from place (codes "patterns") 0 (values_at (codes "patterns") (table_view servlet.now))) }
 {
     for (index, value) in values_at(servlet, "patterns").iter().enumerate() {
         if let Some(text) = value.as_str() {

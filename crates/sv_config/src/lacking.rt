@@ -28,7 +28,8 @@ fn add_required<'a>(
     at: Placed<'a>,
     rules: &[FieldRule],
 ) -> Result<(), AllocError>
-    ensures { OnOk result (map spot places.new.items ≡ map spot places.old.items ++ flat_map (λ rule. field_where (lacks (placed at.entry).1 rule) (placed at.entry) rule.key) (map rule_of rules.now)) }
+    ensures { OnOk result (map spot places.new.items ≡ map spot places.old.items
+        ++ flat_map (λ rule. field_where (lacks (placed at.entry).1 rule) (placed at.entry) rule.key) (map rule_of rules.now)) }
 {
     for rule in rules {
         add_field(places, lacks(at.table, rule), at, rule.key)?;

@@ -29,7 +29,8 @@ impl Document {
 }
 
 fn servlet_within(document: &Table, context: usize, servlet: usize) -> Option<&Table>
-    ensures { option_map (λ t. table_view t.now) result ≡ option_and_then (spec.table_within (codes "servlet") servlet) (spec.table_within (codes "context") context (table_view document.now)) }
+    ensures { option_map (λ t. table_view t.now) result ≡ option_and_then (spec.table_within (codes "servlet") servlet)
+        (spec.table_within (codes "context") context (table_view document.now)) }
 {
     match table_within(document, "context", context) {
         Some(table) => table_within(table, "servlet", servlet),

@@ -60,7 +60,8 @@ pub(crate) fn names_of<'a>(
     alloc: Global,
     names: &[&'a str],
 ) -> Result<BTreeSet<&'a str>, AllocError>
-    ensures { IfOk result (λ set. (text : Text) → contains_by (λ name. slice_cmp nat_cmp text name.now) set ≡ list_any (λ name. bytes_eq name text) (map (λ name. name.now) names.now)) }
+    ensures { IfOk result (λ set. (text : Text) → contains_by (λ name. slice_cmp nat_cmp text name.now) set
+        ≡ list_any (λ name. bytes_eq name text) (map (λ name. name.now) names.now)) }
 {
     let mut set = BTreeSet::new(alloc);
     for name in names {

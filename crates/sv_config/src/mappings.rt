@@ -83,7 +83,8 @@ pub(crate) fn read_filter_mappings(
     filters: &[&str],
     servlets: &[&str],
 ) -> Result<Vec<FilterMapping>, AllocError>
-    ensures { IfOk result (λ mappings. mappings.items ≡ map (spec.filter_mapping_of (map (λ name. name.now) filters.now) (map (λ name. name.now) servlets.now)) (tables_at (codes "filter-mapping") (table_view context.now))) }
+    ensures { IfOk result (λ mappings. mappings.items ≡ map (spec.filter_mapping_of (map (λ name. name.now) filters.now) (map (λ name.
+        name.now) servlets.now)) (tables_at (codes "filter-mapping") (table_view context.now))) }
 {
     let tables = tables_at(alloc, context, "filter-mapping")?;
     filter_mappings_of(alloc, &tables, filters, servlets)
@@ -95,7 +96,8 @@ fn filter_mappings_of(
     filters: &[&str],
     servlets: &[&str],
 ) -> Result<Vec<FilterMapping>, AllocError>
-    ensures { IfOk result (λ mappings. mappings.items ≡ map (spec.filter_mapping_of (map (λ name. name.now) filters.now) (map (λ name. name.now) servlets.now)) (map (λ t. table_view t.now) tables.now)) }
+    ensures { IfOk result (λ mappings. mappings.items ≡ map (spec.filter_mapping_of (map (λ name. name.now) filters.now) (map (λ name.
+        name.now) servlets.now)) (map (λ t. table_view t.now) tables.now)) }
 {
     let mut mappings = Vec::new(alloc);
     for table in tables {
@@ -111,7 +113,8 @@ fn filter_mapping_of(
     filters: &[&str],
     servlets: &[&str],
 ) -> Result<FilterMapping, AllocError>
-    ensures { IfOk result (λ mapping. mapping ≡ spec.filter_mapping_of (map (λ name. name.now) filters.now) (map (λ name. name.now) servlets.now) (table_view table.now)) }
+    ensures { IfOk result (λ mapping. mapping ≡ spec.filter_mapping_of (map (λ name. name.now) filters.now) (map (λ name.
+        name.now) servlets.now) (table_view table.now)) }
 {
     Ok(FilterMapping {
         filter: place_at(filters, table, "filter"),

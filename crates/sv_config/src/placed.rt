@@ -137,7 +137,8 @@ fn add_array<'a>(
     kind: TableKind,
     key: &str,
 ) -> Result<(), AllocError>
-    ensures { OnOk result (map spec.placed tables.new.items ≡ map spec.placed tables.old.items ++ spec.placed_as number kind (spec.children key.now (table_view context.now))) }
+    ensures { OnOk result (map spec.placed tables.new.items ≡ map spec.placed tables.old.items
+        ++ spec.placed_as number kind (spec.children key.now (table_view context.now))) }
 {
     let inner = children(alloc, context, key)?;
     add_inner(tables, number, kind, &inner)

@@ -20,7 +20,8 @@ impl Deployment {
     ///
     /// Of the faults 1 to 7 that the descriptor has, the least is answered.
     pub fn from_toml(alloc: Global, text: &str) -> Result<Deployment, ConfigFault>
-        ensures ok { IfOk result (λ deployment. (t : Members) × (parse_document text.now ≡ Some t) × (fault_of t ≡ None) × (deployment_data deployment ≡ deployment_of t)) }
+        ensures ok { IfOk result (λ deployment. (t : Members) × (parse_document text.now ≡ Some t) × (fault_of t ≡ None)
+            × (deployment_data deployment ≡ deployment_of t)) }
         ensures fault { IfErr result (λ fault. fault ≢ ConfigFault.Memory → IsFaultOf text.now fault) }
     {
         let document = match toml::table_from_str(alloc, text) {

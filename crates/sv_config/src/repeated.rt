@@ -99,7 +99,8 @@ fn add_statuses<'a>(
     places: &mut Vec<Place<'a>>,
     at: Placed<'a>,
 ) -> Result<(), AllocError>
-    ensures { OnOk result (map spot places.new.items ≡ map spot places.old.items ++ spec.repeated int_eq (spec.integer_items TableKind.Page (codes "error-page") (codes "status") (placed at.entry))) }
+    ensures { OnOk result (map spot places.new.items ≡ map spot places.old.items
+        ++ spec.repeated int_eq (spec.integer_items TableKind.Page (codes "error-page") (codes "status") (placed at.entry))) }
 {
     let items = integer_items(alloc, at, TableKind::Page, "error-page", "status")?;
     add_repeated_integers(alloc, places, &items)

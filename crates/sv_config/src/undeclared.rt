@@ -42,7 +42,8 @@ fn add_unlisted<'a>(
     at: Placed<'a>,
     rules: &[FieldRule],
 ) -> Result<(), AllocError>
-    ensures { OnOk result (map spot places.new.items ≡ map spot places.old.items ++ spec.unlisted_among (map rule_of rules.now) at.entry.place (placed at.entry).1) }
+    ensures { OnOk result (map spot places.new.items ≡ map spot places.old.items
+        ++ spec.unlisted_among (map rule_of rules.now) at.entry.place (placed at.entry).1) }
 {
     for (key, _) in at.table.iter() {
         if !is_known(rules, key) {
@@ -116,7 +117,8 @@ fn add_strangers<'a>(
     declared: &[&str],
     mappings: &[(usize, &'a Table)],
 ) -> Result<(), AllocError>
-    ensures { OnOk result (map spot places.new.items ≡ map spot places.old.items ++ flat_map (spec.stranger_at context key.now (map (λ name. name.now) declared.now)) (map child mappings.now)) }
+    ensures { OnOk result (map spot places.new.items ≡ map spot places.old.items
+        ++ flat_map (spec.stranger_at context key.now (map (λ name. name.now) declared.now)) (map child mappings.now)) }
 {
     let names = names_of(alloc, declared)?;
     for (index, table) in mappings {

@@ -100,7 +100,8 @@ IsMet s fault Closed = ⊥
 -- a fault that stands at the front of what has come to an open connection is met
 abbrev pub MeetsFaults : Type 0
 MeetsFaults =
-    (single : Bool) (old new : Stand) (s : List ℕ) (fault : ReadFault) (given : Received) → old.closed ≡ false → old.unread ≡ Some s → IsFaultAt s fault → Receives single old new given
+    (single : Bool) (old new : Stand) (s : List ℕ) (fault : ReadFault) (given : Received) → old.closed ≡ false → old.unread ≡ Some s → IsFaultAt s fault
+    → Receives single old new given
     → IsMet s fault given
 
 -- where less than a request is received, no prefix of what has come is a message

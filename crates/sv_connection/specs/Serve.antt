@@ -17,7 +17,8 @@ use Rattle.sv_message.specs.Fault.{IsFaultAt, HasNoMessage}
 use Rattle.sv_message.specs.Response.{IsResponseText}
 use Rattle.sv_message.specs.declared.request.RawRequest.{RawRequest}
 use Rattle.sv_message.specs.declared.fault.ReadFault.{ReadFault}
-use Rattle.sv_message.specs.declared.fault.ReadFault.TheVariants.{BadHead, HeadTooLong, BadHost, BadFraming, BodyTooLong, Coding, Expectation, Memory, Closed as ReaderClosed}
+use Rattle.sv_message.specs.declared.fault.ReadFault.TheVariants.{BadHead, HeadTooLong, BadHost, BadFraming, BodyTooLong}
+use Rattle.sv_message.specs.declared.fault.ReadFault.TheVariants.{Coding, Expectation, Memory, Closed as ReaderClosed}
 use Rattle.sv_target.specs.declared.fault.TargetFault.{TargetFault}
 use Rattle.sv_target.specs.declared.fault.TargetFault.TheVariants.{Connect, BadTarget, Memory as TargetMemory}
 use Rattle.sv_target.specs.declared.target.Target.{Target as TargetValue}
@@ -168,7 +169,8 @@ pub data Idle {S : Type 0} (how : How) (old new : Sight S) (outcome : Outcome) :
   -- the reader failed, or gave no whole message in as many reads as one call makes
   Unread : (outcome ≡ ReadFailed) → new.written ≡ old.written → Idle how old new outcome
   -- a fault of the message, and its page
-  Faulty : (fault : ReadFault) → StandsAt old.unread fault → IsPage (status_of_read fault) false how.moment.now (Read fault) old.written new.written new.closed outcome → Idle how old new outcome
+  Faulty : (fault : ReadFault) → StandsAt old.unread fault → IsPage (status_of_read fault) false how.moment.now
+      (Read fault) old.written new.written new.closed outcome → Idle how old new outcome
 
 -- no request was taken, and the site stands as it stood
 pub record IsIdle {S : Type 0} (how : How) (old new : Sight S) (served : Served) : Type 0 where
@@ -178,7 +180,8 @@ pub record IsIdle {S : Type 0} (how : How) (old new : Sight S) (served : Served)
   pub idle : Idle how old new served.outcome
 
 -- the site was stepped once, by the request, and what it answered was said
-pub record IsAnswered {S : Type 0} (steps : S → Moment → Input → Result (List Output) StepFault → S → Type 0) (how : How) (raw : RawRequest) (target : TargetValue) (so sn : S) (wo wn : Option (List ℕ)) (closed : Bool) (served : Served) : Type 0 where
+pub record IsAnswered {S : Type 0} (steps : S → Moment → Input → Result (List Output) StepFault → S → Type 0) (how : How) (raw : RawRequest)
+    (target : TargetValue) (so sn : S) (wo wn : Option (List ℕ)) (closed : Bool) (served : Served) : Type 0 where
   pub answer : Result (List Output) StepFault
   pub step : steps so how.moment (Ask how.token (request_of how.single raw target)) answer sn
   pub outputs : served.outputs.items ≡ outputs_of answer
@@ -194,18 +197,21 @@ pub record IsMisdirected {S : Type 0} (how : How) (raw : RawRequest) (so sn : S)
   pub page : IsPage (status_of_target fault) (is_head raw.method) how.moment.now (Target fault) wo wn closed served.outcome
 
 -- the target was read, and the site was asked by the request that the message then says
-pub record IsAsked {S : Type 0} (steps : S → Moment → Input → Result (List Output) StepFault → S → Type 0) (how : How) (raw : RawRequest) (so sn : S) (wo wn : Option (List ℕ)) (closed : Bool) (served : Served) : Type 0 where
+pub record IsAsked {S : Type 0} (steps : S → Moment → Input → Result (List Output) StepFault → S → Type 0) (how : How) (raw : RawRequest)
+    (so sn : S) (wo wn : Option (List ℕ)) (closed : Bool) (served : Served) : Type 0 where
   pub target : TargetValue
   pub read : IsTarget raw.target target
   pub method : raw.method ≢ codes "CONNECT"
   pub answered : IsAnswered steps how raw target so sn wo wn closed served
 
 -- what a request leads to: by its target it is refused, or the site is asked
-abbrev pub IsDirected : {S : Type 0} → (S → Moment → Input → Result (List Output) StepFault → S → Type 0) → How → RawRequest → S → S → Option (List ℕ) → Option (List ℕ) → Bool → Served → Type 0
+abbrev pub IsDirected : {S : Type 0} → (S → Moment → Input → Result (List Output) StepFault → S → Type 0) → How → RawRequest → S → S → Option (List ℕ)
+    → Option (List ℕ) → Bool → Served → Type 0
 IsDirected steps how raw so sn wo wn closed served = IsMisdirected how raw so sn wo wn closed served ⊎ IsAsked steps how raw so sn wo wn closed served
 
 -- a message was taken from the front of the unread bytes, and led to what it leads to
-pub record IsTaken {S : Type 0} (steps : S → Moment → Input → Result (List Output) StepFault → S → Type 0) (how : How) (old new : Sight S) (served : Served) : Type 0 where
+pub record IsTaken {S : Type 0} (steps : S → Moment → Input → Result (List Output) StepFault → S → Type 0) (how : How) (old new : Sight S)
+    (served : Served) : Type 0 where
   pub raw : RawRequest
   pub text : List ℕ
   pub message : IsMessage text raw

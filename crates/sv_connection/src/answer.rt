@@ -86,7 +86,8 @@ fn say_refusal<W: Write>(
     cause: Cause,
     manner: Manner,
 ) -> Said
-    ensures { IsSaid (refusal cause manner.head_only manner.close) manner.now Outcome.Answered (W.contents writer.old) (W.contents writer.new) result.closed result.outcome }
+    ensures { IsSaid (refusal cause manner.head_only manner.close) manner.now Outcome.Answered (W.contents writer.old)
+        (W.contents writer.new) result.closed result.outcome }
 {
     match refusal(alloc, cause, manner.head_only, manner.close) {
         Ok(response) => say(
@@ -109,7 +110,8 @@ fn say_output<W: Write>(
     output: &Output,
     manner: Manner,
 ) -> Said
-    ensures { Follows (said_by manner.head_only manner.close (Some output.now)) manner.now (W.contents writer.old) (W.contents writer.new) result.closed result.outcome }
+    ensures { Follows (said_by manner.head_only manner.close (Some output.now)) manner.now (W.contents writer.old)
+        (W.contents writer.new) result.closed result.outcome }
 {
     match output {
         Output::Answer { token: _, response } => say(
@@ -134,7 +136,8 @@ fn say_outputs<W: Write>(
     outputs: &[Output],
     manner: Manner,
 ) -> Said
-    ensures { Follows (said_by manner.head_only manner.close (find (speaks_to token) outputs.now)) manner.now (W.contents writer.old) (W.contents writer.new) result.closed result.outcome }
+    ensures { Follows (said_by manner.head_only manner.close (find (speaks_to token) outputs.now)) manner.now (W.contents writer.old)
+        (W.contents writer.new) result.closed result.outcome }
 {
     match reply_to(token, outputs) {
         Some(output) => say_output(alloc, buffer, writer, output, manner),
@@ -150,7 +153,8 @@ fn say_step_fault<W: Write>(
     fault: StepFault,
     manner: Manner,
 ) -> Said
-    ensures { (token : ℕ) → Follows (verdict token manner.head_only manner.close (Err fault)) manner.now (W.contents writer.old) (W.contents writer.new) result.closed result.outcome }
+    ensures { (token : ℕ) → Follows (verdict token manner.head_only manner.close (Err fault)) manner.now (W.contents writer.old)
+        (W.contents writer.new) result.closed result.outcome }
 {
     match fault {
         StepFault::Full => say_refusal(alloc, buffer, writer, Cause::JournalFull, manner),
@@ -171,7 +175,8 @@ pub fn say_step<W: Write>(
     step: &Result<Vec<Output>, StepFault>,
     manner: Manner,
 ) -> Said
-    ensures { Follows (verdict token manner.head_only manner.close (with_list vec_items step.now)) manner.now (W.contents writer.old) (W.contents writer.new) result.closed result.outcome }
+    ensures { Follows (verdict token manner.head_only manner.close (with_list vec_items step.now)) manner.now (W.contents writer.old)
+        (W.contents writer.new) result.closed result.outcome }
 {
     match step {
         Ok(outputs) => say_outputs(alloc, buffer, writer, token, outputs.as_slice(), manner),

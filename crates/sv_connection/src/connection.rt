@@ -99,7 +99,8 @@ impl Connection {
         ensures requests { self.new.requests ≡ self.old.requests }
         ensures single { self.new.single ≡ self.old.single }
         ensures answered { (raw : Raw) (target : TargetValue) → request ≡ request_of self.old.single raw target
-            → IsAnswered S.steps (how moment token self.old.single) raw target site.old site.new (W.contents writer.old) (W.contents writer.new) self.new.closed result }
+            → IsAnswered S.steps (how moment token self.old.single) raw target site.old site.new (W.contents writer.old)
+            (W.contents writer.new) self.new.closed result }
     {
         let manner = manner_of(&request, moment.now);
         let step = site.step(moment, Input::Ask { token, request });
@@ -247,7 +248,8 @@ impl Connection {
         ensures single { is_single self.new ≡ is_single self.old }
         ensures waiting { is_waiting self.new ≡ is_parked result.outcome }
         ensures once_closed { is_closed self.old ≡ true → (result.outcome ≡ Closed) × (R.remaining reader.new ≡ R.remaining reader.old) }
-        ensures served { IsServed S.steps (how moment token (is_single self.old)) (sight_of self.old (R.remaining reader.old) (W.contents writer.old) site.old) (sight_of self.new (R.remaining reader.new) (W.contents writer.new) site.new) result }
+        ensures served { IsServed S.steps (how moment token (is_single self.old)) (sight_of self.old (R.remaining reader.old) (W.contents writer.old) site.old)
+            (sight_of self.new (R.remaining reader.new) (W.contents writer.new) site.new) result }
     {
         let served = self.serve(reader, writer, site, moment, token);
         self.waiting = served.outcome.is_parked();
@@ -316,7 +318,8 @@ impl Connection {
         requires answered { is_waiting self.old ≡ false }
         requires was_open { is_closed self.old ≡ false }
         ensures single { is_single self.new ≡ is_single self.old }
-        ensures arrived { Arrives (is_single self.old) (prepend_known (held_by self.old) (R.remaining reader.old)) (prepend_known (held_by self.new) (R.remaining reader.new)) (is_closed self.new) result }
+        ensures arrived { Arrives (is_single self.old) (prepend_known (held_by self.old) (R.remaining reader.old))
+            (prepend_known (held_by self.new) (R.remaining reader.new)) (is_closed self.new) result }
     {
         for _ in 0..READ_LIMIT {
             match self.receive(&[]) {
@@ -364,7 +367,8 @@ impl Connection {
         ensures valid { S.site_valid site.new }
         ensures single { is_single self.new ≡ is_single self.old }
         ensures once_closed { is_closed self.old ≡ true → (result.outcome ≡ Closed) × (R.remaining reader.new ≡ R.remaining reader.old) }
-        ensures served { IsServed S.steps (how moment token (is_single self.old)) (sight_of self.old (R.remaining reader.old) (W.contents writer.old) site.old) (sight_of self.new (R.remaining reader.new) (W.contents writer.new) site.new) result }
+        ensures served { IsServed S.steps (how moment token (is_single self.old)) (sight_of self.old (R.remaining reader.old) (W.contents writer.old) site.old)
+            (sight_of self.new (R.remaining reader.new) (W.contents writer.new) site.new) result }
     {
         if self.closed {
             return unserved(self.alloc, Outcome::Closed);

@@ -3,7 +3,8 @@
 ghost use Rattle.std.specs.Prelude.{◌≡◌, true, false, [], IfSome, IfNone};
 ghost use Rattle.std.specs.Io.KnownBytes.{Appends};
 ghost use Rattle.sv_model.specs.Page.{plain_page};
-ghost use Rattle.sv_connection.specs.Serve.{AppendsFront, AppendsPart, IsWritten, IsSaid, IsStarved, IsPage, memory_lines, status_of, status_of_read, status_of_target};
+ghost use Rattle.sv_connection.specs.Serve.{AppendsFront, AppendsPart, IsWritten, IsSaid, IsStarved};
+ghost use Rattle.sv_connection.specs.Serve.{IsPage, memory_lines, status_of, status_of_read, status_of_target};
 
 use crate::outcome::{Outcome, RequestFault};
 use http::StatusCode;

@@ -150,7 +150,8 @@ pub record IsArranged {O : Type 0} (kind : Kind) (contexts : List Context) (hand
 -- patterns, filter mappings and error pages, and under its servlets' and filters' names the objects that were handed in
 -- under these names; and so have the listeners.
 pub record IsDeployed {S F L : Type 0} (serves : S → Serves) (filtering : F → Filters) (contexts : List Context)
-    (servlets : List (Named S)) (filters : List (Named F)) (listeners : List (Named L)) (hears : L → Told → List ℕ → List ℕ) (apps : List App) (ears : List Ear) : Type 0 where
+    (servlets : List (Named S)) (filters : List (Named F)) (listeners : List (Named L)) (hears : L → Told → List ℕ
+    → List ℕ) (apps : List App) (ears : List Ear) : Type 0 where
   pub its_servlets : List (Named S)
   pub servlets_are : IsArranged Servlet contexts servlets its_servlets
   pub its_filters : List (Named F)

@@ -16,4 +16,5 @@ pub record IsFollowed (r : Request) (response : Response) : Type 0 where
 
 -- each response of the container function follows its request
 abbrev pub answers_follow : Type 0
-answers_follow = (d : Deployed) (r : Request) (handed : Option (Key × Session)) (now : ℕ) (fresh : Key × Secret) → IsFollowed r (served d r handed now fresh).response
+answers_follow =
+    (d : Deployed) (r : Request) (handed : Option (Key × Session)) (now : ℕ) (fresh : Key × Secret) → IsFollowed r (served d r handed now fresh).response

@@ -22,7 +22,8 @@ use Rattle.sv_target.proofs.NamedLemmas.{IfSome-session_cookie}
 use Rattle.sv_mapping.specs.declared.dispatcher.Dispatcher.TheVariants.{Request as ByRequest, Error}
 use Rattle.sv_dispatch.specs.Dispatching.{Table, Outcome, ask, dispatched}
 use Rattle.sv_dispatch.specs.Keeping.{TableKeeps}
-use Rattle.sv_dispatch.specs.Pages.{Ran, page_of_error, page_of_fault, paged, path_of, plain, readied, servlet_name, settled, shown_by, shown_page, status_of, served as served_by_table}
+use Rattle.sv_dispatch.specs.Pages.{Ran, page_of_error, page_of_fault, paged, path_of, plain, readied}
+use Rattle.sv_dispatch.specs.Pages.{servlet_name, settled, shown_by, shown_page, status_of, served as served_by_table}
 use Rattle.sv_dispatch.specs.Sight.{first_sight, errored}
 use Rattle.sv_dispatch.specs.declared.mode.Ending.{Ending}
 use Rattle.sv_dispatch.specs.declared.mode.Ending.TheVariants.{Finished, Failed, Faulted, Abandoned}
@@ -32,7 +33,8 @@ use Rattle.sv_container.specs.declared.admission.Admission.TheVariants.{Without,
 use Rattle.sv_container.specs.Admission.{admission, expired_of, expired_or_joined, held_of, is_turned_away}
 use Rattle.sv_container.specs.Application.{App, IsSoundApp, IsServing}
 use Rattle.sv_container.specs.Outcome.{fate_for, served_outside}
-use Rattle.sv_container.specs.Serving.{Deployed, IsSound, answered_by, asked, container_meaning, in_service, named_at, named_in, place_for, served_at, served_by, served_in}
+use Rattle.sv_container.specs.Serving.{Deployed, IsSound, answered_by, asked, container_meaning, in_service}
+use Rattle.sv_container.specs.Serving.{named_at, named_in, place_for, served_at, served_by, served_in}
 
 -- ---- the edit goes on
 
@@ -86,7 +88,8 @@ untouched_behind : (old new : Edit) → old.handed ≡ None → IsFateOf old.han
 untouched_behind old new none was keeps =
     untouched_of new.fate (subst (λ (h : Option Key). IsFateOf h new.fate) (keeps.handed ∙ none) (keeps.fate was))
 
-untouched_in : (a : App) → IsSoundApp a → (r : Request) (path : List ℕ) (now : ℕ) (fresh : Key × Secret) → (served_in a r path Without now fresh).fate ≡ Untouched
+untouched_in : (a : App) → IsSoundApp a → (r : Request) (path : List ℕ) (now : ℕ) (fresh : Key × Secret)
+    → (served_in a r path Without now fresh).fate ≡ Untouched
 unfolding served_in
 untouched_in a sound r path now fresh =
     let e : Edit = begun None a.number a.interval now fresh in
@@ -97,7 +100,8 @@ untouched_by : (d : Deployed) → IsSound d → (place : ℕ) (found : Option Ap
 untouched_by d sound place None is r path now fresh = refl
 untouched_by d sound place (Some a) is r path now fresh = untouched_in a (sound_there d sound place a is) r path now fresh
 
-untouched_at : (d : Deployed) → IsSound d → (r : Request) (now : ℕ) (fresh : Key × Secret) (place : Option ℕ) → (served_at d r None now fresh place).fate ≡ Untouched
+untouched_at : (d : Deployed) → IsSound d → (r : Request) (now : ℕ) (fresh : Key × Secret) (place : Option ℕ)
+    → (served_at d r None now fresh place).fate ≡ Untouched
 untouched_at d sound r now fresh None = refl
 untouched_at d sound r now fresh (Some place) =
     untouched_by d sound place (slice_get d.apps place) refl r (path_in_context (context_at d.paths place) r.path) now fresh
@@ -114,7 +118,8 @@ serving_if false place k h = absurd cc
 abbrev IsServed : List App → ℕ → Type 0
 IsServed apps k = (k < length apps) × IfSome (slice_get apps k) (λ a. a.is_in_service ≡ true)
 
-serving_by : (apps : List App) (place k : ℕ) (found : Option App) → slice_get apps place ≡ found → in_service place found ≡ Some k → (k ≡ place) × IsServed apps place
+serving_by : (apps : List App) (place k : ℕ) (found : Option App) → slice_get apps place ≡ found → in_service place found ≡ Some k → (k ≡ place)
+    × IsServed apps place
 serving_by apps place k None is h = absurd cc
 serving_by apps place k (Some a) is h =
     let s = serving_if a.is_in_service place k h in
@@ -169,7 +174,8 @@ within_in a sound below r path j now fresh held =
     (fate_within (expired_of j) new.fate within.fate, within.birth)
 
 abbrev WithinBy : Option App → Request → List ℕ → Option (Key × Session) → ℕ → Key × Secret → Type 0
-WithinBy found r path handed now fresh = KeepsWithin (served_by found r path handed now fresh).fate × BringsWithin (served_by found r path handed now fresh).birth
+WithinBy found r path handed now fresh =
+    KeepsWithin (served_by found r path handed now fresh).fate × BringsWithin (served_by found r path handed now fresh).birth
 
 within_by : (d : Deployed) → IsSound d → (place : ℕ) (found : Option App) → slice_get d.apps place ≡ found → IfSome found (λ a. a.is_in_service ≡ true)
     → (r : Request) (path : List ℕ) (handed : Option (Key × Session)) (now : ℕ) (fresh : Key × Secret) → IfSome handed (λ h. IsWithinLimits h.1)
@@ -183,11 +189,13 @@ within_by d sound place (Some a) is serving r path handed now fresh within =
 abbrev WithinAt : Deployed → Request → Option (Key × Session) → ℕ → Key × Secret → Option ℕ → Type 0
 WithinAt d r handed now fresh place = KeepsWithin (served_at d r handed now fresh place).fate × BringsWithin (served_at d r handed now fresh place).birth
 
-within_at : (d : Deployed) → IsSound d → (r : Request) (handed : Option (Key × Session)) (now : ℕ) (fresh : Key × Secret) → IfSome handed (λ h. IsWithinLimits h.1)
+within_at : (d : Deployed) → IsSound d → (r : Request) (handed : Option (Key × Session)) (now : ℕ) (fresh : Key × Secret)
+    → IfSome handed (λ h. IsWithinLimits h.1)
     → (place : Option ℕ) → place_for d r.path ≡ place → WithinAt d r handed now fresh place
 within_at d sound r handed now fresh within None is = (tt, tt)
 within_at d sound r handed now fresh within (Some place) is =
-    within_by d sound place (slice_get d.apps place) refl (place_is d r.path place is).1.1 r (path_in_context (context_at d.paths place) r.path) handed now fresh within
+    within_by d sound place (slice_get d.apps place) refl (place_is d r.path place is).1.1 r
+    (path_in_context (context_at d.paths place) r.path) handed now fresh within
 
 pub keeps_limits : (d : Deployed) → IsSound d → KeepsLimits (container_meaning d)
 keeps_limits d sound r handed now fresh within = within_at d sound r handed now fresh within (place_for d r.path) refl

@@ -70,8 +70,11 @@ impl<S: Servlet, F: Filter> Application<S, F> {
     ) -> Result<Ended, AllocError>
         requires sound { IsSoundApp (app_of S.serves S.servlet_phase F.filtering F.filter_phase self.old) }
         requires serving { self.old.is_in_service ≡ true }
-        ensures same { app_of S.serves S.servlet_phase F.filtering F.filter_phase self.new ≡ app_of S.serves S.servlet_phase F.filtering F.filter_phase self.old }
-        ensures ran { IfOk result (λ ended. ran ended (lent_of self.new.stage) ≡ served_by_table (app_of S.serves S.servlet_phase F.filtering F.filter_phase self.old).table (asked (app_of S.serves S.servlet_phase F.filtering F.filter_phase self.old) request.now path.now) (lent_of self.old.stage)) }
+        ensures same { app_of S.serves S.servlet_phase F.filtering F.filter_phase self.new
+            ≡ app_of S.serves S.servlet_phase F.filtering F.filter_phase self.old }
+        ensures ran { IfOk result (λ ended. ran ended (lent_of self.new.stage)
+            ≡ served_by_table (app_of S.serves S.servlet_phase F.filtering F.filter_phase self.old).table
+            (asked (app_of S.serves S.servlet_phase F.filtering F.filter_phase self.old) request.now path.now) (lent_of self.old.stage)) }
     {
         let (servlet_path, path_info) = shown(&self.stage.patterns, path);
         let attributes = RequestAttributes::new(alloc);
@@ -102,8 +105,10 @@ impl<S: Servlet, F: Filter> Application<S, F> {
     ) -> Result<(Response, SessionEdit), AllocError>
         requires sound { IsSoundApp (app_of S.serves S.servlet_phase F.filtering F.filter_phase self.old) }
         requires serving { self.old.is_in_service ≡ true }
-        ensures same { app_of S.serves S.servlet_phase F.filtering F.filter_phase self.new ≡ app_of S.serves S.servlet_phase F.filtering F.filter_phase self.old }
-        ensures answer { IfOk result (λ r. answered r.0 r.1 ≡ answered_by (app_of S.serves S.servlet_phase F.filtering F.filter_phase self.old) request.now path.now edit) }
+        ensures same { app_of S.serves S.servlet_phase F.filtering F.filter_phase self.new
+            ≡ app_of S.serves S.servlet_phase F.filtering F.filter_phase self.old }
+        ensures answer { IfOk result (λ r. answered r.0 r.1 ≡ answered_by
+            (app_of S.serves S.servlet_phase F.filtering F.filter_phase self.old) request.now path.now edit) }
     {
         self.stage.edit = edit;
         self.stage.reply = Reply::new(alloc);
@@ -127,8 +132,10 @@ impl<S: Servlet, F: Filter> Application<S, F> {
     ) -> Result<Outcome, AllocError>
         requires sound { IsSoundApp (app_of S.serves S.servlet_phase F.filtering F.filter_phase self.old) }
         requires serving { self.old.is_in_service ≡ true }
-        ensures same { app_of S.serves S.servlet_phase F.filtering F.filter_phase self.new ≡ app_of S.serves S.servlet_phase F.filtering F.filter_phase self.old }
-        ensures outcome { IfOk result (λ o. o ≡ served_in (app_of S.serves S.servlet_phase F.filtering F.filter_phase self.old) request.now path.now admission now fresh) }
+        ensures same { app_of S.serves S.servlet_phase F.filtering F.filter_phase self.new
+            ≡ app_of S.serves S.servlet_phase F.filtering F.filter_phase self.old }
+        ensures outcome { IfOk result (λ o. o ≡ served_in (app_of S.serves S.servlet_phase F.filtering F.filter_phase self.old) request.now path.now admission
+            now fresh) }
     {
         let joined = admission.joined();
         let (expired, held) = admission.into_parts();
@@ -148,7 +155,8 @@ impl<S: Servlet, F: Filter> Application<S, F> {
         handed: Option<(Key, &Session)>,
         now: u64,
     ) -> Result<Admission, AllocError>
-        ensures { IfOk result (λ a. a ≡ spec.admission self.now.number (session_cookie request.now.cookies self.now.number) (option_map (λ s. (s.0, s.1.now)) handed.entry) now) }
+        ensures { IfOk result (λ a. a ≡ spec.admission self.now.number (session_cookie request.now.cookies self.now.number) (option_map (λ s.
+            (s.0, s.1.now)) handed.entry) now) }
     {
         let named = session_cookie(request.cookies.as_slice(), self.number);
         admit(alloc, self.number, named, handed, now)
@@ -166,8 +174,10 @@ impl<S: Servlet, F: Filter> Application<S, F> {
     ) -> Result<Outcome, AllocError>
         requires sound { IsSoundApp (app_of S.serves S.servlet_phase F.filtering F.filter_phase self.old) }
         requires serving { self.old.is_in_service ≡ true }
-        ensures same { app_of S.serves S.servlet_phase F.filtering F.filter_phase self.new ≡ app_of S.serves S.servlet_phase F.filtering F.filter_phase self.old }
-        ensures outcome { IfOk result (λ o. o ≡ served_by (Some (app_of S.serves S.servlet_phase F.filtering F.filter_phase self.old)) request.now path.now (option_map (λ s. (s.0, s.1.now)) handed.entry) now fresh) }
+        ensures same { app_of S.serves S.servlet_phase F.filtering F.filter_phase self.new
+            ≡ app_of S.serves S.servlet_phase F.filtering F.filter_phase self.old }
+        ensures outcome { IfOk result (λ o. o ≡ served_by (Some (app_of S.serves S.servlet_phase F.filtering F.filter_phase self.old)) request.now path.now
+            (option_map (λ s. (s.0, s.1.now)) handed.entry) now fresh) }
     {
         let admission = self.admit(alloc, request, handed, now)?;
         self.serve_admitted(alloc, request, path, admission, now, fresh)

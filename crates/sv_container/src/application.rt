@@ -71,7 +71,8 @@ impl<S, F> Application<S, F> {
     /// Its requests can be served.
     #[tactic(auto, unfolding(crate::specs::Application::can_serve))]
     pub fn can_serve(&self) -> bool
-        ensures { result ≡ can_serve self.now.number self.now.path (list_all (λ h. h.is_ready) self.now.stage.filters.items) (length self.now.stage.filters.items) self.now.stage.chains.items }
+        ensures { result ≡ can_serve self.now.number self.now.path (list_all (λ h.
+            h.is_ready) self.now.stage.filters.items) (length self.now.stage.filters.items) self.now.stage.chains.items }
     {
         self.number < 16
             && (is_sendable(self.path.as_str())

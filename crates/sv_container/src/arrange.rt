@@ -31,7 +31,8 @@ fn names_of(kind: Kind, context: &Context) -> &[String]
 /// The first place, from `from` on, of an object of a context and a name.
 fn find<O>(objects: &[Named<O>], from: usize, context: usize, name: &str) -> Option<usize>
     ensures found { IfSome result (spec.IsFoundAt objects.now from (spec.label context name.now)) }
-    ensures missing { IfNone result (times (spec.label context name.now) (spec.labels_of objects.now) ≡ times (spec.label context name.now) (spec.labels_of (take from objects.now))) }
+    ensures missing { IfNone result (times (spec.label context name.now) (spec.labels_of objects.now)
+        ≡ times (spec.label context name.now) (spec.labels_of (take from objects.now))) }
 {
     for at in from..objects.len() {
         let object = &objects[at];
@@ -53,8 +54,10 @@ fn arrange_context<O>(
     requires { from ≤ length objects.old.items }
     ensures same { IsPermutation objects.old.items objects.new.items }
     ensures within { IfSome result (λ at. at ≤ length objects.new.items) }
-    ensures named { IfSome result (λ at. spec.labels_of (take at objects.new.items) ≡ spec.labels_of (take from objects.old.items) ++ map (spec.label context) (map string_bytes names.now)) }
-    ensures missing { IfNone result (Lacks (spec.labels_of objects.old.items) (spec.labels_of (take from objects.old.items) ++ map (spec.label context) (map string_bytes names.now))) }
+    ensures named { IfSome result (λ at. spec.labels_of (take at objects.new.items) ≡ spec.labels_of (take from objects.old.items)
+        ++ map (spec.label context) (map string_bytes names.now)) }
+    ensures missing { IfNone result (Lacks (spec.labels_of objects.old.items) (spec.labels_of (take from objects.old.items)
+        ++ map (spec.label context) (map string_bytes names.now))) }
 {
     for count in 0..names.len() {
         let at = from + count;
@@ -92,7 +95,8 @@ pub fn arrange<S, F, L>(
     ensures listeners { IsPermutation listeners.old.items listeners.new.items }
     ensures named_servlets { IfOk result (λ _. spec.labels_of servlets.new.items ≡ spec.declared kinds.Servlet contexts.now) }
     ensures named_filters { IfOk result (λ _. spec.labels_of filters.new.items ≡ spec.declared kinds.Filter contexts.now) }
-    ensures fault { IfErr result (λ fault. IsFaultFor fault (servlet_labels contexts.now servlets.old.items) (filter_labels contexts.now filters.old.items) (listener_labels contexts.now listeners.old.items)) }
+    ensures fault { IfErr result (λ fault. IsFaultFor fault (servlet_labels contexts.now servlets.old.items) (filter_labels contexts.now filters.old.items)
+        (listener_labels contexts.now listeners.old.items)) }
     ensures named_listeners { IfOk result (λ _. spec.labels_of listeners.new.items ≡ spec.declared kinds.Listener contexts.now) }
 {
     let Some(servlet_count) = arrange_kind(servlets, Kind::Servlet, contexts) else {

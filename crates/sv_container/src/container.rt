@@ -52,9 +52,13 @@ impl<S: Servlet, F: Filter, L: Listener> Container<S, F, L> {
         requires filters { AreNamedNew F.filter_phase filters.items }
         ensures sound { IfOk result (λ c. IsSound (deployed S.serves S.servlet_phase F.filtering F.filter_phase L.hears c)) }
         ensures service { IfOk result (λ c. AreAble (deployed S.serves S.servlet_phase F.filtering F.filter_phase L.hears c).apps) }
-        ensures paths { IfOk result (λ c. (deployed S.serves S.servlet_phase F.filtering F.filter_phase L.hears c).paths ≡ map path_of deployment.contexts.items) }
-        ensures deployed { IfOk result (λ c. IsDeployed S.serves F.filtering deployment.contexts.items servlets.items filters.items listeners.items L.hears (deployed S.serves S.servlet_phase F.filtering F.filter_phase L.hears c).apps (deployed S.serves S.servlet_phase F.filtering F.filter_phase L.hears c).ears) }
-        ensures fault { IfErr result (λ e. IsFaultFor e.fault (servlet_labels deployment.contexts.items servlets.items) (filter_labels deployment.contexts.items filters.items) (listener_labels deployment.contexts.items listeners.items)) }
+        ensures paths { IfOk result (λ c. (deployed S.serves S.servlet_phase F.filtering F.filter_phase L.hears c).paths
+            ≡ map path_of deployment.contexts.items) }
+        ensures deployed { IfOk result (λ c. IsDeployed S.serves F.filtering deployment.contexts.items servlets.items filters.items listeners.items L.hears
+            (deployed S.serves S.servlet_phase F.filtering F.filter_phase L.hears c).apps
+            (deployed S.serves S.servlet_phase F.filtering F.filter_phase L.hears c).ears) }
+        ensures fault { IfErr result (λ e. IsFaultFor e.fault (servlet_labels deployment.contexts.items servlets.items)
+            (filter_labels deployment.contexts.items filters.items) (listener_labels deployment.contexts.items listeners.items)) }
         ensures servlets_back { IfErr result (λ e. IsPermutation servlets.items e.servlets.items) }
         ensures filters_back { IfErr result (λ e. IsPermutation filters.items e.filters.items) }
         ensures listeners_back { IfErr result (λ e. IsPermutation listeners.items e.listeners.items) }
@@ -98,7 +102,8 @@ impl<S: Servlet, F: Filter, L: Listener> Container<S, F, L> {
     /// destroyed, the last first, then its listeners are told that it goes down. All objects are dropped at the end.
     pub fn shutdown(self) -> Stopped
         requires { IsSound (deployed S.serves S.servlet_phase F.filtering F.filter_phase L.hears self) }
-        ensures servlets { result.servlets ≡ min (ready_servlets (deployed S.serves S.servlet_phase F.filtering F.filter_phase L.hears self).apps) (2 ^ 64 - 1) }
+        ensures servlets { result.servlets ≡ min (ready_servlets (deployed S.serves S.servlet_phase F.filtering F.filter_phase L.hears self).apps)
+            (2 ^ 64 - 1) }
         ensures filters { result.filters ≡ min (ready_filters (deployed S.serves S.servlet_phase F.filtering F.filter_phase L.hears self).apps) (2 ^ 64 - 1) }
     {
         let Container {

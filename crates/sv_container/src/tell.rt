@@ -59,7 +59,8 @@ fn tell<L: Listener>(listeners: &mut Vec<Named<L>>, told: &Told)
 /// Tells an event to the listeners of a context of a number.
 pub fn announce<L: Listener>(listeners: &mut Vec<Named<L>>, context: u8, event: Event)
     ensures same { ears_of L.hears listeners.new.items ≡ ears_of L.hears listeners.old.items }
-    ensures noted { noted_of L.noted listeners.new.items ≡ heard_by_all (ears_of L.hears listeners.old.items) (noted_of L.noted listeners.old.items) (told context event) }
+    ensures noted { noted_of L.noted listeners.new.items ≡ heard_by_all (ears_of L.hears listeners.old.items) (noted_of L.noted listeners.old.items)
+        (told context event) }
 {
     tell(listeners, &told(context, event));
 }

@@ -1,5 +1,6 @@
 -- What is shown of a journal: a line for each session.
-use Rattle.std.specs.Prelude.{ℕ, ◌+◌, ◌^◌, ℤ, pos, negsuc, Bool, false, ◌&&◌, ◌||◌, leb, ltb, List, [], ◌∷◌, ◌++◌, map, length, codes, decimal, string_bytes, Option, Some, None, if◌then◌else◌}
+use Rattle.std.specs.Prelude.{ℕ, ◌+◌, ◌^◌, ℤ, pos, negsuc, Bool, false, ◌&&◌, ◌||◌, leb, ltb, List}
+use Rattle.std.specs.Prelude.{[], ◌∷◌, ◌++◌, map, length, codes, decimal, string_bytes, Option, Some, None, if◌then◌else◌}
 use Rattle.std.specs.List.{concat, flat_map}
 use Rattle.std.specs.Option.{option_map}
 use Rattle.std.specs.Fmt.{radix_digits}
@@ -131,4 +132,5 @@ attribute_part line = 32 ∷ attribute_text line
 
 -- the text of a session
 abbrev pub session_text : SessionLine → List ℕ
-session_text l = concat (string_bytes l.key ∷ codes " " ∷ place_text l.place ∷ codes ", " ∷ times_text l.times ∷ codes "," ∷ flat_map attribute_part l.attributes.items ∷ [])
+session_text l =
+    concat (string_bytes l.key ∷ codes " " ∷ place_text l.place ∷ codes ", " ∷ times_text l.times ∷ codes "," ∷ flat_map attribute_part l.attributes.items ∷ [])

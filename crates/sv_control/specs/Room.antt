@@ -25,11 +25,21 @@ room_text room = decimal room.known ++ codes " of " ++ decimal room.limit ++ cod
 -- that knows more none are left
 abbrev pub keys_to_see : List Record → Census → ℕ → KeysLine
 keys_to_see records census limit =
-    record { known = known_in records; limit = limit; left = limit - known_in records; active = census.active; sent = census.sent; gone = census.gone; ended = census.ended }
+    record {
+      known = known_in records;
+      limit = limit;
+      left = limit - known_in records;
+      active = census.active;
+      sent = census.sent;
+      gone = census.gone;
+      ended = census.ended;
+    }
 
 -- how full the table is by such a line
 abbrev pub room_of : KeysLine → Room
 room_of line = record { known = line.known; limit = line.limit }
 
 abbrev pub keys_text : KeysLine → List ℕ
-keys_text line = concat (room_text (room_of line) ∷ codes ": " ∷ decimal line.active ∷ codes " active, " ∷ decimal line.sent ∷ codes " sent, " ∷ decimal line.gone ∷ codes " gone, " ∷ decimal line.ended ∷ codes " ended; " ∷ decimal line.left ∷ codes " are left" ∷ [])
+keys_text line =
+    concat (room_text (room_of line) ∷ codes ": " ∷ decimal line.active ∷ codes " active, " ∷ decimal line.sent ∷ codes " sent, " ∷ decimal line.gone
+    ∷ codes " gone, " ∷ decimal line.ended ∷ codes " ended; " ∷ decimal line.left ∷ codes " are left" ∷ [])

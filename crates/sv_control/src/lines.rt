@@ -3,7 +3,8 @@
 ghost use Rattle.std.specs.Prelude.{◌≡◌, ◌∷◌, [], ◌++◌, IfOk, OnOk, Some, map, string_bytes};
 ghost use Rattle.std.specs.Option.{option_map};
 ghost use Rattle.sv_control.specs.Lines as spec;
-ghost use Rattle.sv_control.specs.Lines.{attribute_text, attribute_to_see, byte_text, escaped_byte, place_text, seen_attribute, seen_place, seen_session, session_text, session_to_see, times_text, to_see, value_to_see};
+ghost use Rattle.sv_control.specs.Lines.{attribute_text, attribute_to_see, byte_text, escaped_byte, place_text, seen_attribute, seen_place};
+ghost use Rattle.sv_control.specs.Lines.{seen_session, session_text, session_to_see, times_text, to_see, value_to_see};
 
 use crate::naming::key_text;
 use serde::Serialize;

@@ -1,5 +1,6 @@
 -- Keys in their order, each with the place of what is known of it.
-use Rattle.std.specs.Prelude.{◌≡◌, ◌⊎◌, ◌++◌, ℕ, ◌<◌, ◌≤◌, ◌==◌, ◌&&◌, Bool, true, false, not, nat_lt, nat_le, cond, T, Some, None, List, [], ◌∷◌, length, slice_index_or, slice_set, remove}
+use Rattle.std.specs.Prelude.{◌≡◌, ◌⊎◌, ◌++◌, ℕ, ◌<◌, ◌≤◌, ◌==◌, ◌&&◌, Bool, true, false, not, nat_lt}
+use Rattle.std.specs.Prelude.{nat_le, cond, T, Some, None, List, [], ◌∷◌, length, slice_index_or, slice_set, remove}
 use Rattle.std.specs.List as list
 use Rattle.std.specs.FinMap.{find, put, is_sorted}
 use Rattle.sv_model.specs.declared.key.Key.{Key}
@@ -83,7 +84,8 @@ state_at states at = slice_index_or states at (Gone 0)
 
 -- a state was put down at the last of the free places, or behind all others where there is none
 abbrev pub IsPutDown : List KeyState → List ℕ → List KeyState → List ℕ → ℕ → KeyState → Type 0
-IsPutDown old free new left at st = ((free ≡ left ++ at ∷ []) × (new ≡ slice_set old at st)) ⊎ ((free ≡ []) × (left ≡ []) × (at ≡ length old) × (new ≡ old ++ st ∷ []))
+IsPutDown old free new left at st =
+    ((free ≡ left ++ at ∷ []) × (new ≡ slice_set old at st)) ⊎ ((free ≡ []) × (left ≡ []) × (at ≡ length old) × (new ≡ old ++ st ∷ []))
 
 -- the keys, each with what is known of it
 abbrev pub seen : List KeyState → List Place → List Entry

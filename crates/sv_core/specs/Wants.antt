@@ -1,5 +1,6 @@
 -- The wants of the requests that wait: in which order they stand, and which of them can be answered here.
-use Rattle.std.specs.Prelude.{◌≡◌, ℕ, ◌+◌, ◌<◌, ◌&&◌, Bool, true, false, cond, nat_le, T, Option, Some, None, List, [], ◌∷◌, ◌++◌, map, length, position, slice_index_or}
+use Rattle.std.specs.Prelude.{◌≡◌, ℕ, ◌+◌, ◌<◌, ◌&&◌, Bool, true, false, cond, nat_le, T}
+use Rattle.std.specs.Prelude.{Option, Some, None, List, [], ◌∷◌, ◌++◌, map, length, position, slice_index_or}
 use Rattle.sv_model.specs.declared.key.Key.{Key}
 use Rattle.sv_model.specs.declared.record.Change.{Change}
 use Rattle.sv_model.specs.declared.record.Change.TheVariants.{Absent as Unchanged, Alive as ChangeAlive, Ended as ChangeEnded}
@@ -75,7 +76,8 @@ settled_by (Some change) test = with_key change.0 change.1 test
 pub record Stands (want : ℕ) (ps : List Parked) (at : ℕ) : Type 0 where
   pub within : at < length ps
   pub is : (p : Parked) → (slice_index_or ps at p).want ≡ want
-  pub only : (test : Parked → Bool) → ((p : Parked) → test p ≡ true → p.want ≡ want) → (p : Parked) → position test ps ≡ cond (test (slice_index_or ps at p)) (Some at) None
+  pub only : (test : Parked → Bool) → ((p : Parked) → test p ≡ true → p.want ≡ want) → (p : Parked)
+      → position test ps ≡ cond (test (slice_index_or ps at p)) (Some at) None
   pub first : (test : Parked → Bool) (rest : List ℕ) → wants_where test ps ≡ want ∷ rest → position test ps ≡ Some at
 
 -- no request has the want

@@ -26,7 +26,8 @@ impl Kept {
         mut outputs: Vec<Output>,
     ) -> Result<Decision, Memory>
         requires { epoch < last_number }
-        ensures { IfOk result (λ d. decision_of self.now.setting (node_of self.now) d ≡ hands_over self.now.setting (node_of self.now) key epoch session.now to outputs.items) }
+        ensures { IfOk result (λ d. decision_of self.now.setting (node_of self.now) d
+            ≡ hands_over self.now.setting (node_of self.now) key epoch session.now to outputs.items) }
     {
         let raised = epoch + 1;
         let grant = Packet::Grant {
@@ -82,7 +83,8 @@ impl Kept {
         want: u64,
         state: Option<&KeyState>,
     ) -> Result<Decision, Memory>
-        ensures { IfOk result (λ d. decision_of self.now.setting (node_of self.now) d ≡ on_want self.now.setting (node_of self.now) from key boot want (option_copied state.entry)) }
+        ensures { IfOk result (λ d. decision_of self.now.setting (node_of self.now) d
+            ≡ on_want self.now.setting (node_of self.now) from key boot want (option_copied state.entry)) }
     {
         match state {
             Some(KeyState::Active { epoch, session }) => {
@@ -152,7 +154,8 @@ impl Kept {
         session: Session,
         state: Option<&KeyState>,
     ) -> Result<Decision, Memory>
-        ensures { IfOk result (λ d. decision_of self.now.setting (node_of self.now) d ≡ on_grant self.now.setting (node_of self.now) from key epoch session (option_copied state.entry)) }
+        ensures { IfOk result (λ d. decision_of self.now.setting (node_of self.now) d
+            ≡ on_grant self.now.setting (node_of self.now) from key epoch session (option_copied state.entry)) }
     {
         if self.is_unmade(key) {
             return Ok(Decision::nothing(self.alloc));
@@ -182,7 +185,8 @@ impl Kept {
     // Out of line, so that the step of a request doesn't clear the values of this one.
     #[inline(never)]
     pub fn on_move(&self, key: Key, to: u8, state: Option<&KeyState>) -> Result<Decision, Memory>
-        ensures { IfOk result (λ d. decision_of self.now.setting (node_of self.now) d ≡ on_move self.now.setting (node_of self.now) key to (option_copied state.entry)) }
+        ensures { IfOk result (λ d. decision_of self.now.setting (node_of self.now) d
+            ≡ on_move self.now.setting (node_of self.now) key to (option_copied state.entry)) }
     {
         match state {
             None => self.refuse_move(MoveRefusal::UnknownKey),

@@ -185,10 +185,12 @@ impl<E: Engine> Core<E> {
         ensures view { view_of E.meaning E.heard self.new ≡ view_of E.meaning E.heard self.old }
         ensures setting { setting_of self.new ≡ setting_of self.old }
         ensures stage { stage_of self.new ≡ stage_of self.old }
-        ensures decision { IfOk result (λ d. decision_at self.new d ≡ decided (E.meaning (engine_of self.old)) (setting_of self.old) (node_at self.old) moment input) }
+        ensures decision { IfOk result (λ d. decision_at self.new d
+            ≡ decided (E.meaning (engine_of self.old)) (setting_of self.old) (node_at self.old) moment input) }
         ensures decided { IfOk result (λ d. WasDecided E.meaning self.new d) }
         ensures journaled { IfOk result (λ d. IsJournaled (setting_of self.old) (node_at self.old) (decision_at self.new d)) }
-        ensures ranged { IsSetting (setting_of self.old) → IsRanged (node_at self.old) → IsInput input → IfOk result (λ d. IsRangedStep (decision_at self.new d)) }
+        ensures ranged { IsSetting (setting_of self.old) → IsRanged (node_at self.old) → IsInput input
+            → IfOk result (λ d. IsRangedStep (decision_at self.new d)) }
     {
         self.kept.reserve()?;
         // the numbers behind the decision are numbers, since those before it are
@@ -207,7 +209,8 @@ impl<E: Engine> Core<E> {
         ensures decision { IfOk result (λ o. IfSome o (λ d. decision_at self.new d ≡ starts (setting_of self.old) (node_at self.old))) }
         ensures decided { IfOk result (λ o. IfSome o (λ d. WasDecided E.meaning self.new d)) }
         ensures journaled { IfOk result (λ o. IfSome o (λ d. IsJournaled (setting_of self.old) (node_at self.old) (decision_at self.new d))) }
-        ensures ranged { IsSetting (setting_of self.old) → IsRanged (node_at self.old) → IfOk result (λ o. IfSome o (λ d. IsRangedStep (decision_at self.new d))) }
+        ensures ranged { IsSetting (setting_of self.old) → IsRanged (node_at self.old)
+            → IfOk result (λ o. IfSome o (λ d. IsRangedStep (decision_at self.new d))) }
     {
         self.kept.reserve()?;
         // the numbers behind the decision are numbers, since those before it are
@@ -222,7 +225,8 @@ impl<E: Engine> Core<E> {
         ensures valid { E.valid (engine_of self.new) }
         ensures meaning { E.meaning (engine_of self.new) ≡ E.meaning (engine_of self.old) }
         ensures node { node_at self.new ≡ left (decision_at self.old decision) }
-        ensures heard { E.heard (engine_of self.new) ≡ heard_all (E.meaning (engine_of self.old)) (E.heard (engine_of self.old)) (told (decision_at self.old decision)) }
+        ensures heard { E.heard (engine_of self.new) ≡ heard_all (E.meaning (engine_of self.old)) (E.heard (engine_of self.old))
+            (told (decision_at self.old decision)) }
         ensures outputs { result.items ≡ outputs_in decision }
         ensures stage { stage_of self.new ≡ stage_behind_if (entry_in decision) (stage_of self.old) }
         ensures setting { setting_of self.new ≡ setting_of self.old }

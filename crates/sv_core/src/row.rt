@@ -65,7 +65,8 @@ fn ask_named<E: Engine>(
     ensures valid { E.valid engine.new }
     ensures meaning { E.meaning engine.new ≡ E.meaning engine.old }
     ensures heard { E.heard engine.new ≡ E.heard engine.old }
-    ensures decision { IfOk result (λ d. decision_of kept.now.setting (node_of kept.now) d ≡ on_named (E.meaning engine.old) kept.now.setting (node_of kept.now) moment token request named.0 (known (node_of kept.now).durable named.0)) }
+    ensures decision { IfOk result (λ d. decision_of kept.now.setting (node_of kept.now) d
+        ≡ on_named (E.meaning engine.old) kept.now.setting (node_of kept.now) moment token request named.0 (known (node_of kept.now).durable named.0)) }
 {
     let (key, _) = named;
     if kept.is_settled(key) || kept.is_dead(key) {
@@ -86,7 +87,8 @@ fn ask<E: Engine>(
     ensures valid { E.valid engine.new }
     ensures meaning { E.meaning engine.new ≡ E.meaning engine.old }
     ensures heard { E.heard engine.new ≡ E.heard engine.old }
-    ensures decision { IfOk result (λ d. decision_of kept.now.setting (node_of kept.now) d ≡ on_ask (E.meaning engine.old) kept.now.setting (node_of kept.now) moment token request ((E.meaning engine.old).names request)) }
+    ensures decision { IfOk result (λ d. decision_of kept.now.setting (node_of kept.now) d
+        ≡ on_ask (E.meaning engine.old) kept.now.setting (node_of kept.now) moment token request ((E.meaning engine.old).names request)) }
 {
     match engine.names(&request) {
         Some(named) => ask_named(engine, kept, moment, token, request, named),
@@ -106,7 +108,9 @@ fn serve_parked<E: Engine>(
     ensures valid { E.valid engine.new }
     ensures meaning { E.meaning engine.new ≡ E.meaning engine.old }
     ensures heard { E.heard engine.new ≡ E.heard engine.old }
-    ensures decision { (test : Parked → Bool) → place ≡ position test kept.now.parked.items → IfOk result (λ d. decision_of kept.now.setting (node_of kept.now) d ≡ serve_parked (E.meaning engine.old) kept.now.setting (node_of kept.now) moment test) }
+    ensures decision { (test : Parked → Bool) → place ≡ position test kept.now.parked.items
+        → IfOk result (λ d. decision_of kept.now.setting (node_of kept.now) d
+        ≡ serve_parked (E.meaning engine.old) kept.now.setting (node_of kept.now) moment test) }
 {
     let Some(at) = place else {
         return Ok(Decision::nothing(kept.alloc));
@@ -125,7 +129,8 @@ fn poke<E: Engine>(engine: &mut E, kept: &Kept, moment: Moment) -> Result<Decisi
     ensures valid { E.valid engine.new }
     ensures meaning { E.meaning engine.new ≡ E.meaning engine.old }
     ensures heard { E.heard engine.new ≡ E.heard engine.old }
-    ensures decision { IfOk result (λ d. decision_of kept.now.setting (node_of kept.now) d ≡ on_poke (E.meaning engine.old) kept.now.setting (node_of kept.now) moment) }
+    ensures decision { IfOk result (λ d. decision_of kept.now.setting (node_of kept.now) d
+        ≡ on_poke (E.meaning engine.old) kept.now.setting (node_of kept.now) moment) }
 {
     serve_parked(engine, kept, moment, kept.settled_place())
 }
@@ -143,7 +148,8 @@ fn no<E: Engine>(
     ensures valid { E.valid engine.new }
     ensures meaning { E.meaning engine.new ≡ E.meaning engine.old }
     ensures heard { E.heard engine.new ≡ E.heard engine.old }
-    ensures decision { IfOk result (λ d. decision_of kept.now.setting (node_of kept.now) d ≡ on_no (E.meaning engine.old) kept.now.setting (node_of kept.now) moment key boot want) }
+    ensures decision { IfOk result (λ d. decision_of kept.now.setting (node_of kept.now) d
+        ≡ on_no (E.meaning engine.old) kept.now.setting (node_of kept.now) moment key boot want) }
 {
     if boot != kept.boot {
         return Ok(Decision::nothing(kept.alloc));
@@ -164,7 +170,8 @@ fn packet<E: Engine>(
     ensures valid { E.valid engine.new }
     ensures meaning { E.meaning engine.new ≡ E.meaning engine.old }
     ensures heard { E.heard engine.new ≡ E.heard engine.old }
-    ensures decision { IfOk result (λ d. decision_of kept.now.setting (node_of kept.now) d ≡ on_packet (E.meaning engine.old) kept.now.setting (node_of kept.now) moment packet) }
+    ensures decision { IfOk result (λ d. decision_of kept.now.setting (node_of kept.now) d
+        ≡ on_packet (E.meaning engine.old) kept.now.setting (node_of kept.now) moment packet) }
 {
     if !kept.is_ours(&packet) {
         return Ok(Decision::nothing(kept.alloc));
@@ -211,7 +218,8 @@ pub fn decide<E: Engine>(
     ensures valid { E.valid engine.new }
     ensures meaning { E.meaning engine.new ≡ E.meaning engine.old }
     ensures heard { E.heard engine.new ≡ E.heard engine.old }
-    ensures decision { IfOk result (λ d. decision_of kept.now.setting (node_of kept.now) d ≡ decided (E.meaning engine.old) kept.now.setting (node_of kept.now) moment input) }
+    ensures decision { IfOk result (λ d. decision_of kept.now.setting (node_of kept.now) d
+        ≡ decided (E.meaning engine.old) kept.now.setting (node_of kept.now) moment input) }
 {
     match input {
         Input::Ask { token, request } => ask(engine, kept, moment, token, request),

@@ -141,7 +141,8 @@ impl Kept {
         cause: Cause,
         leaving: Option<usize>,
     ) -> Result<Decision, Memory>
-        ensures { IfOk result (λ d. decision_of self.now.setting (node_of self.now) d ≡ refused (node_of self.now) token cause (parked_without leaving self.now.parked.items)) }
+        ensures { IfOk result (λ d. decision_of self.now.setting (node_of self.now) d
+            ≡ refused (node_of self.now) token cause (parked_without leaving self.now.parked.items)) }
     {
         let outputs = one_output(self.alloc, Output::Refuse { token, cause })?;
         Ok(Decision {
@@ -164,7 +165,9 @@ impl Kept {
         outcome: Outcome,
         leaving: Option<usize>,
     ) -> Result<Decision, Memory>
-        ensures { (m : EngineMeaning) → named ≡ m.names request → handed ≡ is_some (held_in (keys_of self.now.keys) named) → IfOk result (λ d. decision_of self.now.setting (node_of self.now) d ≡ answered m self.now.setting (node_of self.now) moment token request outcome (parked_without leaving self.now.parked.items)) }
+        ensures { (m : EngineMeaning) → named ≡ m.names request → handed ≡ is_some (held_in (keys_of self.now.keys) named)
+            → IfOk result (λ d. decision_of self.now.setting (node_of self.now) d
+            ≡ answered m self.now.setting (node_of self.now) moment token request outcome (parked_without leaving self.now.parked.items)) }
     {
         let fresh = self.fresh(moment);
         let commit = Commit::Served {
@@ -202,7 +205,8 @@ pub fn serve<E: Engine>(
     ensures valid { E.valid engine.new }
     ensures meaning { E.meaning engine.new ≡ E.meaning engine.old }
     ensures heard { E.heard engine.new ≡ E.heard engine.old }
-    ensures decision { IfOk result (λ d. decision_of kept.now.setting (node_of kept.now) d ≡ served (E.meaning engine.old) kept.now.setting (node_of kept.now) moment token request (parked_without leaving kept.now.parked.items)) }
+    ensures decision { IfOk result (λ d. decision_of kept.now.setting (node_of kept.now) d
+        ≡ served (E.meaning engine.old) kept.now.setting (node_of kept.now) moment token request (parked_without leaving kept.now.parked.items)) }
 {
     let held = kept.held(named);
     let handed = held.is_some();

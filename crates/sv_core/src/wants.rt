@@ -27,7 +27,8 @@ pub fn search(parked: &[Parked], want: u64) -> Result<usize, usize>
 /// The want is among them. There is room for it.
 fn add(wants: &mut Vec<u64>, want: u64)
     requires { vec_len wants.old < vec_capacity wants.old }
-    ensures items { (before : List ℕ) (was : Bool) (behind : List ℕ) → IsAround before want was behind wants.old.items → wants.new.items ≡ before ++ want ∷ behind }
+    ensures items { (before : List ℕ) (was : Bool) (behind : List ℕ) → IsAround before want was behind wants.old.items
+        → wants.new.items ≡ before ++ want ∷ behind }
     ensures len { vec_len wants.new ≤ vec_len wants.old + 1 }
     ensures capacity { vec_capacity wants.old ≤ vec_capacity wants.new }
 {
@@ -69,7 +70,8 @@ pub fn forget(wants: &mut Vec<u64>, want: u64)
 /// Where the request waits for the key, its want is among them from now on, or isn't.
 fn settle_one(wants: &mut Vec<u64>, parked: &Parked, key: Key, is_settled: bool)
     requires { vec_len wants.old < vec_capacity wants.old }
-    ensures items { (before : List ℕ) (was : Bool) (behind : List ℕ) → IsAround before parked.now.want was behind wants.old.items → wants.new.items ≡ around before parked.now.want (cond (same_key parked.now.key key) is_settled was) behind }
+    ensures items { (before : List ℕ) (was : Bool) (behind : List ℕ) → IsAround before parked.now.want was behind wants.old.items
+        → wants.new.items ≡ around before parked.now.want (cond (same_key parked.now.key key) is_settled was) behind }
     ensures len { vec_len wants.new ≤ vec_len wants.old + 1 }
     ensures capacity { vec_capacity wants.old ≤ vec_capacity wants.new }
 {
@@ -148,7 +150,8 @@ pub fn settle_behind(wants: &mut Vec<u64>, all: &[Parked], waited: &[Key], entry
     requires keyed { waited.now ≡ keys_in all.now }
     requires rise { Rise (wants_in all.now) }
     requires room { vec_len wants.old + length all.now ≤ vec_capacity wants.old }
-    ensures items { (test : Parked → Bool) → wants.old.items ≡ wants_where test all.now → wants.new.items ≡ wants_where (settled_by (settles entry.now) test) all.now }
+    ensures items { (test : Parked → Bool) → wants.old.items ≡ wants_where test all.now
+        → wants.new.items ≡ wants_where (settled_by (settles entry.now) test) all.now }
     ensures capacity { vec_capacity wants.old ≤ vec_capacity wants.new }
 {
     if let Some((key, is_settled)) = settles(entry) {
@@ -180,7 +183,8 @@ pub fn settle_anew(wants: &mut Vec<u64>, all: &[Parked], keys: &Table, home: Opt
 
 /// The want of the request is not among them, where it has waited for as long as requests do.
 fn forget_if_late(wants: &mut Vec<u64>, parked: &Parked, setting: Setting, now: u64)
-    ensures items { (before : List ℕ) (was : Bool) (behind : List ℕ) → IsAround before parked.now.want was behind wants.old.items → wants.new.items ≡ around before parked.now.want (cond (is_late setting now parked.now) false was) behind }
+    ensures items { (before : List ℕ) (was : Bool) (behind : List ℕ) → IsAround before parked.now.want was behind wants.old.items
+        → wants.new.items ≡ around before parked.now.want (cond (is_late setting now parked.now) false was) behind }
 {
     if is_late(setting, parked, now) {
         forget(wants, parked.want);
@@ -190,7 +194,8 @@ fn forget_if_late(wants: &mut Vec<u64>, parked: &Parked, setting: Setting, now: 
 /// The wants of those that have waited for as long as requests do are not among them.
 pub fn forget_late(wants: &mut Vec<u64>, all: &[Parked], setting: Setting, now: u64)
     requires { Rise (wants_in all.now) }
-    ensures { (test : Parked → Bool) → wants.old.items ≡ wants_where test all.now → wants.new.items ≡ wants_where (λ p. cond (is_late setting now p) false (test p)) all.now }
+    ensures { (test : Parked → Bool) → wants.old.items ≡ wants_where test all.now
+        → wants.new.items ≡ wants_where (λ p. cond (is_late setting now p) false (test p)) all.now }
 {
     for parked in all {
         forget_if_late(wants, parked, setting, now);

@@ -31,4 +31,6 @@ is_below_include a = includes_by a.dispatcher a.view
 -- A dispatch goes on with the edit and the reply, where the reply is held exactly below an include: below one its status
 -- and its fields stand still.
 abbrev pub dispatch_keeps : Type 0
-dispatch_keeps = (t : Table) (depth : ℕ) (a : Ask) (left : ℕ) (l : Lent) → TableKeeps t → l.reply.is_held ≡ is_below_include a → KeepsLent l (dispatched t depth a left l).lent
+dispatch_keeps =
+    (t : Table) (depth : ℕ) (a : Ask) (left : ℕ) (l : Lent) → TableKeeps t → l.reply.is_held ≡ is_below_include a
+    → KeepsLent l (dispatched t depth a left l).lent

@@ -57,7 +57,8 @@ query_over (Some query) old = Some query
 query_over None old = old
 
 abbrev pub values_of_request : Asked → DispatchValues
-values_of_request r = record { request_uri = r.request_uri; context_path = r.context_path; servlet_path = r.servlet_path; path_info = r.path_info; query = r.query }
+values_of_request r =
+    record { request_uri = r.request_uri; context_path = r.context_path; servlet_path = r.servlet_path; path_info = r.path_info; query = r.query }
 
 abbrev pub is_forwarded : Sight → Bool
 is_forwarded s = is_some (value_of s.attributes (attribute_name Forward RequestUri))

@@ -42,7 +42,14 @@ impl<'a> Model for Values<'a> {
 
     ghost Value = { DispatchValues };
 
-    ghost view = { λ v. record { request_uri = v.request_uri.now; context_path = v.context_path.now; servlet_path = v.servlet_path.now; path_info = option_map (λ t. t.now) v.path_info; query = option_map (λ t. t.now) v.query } };
+    ghost view = { λ v. record {
+      request_uri = v.request_uri.now;
+      context_path = v.context_path.now;
+      servlet_path = v.servlet_path.now;
+      path_info = option_map
+          (λ t. t.now) v.path_info;
+      query = option_map (λ t. t.now) v.query;
+    } };
 }
 
 /// The name of an attribute.

@@ -35,7 +35,8 @@ pub fn service_at<S: Servlet>(
 ) -> Result<Next, AllocError>
     requires { IsReadyAt (rows S.serves S.servlet_phase all.old.items) at }
     ensures same { rows S.serves S.servlet_phase all.new.items ≡ rows S.serves S.servlet_phase all.old.items }
-    ensures answer { IfOk result (λ next. answer (lent edit.new reply.new) next ≡ served (rows S.serves S.servlet_phase all.old.items) at call.now (lent edit.old reply.old)) }
+    ensures answer { IfOk result (λ next. answer (lent edit.new reply.new) next
+        ≡ served (rows S.serves S.servlet_phase all.old.items) at call.now (lent edit.old reply.old)) }
 {
     service_one(&mut all[at], call, edit, reply)
 }
@@ -48,7 +49,8 @@ fn before_one<F: Filter>(
 ) -> Result<Before, AllocError>
     requires { F.filter_phase hosted.old.object ≡ Ready }
     ensures same { row F.filtering F.filter_phase hosted.new ≡ row F.filtering F.filter_phase hosted.old }
-    ensures answer { IfOk result (λ before. verdict (lent edit.new reply.new) before ≡ (F.filtering hosted.old.object).before call.now (lent edit.old reply.old)) }
+    ensures answer { IfOk result (λ before. verdict (lent edit.new reply.new) before
+        ≡ (F.filtering hosted.old.object).before call.now (lent edit.old reply.old)) }
 {
     hosted.object.before(call, edit, reply)
 }
@@ -63,7 +65,8 @@ pub fn before_at<F: Filter>(
 ) -> Result<Before, AllocError>
     requires { IsReadyAt (rows F.filtering F.filter_phase all.old.items) at }
     ensures same { rows F.filtering F.filter_phase all.new.items ≡ rows F.filtering F.filter_phase all.old.items }
-    ensures answer { IfOk result (λ before. verdict (lent edit.new reply.new) before ≡ before_at (rows F.filtering F.filter_phase all.old.items) at call.now (lent edit.old reply.old)) }
+    ensures answer { IfOk result (λ before. verdict (lent edit.new reply.new) before
+        ≡ before_at (rows F.filtering F.filter_phase all.old.items) at call.now (lent edit.old reply.old)) }
 {
     before_one(&mut all[at], call, edit, reply)
 }
@@ -91,7 +94,8 @@ pub fn after_at<F: Filter>(
 ) -> Result<(), AllocError>
     requires { IsReadyAt (rows F.filtering F.filter_phase all.old.items) at }
     ensures same { rows F.filtering F.filter_phase all.new.items ≡ rows F.filtering F.filter_phase all.old.items }
-    ensures answer { IfOk result (λ _. lent edit.new reply.new ≡ after_at (rows F.filtering F.filter_phase all.old.items) at call.now (lent edit.old reply.old)) }
+    ensures answer { IfOk result (λ _. lent edit.new reply.new
+        ≡ after_at (rows F.filtering F.filter_phase all.old.items) at call.now (lent edit.old reply.old)) }
 {
     after_one(&mut all[at], call, edit, reply)
 }

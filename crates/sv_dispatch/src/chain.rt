@@ -22,8 +22,10 @@ pub fn run_befores<S: Servlet, F: Filter>(
     chain: &[usize],
 ) -> Result<(Vec<usize>, Before), AllocError>
     requires { All (IsReadyAt (table_of S.serves S.servlet_phase F.filtering F.filter_phase stage.old).filters) chain.now }
-    ensures same { table_of S.serves S.servlet_phase F.filtering F.filter_phase stage.new ≡ table_of S.serves S.servlet_phase F.filtering F.filter_phase stage.old }
-    ensures begun { IfOk result (λ r. begun r.0.items r.1 (lent_of stage.new) ≡ befores (table_of S.serves S.servlet_phase F.filtering F.filter_phase stage.old).filters chain.now call.now (lent_of stage.old)) }
+    ensures same { table_of S.serves S.servlet_phase F.filtering F.filter_phase stage.new
+        ≡ table_of S.serves S.servlet_phase F.filtering F.filter_phase stage.old }
+    ensures begun { IfOk result (λ r. begun r.0.items r.1 (lent_of stage.new)
+        ≡ befores (table_of S.serves S.servlet_phase F.filtering F.filter_phase stage.old).filters chain.now call.now (lent_of stage.old)) }
 {
     let mut passed = Vec::new(alloc);
     for place in chain {
@@ -50,8 +52,10 @@ pub fn run_afters<S: Servlet, F: Filter>(
     mut passed: Vec<usize>,
 ) -> Result<(), AllocError>
     requires { All (IsReadyAt (table_of S.serves S.servlet_phase F.filtering F.filter_phase stage.old).filters) passed.items }
-    ensures same { table_of S.serves S.servlet_phase F.filtering F.filter_phase stage.new ≡ table_of S.serves S.servlet_phase F.filtering F.filter_phase stage.old }
-    ensures lent { OnOk result (lent_of stage.new ≡ afters (table_of S.serves S.servlet_phase F.filtering F.filter_phase stage.old).filters passed.items call.now (lent_of stage.old)) }
+    ensures same { table_of S.serves S.servlet_phase F.filtering F.filter_phase stage.new
+        ≡ table_of S.serves S.servlet_phase F.filtering F.filter_phase stage.old }
+    ensures lent { OnOk result (lent_of stage.new ≡ afters (table_of S.serves S.servlet_phase F.filtering F.filter_phase stage.old).filters passed.items
+        call.now (lent_of stage.old)) }
 {
     while let Some(k) = passed.pop() {
         after_at(
@@ -72,9 +76,12 @@ pub fn begin<S: Servlet, F: Filter>(
     visit: &Visit<'_>,
 ) -> Result<(Vec<usize>, Before), AllocError>
     requires { IsSound (table_of S.serves S.servlet_phase F.filtering F.filter_phase stage.old) }
-    ensures same { table_of S.serves S.servlet_phase F.filtering F.filter_phase stage.new ≡ table_of S.serves S.servlet_phase F.filtering F.filter_phase stage.old }
+    ensures same { table_of S.serves S.servlet_phase F.filtering F.filter_phase stage.new
+        ≡ table_of S.serves S.servlet_phase F.filtering F.filter_phase stage.old }
     ensures ready { IfOk result (λ r. All (IsReadyAt (table_of S.serves S.servlet_phase F.filtering F.filter_phase stage.new).filters) r.0.items) }
-    ensures begun { IfOk result (λ r. begun r.0.items r.1 (lent_of stage.new) ≡ befores (table_of S.serves S.servlet_phase F.filtering F.filter_phase stage.old).filters (chain_of (table_of S.serves S.servlet_phase F.filtering F.filter_phase stage.old) visit.now) (call_of visit.now.view 0) (lent_of stage.old)) }
+    ensures begun { IfOk result (λ r. begun r.0.items r.1 (lent_of stage.new)
+        ≡ befores (table_of S.serves S.servlet_phase F.filtering F.filter_phase stage.old).filters
+        (chain_of (table_of S.serves S.servlet_phase F.filtering F.filter_phase stage.old) visit.now) (call_of visit.now.view 0) (lent_of stage.old)) }
 {
     let chain = chain_of(alloc, stage, visit)?;
     run_befores(alloc, stage, &visit.view.call(0), chain.as_slice())

@@ -82,7 +82,11 @@ impl<'a> View<'a> {
         servlet_path: Text,
         path_info: Option<Text>,
     ) -> Result<View<'a>, AllocError>
-        ensures { IfOk result (λ view. view ≡ record self.entry { query = query_over target.query self.entry.query; shown = record { request_uri = target.request_uri; servlet_path = servlet_path; path_info = path_info } }) }
+        ensures { IfOk result (λ view. view ≡ record self.entry {
+          query = query_over target.query self.entry.query;
+          shown = record
+              { request_uri = target.request_uri; servlet_path = servlet_path; path_info = path_info };
+        }) }
     {
         let mut view = self;
         let (request_uri, query) = target.into_shown();

@@ -72,7 +72,8 @@ fn error_view<'a, S: Servlet, F: Filter>(
     status: u16,
     message: &str,
 ) -> Result<View<'a>, AllocError>
-    ensures { IfOk result (λ view. view ≡ errored (first_sight call.now) status message.now (spec.servlet_name (table_of S.serves S.servlet_phase F.filtering F.filter_phase stage.now) call.now)) }
+    ensures { IfOk result (λ view. view ≡ errored (first_sight call.now) status message.now
+        (spec.servlet_name (table_of S.serves S.servlet_phase F.filtering F.filter_phase stage.now) call.now)) }
 {
     let path = path_of(alloc, call)?;
     let place = place_of(alloc, &stage.patterns, path.as_str())?;
@@ -86,7 +87,8 @@ fn error_view<'a, S: Servlet, F: Filter>(
 
 /// The plain page of 500 stands at the end.
 fn give_plain<S: Servlet, F: Filter>(stage: &mut Stage<S, F>) -> Ended
-    ensures same { table_of S.serves S.servlet_phase F.filtering F.filter_phase stage.new ≡ table_of S.serves S.servlet_phase F.filtering F.filter_phase stage.old }
+    ensures same { table_of S.serves S.servlet_phase F.filtering F.filter_phase stage.new
+        ≡ table_of S.serves S.servlet_phase F.filtering F.filter_phase stage.old }
     ensures ran { spec.ran result (lent_of stage.new) ≡ spec.plain 500 (lent_of stage.old) }
 {
     make_ready(&mut stage.reply, 500);
@@ -95,7 +97,8 @@ fn give_plain<S: Servlet, F: Filter>(stage: &mut Stage<S, F>) -> Ended
 
 /// How a request ends behind the dispatch to its error page.
 fn page_ended<S: Servlet, F: Filter>(stage: &mut Stage<S, F>, status: u16, ended: Ending) -> Ended
-    ensures same { table_of S.serves S.servlet_phase F.filtering F.filter_phase stage.new ≡ table_of S.serves S.servlet_phase F.filtering F.filter_phase stage.old }
+    ensures same { table_of S.serves S.servlet_phase F.filtering F.filter_phase stage.new
+        ≡ table_of S.serves S.servlet_phase F.filtering F.filter_phase stage.old }
     ensures ran { (left : ℕ) → spec.ran result (lent_of stage.new) ≡ spec.shown_page status (outcome ended left (lent_of stage.old)) }
 {
     match ended {
@@ -119,8 +122,10 @@ fn show_page<'a, S: Servlet, F: Filter>(
     requires sound { IsSound (table_of S.serves S.servlet_phase F.filtering F.filter_phase stage.old) }
     requires least { 400 ≤ status }
     requires most { status ≤ 599 }
-    ensures same { table_of S.serves S.servlet_phase F.filtering F.filter_phase stage.new ≡ table_of S.serves S.servlet_phase F.filtering F.filter_phase stage.old }
-    ensures ran { IfOk result (λ ended. spec.ran ended (lent_of stage.new) ≡ spec.paged (table_of S.serves S.servlet_phase F.filtering F.filter_phase stage.old) call.now status message.now left (lent_of stage.old) page) }
+    ensures same { table_of S.serves S.servlet_phase F.filtering F.filter_phase stage.new
+        ≡ table_of S.serves S.servlet_phase F.filtering F.filter_phase stage.old }
+    ensures ran { IfOk result (λ ended. spec.ran ended (lent_of stage.new)
+        ≡ spec.paged (table_of S.serves S.servlet_phase F.filtering F.filter_phase stage.old) call.now status message.now left (lent_of stage.old) page) }
 {
     make_ready(&mut stage.reply, status);
     let Some(path) = page else {
@@ -150,8 +155,10 @@ fn settle<'a, S: Servlet, F: Filter>(
     ended: Ending,
 ) -> Result<Ended, AllocError>
     requires { IsSound (table_of S.serves S.servlet_phase F.filtering F.filter_phase stage.old) }
-    ensures same { table_of S.serves S.servlet_phase F.filtering F.filter_phase stage.new ≡ table_of S.serves S.servlet_phase F.filtering F.filter_phase stage.old }
-    ensures ran { IfOk result (λ given. spec.ran given (lent_of stage.new) ≡ spec.settled_all (table_of S.serves S.servlet_phase F.filtering F.filter_phase stage.old) call.now (outcome ended left (lent_of stage.old))) }
+    ensures same { table_of S.serves S.servlet_phase F.filtering F.filter_phase stage.new
+        ≡ table_of S.serves S.servlet_phase F.filtering F.filter_phase stage.old }
+    ensures ran { IfOk result (λ given. spec.ran given (lent_of stage.new)
+        ≡ spec.settled_all (table_of S.serves S.servlet_phase F.filtering F.filter_phase stage.old) call.now (outcome ended left (lent_of stage.old))) }
 {
     match ended {
         Ending::Finished => Ok(Ended::Normal),
@@ -177,8 +184,10 @@ pub fn run<S: Servlet, F: Filter>(
     call: Call<'_>,
 ) -> Result<Ended, AllocError>
     requires { IsSound (table_of S.serves S.servlet_phase F.filtering F.filter_phase stage.old) }
-    ensures same { table_of S.serves S.servlet_phase F.filtering F.filter_phase stage.new ≡ table_of S.serves S.servlet_phase F.filtering F.filter_phase stage.old }
-    ensures ran { IfOk result (λ ended. spec.ran ended (lent_of stage.new) ≡ spec.served (table_of S.serves S.servlet_phase F.filtering F.filter_phase stage.old) call.entry (lent_of stage.old)) }
+    ensures same { table_of S.serves S.servlet_phase F.filtering F.filter_phase stage.new
+        ≡ table_of S.serves S.servlet_phase F.filtering F.filter_phase stage.old }
+    ensures ran { IfOk result (λ ended. spec.ran ended (lent_of stage.new)
+        ≡ spec.served (table_of S.serves S.servlet_phase F.filtering F.filter_phase stage.old) call.entry (lent_of stage.old)) }
 {
     let mut left = CALLS;
     let ask = Ask {

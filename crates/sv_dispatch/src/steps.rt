@@ -42,7 +42,8 @@ pub fn enter<'a, S: Servlet, F: Filter>(
     ensures held { IfOk result (IsModeOf (table_of S.serves S.servlet_phase F.filtering F.filter_phase stage.now)) }
     ensures need { IfOk result (λ mode. need mode ≤ 1) }
     ensures less { IfOk result (λ mode. weight mode < 3) }
-    ensures current { IfOk result (λ mode. (e left : ℕ) → current (table_of S.serves S.servlet_phase F.filtering F.filter_phase stage.now) (suc e) mode left (lent_of stage.now) ≡ dispatched (table_of S.serves S.servlet_phase F.filtering F.filter_phase stage.now) (suc e) ask.entry left (lent_of stage.now)) }
+    ensures current { IfOk result (λ mode. (e left : ℕ) → current (table_of S.serves S.servlet_phase F.filtering F.filter_phase stage.now) (suc e) mode left
+        (lent_of stage.now) ≡ dispatched (table_of S.serves S.servlet_phase F.filtering F.filter_phase stage.now) (suc e) ask.entry left (lent_of stage.now)) }
 {
     let visit = visit_of(alloc, stage, ask)?;
     match visit {
@@ -60,9 +61,12 @@ fn finish<'a, S: Servlet, F: Filter>(
 ) -> Result<Mode<'a>, AllocError>
     requires ready { All (IsReadyAt (table_of S.serves S.servlet_phase F.filtering F.filter_phase stage.old).filters) passed.items }
     requires kept { ended ≢ Abandoned }
-    ensures same { table_of S.serves S.servlet_phase F.filtering F.filter_phase stage.new ≡ table_of S.serves S.servlet_phase F.filtering F.filter_phase stage.old }
+    ensures same { table_of S.serves S.servlet_phase F.filtering F.filter_phase stage.new
+        ≡ table_of S.serves S.servlet_phase F.filtering F.filter_phase stage.old }
     ensures mode { IfOk result (λ mode. mode ≡ Leave ended) }
-    ensures closed { OnOk result ((left : ℕ) → outcome ended left (lent_of stage.new) ≡ closed (table_of S.serves S.servlet_phase F.filtering F.filter_phase stage.old).filters passed.items (call_of view.entry 0) (outcome ended left (lent_of stage.old))) }
+    ensures closed { OnOk result ((left : ℕ) → outcome ended left (lent_of stage.new)
+        ≡ closed (table_of S.serves S.servlet_phase F.filtering F.filter_phase stage.old).filters passed.items (call_of view.entry 0)
+        (outcome ended left (lent_of stage.old))) }
 {
     run_afters(stage, &view.call(0), passed)?;
     Ok(Mode::Leave(ended))
@@ -96,11 +100,14 @@ pub fn open<'a, S: Servlet, F: Filter>(
     visit: Visit<'a>,
 ) -> Result<Mode<'a>, AllocError>
     requires { IsSound (table_of S.serves S.servlet_phase F.filtering F.filter_phase stage.old) }
-    ensures same { table_of S.serves S.servlet_phase F.filtering F.filter_phase stage.new ≡ table_of S.serves S.servlet_phase F.filtering F.filter_phase stage.old }
+    ensures same { table_of S.serves S.servlet_phase F.filtering F.filter_phase stage.new
+        ≡ table_of S.serves S.servlet_phase F.filtering F.filter_phase stage.old }
     ensures held { IfOk result (IsModeOf (table_of S.serves S.servlet_phase F.filtering F.filter_phase stage.old)) }
     ensures need { IfOk result (λ mode. need mode ≤ 1) }
     ensures less { IfOk result (λ mode. weight mode < 2) }
-    ensures current { IfOk result (λ mode. (e left : ℕ) → current (table_of S.serves S.servlet_phase F.filtering F.filter_phase stage.old) (suc e) mode left (lent_of stage.new) ≡ performed (table_of S.serves S.servlet_phase F.filtering F.filter_phase stage.old) (dispatched (table_of S.serves S.servlet_phase F.filtering F.filter_phase stage.old) e) visit.entry left (lent_of stage.old)) }
+    ensures current { IfOk result (λ mode. (e left : ℕ) → current (table_of S.serves S.servlet_phase F.filtering F.filter_phase stage.old) (suc e) mode left
+        (lent_of stage.new) ≡ performed (table_of S.serves S.servlet_phase F.filtering F.filter_phase stage.old)
+        (dispatched (table_of S.serves S.servlet_phase F.filtering F.filter_phase stage.old) e) visit.entry left (lent_of stage.old)) }
 {
     let (passed, before) = begin(alloc, stage, &visit)?;
     match to_serve(alloc, stage, &visit, before) {
@@ -122,9 +129,11 @@ fn close<'a, S: Servlet, F: Filter>(
 ) -> Result<Mode<'a>, AllocError>
     requires ready { All (IsReadyAt (table_of S.serves S.servlet_phase F.filtering F.filter_phase stage.old).filters) held.passed.items }
     requires kept { ended ≢ Abandoned }
-    ensures same { table_of S.serves S.servlet_phase F.filtering F.filter_phase stage.new ≡ table_of S.serves S.servlet_phase F.filtering F.filter_phase stage.old }
+    ensures same { table_of S.serves S.servlet_phase F.filtering F.filter_phase stage.new
+        ≡ table_of S.serves S.servlet_phase F.filtering F.filter_phase stage.old }
     ensures mode { IfOk result (λ mode. mode ≡ Leave ended) }
-    ensures closed { OnOk result ((left : ℕ) → outcome ended left (lent_of stage.new) ≡ closed_open (table_of S.serves S.servlet_phase F.filtering F.filter_phase stage.old) held.entry (outcome ended left (lent_of stage.old))) }
+    ensures closed { OnOk result ((left : ℕ) → outcome ended left (lent_of stage.new)
+        ≡ closed_open (table_of S.serves S.servlet_phase F.filtering F.filter_phase stage.old) held.entry (outcome ended left (lent_of stage.old))) }
 {
     let Open {
         view,
@@ -162,11 +171,13 @@ fn follow<'a, S: Servlet, F: Filter>(
     next: Next,
 ) -> Result<Mode<'a>, AllocError>
     requires { IsOpen (table_of S.serves S.servlet_phase F.filtering F.filter_phase stage.old) held }
-    ensures same { table_of S.serves S.servlet_phase F.filtering F.filter_phase stage.new ≡ table_of S.serves S.servlet_phase F.filtering F.filter_phase stage.old }
+    ensures same { table_of S.serves S.servlet_phase F.filtering F.filter_phase stage.new
+        ≡ table_of S.serves S.servlet_phase F.filtering F.filter_phase stage.old }
     ensures held { IfOk result (IsModeOf (table_of S.serves S.servlet_phase F.filtering F.filter_phase stage.old)) }
     ensures need { IfOk result (λ mode. need mode ≤ 1) }
     ensures less { IfOk result (λ mode. weight mode ≤ 6) }
-    ensures current { IfOk result (λ mode. (e left : ℕ) → current (table_of S.serves S.servlet_phase F.filtering F.filter_phase stage.old) (suc e) mode left (lent_of stage.new) ≡ followed (table_of S.serves S.servlet_phase F.filtering F.filter_phase stage.old) e held.entry left (lent_of stage.old) next) }
+    ensures current { IfOk result (λ mode. (e left : ℕ) → current (table_of S.serves S.servlet_phase F.filtering F.filter_phase stage.old) (suc e) mode left
+        (lent_of stage.new) ≡ followed (table_of S.serves S.servlet_phase F.filtering F.filter_phase stage.old) e held.entry left (lent_of stage.old) next) }
 {
     match next {
         Next::Done => close(stage, held, Ending::Finished),
@@ -193,11 +204,13 @@ pub fn serve<'a, S: Servlet, F: Filter>(
     held: Open<'a>,
 ) -> Result<Mode<'a>, AllocError>
     requires { IsOpen (table_of S.serves S.servlet_phase F.filtering F.filter_phase stage.old) held }
-    ensures same { table_of S.serves S.servlet_phase F.filtering F.filter_phase stage.new ≡ table_of S.serves S.servlet_phase F.filtering F.filter_phase stage.old }
+    ensures same { table_of S.serves S.servlet_phase F.filtering F.filter_phase stage.new
+        ≡ table_of S.serves S.servlet_phase F.filtering F.filter_phase stage.old }
     ensures held { IfOk result (IsModeOf (table_of S.serves S.servlet_phase F.filtering F.filter_phase stage.old)) }
     ensures need { IfOk result (λ mode. need mode ≤ 1) }
     ensures less { IfOk result (λ mode. weight mode + 7 * left.new < 7 * left.old + 1) }
-    ensures current { IfOk result (λ mode. (e : ℕ) → current (table_of S.serves S.servlet_phase F.filtering F.filter_phase stage.old) (suc e) mode left.new (lent_of stage.new) ≡ opened (table_of S.serves S.servlet_phase F.filtering F.filter_phase stage.old) e held.entry left.old (lent_of stage.old)) }
+    ensures current { IfOk result (λ mode. (e : ℕ) → current (table_of S.serves S.servlet_phase F.filtering F.filter_phase stage.old) (suc e) mode left.new
+        (lent_of stage.new) ≡ opened (table_of S.serves S.servlet_phase F.filtering F.filter_phase stage.old) e held.entry left.old (lent_of stage.old)) }
 {
     if *left == 0 {
         return Ok(Mode::Leave(Ending::Abandoned));
@@ -229,11 +242,14 @@ pub fn leave<'a, S: Servlet, F: Filter>(
     ended: Ending,
 ) -> Result<Mode<'a>, AllocError>
     requires { IsOpen (table_of S.serves S.servlet_phase F.filtering F.filter_phase stage.old) frame.held }
-    ensures same { table_of S.serves S.servlet_phase F.filtering F.filter_phase stage.new ≡ table_of S.serves S.servlet_phase F.filtering F.filter_phase stage.old }
+    ensures same { table_of S.serves S.servlet_phase F.filtering F.filter_phase stage.new
+        ≡ table_of S.serves S.servlet_phase F.filtering F.filter_phase stage.old }
     ensures held { IfOk result (IsModeOf (table_of S.serves S.servlet_phase F.filtering F.filter_phase stage.old)) }
     ensures need { IfOk result (λ mode. need mode ≤ 1) }
     ensures less { IfOk result (λ mode. weight mode < 2) }
-    ensures current { IfOk result (λ mode. (e left : ℕ) → current (table_of S.serves S.servlet_phase F.filtering F.filter_phase stage.old) (suc e) mode left (lent_of stage.new) ≡ reentered (table_of S.serves S.servlet_phase F.filtering F.filter_phase stage.old) e frame.entry (outcome ended left (lent_of stage.old))) }
+    ensures current { IfOk result (λ mode. (e left : ℕ) → current (table_of S.serves S.servlet_phase F.filtering F.filter_phase stage.old) (suc e) mode left
+        (lent_of stage.new) ≡ reentered (table_of S.serves S.servlet_phase F.filtering F.filter_phase stage.old) e frame.entry
+        (outcome ended left (lent_of stage.old))) }
 {
     let Frame { held, then } = frame;
     match then {

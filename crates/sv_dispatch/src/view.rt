@@ -53,7 +53,16 @@ impl<'a> Model for View<'a> {
 
     ghost Value = { Sight };
 
-    ghost view = { λ v. record { request = v.request.now; shown = unwrap_or (option_map rc_value v.shown) (shown_of v.request.now); query = query_over (option_map rc_value v.query) v.request.now.query; params = unwrap_or (option_map rc_value v.params) v.request.now.params; attributes = unwrap_or (option_map rc_value v.attributes) v.request.now.attributes; is_included = v.is_included } };
+    ghost view = { λ v. record {
+      request = v.request.now;
+      shown = unwrap_or (option_map rc_value v.shown) (shown_of v.request.now);
+      query = query_over
+          (option_map rc_value v.query) v.request.now.query;
+      params = unwrap_or (option_map rc_value v.params) v.request.now.params;
+      attributes = unwrap_or
+          (option_map rc_value v.attributes) v.request.now.attributes;
+      is_included = v.is_included;
+    } };
 }
 
 /// The same part again, without a copy.

@@ -65,7 +65,8 @@ fn visit_at<'a, S: Servlet, F: Filter>(
     ask: Ask<'a>,
     target: Destination,
 ) -> Result<Visit<'a>, AllocError>
-    ensures { IfOk result (λ visit. visit ≡ visit_at ask.entry target (place_of (table_of S.serves S.servlet_phase F.filtering F.filter_phase stage.now).patterns target.path) ask.entry.dispatcher) }
+    ensures { IfOk result (λ visit. visit ≡ visit_at ask.entry target
+        (place_of (table_of S.serves S.servlet_phase F.filtering F.filter_phase stage.now).patterns target.path) ask.entry.dispatcher) }
 {
     let place = place_of(alloc, &stage.patterns, target.path.as_str())?;
     let path = target.path.copy(alloc)?;
@@ -86,7 +87,8 @@ fn visit_as_it_came<'a, S: Servlet, F: Filter>(
     stage: &Stage<S, F>,
     ask: Ask<'a>,
 ) -> Result<Visit<'a>, AllocError>
-    ensures { IfOk result (λ v. v ≡ visit Request ask.entry.view ask.entry.path (place_of (table_of S.serves S.servlet_phase F.filtering F.filter_phase stage.now).patterns ask.entry.path).servlet) }
+    ensures { IfOk result (λ v. v ≡ visit Request ask.entry.view ask.entry.path
+        (place_of (table_of S.serves S.servlet_phase F.filtering F.filter_phase stage.now).patterns ask.entry.path).servlet) }
 {
     let place = place_of(alloc, &stage.patterns, ask.path.as_str())?;
     let servlet = place.servlet;

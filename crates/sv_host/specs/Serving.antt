@@ -9,13 +9,15 @@ use Rattle.sv_node.specs.Node.{IsNode, engine_of, journal_of}
 use Rattle.sv_node.specs.declared.node.Node.{Node}
 
 -- a node that may be given what was gathered
-pub record IsServing {E D : Type 0} (fit : E → Type 0) (tells : D → Type 0) (seen : D → List ℕ) (may_leave : D → List ℕ → Type 0) (node : Node E D) (group : Group) : Type 0 where
+pub record IsServing {E D : Type 0} (fit : E → Type 0) (tells : D → Type 0) (seen : D → List ℕ) (may_leave : D → List ℕ → Type 0)
+    (node : Node E D) (group : Group) : Type 0 where
   pub valid : IsNode fit tells seen may_leave node
   pub live : IsTrue (journal_of node).live
   pub rising : IsRising group
 
 -- by what came of it: some groups were given to the node, and what is gathered from now on comes behind them
-pub record HasServed {E D T F : Type 0} (meaning : E → EngineMeaning) (heard : E → List (List ℕ)) (fit : E → Type 0) (tells : D → Type 0) (seen : D → List ℕ) (may_leave : D → List ℕ → Type 0)
+pub record HasServed {E D T F : Type 0} (meaning : E → EngineMeaning) (heard : E → List (List ℕ)) (fit : E → Type 0) (tells : D → Type 0)
+    (seen : D → List ℕ) (may_leave : D → List ℕ → Type 0)
     (old : Node E D) (group : Group) (new : Node E D) (next : Group) (answer : Result T F) : Type 0 where
   pub valid : IsNode fit tells seen may_leave new
   pub rising : IsRising next
@@ -27,7 +29,8 @@ pub record HasGathered (group next : Group) : Type 0 where
   pub before : before_of next ≡ before_of group
 
 -- it served until its end, and was taken apart into these
-pub record HasLived {E D : Type 0} (meaning : E → EngineMeaning) (heard : E → List (List ℕ)) (fit : E → Type 0) (tells : D → Type 0) (seen : D → List ℕ) (may_leave : D → List ℕ → Type 0)
+pub record HasLived {E D : Type 0} (meaning : E → EngineMeaning) (heard : E → List (List ℕ)) (fit : E → Type 0) (tells : D → Type 0)
+    (seen : D → List ℕ) (may_leave : D → List ℕ → Type 0)
     (node : Node E D) (engine : E) (a b : D) : Type 0 where
   pub last : Node E D
   pub valid : IsNode fit tells seen may_leave last

@@ -229,8 +229,10 @@ impl Host {
             LeavesStart D.may_leave (setting_of self) a b d r.a r.b) }
         ensures engine { IfErr result (λ r. r.engine ≡ engine) }
         // Why it isn't opened, want of memory apart.
-        ensures damaged { IfErr result (λ r. r.fault ≡ Damaged → D.tells a → D.tells b → (d : Durable) → Restores (setting_of self) (D.seen a) (D.seen b) d → d.boot ≡ last_number) }
-        ensures full { IfErr result (λ r. r.fault ≡ Full → D.tells a → D.tells b → (d : Durable) → Restores (setting_of self) (D.seen a) (D.seen b) d → LacksRoom D.seen D.may_leave (setting_of self) d r.a r.b) }
+        ensures damaged { IfErr result (λ r. r.fault ≡ Damaged → D.tells a → D.tells b → (d : Durable) → Restores (setting_of self) (D.seen a) (D.seen b) d
+            → d.boot ≡ last_number) }
+        ensures full { IfErr result (λ r. r.fault ≡ Full → D.tells a → D.tells b → (d : Durable) → Restores (setting_of self) (D.seen a) (D.seen b) d
+            → LacksRoom D.seen D.may_leave (setting_of self) d r.a r.b) }
         ensures device { IfErr result (λ r. r.fault ≡ Device → HasRisen (D.failed a) (D.failed r.a) ⊎ HasRisen (D.failed b) (D.failed r.b)) }
     {
         let Host {

@@ -36,7 +36,8 @@ pub fn ask(
     token: u64,
 ) -> Option<Came>
     ensures comes { IfSome result (λ came. Comes token came) }
-    ensures parked { IfSome result (λ came. clients_of server.new.parked ≡ clients_of server.old.parked ++ (record { token = token; place = from.place }) ∷ []) }
+    ensures parked { IfSome result (λ came. clients_of server.new.parked ≡ clients_of server.old.parked ++ (record { token = token; place = from.place })
+        ∷ []) }
     ensures asker { IfSome result (λ came. came.asker ≡ ClientAsker from.place token) }
 {
     let Lifted { place, socket } = from;

@@ -106,7 +106,8 @@ IsHead head n = (rest : List ℕ) × (head ≡ 165 ∷ to_be_bytes w32 n ++ rest
 
 -- No entry and no closed gate begins so, where so many bytes are left.
 abbrev pub IsStuck : List ℕ → ℕ → Type 0
-IsStuck head left = (head ≡ []) ⊎ (((rest : List ℕ) × (head ≡ 165 ∷ rest) × (left < 5)) ⊎ ((n : ℕ) × IsHead head n × (n < 2 ^ 32) × ((PAYLOAD_LIMIT < n) ⊎ (left < 5 + n))))
+IsStuck head left =
+    (head ≡ []) ⊎ (((rest : List ℕ) × (head ≡ 165 ∷ rest) × (left < 5)) ⊎ ((n : ℕ) × IsHead head n × (n < 2 ^ 32) × ((PAYLOAD_LIMIT < n) ⊎ (left < 5 + n))))
 
 abbrev pub payloads : List (Vec ℕ Global) → List (List ℕ)
 payloads vs = map (λ v. v.items) vs

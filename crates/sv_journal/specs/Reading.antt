@@ -6,4 +6,5 @@ use Rattle.sv_journal.specs.Format.{Begins, HasEntries}
 -- take up so many bytes of the piece.
 abbrev pub Gathers : List ℕ → List (List ℕ) → List (List ℕ) → Option ℕ → Type 0
 Gathers piece before after None = (bytes more : List ℕ) → Begins bytes before (piece ++ more) → HasEntries bytes after
-Gathers piece before after (Some n) = (0 < n) × (n ≤ length piece) × ((bytes more : List ℕ) → Begins bytes before (piece ++ more) → Begins bytes after (drop n piece ++ more))
+Gathers piece before after (Some n) =
+    (0 < n) × (n ≤ length piece) × ((bytes more : List ℕ) → Begins bytes before (piece ++ more) → Begins bytes after (drop n piece ++ more))

@@ -1,5 +1,6 @@
 //! A journal on two disks.
-ghost use Rattle.std.specs.Prelude.{◌≡◌, ◌≢◌, ◌⊎◌, ◌<◌, ◌≤◌, ◌+◌, ◌-◌, ◌^◌, ◌++◌, [], ◌∷◌, List, ℕ, length, take, drop, max, not, true, false, IfOk, IfErr, OnOk, OnErr, IsErr, IfSome, IfNone, IsErrOf, IsTrue, ◌↔◌};
+ghost use Rattle.std.specs.Prelude.{◌≡◌, ◌≢◌, ◌⊎◌, ◌<◌, ◌≤◌, ◌+◌, ◌-◌, ◌^◌, ◌++◌, [], ◌∷◌, List, ℕ, length, take};
+ghost use Rattle.std.specs.Prelude.{drop, max, not, true, false, IfOk, IfErr, OnOk, OnErr, IsErr, IfSome, IfNone, IsErrOf, IsTrue, ◌↔◌};
 ghost use Rattle.std.specs.Bool.{Decides};
 ghost use Rattle.std.specs.List.{flat_map, All};
 ghost use Rattle.sv_journal.specs.Batch.{IsBatch, Stages, size_of};
@@ -42,7 +43,8 @@ impl<D: Disk> Model for Journal<D> {
 
     ghost view = { λ j. record { current = j.current; other = j.other; on_a = j.on_a; generation = j.generation; end = j.end; len = j.len; live = j.is_live } };
 
-    ghost invariant = { λ j. IsSound D.tells D.seen D.may_leave (record { current = j.current; other = j.other; on_a = j.on_a; generation = j.generation; end = j.end; len = j.len; live = j.is_live }) };
+    ghost invariant = { λ j. IsSound D.tells D.seen D.may_leave
+        (record { current = j.current; other = j.other; on_a = j.on_a; generation = j.generation; end = j.end; len = j.len; live = j.is_live }) };
 }
 
 impl<D: Disk> Journal<D> {
@@ -55,10 +57,12 @@ impl<D: Disk> Journal<D> {
     /// bytes; or no disk is open while A has more than 17 bytes or B more than 1.
     pub fn open(alloc: Global, mut a: D, mut b: D) -> Result<Journal<D>, NotOpened<D>>
         // It holds the entries with which the images open.
-        ensures holds { IfOk result (λ j. D.tells a → D.tells b → (entries : List (List ℕ)) → Opens (D.seen a) (D.seen b) entries → Holds D.seen D.may_leave j entries) }
+        ensures holds { IfOk result (λ j. D.tells a → D.tells b → (entries : List (List ℕ)) → Opens (D.seen a) (D.seen b) entries
+            → Holds D.seen D.may_leave j entries) }
         ensures opens { IfOk result (λ j. D.tells a → D.tells b → (entries : List (List ℕ)) × Opens (D.seen a) (D.seen b) entries) }
         ensures live { IfOk result (λ j. IsTrue j.live) }
-        ensures damaged { IfErr result (λ r. r.fault ≡ JournalFault.Damaged → D.tells a → D.tells b → (entries : List (List ℕ)) → Opens (D.seen a) (D.seen b) entries → ⊥) }
+        ensures damaged { IfErr result (λ r. r.fault ≡ JournalFault.Damaged → D.tells a → D.tells b → (entries : List (List ℕ))
+            → Opens (D.seen a) (D.seen b) entries → ⊥) }
 
         // A stop at any moment of the call loses nothing.
         ensures any_moment { IfOk result (λ j. D.tells a → D.tells b → OpensWithoutLoss D.seen D.may_leave D.moment D.left_since a b (disk_a j) (disk_b j)) }
@@ -126,7 +130,8 @@ impl<D: Disk> Journal<D> {
     pub fn append_all(&mut self, batch: &Batch) -> Result<(), JournalFault>
         requires { IsBatch batch.now }
         // Once it is Ok, a stop leaves the entries before with those of the batch behind them.
-        ensures added { OnOk result ((before entries : List (List ℕ)) → D.tells self.old.current → Holds D.seen D.may_leave self.old before → Stages batch.now entries
+        ensures added { OnOk result ((before entries : List (List ℕ)) → D.tells self.old.current → Holds D.seen D.may_leave self.old before
+            → Stages batch.now entries
             → Holds D.seen D.may_leave self.new (before ++ entries)) }
         // A stop at any moment of the call leaves the entries before, or those with all of the batch's behind them.
         ensures any_moment { (before entries : List (List ℕ)) → D.tells self.old.current → Holds D.seen D.may_leave self.old before → Stages batch.now entries
@@ -142,7 +147,8 @@ impl<D: Disk> Journal<D> {
         ensures live { OnOk result (IsTrue self.new.live) }
 
         ensures failed { IsErrOf result JournalFault.Failed ↔ (self.old.live ≡ false) }
-        ensures full { IsErrOf result JournalFault.Full ↔ (IsTrue self.old.live × (1 < size_of batch.now) × (FILE_LIMIT < max self.old.len (self.old.end + size_of batch.now))) }
+        ensures full { IsErrOf result JournalFault.Full ↔ (IsTrue self.old.live × (1 < size_of batch.now)
+            × (FILE_LIMIT < max self.old.len (self.old.end + size_of batch.now))) }
         ensures device { IsErrOf result JournalFault.Device → (self.new.live ≡ false) × HasRisen (D.failed self.old.current) (D.failed self.new.current) }
         ensures unchanged { IsErr result → ¬ IsErrOf result JournalFault.Device → self.new ≡ self.old }
         ensures damaged { ¬ IsErrOf result JournalFault.Damaged }
@@ -202,7 +208,8 @@ impl<D: Disk> Journal<D> {
         ensures live { OnOk result (IsTrue self.new.live) }
 
         ensures failed { IsErrOf result JournalFault.Failed ↔ (self.old.live ≡ false) }
-        ensures full { IsErrOf result JournalFault.Full ↔ (IsTrue self.old.live × ((self.old.generation ≡ 2 ^ 64 - 1) ⊎ (FILE_LIMIT < 17 + length (flat_map entry (payloads entries.now))))) }
+        ensures full { IsErrOf result JournalFault.Full ↔ (IsTrue self.old.live
+            × ((self.old.generation ≡ 2 ^ 64 - 1) ⊎ (FILE_LIMIT < 17 + length (flat_map entry (payloads entries.now))))) }
         ensures device { IsErrOf result JournalFault.Device → (self.new.live ≡ false) × HasRisen (D.failed self.old.other) (D.failed self.new.other) }
         ensures unchanged { IsErr result → ¬ IsErrOf result JournalFault.Device → self.new ≡ self.old }
         ensures damaged { ¬ IsErrOf result JournalFault.Damaged }
@@ -232,8 +239,10 @@ impl<D: Disk> Journal<D> {
     /// The payloads of the entries, the oldest first, read from the disk. Device leaves the journal usable. A disk that
     /// tells what it holds is never Damaged here; a file that somebody else has written may be.
     pub fn records(&mut self) -> Result<Vec<Vec<u8>>, JournalFault>
-        ensures entries { IfOk result (λ found. (entries : List (List ℕ)) → D.tells self.old.current → Holds D.seen D.may_leave self.old entries → payloads found.items ≡ entries) }
-        ensures kept { (entries : List (List ℕ)) → D.tells self.old.current → Holds D.seen D.may_leave self.old entries → Holds D.seen D.may_leave self.new entries }
+        ensures entries { IfOk result (λ found. (entries : List (List ℕ)) → D.tells self.old.current → Holds D.seen D.may_leave self.old entries
+            → payloads found.items ≡ entries) }
+        ensures kept { (entries : List (List ℕ)) → D.tells self.old.current → Holds D.seen D.may_leave self.old entries
+            → Holds D.seen D.may_leave self.new entries }
         ensures quiet { IsQuiet D.tells D.seen D.may_leave D.moment D.left_since self.old.current self.new.current }
         ensures same { self.new ≡ record self.old { current = self.new.current } }
 

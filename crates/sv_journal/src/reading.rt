@@ -25,7 +25,8 @@ fn gather(
     requires enough { min (5 + PAYLOAD_LIMIT) left ≤ length piece.now }
     requires within { length piece.now ≤ left }
     ensures gathers { IfOk result (λ taken. Gathers piece.now (payloads entries.old.items) (payloads entries.new.items) taken) }
-    ensures damaged { IsErrOf result JournalFault.Damaged → (bytes more : List ℕ) → length (piece.now ++ more) ≡ left → Begins bytes (payloads entries.old.items) (piece.now ++ more) → HasNoEntries bytes }
+    ensures damaged { IsErrOf result JournalFault.Damaged → (bytes more : List ℕ) → length (piece.now ++ more) ≡ left
+        → Begins bytes (payloads entries.old.items) (piece.now ++ more) → HasNoEntries bytes }
     ensures fault { IfErr result (λ e. (e ≡ JournalFault.Damaged) ⊎ (e ≡ JournalFault.Memory)) }
 {
     let head = ENTRY_HEAD as usize;

@@ -5,7 +5,9 @@ use Rattle.sv_config.specs.declared.fault.ConfigFault.TheVariants as config
 use Rattle.sv_container.specs.declared.named.StartFault.{StartFault}
 use Rattle.sv_container.specs.declared.named.StartFault.TheVariants as start
 use Rattle.sv_launch.specs.declared.fault.Fault.{Fault}
-use Rattle.sv_launch.specs.declared.fault.Fault.TheVariants.{Arguments, Unreadable, NotToml, MissingField, WrongKind, UnknownName, BadPattern, Duplicate, LimitExceeded, MissingObject, ExtraObject, Ports, Device, Damaged, Full, JournalMemory, Secrets, Socket, Log, Metrics, Input, Output, Memory}
+use Rattle.sv_launch.specs.declared.fault.Fault.TheVariants.{Arguments, Unreadable, NotToml, MissingField, WrongKind, UnknownName, BadPattern, Duplicate}
+use Rattle.sv_launch.specs.declared.fault.Fault.TheVariants.{LimitExceeded, MissingObject, ExtraObject, Ports, Device, Damaged, Full, JournalMemory}
+use Rattle.sv_launch.specs.declared.fault.Fault.TheVariants.{Secrets, Socket, Log, Metrics, Input, Output, Memory}
 use Rattle.sv_host.specs.declared.fault.HostFault.{HostFault}
 use Rattle.sv_host.specs.declared.fault.HostFault.TheVariants as host
 use Rattle.sv_host.specs.declared.place.PlaceFault.{PlaceFault}

@@ -82,7 +82,8 @@ impl<'a, S: ServletTable, F, L> Application<'a, S, F, L> {
         servlet: T,
     ) -> Application<'a, With<'a, Web<T>, S>, F, L>
         ensures built_in { result.built_in ≡ self.entry.built_in }
-        ensures servlets { ⟦<With<'a, Web<T>, S> as ServletTable>⟧.servlets result.servlets ≡ or_else name.now (serving (T.work servlet)) (S.servlets self.entry.servlets) }
+        ensures servlets { ⟦<With<'a, Web<T>, S> as ServletTable>⟧.servlets result.servlets
+            ≡ or_else name.now (serving (T.work servlet)) (S.servlets self.entry.servlets) }
         ensures filters { result.filters ≡ self.entry.filters }
         ensures listeners { result.listeners ≡ self.entry.listeners }
     {
@@ -124,7 +125,8 @@ impl<'a, S, F: FilterTable, L> Application<'a, S, F, L> {
     ) -> Application<'a, S, With<'a, Web<T>, F>, L>
         ensures built_in { result.built_in ≡ self.entry.built_in }
         ensures servlets { result.servlets ≡ self.entry.servlets }
-        ensures filters { ⟦<With<'a, Web<T>, F> as FilterTable>⟧.filters result.filters ≡ or_else name.now (surrounding (T.work filter)) (F.filters self.entry.filters) }
+        ensures filters { ⟦<With<'a, Web<T>, F> as FilterTable>⟧.filters result.filters
+            ≡ or_else name.now (surrounding (T.work filter)) (F.filters self.entry.filters) }
         ensures listeners { result.listeners ≡ self.entry.listeners }
     {
         let alloc = self.alloc;
@@ -166,7 +168,8 @@ impl<'a, S, F, L: ListenerTable> Application<'a, S, F, L> {
         ensures built_in { result.built_in ≡ self.entry.built_in }
         ensures servlets { result.servlets ≡ self.entry.servlets }
         ensures filters { result.filters ≡ self.entry.filters }
-        ensures listeners { ⟦<With<'a, T, L> as ListenerTable>⟧.listeners result.listeners ≡ or_else name.now (T.hears object) (L.listeners self.entry.listeners) }
+        ensures listeners { ⟦<With<'a, T, L> as ListenerTable>⟧.listeners result.listeners
+            ≡ or_else name.now (T.hears object) (L.listeners self.entry.listeners) }
     {
         Application {
             alloc: self.alloc,

@@ -22,7 +22,8 @@ const BUILT_IN_WORD: &str = "-";
 
 /// The deployment that a descriptor says, or the descriptor's least fault.
 pub fn deployment_in(alloc: Global, text: &str) -> Result<Deployment, Fault>
-    ensures deployment { IfOk result (λ deployment. (t : Members) × (parse_document text.now ≡ Some t) × (config.fault_of t ≡ None) × (deployment_data deployment ≡ deployment_of t)) }
+    ensures deployment { IfOk result (λ deployment. (t : Members) × (parse_document text.now ≡ Some t) × (config.fault_of t ≡ None)
+        × (deployment_data deployment ≡ deployment_of t)) }
     ensures fault { IfErr result (λ fault. fault ≢ Memory → (c : FaultOfConfig) × IsFaultOf text.now c × (fault ≡ fault_in c)) }
 {
     Ok(Deployment::from_toml(alloc, text)?)

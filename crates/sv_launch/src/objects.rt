@@ -21,8 +21,10 @@ pub fn objects_of<K: Kind>(
     contexts: &[Context],
 ) -> Result<Vec<Named<K::Object>>, Fault>
     ensures new { IfOk result (λ objects. All (λ n. K.is_new n.object) objects.items) }
-    ensures objects { IfOk result (λ objects. map (object_data K.meant) objects.items ≡ lookups (K.named kind.now) K.names_in 0 (map context_data contexts.now)) }
-    ensures missing { IfErr result (λ fault. fault ≢ Memory → (fault ≡ MissingObject) × IsTrue (list_any is_missing (lookups (K.named kind.now) K.names_in 0 (map context_data contexts.now)))) }
+    ensures objects { IfOk result (λ objects. map (object_data K.meant) objects.items
+        ≡ lookups (K.named kind.now) K.names_in 0 (map context_data contexts.now)) }
+    ensures missing { IfErr result (λ fault. fault ≢ Memory → (fault ≡ MissingObject)
+        × IsTrue (list_any is_missing (lookups (K.named kind.now) K.names_in 0 (map context_data contexts.now)))) }
 {
     let mut objects = Vec::new(alloc);
     for (number, context) in contexts.iter().enumerate() {
@@ -41,8 +43,10 @@ fn add_objects<K: Kind>(
 ) -> Result<(), Fault>
     requires { All (λ n. K.is_new n.object) objects.old.items }
     ensures new { All (λ n. K.is_new n.object) objects.new.items }
-    ensures objects { OnOk result (map (object_data K.meant) objects.new.items ≡ map (object_data K.meant) objects.old.items ++ looked_up (K.named kind.now) context (map string_bytes names.now)) }
-    ensures missing { IfErr result (λ fault. fault ≢ Memory → (fault ≡ MissingObject) × IsTrue (list_any is_missing (looked_up (K.named kind.now) context (map string_bytes names.now)))) }
+    ensures objects { OnOk result (map (object_data K.meant) objects.new.items ≡ map (object_data K.meant) objects.old.items
+        ++ looked_up (K.named kind.now) context (map string_bytes names.now)) }
+    ensures missing { IfErr result (λ fault. fault ≢ Memory → (fault ≡ MissingObject)
+        × IsTrue (list_any is_missing (looked_up (K.named kind.now) context (map string_bytes names.now)))) }
 {
     for name in names {
         let Some(object) = kind.object(alloc, name.as_str())? else {

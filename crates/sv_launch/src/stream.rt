@@ -47,10 +47,13 @@ pub fn once<E: Engine + Drop, R: Read, W: Write>(
     writer: &mut W,
 ) -> Result<(), OnceFault>
     requires { E.valid engine }
-    ensures served { HasServed E.meaning E.heard engine now (R.remaining reader.old) (W.contents writer.old) (R.remaining reader.new) (W.contents writer.new) result }
+    ensures served { HasServed E.meaning E.heard engine now (R.remaining reader.old) (W.contents writer.old) (R.remaining reader.new)
+        (W.contents writer.new) result }
     // However it was served, the laws of a node alone hold of its steps.
-    ensures history { (s : HasServed E.meaning E.heard engine now (R.remaining reader.old) (W.contents writer.old) (R.remaining reader.new) (W.contents writer.new) result)
-        → IsOneHistory E.meaning E.heard engine s.first s.end.site (calls_of (solo_steps E.meaning E.heard) now (sight (R.remaining reader.old) (W.contents writer.old) s.first false) s.end result s.stream) }
+    ensures history { (s : HasServed E.meaning E.heard engine now (R.remaining reader.old) (W.contents writer.old) (R.remaining reader.new)
+        (W.contents writer.new) result)
+        → IsOneHistory E.meaning E.heard engine s.first s.end.site
+        (calls_of (solo_steps E.meaning E.heard) now (sight (R.remaining reader.old) (W.contents writer.old) s.first false) s.end result s.stream) }
 {
     let mut site = Solo::new(alloc, engine);
     let mut connection = Connection::new(alloc, false);

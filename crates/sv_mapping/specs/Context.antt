@@ -1,5 +1,6 @@
 -- The context of a path (Jakarta Servlet 6.0, section 12.1).
-use Rattle.std.specs.Prelude.{◌≡◌, ℕ, suc, ◌<◌, ◌≤◌, Bool, true, false, ◌&&◌, nat_le, List, [], ◌∷◌, length, drop, slice_index_or, codes, if◌then◌else◌, Option, Some, None, IsTrue}
+use Rattle.std.specs.Prelude.{◌≡◌, ℕ, suc, ◌<◌, ◌≤◌, Bool, true, false, ◌&&◌, nat_le, List}
+use Rattle.std.specs.Prelude.{[], ◌∷◌, length, drop, slice_index_or, codes, if◌then◌else◌, Option, Some, None, IsTrue}
 use Rattle.sv_mapping.specs.Path.{Text, is_at_or_below}
 
 -- the context path at a place
@@ -11,8 +12,10 @@ context_at contexts place = slice_index_or contexts place []
 pub record IsChosen (contexts : List Text) (path : Text) (place : ℕ) : Type 0 where
   pub within : place < length contexts
   pub below : IsTrue (is_at_or_below (context_at contexts place) path)
-  pub longest : (other : ℕ) → other < length contexts → IsTrue (is_at_or_below (context_at contexts other) path) → length (context_at contexts other) ≤ length (context_at contexts place)
-  pub first : (other : ℕ) → other < place → IsTrue (is_at_or_below (context_at contexts other) path) → length (context_at contexts other) < length (context_at contexts place)
+  pub longest : (other : ℕ) → other < length contexts → IsTrue (is_at_or_below (context_at contexts other) path)
+      → length (context_at contexts other) ≤ length (context_at contexts place)
+  pub first : (other : ℕ) → other < place → IsTrue (is_at_or_below (context_at contexts other) path)
+      → length (context_at contexts other) < length (context_at contexts place)
 
 -- the path lies below no context path
 abbrev pub HasNoContext : List Text → Text → Type 0

@@ -1,5 +1,6 @@
 -- Which pattern of a context is best for a path (Jakarta Servlet 6.0, section 12.1).
-use Rattle.std.specs.Prelude.{◌≡◌, ℕ, false, ◌<◌, ◌⊎◌, List, [], ◌∷◌, length, nat_le, if◌then◌else◌, Option, Some, None, IsTrue, MatchOption, option_map, option_and_then}
+use Rattle.std.specs.Prelude.{◌≡◌, ℕ, false, ◌<◌, ◌⊎◌, List, [], ◌∷◌, length}
+use Rattle.std.specs.Prelude.{nat_le, if◌then◌else◌, Option, Some, None, IsTrue, MatchOption, option_map, option_and_then}
 use Rattle.std.specs.FinMap.{FinMap, get, contains_key, keys, len}
 use Rattle.std.specs.Str.{IsCharBoundary}
 use Rattle.sv_mapping.specs.Path.{Text}
@@ -66,7 +67,8 @@ pub record IsBestByRule (table : Table) (path : Text) (rule : ℕ) (found : Matc
   pub pattern : Text
   pub goes_by : rule_of pattern ≡ rule
   pub matching : IsTrue (matches pattern path)
-  pub longest : (other : Text) → IsTrue (contains_key table other) → rule_of other ≡ rule → IsTrue (matches other path) → (other ≡ pattern) ⊎ (length other < length pattern)
+  pub longest : (other : Text) → IsTrue (contains_key table other) → rule_of other ≡ rule → IsTrue (matches other path) → (other ≡ pattern)
+      ⊎ (length other < length pattern)
   pub match_of : IsMatchOf table path pattern found
 
 abbrev pub AnswersByRule : Table → Text → ℕ → Option Match → Type 0

@@ -38,7 +38,8 @@ fn add_by_pattern(
     path: &str,
     dispatcher: Dispatcher,
 ) -> Result<(), MappingFault>
-    ensures ok { OnOk result (filters.new.items ≡ added_where (λ m. carries m.dispatchers dispatcher && matches_path path.now m.target) filters.old.items mappings.now) }
+    ensures ok { OnOk result (filters.new.items ≡ added_where (λ m.
+        carries m.dispatchers dispatcher && matches_path path.now m.target) filters.old.items mappings.now) }
     ensures memory { IfErr result (λ fault. fault ≡ Memory) }
 {
     for mapping in mappings {
@@ -55,7 +56,8 @@ fn add_by_servlet(
     servlet: Option<usize>,
     dispatcher: Dispatcher,
 ) -> Result<(), MappingFault>
-    ensures ok { OnOk result (filters.new.items ≡ added_where (λ m. carries m.dispatchers dispatcher && names_servlet servlet m.target) filters.old.items mappings.now) }
+    ensures ok { OnOk result (filters.new.items ≡ added_where (λ m.
+        carries m.dispatchers dispatcher && names_servlet servlet m.target) filters.old.items mappings.now) }
     ensures memory { IfErr result (λ fault. fault ≡ Memory) }
 {
     for mapping in mappings {

@@ -30,7 +30,8 @@ pub fn choose_context(contexts: &[String], path: &str) -> Option<usize>
 fn is_preferred(contexts: &[String], path: &str, place: usize, later: Option<usize>) -> bool
     requires place_in { place < length contexts.now }
     requires later_in { ForSome later (λ k. k < length contexts.now) }
-    ensures { result ≡ (paths.is_at_or_below (spec.context_at (map string_bytes contexts.now) place) path.now && spec.is_as_long (map string_bytes contexts.now) place later) }
+    ensures { result ≡ (paths.is_at_or_below (spec.context_at (map string_bytes contexts.now) place) path.now && spec.is_as_long
+        (map string_bytes contexts.now) place later) }
 {
     let context = contexts[place].as_str();
     let is_as_long = match later {

@@ -22,7 +22,8 @@ use Rattle.sv_model.specs.Waiting.{serve_parked}
 -- the session is handed to another node
 abbrev pub hands_over : Setting → Node → Key → ℕ → Session → ℕ → List Output → Decision
 hands_over set n k e s to more =
-    with_record n (SentRecord k (e + 1) to s) k (Sent (e + 1) s to) (Some (record { context = s.context; event = Passivate k })) (Send (Grant set.node to k (e + 1) s) ∷ more)
+    with_record n (SentRecord k (e + 1) to s) k (Sent (e + 1) s to) (Some (record { context = s.context; event = Passivate k }))
+    (Send (Grant set.node to k (e + 1) s) ∷ more)
 
 -- there is no such session, as far as this node can tell
 abbrev pub says_no : Setting → Node → ℕ → Key → ℕ → ℕ → Decision
@@ -95,7 +96,8 @@ move_refused n why = idle n (MoveRefused why ∷ [])
 abbrev pub on_move : Setting → Node → Key → ℕ → Option KeyState → Decision
 on_move set n k to None = move_refused n UnknownKey
 on_move set n k to (Some (Active e s)) =
-    cond ((to == set.node) || nat_le set.nodes to) (move_refused n BadPeer) (cond (e == last_number) (move_refused n EpochsSpent) (hands_over set n k e s to (Moved ∷ [])))
+    cond ((to == set.node) || nat_le set.nodes to) (move_refused n BadPeer)
+    (cond (e == last_number) (move_refused n EpochsSpent) (hands_over set n k e s to (Moved ∷ [])))
 on_move set n k to (Some (Sent e s there)) = move_refused n NotActive
 on_move set n k to (Some (Gone e)) = move_refused n NotActive
 on_move set n k to (Some (Ended e)) = move_refused n NotActive

@@ -8,7 +8,8 @@ use Rattle.sv_model.specs.declared.event.Event.TheVariants.{Passivate, Activate}
 use Rattle.sv_model.specs.declared.record.Change.{Change}
 use Rattle.sv_model.specs.declared.record.Change.TheVariants.{Absent as Unchanged, Alive as ChangeAlive, Ended as ChangeEnded}
 use Rattle.sv_model.specs.declared.record.Record.{Record}
-use Rattle.sv_model.specs.declared.record.Record.TheVariants.{Boot, Commit as CommitRecord, Expired as ExpiredRecord, Sent as SentRecord, Taken as TakenRecord, Gone as GoneRecord, State as StateRecord, Counters, Forgets, Counted}
+use Rattle.sv_model.specs.declared.record.Record.TheVariants.{Boot, Commit as CommitRecord, Expired as ExpiredRecord, Sent as SentRecord, Taken as TakenRecord}
+use Rattle.sv_model.specs.declared.record.Record.TheVariants.{Gone as GoneRecord, State as StateRecord, Counters, Forgets, Counted}
 
 -- a session with which an epoch of a key was opened
 pub record Opening : Type 0 where

@@ -11,7 +11,8 @@ use Rattle.sv_model.specs.declared.state.KeyState.TheVariants.{Active, Sent, Gon
 use Rattle.sv_model.specs.declared.record.Change.{Change}
 use Rattle.sv_model.specs.declared.record.Change.TheVariants.{Absent as Unchanged, Alive as ChangeAlive, Ended as ChangeEnded}
 use Rattle.sv_model.specs.declared.record.Record.{Record}
-use Rattle.sv_model.specs.declared.record.Record.TheVariants.{Boot, Commit, Expired, Sent as SentRecord, Taken, Gone as GoneRecord, State, Counters, Forgets, Counted}
+use Rattle.sv_model.specs.declared.record.Record.TheVariants.{Boot, Commit, Expired, Sent as SentRecord, Taken}
+use Rattle.sv_model.specs.declared.record.Record.TheVariants.{Gone as GoneRecord, State, Counters, Forgets, Counted}
 use Rattle.sv_model.specs.NodeState.{Keys, Durable, last_number, epoch_in, known, is_unmade, has_space}
 use Rattle.sv_model.specs.Serving.{kept_at, ended_at, over_at}
 

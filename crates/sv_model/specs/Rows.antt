@@ -17,7 +17,8 @@ use Rattle.sv_model.specs.declared.outcome.Fate.TheVariants.{Untouched, Kept}
 use Rattle.sv_model.specs.declared.outcome.Birth.TheVariants.{Absent, Alive}
 use Rattle.sv_model.specs.declared.state.KeyState.TheVariants.{Active, Sent, Gone, Ended}
 use Rattle.sv_model.specs.declared.record.Change.TheVariants.{Absent as Unchanged, Alive as ChangeAlive, Ended as ChangeEnded}
-use Rattle.sv_model.specs.declared.record.Record.TheVariants.{Commit as CommitRecord, Expired as ExpiredRecord, Sent as SentRecord, Taken as TakenRecord, Gone as GoneRecord, Boot, Forgets, Counted}
+use Rattle.sv_model.specs.declared.record.Record.TheVariants.{Commit as CommitRecord, Expired as ExpiredRecord, Sent as SentRecord, Taken as TakenRecord}
+use Rattle.sv_model.specs.declared.record.Record.TheVariants.{Gone as GoneRecord, Boot, Forgets, Counted}
 use Rattle.sv_model.specs.declared.commit.Commit.TheVariants.{Served, Expired}
 use Rattle.sv_model.specs.declared.packet.Packet.TheVariants.{Want, Grant, Ack, No}
 use Rattle.sv_model.specs.declared.input.Input.TheVariants.{Ask, Packet as Incoming, Poke, Tick, Move}
@@ -60,11 +61,13 @@ at_second now secret = record { now = now; secret = secret }
 
 -- an engine, a request that names no session and makes one, and another that names it, changes it where it is handed in
 -- and else makes a new one
-pub record IsExample (m : EngineMeaning) (secret : Secret) (first again : Request) (made kept : Session) (one two : Response) (events more : List Told) : Type 0 where
+pub record IsExample (m : EngineMeaning) (secret : Secret) (first again : Request) (made kept : Session) (one two : Response)
+    (events more : List Told) : Type 0 where
   pub none : m.names first ≡ None
   pub names : m.names again ≡ Some (first_key 0, secret)
   pub makes : (k : Key) → m.serve first None 1_000 (k, secret) ≡ record { response = one; fate = Untouched; birth = Alive made; events = events }
-  pub keeps_it : (k : Key) → m.serve again (Some (first_key 0, made)) 1_000 (k, secret) ≡ record { response = two; fate = Kept kept; birth = Absent; events = more }
+  pub keeps_it : (k : Key) → m.serve again (Some (first_key 0, made)) 1_000 (k, secret)
+      ≡ record { response = two; fate = Kept kept; birth = Absent; events = more }
   pub without : (k : Key) → m.serve again None 1_000 (k, secret) ≡ record { response = one; fate = Untouched; birth = Alive made; events = events }
 
 module _ (m : EngineMeaning) (secret : Secret) (first again : Request) (made kept : Session) (one two : Response) (events more : List Told) where
@@ -92,16 +95,17 @@ module _ (m : EngineMeaning) (secret : Secret) (first again : Request) (made kep
     pub parked : decided m (of_three 1) (at_rest (keeps empty 1)) (at_second 1_000 secret) (Ask 1 again)
         ≡ record (idle (waiting empty) (Send (Want 1 0 (first_key 0) 1 1) ∷ Send (Want 1 2 (first_key 0) 1 1) ∷ [])) { next_want = 2 }
     -- node 0 hands it over, by a record
-    pub wanted : decided m (of_three 0) (at_rest (keeps (insert empty (first_key 0) (Active 1 made)) 2)) (at_second 1_000 secret) (Incoming (Want 1 0 (first_key 0) 1 1)) ≡ record {
-      entry = Some (SentRecord (first_key 0) 2 1 made);
-      commit = None;
-      events = [];
-      mark = Some (record { context = made.context; event = Passivate (first_key 0) });
-      outputs = Send (Grant 0 1 (first_key 0) 2 made) ∷ [];
-      durable = keeps (insert (insert empty (first_key 0) (Active 1 made)) (first_key 0) (Sent 2 made 1)) 2;
-      parked = [];
-      next_want = 1;
-    }
+    pub wanted : decided m (of_three 0) (at_rest (keeps (insert empty (first_key 0) (Active 1 made)) 2)) (at_second 1_000 secret)
+        (Incoming (Want 1 0 (first_key 0) 1 1)) ≡ record {
+          entry = Some (SentRecord (first_key 0) 2 1 made);
+          commit = None;
+          events = [];
+          mark = Some (record { context = made.context; event = Passivate (first_key 0) });
+          outputs = Send (Grant 0 1 (first_key 0) 2 made) ∷ [];
+          durable = keeps (insert (insert empty (first_key 0) (Active 1 made)) (first_key 0) (Sent 2 made 1)) 2;
+          parked = [];
+          next_want = 1;
+        }
     -- node 1 takes it over, by a record
     pub granted : decided m (of_three 1) (waiting empty) (at_second 1_000 secret) (Incoming (Grant 0 1 (first_key 0) 2 made)) ≡ record {
       entry = Some (TakenRecord (first_key 0) 2 0 made);
@@ -125,42 +129,50 @@ module _ (m : EngineMeaning) (secret : Secret) (first again : Request) (made kep
       next_want = 2;
     }
     -- node 0 hears that it was taken, and forgets it, by a record
-    pub acknowledged : decided m (of_three 0) (at_rest (keeps (insert empty (first_key 0) (Sent 2 made 1)) 2)) (at_second 1_000 secret) (Incoming (Ack 1 0 (first_key 0) 2)) ≡ record {
-      entry = Some (GoneRecord (first_key 0) 2);
-      commit = None;
-      events = [];
-      mark = None;
-      outputs = [];
-      durable = keeps (insert (insert empty (first_key 0) (Sent 2 made 1)) (first_key 0) (Gone 2)) 2;
-      parked = [];
-      next_want = 1;
-    }
+    pub acknowledged : decided m (of_three 0) (at_rest (keeps (insert empty (first_key 0) (Sent 2 made 1)) 2)) (at_second 1_000 secret)
+        (Incoming (Ack 1 0 (first_key 0) 2)) ≡ record {
+          entry = Some (GoneRecord (first_key 0) 2);
+          commit = None;
+          events = [];
+          mark = None;
+          outputs = [];
+          durable = keeps (insert (insert empty (first_key 0) (Sent 2 made 1)) (first_key 0) (Gone 2)) 2;
+          parked = [];
+          next_want = 1;
+        }
 
   -- packets that come again or late, and orders that can't be met, change nothing
   pub record AreLate : Type 0 where
     -- node 2 has no such session
-    pub unknown : decided m (of_three 2) (at_rest (keeps empty 1)) (at_second 1_000 secret) (Incoming (Want 1 2 (first_key 0) 1 1)) ≡ idle (at_rest (keeps empty 1)) []
+    pub unknown : decided m (of_three 2) (at_rest (keeps empty 1)) (at_second 1_000 secret) (Incoming (Want 1 2 (first_key 0) 1 1))
+        ≡ idle (at_rest (keeps empty 1)) []
     -- a Grant of the epoch that is recorded, and of an older one, is acknowledged and not taken
-    pub again_granted : decided m (of_three 1) (at_rest (keeps (insert empty (first_key 0) (Active 2 kept)) 1)) (at_second 1_000 secret) (Incoming (Grant 0 1 (first_key 0) 2 made))
+    pub again_granted : decided m (of_three 1) (at_rest (keeps (insert empty (first_key 0) (Active 2 kept)) 1)) (at_second 1_000 secret)
+        (Incoming (Grant 0 1 (first_key 0) 2 made))
         ≡ idle (at_rest (keeps (insert empty (first_key 0) (Active 2 kept)) 1)) (Send (Ack 1 0 (first_key 0) 2) ∷ [])
-    pub stale : decided m (of_three 1) (at_rest (keeps (insert empty (first_key 0) (Gone 5)) 1)) (at_second 1_000 secret) (Incoming (Grant 0 1 (first_key 0) 2 made))
+    pub stale : decided m (of_three 1) (at_rest (keeps (insert empty (first_key 0) (Gone 5)) 1)) (at_second 1_000 secret)
+        (Incoming (Grant 0 1 (first_key 0) 2 made))
         ≡ idle (at_rest (keeps (insert empty (first_key 0) (Gone 5)) 1)) (Send (Ack 1 0 (first_key 0) 2) ∷ [])
     -- an Ack of another epoch is no answer to this Grant
-    pub other_ack : decided m (of_three 0) (at_rest (keeps (insert empty (first_key 0) (Sent 4 made 1)) 2)) (at_second 1_000 secret) (Incoming (Ack 1 0 (first_key 0) 2))
+    pub other_ack : decided m (of_three 0) (at_rest (keeps (insert empty (first_key 0) (Sent 4 made 1)) 2)) (at_second 1_000 secret)
+        (Incoming (Ack 1 0 (first_key 0) 2))
         ≡ idle (at_rest (keeps (insert empty (first_key 0) (Sent 4 made 1)) 2)) []
     -- a No of an older start, or to another want, is none to the request that waits
     pub old_no : decided m (of_three 1) (waiting empty) (at_second 1_000 secret) (Incoming (No 0 1 (first_key 0) 0 1)) ≡ idle (waiting empty) []
     pub other_no : decided m (of_three 1) (waiting empty) (at_second 1_000 secret) (Incoming (No 0 1 (first_key 0) 1 2)) ≡ idle (waiting empty) []
-    pub unknown_moved : decided m (of_three 0) (at_rest (keeps empty 1)) (at_second 1_000 secret) (Move (first_key 0) 1) ≡ idle (at_rest (keeps empty 1)) (MoveRefused UnknownKey ∷ [])
+    pub unknown_moved : decided m (of_three 0) (at_rest (keeps empty 1)) (at_second 1_000 secret) (Move (first_key 0) 1)
+        ≡ idle (at_rest (keeps empty 1)) (MoveRefused UnknownKey ∷ [])
     pub gone_moved : decided m (of_three 0) (at_rest (keeps (insert empty (first_key 0) (Gone 2)) 2)) (at_second 1_000 secret) (Move (first_key 0) 1)
         ≡ idle (at_rest (keeps (insert empty (first_key 0) (Gone 2)) 2)) (MoveRefused NotActive ∷ [])
-    pub moved_to_itself : decided m (of_three 1) (at_rest (keeps (insert empty (first_key 0) (Active 2 made)) 1)) (at_second 1_000 secret) (Move (first_key 0) 1)
+    pub moved_to_itself : decided m (of_three 1) (at_rest (keeps (insert empty (first_key 0) (Active 2 made)) 1)) (at_second 1_000 secret)
+        (Move (first_key 0) 1)
         ≡ idle (at_rest (keeps (insert empty (first_key 0) (Active 2 made)) 1)) (MoveRefused BadPeer ∷ [])
 
   -- nobody has made the session that node 1 is asked for
   pub record IsNeverMade : Type 0 where
     -- its home says so
-    pub denied : decided m (of_three 0) (at_rest (keeps empty 1)) (at_second 1_000 secret) (Incoming (Want 1 0 (first_key 0) 1 1)) ≡ idle (at_rest (keeps empty 1)) (Send (No 0 1 (first_key 0) 1 1) ∷ [])
+    pub denied : decided m (of_three 0) (at_rest (keeps empty 1)) (at_second 1_000 secret) (Incoming (Want 1 0 (first_key 0) 1 1))
+        ≡ idle (at_rest (keeps empty 1)) (Send (No 0 1 (first_key 0) 1 1) ∷ [])
     -- and the request that waits is served without it
     pub served_without : decided m (of_three 1) (waiting empty) (at_second 1_000 secret) (Incoming (No 0 1 (first_key 0) 1 1)) ≡ record {
       entry = Some (CommitRecord Unchanged (ChangeAlive (first_key 1) made));
@@ -186,29 +198,32 @@ module _ (m : EngineMeaning) (secret : Secret) (first again : Request) (made kep
   -- orders that are met, time that has passed, and the limits
   pub record AreOrders : Type 0 where
     -- a session is handed to another node because it was ordered
-    pub ordered : decided m (of_three 1) (at_rest (keeps (insert empty (first_key 0) (Active 2 kept)) 1)) (at_second 1_000 secret) (Move (first_key 0) 0) ≡ record {
-      entry = Some (SentRecord (first_key 0) 3 0 kept);
-      commit = None;
-      events = [];
-      mark = Some (record { context = kept.context; event = Passivate (first_key 0) });
-      outputs = Send (Grant 1 0 (first_key 0) 3 kept) ∷ Moved ∷ [];
-      durable = keeps (insert (insert empty (first_key 0) (Active 2 kept)) (first_key 0) (Sent 3 kept 0)) 1;
-      parked = [];
-      next_want = 1;
-    }
+    pub ordered : decided m (of_three 1) (at_rest (keeps (insert empty (first_key 0) (Active 2 kept)) 1)) (at_second 1_000 secret) (Move (first_key 0) 0)
+        ≡ record {
+          entry = Some (SentRecord (first_key 0) 3 0 kept);
+          commit = None;
+          events = [];
+          mark = Some (record { context = kept.context; event = Passivate (first_key 0) });
+          outputs = Send (Grant 1 0 (first_key 0) 3 kept) ∷ Moved ∷ [];
+          durable = keeps (insert (insert empty (first_key 0) (Active 2 kept)) (first_key 0) (Sent 3 kept 0)) 1;
+          parked = [];
+          next_want = 1;
+        }
     -- a session that has expired ends at a tick
-    pub expired : is_expired made 1_000 ≡ true → decided m (of_three 0) (at_rest (keeps (insert empty (first_key 0) (Active 1 made)) 2)) (at_second 1_000 secret) Tick ≡ record {
-      entry = Some (ExpiredRecord (first_key 0));
-      commit = Some (Expired (first_key 0) 1_000);
-      events = record { context = made.context; event = Destroyed (first_key 0) } ∷ [];
-      mark = None;
-      outputs = [];
-      durable = keeps (insert (insert empty (first_key 0) (Active 1 made)) (first_key 0) (Ended 1)) 2;
-      parked = [];
-      next_want = 1;
-    }
+    pub expired : is_expired made 1_000 ≡ true → decided m (of_three 0) (at_rest (keeps (insert empty (first_key 0) (Active 1 made)) 2))
+        (at_second 1_000 secret) Tick ≡ record {
+          entry = Some (ExpiredRecord (first_key 0));
+          commit = Some (Expired (first_key 0) 1_000);
+          events = record { context = made.context; event = Destroyed (first_key 0) } ∷ [];
+          mark = None;
+          outputs = [];
+          durable = keeps (insert (insert empty (first_key 0) (Active 1 made)) (first_key 0) (Ended 1)) 2;
+          parked = [];
+          next_want = 1;
+        }
     -- behind 64 requests that wait another is refused
-    pub park_full : (parked : List Parked) → length parked ≡ 64 → decided m (of_three 1) (record { durable = keeps empty 1; parked = parked; next_want = 65 }) (at_second 1_000 secret) (Ask 1 again)
+    pub park_full : (parked : List Parked) → length parked ≡ 64
+        → decided m (of_three 1) (record { durable = keeps empty 1; parked = parked; next_want = 65 }) (at_second 1_000 secret) (Ask 1 again)
         ≡ idle (record { durable = keeps empty 1; parked = parked; next_want = 65 }) (Refuse 1 ParkFull ∷ [])
 
   -- a node that forgets has made a session that has ended: it keeps nothing of the key, and answers as if it had kept all
@@ -236,57 +251,66 @@ module _ (m : EngineMeaning) (secret : Secret) (first again : Request) (made kep
       next_want = 2;
     }
     -- who asks for it hears that there is no such session
-    pub denied : decided m (of_three 0) (at_rest (forgets 0 empty)) (at_second 1_000 secret) (Incoming (Want 1 0 (first_key 0) 1 1)) ≡ idle (at_rest (forgets 0 empty)) (Send (No 0 1 (first_key 0) 1 1) ∷ [])
+    pub denied : decided m (of_three 0) (at_rest (forgets 0 empty)) (at_second 1_000 secret) (Incoming (Want 1 0 (first_key 0) 1 1))
+        ≡ idle (at_rest (forgets 0 empty)) (Send (No 0 1 (first_key 0) 1 1) ∷ [])
     -- a Grant of any epoch is acknowledged and not taken
     pub granted : decided m (of_three 0) (at_rest (forgets 0 empty)) (at_second 1_000 secret) (Incoming (Grant 1 0 (first_key 0) 7 made))
         ≡ idle (at_rest (forgets 0 empty)) (Send (Ack 0 1 (first_key 0) 7) ∷ [])
-    pub moved : decided m (of_three 0) (at_rest (forgets 0 empty)) (at_second 1_000 secret) (Move (first_key 0) 1) ≡ idle (at_rest (forgets 0 empty)) (MoveRefused NotActive ∷ [])
+    pub moved : decided m (of_three 0) (at_rest (forgets 0 empty)) (at_second 1_000 secret) (Move (first_key 0) 1)
+        ≡ idle (at_rest (forgets 0 empty)) (MoveRefused NotActive ∷ [])
     -- a key that it has not handed out it has not forgotten, nor one that no session ever has, nor one of another home
     pub unmade : known (forgets 0 empty) (second_key 0) ≡ None
     pub never : known (forgets 0 empty) (record { home = 0; serial = 0 }) ≡ None
     pub foreign : known (forgets 0 empty) (first_key 1) ≡ None
     -- a session of its own that expires leaves nothing
-    pub expired : is_expired made 1_000 ≡ true → decided m (of_three 0) (at_rest (forgets 0 (insert empty (first_key 0) (Active 1 made)))) (at_second 1_000 secret) Tick ≡ record {
-      entry = Some (ExpiredRecord (first_key 0));
-      commit = Some (Expired (first_key 0) 1_000);
-      events = record { context = made.context; event = Destroyed (first_key 0) } ∷ [];
-      mark = None;
-      outputs = [];
-      durable = forgets 0 empty;
-      parked = [];
-      next_want = 1;
-    }
+    pub expired : is_expired made 1_000 ≡ true → decided m (of_three 0) (at_rest (forgets 0 (insert empty (first_key 0) (Active 1 made))))
+        (at_second 1_000 secret) Tick ≡ record {
+          entry = Some (ExpiredRecord (first_key 0));
+          commit = Some (Expired (first_key 0) 1_000);
+          events = record { context = made.context; event = Destroyed (first_key 0) } ∷ [];
+          mark = None;
+          outputs = [];
+          durable = forgets 0 empty;
+          parked = [];
+          next_want = 1;
+        }
     -- one of another home leaves its epoch
-    pub expired_away : is_expired made 1_000 ≡ true → decided m (of_three 1) (at_rest (forgets 1 (insert empty (first_key 0) (Active 2 made)))) (at_second 1_000 secret) Tick ≡ record {
-      entry = Some (ExpiredRecord (first_key 0));
-      commit = Some (Expired (first_key 0) 1_000);
-      events = record { context = made.context; event = Destroyed (first_key 0) } ∷ [];
-      mark = None;
-      outputs = [];
-      durable = forgets 1 (insert (insert empty (first_key 0) (Active 2 made)) (first_key 0) (Ended 2));
-      parked = [];
-      next_want = 1;
-    }
+    pub expired_away : is_expired made 1_000 ≡ true → decided m (of_three 1) (at_rest (forgets 1 (insert empty (first_key 0) (Active 2 made))))
+        (at_second 1_000 secret) Tick ≡ record {
+          entry = Some (ExpiredRecord (first_key 0));
+          commit = Some (Expired (first_key 0) 1_000);
+          events = record { context = made.context; event = Destroyed (first_key 0) } ∷ [];
+          mark = None;
+          outputs = [];
+          durable = forgets 1 (insert (insert empty (first_key 0) (Active 2 made)) (first_key 0) (Ended 2));
+          parked = [];
+          next_want = 1;
+        }
 
   -- a node that knows no key more
   pub record AreFull : Type 0 where
     -- where it forgets, it asks for no session that it has no room for
-    pub crowded : decided m (record (of_three 1) { keys = 0 }) (at_rest (forgets 1 empty)) (at_second 1_000 secret) (Ask 1 again) ≡ idle (at_rest (forgets 1 empty)) (Refuse 1 TableFull ∷ [])
+    pub crowded : decided m (record (of_three 1) { keys = 0 }) (at_rest (forgets 1 empty)) (at_second 1_000 secret) (Ask 1 again)
+        ≡ idle (at_rest (forgets 1 empty)) (Refuse 1 TableFull ∷ [])
     -- where it forgets none, it asks for it, and leaves the Grant
     pub parked : decided m (record (of_three 1) { keys = 0 }) (at_rest (keeps empty 1)) (at_second 1_000 secret) (Ask 1 again)
         ≡ record (idle (waiting empty) (Send (Want 1 0 (first_key 0) 1 1) ∷ Send (Want 1 2 (first_key 0) 1 1) ∷ [])) { next_want = 2 }
-    pub left : decided m (record (of_three 1) { keys = 0 }) (waiting empty) (at_second 1_000 secret) (Incoming (Grant 0 1 (first_key 0) 2 made)) ≡ idle (waiting empty) []
+    pub left : decided m (record (of_three 1) { keys = 0 }) (waiting empty) (at_second 1_000 secret) (Incoming (Grant 0 1 (first_key 0) 2 made))
+        ≡ idle (waiting empty) []
     -- and it makes no session
-    pub refused : decided m (record (of_three 0) { keys = 0 }) (at_rest (keeps empty 1)) (at_second 1_000 secret) (Ask 1 first) ≡ idle (at_rest (keeps empty 1)) (Refuse 1 TableFull ∷ [])
+    pub refused : decided m (record (of_three 0) { keys = 0 }) (at_rest (keeps empty 1)) (at_second 1_000 secret) (Ask 1 first)
+        ≡ idle (at_rest (keeps empty 1)) (Refuse 1 TableFull ∷ [])
 
 -- what records of a node that forgets give, and where they may stand
 pub record AreForgetting (s : Session) : Type 0 where
   -- from its first start on an own session that ends leaves nothing
-  pub begun : replayed blank (Forgets 0 1 ∷ CommitRecord Unchanged (ChangeAlive (first_key 0) s) ∷ CommitRecord (ChangeEnded (first_key 0)) Unchanged ∷ []) ≡ forgets 0 empty
+  pub begun : replayed blank (Forgets 0 1 ∷ CommitRecord Unchanged (ChangeAlive (first_key 0) s) ∷ CommitRecord (ChangeEnded (first_key 0)) Unchanged ∷ [])
+      ≡ forgets 0 empty
   -- one that was made and has ended at once has spent its serial
   pub spent : replayed blank (Forgets 0 1 ∷ CommitRecord Unchanged (ChangeEnded (first_key 0)) ∷ []) ≡ forgets 0 empty
   -- what ended before that stays
-  pub before : replayed blank (Boot 1 ∷ CommitRecord Unchanged (ChangeEnded (first_key 0)) ∷ Forgets 0 2 ∷ []) ≡ record (forgets 0 (insert empty (first_key 0) (Ended 1))) { boot = 2 }
+  pub before : replayed blank (Boot 1 ∷ CommitRecord Unchanged (ChangeEnded (first_key 0)) ∷ Forgets 0 2 ∷ [])
+      ≡ record (forgets 0 (insert empty (first_key 0) (Ended 1))) { boot = 2 }
   pub counted : replayed blank (Counted 0 1 2 ∷ []) ≡ forgets 0 empty
   -- a later start that says nothing of it changes nothing of it
   pub stays : replayed blank (Counted 0 1 2 ∷ Boot 2 ∷ []) ≡ record (forgets 0 empty) { boot = 2 }

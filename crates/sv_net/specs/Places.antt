@@ -4,7 +4,8 @@ use Rattle.sv_net.specs.declared.connections.Connections.{Connections}
 use Rattle.sv_net.specs.declared.open.Open.{Open}
 use Rattle.sv_net.specs.declared.persistence.Persistence.{Persistence}
 use Rattle.sv_net.specs.declared.state.State.{State}
-use Rattle.sv_net.specs.declared.state.State.TheVariants.{New, Asking, Asked, Resting, Framing, Taken, Peer, Waiting, Ordering, Holding, Saying, Parting, Calling}
+use Rattle.sv_net.specs.declared.state.State.TheVariants.{New, Asking, Asked, Resting, Framing, Taken, Peer}
+use Rattle.sv_net.specs.declared.state.State.TheVariants.{Waiting, Ordering, Holding, Saying, Parting, Calling}
 
 abbrev pub places_of : Connections → List (Option Open)
 places_of c = c.places.items

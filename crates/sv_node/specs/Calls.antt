@@ -30,7 +30,8 @@ told_by d (Ok outputs) = (carried_out d).told
 told_by d (Err fault) = []
 
 -- a step
-pub record IsStepCall {E D : Type 0} (meaning : E → EngineMeaning) (heard : E → List (List ℕ)) (old : Node E D) (at : Moment) (input : Input) (answer : Result (List Output) StepFault) (new : Node E D) : Type 0 where
+pub record IsStepCall {E D : Type 0} (meaning : E → EngineMeaning) (heard : E → List (List ℕ)) (old : Node E D) (at : Moment) (input : Input)
+    (answer : Result (List Output) StepFault) (new : Node E D) : Type 0 where
   pub does : (a : After) → IsAfterStep old (decided_at meaning old at input) answer new a
       → Does (meaning (engine_of old)) (setting_of old) (journal_of old).live (state_of old) (Step at input (ending_of answer)) a
   pub runs : (journal_of new).live ≡ runs_behind (journal_of old).live (Step at input (ending_of answer))
@@ -48,8 +49,10 @@ IsAfterCompaction (Err journal.Memory) new a = a ≡ quiet (state_of new)
 IsAfterCompaction (Err journal.Device) new a = a ≡ quiet (kept (durable_of new))
 
 -- a compaction, whatever engines mean
-pub record IsCompactionCall {E D T : Type 0} (meaning : E → EngineMeaning) (heard : E → List (List ℕ)) (old : Node E D) (answer : Result T JournalFault) (new : Node E D) : Type 0 where
-  pub does : (m : EngineMeaning) (a : After) → IsAfterCompaction answer new a → Does m (setting_of old) (journal_of old).live (state_of old) (Compact (ending_of answer)) a
+pub record IsCompactionCall {E D T : Type 0} (meaning : E → EngineMeaning) (heard : E → List (List ℕ)) (old : Node E D)
+    (answer : Result T JournalFault) (new : Node E D) : Type 0 where
+  pub does : (m : EngineMeaning) (a : After) → IsAfterCompaction answer new a
+      → Does m (setting_of old) (journal_of old).live (state_of old) (Compact (ending_of answer)) a
   pub runs : (journal_of new).live ≡ runs_behind (journal_of old).live (Compact (ending_of answer))
   pub setting : setting_of new ≡ setting_of old
   pub meaning_is : meaning (engine_of new) ≡ meaning (engine_of old)

@@ -48,9 +48,11 @@ pub record HasTurned {D : Type 0} (old new : JournalView D) : Type 0 where
 
 -- a stop at any moment leaves, of the disk that isn't current, beside the current one, the entries that the journal holds, or
 -- these records and no others
-abbrev pub LeavesReplaced : {D : Type 0} → (D → List ℕ) → (D → List ℕ → Type 0) → (D → ℕ) → (D → ℕ → List ℕ → Type 0) → (old new : JournalView D) → List Record → Type 0
+abbrev pub LeavesReplaced : {D : Type 0} → (D → List ℕ) → (D → List ℕ → Type 0) → (D → ℕ) → (D → ℕ → List ℕ → Type 0) → (old new : JournalView D) → List Record
+    → Type 0
 LeavesReplaced seen may_leave moment left_since old new records =
-    (entries : List (List ℕ)) → Holds seen may_leave old entries → LeavesOnly moment left_since old.other (written old new) (OpensReplaced (seen old.current) entries (map spelling records))
+    (entries : List (List ℕ)) → Holds seen may_leave old entries
+    → LeavesOnly moment left_since old.other (written old new) (OpensReplaced (seen old.current) entries (map spelling records))
 
 -- what a compaction does, by its answer: it tells nothing, and no call of it answers Damaged
 abbrev pub CompactionEnds : {E D T : Type 0} → (E → EngineMeaning) → (E → List (List ℕ)) → (D → ℕ) → Node E D → Result T JournalFault → Node E D → Type 0
@@ -62,11 +64,13 @@ CompactionEnds meaning heard failed old (Err Damaged) new = ⊥
 CompactionEnds meaning heard failed old (Err Full) new = IsUntouched meaning heard old new × HasNoRoom (journal_of old) (snapshot_of (durable_of old))
 CompactionEnds meaning heard failed old (Err Memory) new = IsUntouched meaning heard old new
 CompactionEnds meaning heard failed old (Err Device) new =
-    (view_of meaning heard new ≡ view_of meaning heard old) × ((journal_of new).live ≡ false) × HasRisen (failed (journal_of old).other) (failed (journal_of new).other)
+    (view_of meaning heard new ≡ view_of meaning heard old) × ((journal_of new).live ≡ false)
+    × HasRisen (failed (journal_of old).other) (failed (journal_of new).other)
 
 -- A compaction: what it does, and what a stop at any moment of it, or behind it, leaves of the disks. Whatever its answer,
 -- that is the state that the node keeps. A node whose disk has failed before answers Failed.
-pub record IsCompaction {E D T : Type 0} (meaning : E → EngineMeaning) (heard : E → List (List ℕ)) (tells : D → Type 0) (seen : D → List ℕ) (may_leave : D → List ℕ → Type 0) (moment : D → ℕ) (left_since : D → ℕ → List ℕ → Type 0) (failed : D → ℕ)
+pub record IsCompaction {E D T : Type 0} (meaning : E → EngineMeaning) (heard : E → List (List ℕ)) (tells : D → Type 0) (seen : D → List ℕ)
+    (may_leave : D → List ℕ → Type 0) (moment : D → ℕ) (left_since : D → ℕ → List ℕ → Type 0) (failed : D → ℕ)
     (old : Node E D) (answer : Result T JournalFault) (new : Node E D) : Type 0 where
   pub ends : CompactionEnds meaning heard failed old answer new
   pub failed_before : (journal_of old).live ≡ false → answer ≡ Err Failed
@@ -74,7 +78,9 @@ pub record IsCompaction {E D T : Type 0} (meaning : E → EngineMeaning) (heard 
   pub tells_on : TellsOn tells (journal_of old).other (written (journal_of old) (journal_of new))
   pub kept : spared (journal_of old) (journal_of new) ≡ (journal_of old).current
   pub any_moment : IsTrue (journal_of old).live → TellsBoth tells (journal_of old)
-      → LeavesOnly moment left_since (journal_of old).other (written (journal_of old) (journal_of new)) (RestoresBeside (setting_of old) (seen (journal_of old).current) (durable_of old))
+      → LeavesOnly moment left_since (journal_of old).other (written (journal_of old) (journal_of new))
+      (RestoresBeside (setting_of old) (seen (journal_of old).current) (durable_of old))
   pub left : IsTrue (journal_of old).live → TellsBoth tells (journal_of old) → LeavesSame may_leave (journal_of new) (setting_of old) (durable_of old)
   -- whatever its answer, no records but those of the snapshot are written
-  pub writes : IsTrue (journal_of old).live → TellsBoth tells (journal_of old) → LeavesReplaced seen may_leave moment left_since (journal_of old) (journal_of new) (snapshot_of (durable_of old))
+  pub writes : IsTrue (journal_of old).live → TellsBoth tells (journal_of old)
+      → LeavesReplaced seen may_leave moment left_since (journal_of old) (journal_of new) (snapshot_of (durable_of old))

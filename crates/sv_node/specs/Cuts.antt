@@ -32,14 +32,16 @@ LeaveEither may_leave set d e a b = (x y : List ℕ) → may_leave a x → may_l
 -- What one stop leaves of the disks A and B, inside an opening that hands them on as these. It writes one disk alone, and that
 -- only once it has synced the other: so of one of them the stop leaves what a stop before could leave, or of the other what a
 -- stop leaves at the end.
-pub record LeftTogether {D : Type 0} (may_leave : D → List ℕ → Type 0) (moment : D → ℕ) (left_since : D → ℕ → List ℕ → Type 0) (a b new_a new_b : D) (x y : List ℕ) : Type 0 where
+pub record LeftTogether {D : Type 0} (may_leave : D → List ℕ → Type 0) (moment : D → ℕ) (left_since : D → ℕ → List ℕ → Type 0)
+    (a b new_a new_b : D) (x y : List ℕ) : Type 0 where
   pub of_a : left_since new_a (moment a) x
   pub of_b : left_since new_b (moment b) y
   pub a_before : may_leave a x ⊎ may_leave new_b y
   pub b_before : may_leave b y ⊎ may_leave new_a x
 
 -- what an opening says of the disks A and B where it answers a fault, of which the images give this
-pub record IsRefusedOpening {D : Type 0} (may_leave : D → List ℕ → Type 0) (fault : OpenFault) (set : Setting) (d : Durable) (a b new_a new_b : D) : Type 0 where
+pub record IsRefusedOpening {D : Type 0} (may_leave : D → List ℕ → Type 0) (fault : OpenFault) (set : Setting) (d : Durable)
+    (a b new_a new_b : D) : Type 0 where
   pub damaged : fault ≡ Damaged → d.boot ≡ last_number
   pub left : LeavesStart may_leave set a b d new_a new_b
   pub unstarted : fault ≢ Device → LeavesUnstarted may_leave set a b d new_a new_b

@@ -87,7 +87,8 @@ module _ (m : EngineMeaning) (set : Setting) where
   Answered len end n [] (a ∷ answers) = ⊥
   Answered len end n (i ∷ is) [] = ⊥
   Answered len end n (i ∷ is) (a ∷ answers) =
-      IsAnswer len end (decided m set n i.0 i.1) a × Answered len (end + bytes_of (entries_by (decided m set n i.0 i.1) a)) (left_by n (decided m set n i.0 i.1) a) is answers
+      IsAnswer len end (decided m set n i.0 i.1) a × Answered len (end + bytes_of (entries_by (decided m set n i.0 i.1) a))
+      (left_by n (decided m set n i.0 i.1) a) is answers
 
 -- ---- in memory alone, before their records are durable
 
@@ -116,7 +117,8 @@ abbrev pub ReplaysMore : Setting → State → State → List Record → Type 0
 ReplaysMore set old new rs = (entries : List (List ℕ)) → Replays set entries old.durable → Replays set (entries ++ map spelling rs) new.durable
 
 -- one step more is held, or it is refused and nothing has changed
-pub record TakesOne {D : Type 0} (journal : JournalView D) (m : EngineMeaning) (set : Setting) (n : State) (at : Moment) (input : Input) (held : Result Held StepFault) (old_batch batch : Batch) (new : State) : Type 0 where
+pub record TakesOne {D : Type 0} (journal : JournalView D) (m : EngineMeaning) (set : Setting) (n : State) (at : Moment) (input : Input)
+    (held : Result Held StepFault) (old_batch batch : Batch) (new : State) : Type 0 where
   pub answer : (end : ℕ) → end + 1 ≡ journal.end + size_of old_batch → IsAnswer journal.len end (decided m set n at input) (with_list outputs_held held)
   pub node : new ≡ left_by n (decided m set n at input) (with_list outputs_held held)
   pub told : events_held held ≡ events_by (decided m set n at input) (with_list outputs_held held)
@@ -124,7 +126,8 @@ pub record TakesOne {D : Type 0} (journal : JournalView D) (m : EngineMeaning) (
   pub replays : ReplaysMore set n new (entries_by (decided m set n at input) (with_list outputs_held held))
 
 -- all of them are held, and their records are in the batch
-pub record TakesAll {D : Type 0} (journal : JournalView D) (m : EngineMeaning) (set : Setting) (n : State) (inputs : List (Moment × Input)) (held : List (Result Held StepFault)) (batch : Batch) (new : State) : Type 0 where
+pub record TakesAll {D : Type 0} (journal : JournalView D) (m : EngineMeaning) (set : Setting) (n : State) (inputs : List (Moment × Input))
+    (held : List (Result Held StepFault)) (batch : Batch) (new : State) : Type 0 where
   pub answers : Answered m set journal.len journal.end n inputs (outcomes held)
   pub node : new ≡ behind m set n inputs (outcomes held)
   pub told : flat_map events_held held ≡ events_of m set n inputs (outcomes held)
@@ -139,12 +142,14 @@ pub record HasAddedAll {D : Type 0} (old new : JournalView D) (entries : List Re
   pub generation : new.generation ≡ old.generation
 
 -- what a group does, by its answer
-abbrev pub GroupEnds : {E D : Type 0} → (E → EngineMeaning) → (E → List (List ℕ)) → (D → ℕ) → Node E D → List (Moment × Input) → Result (List Answer) StepFault → Node E D → Type 0
+abbrev pub GroupEnds : {E D : Type 0} → (E → EngineMeaning) → (E → List (List ℕ)) → (D → ℕ) → Node E D → List (Moment × Input) → Result (List Answer) StepFault
+    → Node E D → Type 0
 GroupEnds meaning heard failed old inputs (Ok answers) new =
     Answered (meaning (engine_of old)) (setting_of old) (journal_of old).len (journal_of old).end (state_of old) inputs answers
     × (state_of new ≡ behind (meaning (engine_of old)) (setting_of old) (state_of old) inputs answers)
     × (meaning (engine_of new) ≡ meaning (engine_of old))
-    × (heard (engine_of new) ≡ heard_all (meaning (engine_of old)) (heard (engine_of old)) (events_of (meaning (engine_of old)) (setting_of old) (state_of old) inputs answers))
+    × (heard (engine_of new) ≡ heard_all (meaning (engine_of old)) (heard (engine_of old))
+    (events_of (meaning (engine_of old)) (setting_of old) (state_of old) inputs answers))
     × IsTrue (journal_of new).live
     × HasAddedAll (journal_of old) (journal_of new) (entries_of (meaning (engine_of old)) (setting_of old) (state_of old) inputs answers)
 GroupEnds meaning heard failed old inputs (Err Failed) new = IsUntouched meaning heard old new × ((journal_of old).live ≡ false)
@@ -158,7 +163,8 @@ GroupEnds meaning heard failed old inputs (Err Device) new =
     × ((journal_of new).live ≡ false) × HasRisen (failed (journal_of old).current) (failed (journal_of new).current)
 
 -- the records that a group writes, by its answer: those of the steps that are done, or were to be where a disk has failed
-abbrev pub GroupWrites : {E D : Type 0} → (E → EngineMeaning) → Node E D → List (Moment × Input) → Result (List Answer) StepFault → Node E D → (List Record → Type 0) → Type 0
+abbrev pub GroupWrites : {E D : Type 0} → (E → EngineMeaning) → Node E D → List (Moment × Input) → Result (List Answer) StepFault → Node E D
+    → (List Record → Type 0) → Type 0
 GroupWrites meaning old inputs (Ok answers) new W = W (entries_of (meaning (engine_of old)) (setting_of old) (state_of old) inputs answers)
 GroupWrites meaning old inputs (Err Failed) new W = W []
 GroupWrites meaning old inputs (Err Full) new W = W []
@@ -170,7 +176,8 @@ GroupWrites meaning old inputs (Err Device) new W =
 
 -- A group of steps: what it does, and what a stop at any moment of it, or behind it, leaves of the disks: the state before
 -- all of them or the state behind all of them.
-pub record IsGroup {E D : Type 0} (meaning : E → EngineMeaning) (heard : E → List (List ℕ)) (tells : D → Type 0) (seen : D → List ℕ) (may_leave : D → List ℕ → Type 0) (moment : D → ℕ) (left_since : D → ℕ → List ℕ → Type 0) (failed : D → ℕ)
+pub record IsGroup {E D : Type 0} (meaning : E → EngineMeaning) (heard : E → List (List ℕ)) (tells : D → Type 0) (seen : D → List ℕ)
+    (may_leave : D → List ℕ → Type 0) (moment : D → ℕ) (left_since : D → ℕ → List ℕ → Type 0) (failed : D → ℕ)
     (old : Node E D) (inputs : List (Moment × Input)) (answer : Result (List Answer) StepFault) (new : Node E D) : Type 0 where
   pub ends : GroupEnds meaning heard failed old inputs answer new
   pub failed_before : (journal_of old).live ≡ false → answer ≡ Err Failed
@@ -179,8 +186,11 @@ pub record IsGroup {E D : Type 0} (meaning : E → EngineMeaning) (heard : E →
   pub other : (journal_of new).other ≡ (journal_of old).other
   pub on_a : (journal_of new).on_a ≡ (journal_of old).on_a
   pub any_moment : IsTrue (journal_of old).live → TellsBoth tells (journal_of old)
-      → LeavesOnly moment left_since (journal_of old).current (journal_of new).current (RestoresEither (setting_of old) (seen (journal_of old).other) (durable_of old) (durable_of new))
-  pub left : IsTrue (journal_of old).live → TellsBoth tells (journal_of old) → LeavesEither may_leave (journal_of new) (setting_of old) (durable_of old) (durable_of new)
+      → LeavesOnly moment left_since (journal_of old).current (journal_of new).current
+      (RestoresEither (setting_of old) (seen (journal_of old).other) (durable_of old) (durable_of new))
+  pub left : IsTrue (journal_of old).live → TellsBoth tells (journal_of old)
+      → LeavesEither may_leave (journal_of new) (setting_of old) (durable_of old) (durable_of new)
   -- no records but those of its steps are written
-  pub writes : IsTrue (journal_of old).live → TellsBoth tells (journal_of old) → GroupWrites meaning old inputs answer new (λ records. LeavesAdded seen may_leave moment left_since (journal_of old) (journal_of new) records)
+  pub writes : IsTrue (journal_of old).live → TellsBoth tells (journal_of old)
+      → GroupWrites meaning old inputs answer new (λ records. LeavesAdded seen may_leave moment left_since (journal_of old) (journal_of new) records)
   pub generation : (journal_of new).generation ≡ (journal_of old).generation

@@ -42,10 +42,13 @@ turns_of m set n (i ∷ is) (Ok outputs ∷ answers) =
 turns_of m set n (i ∷ is) (Err fault ∷ answers) = record { call = Step i.0 i.1 (Refused fault); after = quiet n } ∷ turns_of m set n is answers
 
 -- a group that is done is these calls, one behind the other, and what they put out is what it has answered
-pub record IsTurns {E D : Type 0} (meaning : E → EngineMeaning) (heard : E → List (List ℕ)) (old : Node E D) (inputs : List (Moment × Input)) (answers : List Answer) (new : Node E D) : Type 0 where
-  pub turns : AreTurns (meaning (engine_of old)) (setting_of old) (stand_of old) (turns_of (meaning (engine_of old)) (setting_of old) (state_of old) inputs answers)
+pub record IsTurns {E D : Type 0} (meaning : E → EngineMeaning) (heard : E → List (List ℕ)) (old : Node E D) (inputs : List (Moment × Input))
+    (answers : List Answer) (new : Node E D) : Type 0 where
+  pub turns : AreTurns (meaning (engine_of old)) (setting_of old) (stand_of old)
+      (turns_of (meaning (engine_of old)) (setting_of old) (state_of old) inputs answers)
   pub lead : behind_all (stand_of old) (turns_of (meaning (engine_of old)) (setting_of old) (state_of old) inputs answers) ≡ stand_of new
-  pub heard_is : heard (engine_of new) ≡ heard_all (meaning (engine_of old)) (heard (engine_of old)) (told_in (turns_of (meaning (engine_of old)) (setting_of old) (state_of old) inputs answers))
+  pub heard_is : heard (engine_of new) ≡ heard_all (meaning (engine_of old)) (heard (engine_of old))
+      (told_in (turns_of (meaning (engine_of old)) (setting_of old) (state_of old) inputs answers))
   pub outputs : map (λ (t : Turn). t.after.outputs) (turns_of (meaning (engine_of old)) (setting_of old) (state_of old) inputs answers) ≡ map put_out_by answers
 
 -- the images of the disks A and B give what a stop leaves, or what these steps leave of which nothing has left the node

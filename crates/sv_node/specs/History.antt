@@ -108,7 +108,8 @@ abbrev pub stand_of : {E D : Type 0} → Node E D → Stand
 stand_of n = record { up = (journal_of n).live; node = state_of n }
 
 -- some calls have made this of a node, which goes on
-pub record GoesOn {E D : Type 0} (meaning : E → EngineMeaning) (heard : E → List (List ℕ)) (tells : D → Type 0) (low high : ℕ) (old new : Node E D) : Type 0 where
+pub record GoesOn {E D : Type 0} (meaning : E → EngineMeaning) (heard : E → List (List ℕ)) (tells : D → Type 0) (low high : ℕ)
+    (old new : Node E D) : Type 0 where
   pub told : List Told
   pub leads : Leads (meaning (engine_of old)) (setting_of old) low high (stand_of old) (stand_of new) told
   pub live : IsTrue (journal_of new).live
@@ -119,7 +120,8 @@ pub record GoesOn {E D : Type 0} (meaning : E → EngineMeaning) (heard : E → 
 
 -- under the last of them a disk has failed: whatever a stop now leaves of the disks gives the state before that call or the
 -- one behind it, and to each of both the calls lead
-pub record Fails {E D : Type 0} (meaning : E → EngineMeaning) (heard : E → List (List ℕ)) (tells : D → Type 0) (may_leave : D → List ℕ → Type 0) (low high : ℕ) (old new : Node E D) : Type 0 where
+pub record Fails {E D : Type 0} (meaning : E → EngineMeaning) (heard : E → List (List ℕ)) (tells : D → Type 0) (may_leave : D → List ℕ → Type 0)
+    (low high : ℕ) (old new : Node E D) : Type 0 where
   pub told : List Told
   pub before : Durable
   pub after : Durable
@@ -129,9 +131,11 @@ pub record Fails {E D : Type 0} (meaning : E → EngineMeaning) (heard : E → L
   pub heard_is : heard (engine_of new) ≡ heard_all (meaning (engine_of old)) (heard (engine_of old)) told
 
 -- what calls have made of a node that ran, by what came of them: with Ok it goes on
-abbrev pub HasGone : {E D T F : Type 0} → (E → EngineMeaning) → (E → List (List ℕ)) → (D → Type 0) → (D → List ℕ → Type 0) → ℕ → ℕ → Node E D → Node E D → Result T F → Type 0
+abbrev pub HasGone : {E D T F : Type 0} → (E → EngineMeaning) → (E → List (List ℕ)) → (D → Type 0) → (D → List ℕ → Type 0) → ℕ → ℕ → Node E D → Node E D
+    → Result T F → Type 0
 HasGone meaning heard tells may_leave low high old new (Ok x) = GoesOn meaning heard tells low high old new
-HasGone meaning heard tells may_leave low high old new (Err fault) = GoesOn meaning heard tells low high old new ⊎ Fails meaning heard tells may_leave low high old new
+HasGone meaning heard tells may_leave low high old new (Err fault) =
+    GoesOn meaning heard tells low high old new ⊎ Fails meaning heard tells may_leave low high old new
 
 -- calls since an opening, up to the last one
 abbrev pub HasEnded : {E D : Type 0} → (E → EngineMeaning) → (E → List (List ℕ)) → (D → Type 0) → (D → List ℕ → Type 0) → Node E D → Node E D → Type 0
@@ -141,7 +145,8 @@ HasEnded meaning heard tells may_leave old new = (high : ℕ) × (GoesOn meaning
 
 -- Over the disks A and B, from its opening to its end: whatever a stop then leaves of them, some calls lead there from what
 -- they gave before, whatever numbers requests had then; and these have told listeners just what those have heard.
-pub record IsLife {E D : Type 0} (meaning : E → EngineMeaning) (heard : E → List (List ℕ)) (tells : D → Type 0) (seen : D → List ℕ) (may_leave : D → List ℕ → Type 0) (set : Setting)
+pub record IsLife {E D : Type 0} (meaning : E → EngineMeaning) (heard : E → List (List ℕ)) (tells : D → Type 0) (seen : D → List ℕ)
+    (may_leave : D → List ℕ → Type 0) (set : Setting)
     (engine : E) (a b : D) (engine' : E) (a' b' : D) : Type 0 where
   pub told : List Told
   pub high : ℕ

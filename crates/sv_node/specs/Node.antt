@@ -84,17 +84,21 @@ pub record HasAdded {D : Type 0} (old new : JournalView D) (entry : Option Recor
   pub generation : new.generation ≡ old.generation
 
 -- what a step does, by its answer
-abbrev pub Ends : {E D : Type 0} → (E → EngineMeaning) → (E → List (List ℕ)) → (D → ℕ) → Node E D → Decision → Result (List Output) StepFault → Node E D → Type 0
-Ends meaning heard failed old d (Ok outputs) new = IsStep (view_of meaning heard old) d outputs (view_of meaning heard new) × IsTrue (journal_of new).live × HasAdded (journal_of old) (journal_of new) d.entry
+abbrev pub Ends : {E D : Type 0} → (E → EngineMeaning) → (E → List (List ℕ)) → (D → ℕ) → Node E D → Decision → Result (List Output) StepFault → Node E D
+    → Type 0
+Ends meaning heard failed old d (Ok outputs) new =
+    IsStep (view_of meaning heard old) d outputs (view_of meaning heard new) × IsTrue (journal_of new).live × HasAdded (journal_of old) (journal_of new) d.entry
 Ends meaning heard failed old d (Err Failed) new = IsUntouched meaning heard old new × ((journal_of old).live ≡ false)
 Ends meaning heard failed old d (Err Full) new = IsUntouched meaning heard old new × IsTooLong (journal_of old) d.entry
 Ends meaning heard failed old d (Err Memory) new = IsUntouched meaning heard old new
 Ends meaning heard failed old d (Err Device) new =
-    (view_of meaning heard new ≡ view_of meaning heard old) × ((journal_of new).live ≡ false) × HasRisen (failed (journal_of old).current) (failed (journal_of new).current)
+    (view_of meaning heard new ≡ view_of meaning heard old) × ((journal_of new).live ≡ false)
+    × HasRisen (failed (journal_of old).current) (failed (journal_of new).current)
 
 -- A step of a node: what it does, and what a stop at any moment of it, or behind it, leaves of the disks. Whatever its
 -- answer, that is the state before the decision or the state behind it. A node whose disk has failed before answers Failed.
-pub record IsNodeStep {E D : Type 0} (meaning : E → EngineMeaning) (heard : E → List (List ℕ)) (tells : D → Type 0) (seen : D → List ℕ) (may_leave : D → List ℕ → Type 0) (moment : D → ℕ) (left_since : D → ℕ → List ℕ → Type 0) (failed : D → ℕ)
+pub record IsNodeStep {E D : Type 0} (meaning : E → EngineMeaning) (heard : E → List (List ℕ)) (tells : D → Type 0) (seen : D → List ℕ)
+    (may_leave : D → List ℕ → Type 0) (moment : D → ℕ) (left_since : D → ℕ → List ℕ → Type 0) (failed : D → ℕ)
     (old : Node E D) (d : Decision) (answer : Result (List Output) StepFault) (new : Node E D) : Type 0 where
   pub ends : Ends meaning heard failed old d answer new
   pub failed_before : (journal_of old).live ≡ false → answer ≡ Err Failed
@@ -103,13 +107,17 @@ pub record IsNodeStep {E D : Type 0} (meaning : E → EngineMeaning) (heard : E 
   pub other : (journal_of new).other ≡ (journal_of old).other
   pub on_a : (journal_of new).on_a ≡ (journal_of old).on_a
   pub any_moment : IsTrue (journal_of old).live → TellsBoth tells (journal_of old)
-      → LeavesOnly moment left_since (journal_of old).current (journal_of new).current (RestoresEither (setting_of old) (seen (journal_of old).other) (durable_of old) d.durable)
-  pub left : IsTrue (journal_of old).live → TellsBoth tells (journal_of old) → LeavesEither may_leave (journal_of new) (setting_of old) (durable_of old) d.durable
+      → LeavesOnly moment left_since (journal_of old).current (journal_of new).current
+      (RestoresEither (setting_of old) (seen (journal_of old).other) (durable_of old) d.durable)
+  pub left : IsTrue (journal_of old).live → TellsBoth tells (journal_of old)
+      → LeavesEither may_leave (journal_of new) (setting_of old) (durable_of old) d.durable
   -- whatever its answer, no record but the decision's is written
-  pub writes : IsTrue (journal_of old).live → TellsBoth tells (journal_of old) → LeavesAdded seen may_leave moment left_since (journal_of old) (journal_of new) (option_to_list d.entry)
+  pub writes : IsTrue (journal_of old).live → TellsBoth tells (journal_of old)
+      → LeavesAdded seen may_leave moment left_since (journal_of old) (journal_of new) (option_to_list d.entry)
   pub generation : (journal_of new).generation ≡ (journal_of old).generation
 
-abbrev pub NodeSteps : {E D : Type 0} → (E → EngineMeaning) → (E → List (List ℕ)) → (D → Type 0) → (D → List ℕ) → (D → List ℕ → Type 0) → (D → ℕ) → (D → ℕ → List ℕ → Type 0) → (D → ℕ)
+abbrev pub NodeSteps : {E D : Type 0} → (E → EngineMeaning) → (E → List (List ℕ)) → (D → Type 0) → (D → List ℕ) → (D → List ℕ → Type 0) → (D → ℕ)
+    → (D → ℕ → List ℕ → Type 0) → (D → ℕ)
     → Node E D → Moment → Input → Result (List Output) StepFault → Node E D → Type 0
 NodeSteps meaning heard tells seen may_leave moment left_since failed old at input answer new =
     IsNodeStep meaning heard tells seen may_leave moment left_since failed old (decided_at meaning old at input) answer new

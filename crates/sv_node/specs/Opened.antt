@@ -31,14 +31,16 @@ LeavesUnstarted may_leave set a b d new_a new_b =
 -- What a stop at any moment leaves of two disks one of which alone is written. Of each of them it is what a stop before
 -- could leave, or, of the one that is written, an image that beside the other one, as that reads, gives what it should;
 -- and such an image is left only once the other one is synced, so that a stop leaves nothing else of that.
-pub record WritesOne {D : Type 0} (seen : D → List ℕ) (may_leave : D → List ℕ → Type 0) (moment : D → ℕ) (left_since : D → ℕ → List ℕ → Type 0) (gives : List ℕ → List ℕ → Type 0) (written kept written' kept' : D) : Type 0 where
+pub record WritesOne {D : Type 0} (seen : D → List ℕ) (may_leave : D → List ℕ → Type 0) (moment : D → ℕ) (left_since : D → ℕ → List ℕ → Type 0)
+    (gives : List ℕ → List ℕ → Type 0) (written kept written' kept' : D) : Type 0 where
   pub of_written : LeavesOnly moment left_since written written' (λ image. may_leave written image ⊎ gives image (seen kept'))
   pub of_kept : LeavesOnly moment left_since kept kept' (may_leave kept)
   pub apart : Only (seen kept') (may_leave kept') ⊎ LeavesOnly moment left_since written written' (may_leave written)
 
 -- What a stop at any moment of an opening of the disks A and B leaves: of both of them what a stop before could leave, or
 -- images that give what the disks gave, or that after one more start.
-abbrev pub StartsWithoutLoss : {D : Type 0} → (D → List ℕ) → (D → List ℕ → Type 0) → (D → ℕ) → (D → ℕ → List ℕ → Type 0) → Setting → Durable → D → D → D → D → Type 0
+abbrev pub StartsWithoutLoss : {D : Type 0} → (D → List ℕ) → (D → List ℕ → Type 0) → (D → ℕ) → (D → ℕ → List ℕ → Type 0) → Setting → Durable → D → D → D → D
+    → Type 0
 StartsWithoutLoss seen may_leave moment left_since set d a b a' b' =
     WritesOne seen may_leave moment left_since (λ image other. GivesStart set d image other) a b a' b'
     ⊎ WritesOne seen may_leave moment left_since (λ image other. GivesStart set d other image) b a b' a'
@@ -53,7 +55,8 @@ pub record LacksRoom {D : Type 0} (seen : D → List ℕ) (may_leave : D → Lis
 
 -- The journal that was opened on the disks A and B, with the entries that their images have, has got the record of one more
 -- start behind them, and nothing else.
-pub record AddsStart {D : Type 0} (seen : D → List ℕ) (may_leave : D → List ℕ → Type 0) (moment : D → ℕ) (left_since : D → ℕ → List ℕ → Type 0) (set : Setting) (d : Durable) (entries : List (List ℕ)) (a b : D) (journal : JournalView D) : Type 0 where
+pub record AddsStart {D : Type 0} (seen : D → List ℕ) (may_leave : D → List ℕ → Type 0) (moment : D → ℕ) (left_since : D → ℕ → List ℕ → Type 0)
+    (set : Setting) (d : Durable) (entries : List (List ℕ)) (a b : D) (journal : JournalView D) : Type 0 where
   -- as it was opened, before anything was added
   pub opened : JournalView D
   pub holds_opened : Holds seen may_leave opened entries

@@ -42,6 +42,8 @@ LeavesEither may_leave journal set before after =
 
 -- a stop at any moment leaves, of the current disk of a journal, beside the other one, the entries that it holds, or these with
 -- all of the records behind them, and nothing else
-abbrev pub LeavesAdded : {D : Type 0} → (D → List ℕ) → (D → List ℕ → Type 0) → (D → ℕ) → (D → ℕ → List ℕ → Type 0) → (old new : JournalView D) → List Record → Type 0
+abbrev pub LeavesAdded : {D : Type 0} → (D → List ℕ) → (D → List ℕ → Type 0) → (D → ℕ) → (D → ℕ → List ℕ → Type 0) → (old new : JournalView D) → List Record
+    → Type 0
 LeavesAdded seen may_leave moment left_since old new records =
-    (entries : List (List ℕ)) → Holds seen may_leave old entries → LeavesOnly moment left_since old.current new.current (OpensEither (seen old.other) entries (entries ++ map spelling records))
+    (entries : List (List ℕ)) → Holds seen may_leave old entries
+    → LeavesOnly moment left_since old.current new.current (OpensEither (seen old.other) entries (entries ++ map spelling records))

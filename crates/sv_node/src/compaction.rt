@@ -40,7 +40,8 @@ pub fn replace<D: Disk>(
 ) -> Result<(), JournalFault>
     requires live { IsTrue journal.old.live }
     requires ranges { All IsRecord records.now }
-    ensures stored { OnOk result ((set : Setting) (d : Durable) → D.tells journal.old.other → Give set records.now d → Stores D.seen D.may_leave journal.old set d
+    ensures stored { OnOk result ((set : Setting) (d : Durable) → D.tells journal.old.other → Give set records.now d
+        → Stores D.seen D.may_leave journal.old set d
         → Stores D.seen D.may_leave journal.new set d) }
     ensures any_moment { (set : Setting) (d : Durable) → D.tells journal.old.other → Give set records.now d → Stores D.seen D.may_leave journal.old set d
         → LeavesOnly D.moment D.left_since journal.old.other (written journal.old journal.new) (RestoresBeside set (D.seen journal.old.current) d) }

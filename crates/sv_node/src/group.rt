@@ -78,7 +78,8 @@ fn take<E: Engine, D: Disk>(
     ensures setting { setting_of core.new ≡ setting_of core.old }
     ensures ranged { IsRanged (node_at core.new) }
     ensures room { FitsIn journal.now batch.new }
-    ensures taken { TakesOne journal.now (E.meaning (engine_of core.old)) (setting_of core.old) (node_at core.old) moment input result batch.old batch.new (node_at core.new) }
+    ensures taken { TakesOne journal.now (E.meaning (engine_of core.old)) (setting_of core.old) (node_at core.old) moment input result batch.old batch.new
+        (node_at core.new) }
 {
     let Ok(decision) = core.decide(moment, input) else {
         return Err(StepFault::Memory);
@@ -135,7 +136,8 @@ fn take_all<E: Engine, D: Disk>(
     ensures ranged { IsRanged (node_at core.new) }
     ensures room { FitsIn journal.now batch.new }
     ensures long { length held.new.items ≡ length inputs.items }
-    ensures taken { TakesAll journal.now (E.meaning (engine_of core.old)) (setting_of core.old) (node_at core.old) inputs.items held.new.items batch.new (node_at core.new) }
+    ensures taken { TakesAll journal.now (E.meaning (engine_of core.old)) (setting_of core.old) (node_at core.old) inputs.items held.new.items batch.new
+        (node_at core.new) }
 {
     for next in inputs {
         let (moment, input) = next;
@@ -200,7 +202,8 @@ impl<E: Engine, D: Disk> Node<E, D> {
         requires valid { IsNode E.valid D.tells D.seen D.may_leave self.old }
         requires inputs { AllByRecursion (λ i. IsInput i.1) inputs.items }
         ensures valid { IsNode E.valid D.tells D.seen D.may_leave self.new }
-        ensures group { IsGroup E.meaning E.heard D.tells D.seen D.may_leave D.moment D.left_since D.failed self.old inputs.items (with_list (λ answers. map (with_list vec_items) answers.items) result) self.new }
+        ensures group { IsGroup E.meaning E.heard D.tells D.seen D.may_leave D.moment D.left_since D.failed self.old inputs.items (with_list (λ answers.
+            map (with_list vec_items) answers.items) result) self.new }
     {
         if !self.journal.is_live() {
             return Err(StepFault::Failed);

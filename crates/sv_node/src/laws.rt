@@ -31,9 +31,11 @@ use sv_model::Engine;
 /// Each call of a node, by what its contract says of it, does what such a call does where no disk is looked at. What the disks
 /// give behind an opening that was cut is one of the two states that such an opening leaves (`found`).
 pub fn calls<E: Engine, D: Disk>()
-    ensures opened { (n : Node E D) (engine : E) (set : Setting) (d : Durable) → IsStarted E.meaning E.heard n engine set → d.boot ≢ last_number → durable_of n ≡ restarted set d
+    ensures opened { (n : Node E D) (engine : E) (set : Setting) (d : Durable) → IsStarted E.meaning E.heard n engine set → d.boot ≢ last_number
+        → durable_of n ≡ restarted set d
         → IsOpenCall set d n }
-    ensures found { (set : Setting) (d : Durable) (a b : List ℕ) → GivesStart set d a b → (e : Durable) × Restores set a b e × StopsStart set d (quiet (kept e)) }
+    ensures found { (set : Setting) (d : Durable) (a b : List ℕ) → GivesStart set d a b → (e : Durable) × Restores set a b e
+        × StopsStart set d (quiet (kept e)) }
     ensures stepped { (old new : Node E D) (at : Moment) (input : Input) (answer : Result (List Output) StepFault)
         → NodeSteps E.meaning E.heard D.tells D.seen D.may_leave D.moment D.left_since D.failed old at input answer new
         → IsStepCall E.meaning E.heard old at input answer new }
@@ -48,24 +50,30 @@ pub fn calls<E: Engine, D: Disk>()
 pub fn cuts<E: Engine, D: Disk>()
     ensures step { (old new : Node E D) (at : Moment) (input : Input) (answer : Result (List Output) StepFault)
         → NodeSteps E.meaning E.heard D.tells D.seen D.may_leave D.moment D.left_since D.failed old at input answer new
-        → IsTrue (journal_of old).live → TellsBoth D.tells (journal_of old) → (image : List ℕ) → D.left_since (journal_of new).current (D.moment (journal_of old).current) image
+        → IsTrue (journal_of old).live → TellsBoth D.tells (journal_of old) → (image : List ℕ)
+        → D.left_since (journal_of new).current (D.moment (journal_of old).current) image
         → GivesCallOn (E.meaning (engine_of old)) (setting_of old) true (state_of old) (Step at input Cut) image (D.seen (journal_of old).other) }
     ensures device { (old new : Node E D) (at : Moment) (input : Input)
         → NodeSteps E.meaning E.heard D.tells D.seen D.may_leave D.moment D.left_since D.failed old at input (Err Device) new
-        → IsTrue (journal_of old).live → TellsBoth D.tells (journal_of old) → (a b : List ℕ) → D.may_leave (disk_a (journal_of new)) a → D.may_leave (disk_b (journal_of new)) b
+        → IsTrue (journal_of old).live → TellsBoth D.tells (journal_of old) → (a b : List ℕ) → D.may_leave (disk_a (journal_of new)) a
+        → D.may_leave (disk_b (journal_of new)) b
         → GivesCall (E.meaning (engine_of old)) (setting_of old) true (state_of old) (Step at input (Refused Device)) a b }
     ensures compaction { (old new : Node E D) (answer : Result (Unit {0}) JournalFault)
         → IsCompaction E.meaning E.heard D.tells D.seen D.may_leave D.moment D.left_since D.failed old answer new
-        → IsTrue (journal_of old).live → TellsBoth D.tells (journal_of old) → (image : List ℕ) → D.left_since (written (journal_of old) (journal_of new)) (D.moment (journal_of old).other) image
+        → IsTrue (journal_of old).live → TellsBoth D.tells (journal_of old) → (image : List ℕ)
+        → D.left_since (written (journal_of old) (journal_of new)) (D.moment (journal_of old).other) image
         → RestoresBeside (setting_of old) (D.seen (journal_of old).current) (durable_of old) image }
     ensures opening { (m : EngineMeaning) (fault : OpenFault) (set : Setting) (d : Durable) (a b new_a new_b : D) → LeaveThis D.may_leave set d a b
         → IsRefusedOpening D.may_leave fault set d a b new_a new_b → (x y : List ℕ) → D.may_leave new_a x → D.may_leave new_b y
         → GivesCall m set false (kept d) (Open (Refused fault)) x y }
     ensures opening_cut { (m : EngineMeaning) (set : Setting) (d : Durable) (a b new_a new_b : D) → LeaveThis D.may_leave set d a b
-        → StartsWithoutLoss D.seen D.may_leave D.moment D.left_since set d a b new_a new_b → (x y : List ℕ) → LeftTogether D.may_leave D.moment D.left_since a b new_a new_b x y
+        → StartsWithoutLoss D.seen D.may_leave D.moment D.left_since set d a b new_a new_b → (x y : List ℕ)
+        → LeftTogether D.may_leave D.moment D.left_since a b new_a new_b x y
         → GivesCall m set false (kept d) (Open Cut) x y }
-    ensures opening_again { (m : EngineMeaning) (fault : OpenFault) (set : Setting) (before after d : Durable) (a b new_a new_b : D) → LeaveEither D.may_leave set before after a b → (d ≡ before) ⊎ (d ≡ after)
-        → (fault ≡ Damaged → before.boot ≡ after.boot) → IsRefusedOpening D.may_leave fault set d a b new_a new_b → (x y : List ℕ) → D.may_leave new_a x → D.may_leave new_b y
+    ensures opening_again { (m : EngineMeaning) (fault : OpenFault) (set : Setting) (before after d : Durable) (a b new_a new_b : D)
+        → LeaveEither D.may_leave set before after a b → (d ≡ before) ⊎ (d ≡ after)
+        → (fault ≡ Damaged → before.boot ≡ after.boot) → IsRefusedOpening D.may_leave fault set d a b new_a new_b → (x y : List ℕ) → D.may_leave new_a x
+        → D.may_leave new_b y
         → GivesCall m set false (kept before) (Open (Refused fault)) x y ⊎ GivesCall m set false (kept after) (Open (Refused fault)) x y }
 {}
 
@@ -83,7 +91,8 @@ pub fn groups<E: Engine, D: Disk>()
         → GivesGroup (E.meaning (engine_of old)) (setting_of old) (state_of old) (done_in inputs answers) a b) }
     ensures cut { (old new : Node E D) (inputs : List (Moment × Input)) (answers : List Answer)
         → IsGroup E.meaning E.heard D.tells D.seen D.may_leave D.moment D.left_since D.failed old inputs (Ok answers) new
-        → IsTrue (journal_of old).live → TellsBoth D.tells (journal_of old) → (image : List ℕ) → D.left_since (journal_of new).current (D.moment (journal_of old).current) image
+        → IsTrue (journal_of old).live → TellsBoth D.tells (journal_of old) → (image : List ℕ)
+        → D.left_since (journal_of new).current (D.moment (journal_of old).current) image
         → GivesGroupOn (E.meaning (engine_of old)) (setting_of old) (state_of old) (done_in inputs answers) image (D.seen (journal_of old).other) }
     ensures cut_device { (old new : Node E D) (inputs : List (Moment × Input))
         → IsGroup E.meaning E.heard D.tells D.seen D.may_leave D.moment D.left_since D.failed old inputs (Err Device) new
@@ -92,5 +101,6 @@ pub fn groups<E: Engine, D: Disk>()
         → GivesGroupOn (E.meaning (engine_of old)) (setting_of old) (state_of old) (done_in inputs answers) image (D.seen (journal_of old).other)) }
     ensures gone { (old new : Node E D) (inputs : List (Moment × Input)) (answer : Result (List Answer) StepFault) (low : ℕ)
         → IsGroup E.meaning E.heard D.tells D.seen D.may_leave D.moment D.left_since D.failed old inputs answer new
-        → IsTrue (journal_of old).live → RiseIn low (all_given inputs) → HasGone E.meaning E.heard D.tells D.may_leave low (numbers_in low (all_given inputs)) old new answer }
+        → IsTrue (journal_of old).live → RiseIn low (all_given inputs)
+        → HasGone E.meaning E.heard D.tells D.may_leave low (numbers_in low (all_given inputs)) old new answer }
 {}

@@ -1,6 +1,7 @@
 //! The records of a node in its journal.
 
-ghost use Rattle.std.specs.Prelude.{◌≡◌, ◌≤◌, ◌++◌, ◌∷◌, [], ℕ, List, map, length, false, IfOk, IfErr, OnOk, IsErr, IsErrOf, IsTrue, IfSome, Some, option_copied};
+ghost use Rattle.std.specs.Prelude.{◌≡◌, ◌≤◌, ◌++◌, ◌∷◌, [], ℕ, List, map, length, false};
+ghost use Rattle.std.specs.Prelude.{IfOk, IfErr, OnOk, IsErr, IsErrOf, IsTrue, IfSome, Some, option_copied};
 ghost use Rattle.std.specs.List.{AllByRecursion};
 ghost use Rattle.std.specs.Option.{option_to_list};
 ghost use Rattle.sv_journal.specs.Disk.{LeavesOnly, TellsOn, HasRisen, IsQuiet};
@@ -38,9 +39,11 @@ pub fn payload_of(alloc: Global, entry: &Record) -> Result<Vec<u8>, AllocError>
 /// Adds a record behind those of a journal.
 fn add<D: Disk>(alloc: Global, journal: &mut Journal<D>, entry: &Record) -> Result<(), JournalFault>
     requires ranges { IsRecord entry.now }
-    ensures stored { OnOk result ((set : Setting) (d : Durable) → D.tells journal.old.current → CanFollow set d (Some entry.now) → Stores D.seen D.may_leave journal.old set d
+    ensures stored { OnOk result ((set : Setting) (d : Durable) → D.tells journal.old.current → CanFollow set d (Some entry.now)
+        → Stores D.seen D.may_leave journal.old set d
         → Stores D.seen D.may_leave journal.new set (applied entry.now d)) }
-    ensures any_moment { (set : Setting) (d : Durable) → D.tells journal.old.current → CanFollow set d (Some entry.now) → Stores D.seen D.may_leave journal.old set d
+    ensures any_moment { (set : Setting) (d : Durable) → D.tells journal.old.current → CanFollow set d (Some entry.now)
+        → Stores D.seen D.may_leave journal.old set d
         → LeavesOnly D.moment D.left_since journal.old.current journal.new.current (RestoresEither set (D.seen journal.old.other) d (applied entry.now d)) }
     ensures tells { TellsOn D.tells journal.old.current journal.new.current }
     ensures other { journal.new.other ≡ journal.old.other }
@@ -69,14 +72,18 @@ pub fn keep<D: Disk>(
 ) -> Result<(), JournalFault>
     requires live { IsTrue journal.old.live }
     requires ranges { IfSome (option_copied entry) (λ r. IsRecord r) }
-    ensures stored { OnOk result ((set : Setting) (d : Durable) → D.tells journal.old.current → CanFollow set d (option_copied entry.entry) → Stores D.seen D.may_leave journal.old set d
+    ensures stored { OnOk result ((set : Setting) (d : Durable) → D.tells journal.old.current → CanFollow set d (option_copied entry.entry)
+        → Stores D.seen D.may_leave journal.old set d
         → Stores D.seen D.may_leave journal.new set (applied_if (option_copied entry.entry) d)) }
-    ensures any_moment { (set : Setting) (d : Durable) → D.tells journal.old.current → CanFollow set d (option_copied entry.entry) → Stores D.seen D.may_leave journal.old set d
-        → LeavesOnly D.moment D.left_since journal.old.current journal.new.current (RestoresEither set (D.seen journal.old.other) d (applied_if (option_copied entry.entry) d)) }
+    ensures any_moment { (set : Setting) (d : Durable) → D.tells journal.old.current → CanFollow set d (option_copied entry.entry)
+        → Stores D.seen D.may_leave journal.old set d
+        → LeavesOnly D.moment D.left_since journal.old.current journal.new.current
+        (RestoresEither set (D.seen journal.old.other) d (applied_if (option_copied entry.entry) d)) }
     ensures tells { TellsOn D.tells journal.old.current journal.new.current }
     ensures other { journal.new.other ≡ journal.old.other }
     ensures on_a { journal.new.on_a ≡ journal.old.on_a }
-    ensures writes { D.tells journal.old.current → LeavesAdded D.seen D.may_leave D.moment D.left_since journal.old journal.new (option_to_list (option_copied entry.entry)) }
+    ensures writes { D.tells journal.old.current → LeavesAdded D.seen D.may_leave D.moment D.left_since journal.old journal.new
+        (option_to_list (option_copied entry.entry)) }
     ensures holds { OnOk result ((entries : List (List ℕ)) → D.tells journal.old.current → Holds D.seen D.may_leave journal.old entries
         → Holds D.seen D.may_leave journal.new (entries ++ map spelling (option_to_list (option_copied entry.entry)))) }
     ensures generation { journal.new.generation ≡ journal.old.generation }
@@ -141,13 +148,16 @@ fn records_of(alloc: Global, all: &[Vec<u8>]) -> Result<Vec<Record>, OpenFault>
 /// The records of a journal, the oldest first.
 pub fn read<D: Disk>(alloc: Global, journal: &mut Journal<D>) -> Result<Vec<Record>, OpenFault>
     requires live { IsTrue journal.old.live }
-    ensures spelled { IfOk result (λ records. (entries : List (List ℕ)) → D.tells journal.old.current → Holds D.seen D.may_leave journal.old entries → Spell entries records.items) }
+    ensures spelled { IfOk result (λ records. (entries : List (List ℕ)) → D.tells journal.old.current → Holds D.seen D.may_leave journal.old entries
+        → Spell entries records.items) }
     ensures within { IfOk result (λ records. AllByRecursion IsRecord records.items) }
-    ensures kept { (entries : List (List ℕ)) → D.tells journal.old.current → Holds D.seen D.may_leave journal.old entries → Holds D.seen D.may_leave journal.new entries }
+    ensures kept { (entries : List (List ℕ)) → D.tells journal.old.current → Holds D.seen D.may_leave journal.old entries
+        → Holds D.seen D.may_leave journal.new entries }
     ensures quiet { IsQuiet D.tells D.seen D.may_leave D.moment D.left_since journal.old.current journal.new.current }
     ensures same { journal.new ≡ record journal.old { current = journal.new.current } }
     ensures count { OnOk result (D.failed journal.new.current ≡ D.failed journal.old.current) }
-    ensures damaged { IfErr result (λ e. e ≡ OpenDamaged → D.tells journal.old.current → (entries : List (List ℕ)) → Holds D.seen D.may_leave journal.old entries
+    ensures damaged { IfErr result (λ e. e ≡ OpenDamaged → D.tells journal.old.current → (entries : List (List ℕ))
+        → Holds D.seen D.may_leave journal.old entries
         → (records : List Record) → Spell entries records → ⊥) }
     ensures device { IfErr result (λ e. e ≡ OpenDevice → HasRisen (D.failed journal.old.current) (D.failed journal.new.current)) }
     ensures full { IfErr result (λ e. ¬ (e ≡ OpenFull)) }

@@ -52,11 +52,13 @@ impl<E: Engine, D: Disk> Node<E, D> {
         ensures started { IfOk result (λ n. IsStarted E.meaning E.heard n engine setting) }
         ensures node { IfOk result (λ n. IsNode E.valid D.tells D.seen D.may_leave n) }
         // It keeps what the images give, after one more start.
-        ensures restarted { IfOk result (λ n. D.tells a → D.tells b → (d : Durable) × Restores setting (D.seen a) (D.seen b) d × (d.boot ≢ last_number) × (durable_of n ≡ restarted setting d)) }
+        ensures restarted { IfOk result (λ n. D.tells a → D.tells b → (d : Durable) × Restores setting (D.seen a) (D.seen b) d × (d.boot ≢ last_number)
+            × (durable_of n ≡ restarted setting d)) }
         // The journal that was opened has got the record of that start, and nothing else.
         ensures added { IfOk result (λ n. D.tells a → D.tells b → (d : Durable) → (r : Restores setting (D.seen a) (D.seen b) d)
             → AddsStart D.seen D.may_leave D.moment D.left_since setting d r.entries a b (journal_of n)) }
-        ensures restored { IfOk result (λ n. D.tells a → D.tells b → (entries : List (List ℕ)) → Opens (D.seen a) (D.seen b) entries → restored_of n ≡ length entries) }
+        ensures restored { IfOk result (λ n. D.tells a → D.tells b → (entries : List (List ℕ)) → Opens (D.seen a) (D.seen b) entries
+            → restored_of n ≡ length entries) }
         // Disks that hold no journal read as before.
         ensures unchanged { IfErr result (λ r. r.fault ≡ Damaged → D.tells a → D.tells b → ((entries : List (List ℕ)) → Opens (D.seen a) (D.seen b) entries → ⊥)
             → (D.seen r.a ≡ D.seen a) × (D.seen r.b ≡ D.seen b)) }
@@ -64,17 +66,21 @@ impl<E: Engine, D: Disk> Node<E, D> {
         ensures entries { IfErr result (λ r. r.fault ≢ Device → D.tells a → D.tells b → (entries : List (List ℕ)) → Opens (D.seen a) (D.seen b) entries
             → Contain D.seen D.may_leave entries r.a r.b) }
         // No records of a node are there, or its starts are spent.
-        ensures damaged { IfErr result (λ r. r.fault ≡ Damaged → D.tells a → D.tells b → (d : Durable) → Restores setting (D.seen a) (D.seen b) d → d.boot ≡ last_number) }
+        ensures damaged { IfErr result (λ r. r.fault ≡ Damaged → D.tells a → D.tells b → (d : Durable) → Restores setting (D.seen a) (D.seen b) d
+            → d.boot ≡ last_number) }
         // What is lost at a fault is at most the start itself.
-        ensures left_err { IfErr result (λ r. D.tells a → D.tells b → (d : Durable) → Restores setting (D.seen a) (D.seen b) d → LeavesStart D.may_leave setting a b d r.a r.b) }
+        ensures left_err { IfErr result (λ r. D.tells a → D.tells b → (d : Durable) → Restores setting (D.seen a) (D.seen b) d
+            → LeavesStart D.may_leave setting a b d r.a r.b) }
         // And only where a disk has failed.
-        ensures unstarted { IfErr result (λ r. r.fault ≢ Device → D.tells a → D.tells b → (d : Durable) → Restores setting (D.seen a) (D.seen b) d → LeavesUnstarted D.may_leave setting a b d r.a r.b) }
+        ensures unstarted { IfErr result (λ r. r.fault ≢ Device → D.tells a → D.tells b → (d : Durable) → Restores setting (D.seen a) (D.seen b) d
+            → LeavesUnstarted D.may_leave setting a b d r.a r.b) }
         // A stop at any moment of the call loses nothing.
         ensures any_moment { IfOk result (λ n. D.tells a → D.tells b → (d : Durable) → Restores setting (D.seen a) (D.seen b) d
             → StartsWithoutLoss D.seen D.may_leave D.moment D.left_since setting d a b (disk_a (journal_of n)) (disk_b (journal_of n))) }
         ensures any_moment_err { IfErr result (λ r. D.tells a → D.tells b → (d : Durable) → Restores setting (D.seen a) (D.seen b) d
             → StartsWithoutLoss D.seen D.may_leave D.moment D.left_since setting d a b r.a r.b) }
-        ensures full { IfErr result (λ r. r.fault ≡ Full → D.tells a → D.tells b → (d : Durable) → Restores setting (D.seen a) (D.seen b) d → LacksRoom D.seen D.may_leave setting d r.a r.b) }
+        ensures full { IfErr result (λ r. r.fault ≡ Full → D.tells a → D.tells b → (d : Durable) → Restores setting (D.seen a) (D.seen b) d
+            → LacksRoom D.seen D.may_leave setting d r.a r.b) }
         ensures device { IfErr result (λ r. r.fault ≡ Device → HasRisen (D.failed a) (D.failed r.a) ⊎ HasRisen (D.failed b) (D.failed r.b)) }
         ensures tells { IfOk result (λ n. TellsOn D.tells a (disk_a (journal_of n)) × TellsOn D.tells b (disk_b (journal_of n))) }
         ensures engine { IfErr result (λ r. r.engine ≡ engine) }

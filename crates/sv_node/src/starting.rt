@@ -43,7 +43,8 @@ pub fn start<E: Engine, D: Disk>(
     ensures stored { OnOk result (D.tells journal.old.current → Stores D.seen D.may_leave journal.old (setting_of core.old) (durable_at core.old)
         → Stores D.seen D.may_leave journal.new (setting_of core.old) (restarted (setting_of core.old) (durable_at core.old))) }
     ensures any_moment { D.tells journal.old.current → Stores D.seen D.may_leave journal.old (setting_of core.old) (durable_at core.old)
-        → LeavesOnly D.moment D.left_since journal.old.current journal.new.current (RestoresEither (setting_of core.old) (D.seen journal.old.other) (durable_at core.old) (restarted (setting_of core.old) (durable_at core.old))) }
+        → LeavesOnly D.moment D.left_since journal.old.current journal.new.current
+        (RestoresEither (setting_of core.old) (D.seen journal.old.other) (durable_at core.old) (restarted (setting_of core.old) (durable_at core.old))) }
     ensures added { OnOk result (HasAdded journal.old journal.new (Some (boot_record (setting_of core.old) (durable_at core.old)))) }
     ensures holds { OnOk result ((entries : List (List ℕ)) → D.tells journal.old.current → Holds D.seen D.may_leave journal.old entries
         → Holds D.seen D.may_leave journal.new (entries ++ spelling (boot_record (setting_of core.old) (durable_at core.old)) ∷ [])) }

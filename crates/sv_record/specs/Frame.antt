@@ -1,5 +1,6 @@
 -- A frame on a connection: a first byte, four bytes of length, and so many bytes of payload.
-use Rattle.std.specs.Prelude.{◌≡◌, ◌<◌, ◌^◌, ◌≤◌, ◌⊎◌, ℕ, ◌+◌, Option, Some, None, List, [], ◌∷◌, ◌++◌, length, take, drop, Result, Ok, Err, nat_lt, ◌==◌, ◌||◌, if◌then◌else◌}
+use Rattle.std.specs.Prelude.{◌≡◌, ◌<◌, ◌^◌, ◌≤◌, ◌⊎◌, ℕ, ◌+◌, Option, Some, None, List, []}
+use Rattle.std.specs.Prelude.{◌∷◌, ◌++◌, length, take, drop, Result, Ok, Err, nat_lt, ◌==◌, ◌||◌, if◌then◌else◌}
 use Rattle.std.specs.Int.{w8, w32, to_be_bytes, from_be_bytes}
 use Rattle.sv_model.specs.Keys.{IsNode, IsKey}
 use Rattle.sv_model.specs.Ranges.{IsPacket}

@@ -32,7 +32,9 @@ attribute_line a = codes "a " ++ line a.0 a.1
 
 -- the method, the paths and the query, then the parameters in order, and the attributes in order of their names
 abbrev pub call_text : Asked → List ℕ
-call_text c = line (codes "method") c.method ++ address_lines c.request_uri c.context_path ++ path_lines c ++ flat_map parameter_line c.params ++ flat_map attribute_line c.attributes
+call_text c =
+    line (codes "method") c.method ++ address_lines c.request_uri c.context_path ++ path_lines c ++ flat_map parameter_line c.params
+    ++ flat_map attribute_line c.attributes
 
 abbrev pub snoop : Asked → Work Next
 snoop c = plain_text (written (call_text c) Done)

@@ -1,7 +1,8 @@
 -- What the listener notes that counts events (Jakarta Servlet 6.0, chapter "Application Lifecycle Events").
 use Rattle.std.specs.Prelude.{ℕ, ◌+◌, ◌-◌, ◌^◌, min, List, slice_index, slice_set}
 use Rattle.sv_model.specs.declared.event.Event.{Event}
-use Rattle.sv_model.specs.declared.event.Event.TheVariants.{ContextUp, ContextDown, RequestIn, RequestOut, Created, Destroyed, Added, Removed, Replaced, Passivate, Activate, IdChanged}
+use Rattle.sv_model.specs.declared.event.Event.TheVariants.{ContextUp, ContextDown, RequestIn, RequestOut, Created, Destroyed}
+use Rattle.sv_model.specs.declared.event.Event.TheVariants.{Added, Removed, Replaced, Passivate, Activate, IdChanged}
 use Rattle.sv_model.specs.declared.event.Told.{Told}
 
 -- the place of an event's number among the kinds of events

@@ -1,5 +1,6 @@
 -- A script: lines between line feeds, of words between single spaces. An empty line says nothing.
-use Rattle.std.specs.Prelude.{ℕ, ◌-◌, ◌==◌, ◌&&◌, Bool, true, false, not, nat_lt, List, [], ◌∷◌, map, filter, codes, bytes_eq, Option, Some, None, is_none, if◌then◌else◌}
+use Rattle.std.specs.Prelude.{ℕ, ◌-◌, ◌==◌, ◌&&◌, Bool, true, false, not, nat_lt, List, []}
+use Rattle.std.specs.Prelude.{◌∷◌, map, filter, codes, bytes_eq, Option, Some, None, is_none, if◌then◌else◌}
 use Rattle.std.specs.List.{slice_split}
 use Rattle.sv_script.specs.declared.number.NodeNumber.{NodeNumber}
 use Rattle.sv_script.specs.declared.script.Act.{Act}

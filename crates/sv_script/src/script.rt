@@ -2,7 +2,8 @@
 
 ghost use Rattle.std.specs.Prelude.{◌≡◌, ◌≢◌, ◌++◌, ◌∷◌, [], map, IfOk, IfErr, IfSome, IfNone, IsTrue, OnOk};
 ghost use Rattle.std.specs.List.{list_any, slice_split};
-ghost use Rattle.sv_script.specs.Script.{ask_of, is_fault, is_line_feed, is_space, line_data, move_of, number_at, number_of, of_three, of_two, order_in, orders_of, reading, readings, script_in};
+ghost use Rattle.sv_script.specs.Script.{ask_of, is_fault, is_line_feed, is_space, line_data, move_of, number_at, number_of};
+ghost use Rattle.sv_script.specs.Script.{of_three, of_two, order_in, orders_of, reading, readings, script_in};
 ghost use Rattle.sv_script.specs.declared.script.ScriptFault.TheVariants.{BadLine, Memory};
 
 use crate::number::NodeNumber;

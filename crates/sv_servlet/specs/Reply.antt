@@ -1,5 +1,6 @@
 -- The operations of a reply (Jakarta Servlet 6.0, chapter "The Response").
-use Rattle.std.specs.Prelude.{◌≡◌, ℕ, ◌+◌, ◌⊎◌, ◌&&◌, ◌||◌, Bool, true, false, List, [], ◌∷◌, ◌++◌, length, codes, Result, Ok, Err, IsOk, is_none, nat_lt, nat_le, if◌then◌else◌}
+use Rattle.std.specs.Prelude.{◌≡◌, ℕ, ◌+◌, ◌⊎◌, ◌&&◌, ◌||◌, Bool, true, false, List, [], ◌∷◌}
+use Rattle.std.specs.Prelude.{◌++◌, length, codes, Result, Ok, Err, IsOk, is_none, nat_lt, nat_le, if◌then◌else◌}
 use Rattle.std.specs.List.{list_any}
 use Rattle.std.specs.Str.{bytes_eq}
 use Rattle.http_header.specs.FieldName.{IsFieldName}
@@ -51,7 +52,8 @@ is_full fields name = is_none (place_of_field fields name) && nat_le FIELD_LIMIT
 -- a field is set: in the place of the first of its name, or last
 abbrev pub field_result : ReplyState → Field → Result ReplyState ReplyFault
 field_result r f =
-    unless_held r (if is_reserved f.name then Err Reserved else (if is_full r.fields f.name then Err TooMany else Ok (record r { fields = with_field r.fields f })))
+    unless_held r (if is_reserved f.name then Err Reserved else
+    (if is_full r.fields f.name then Err TooMany else Ok (record r { fields = with_field r.fields f })))
 
 -- the field of a name in any case and a value
 abbrev pub header_field : List ℕ → List ℕ → Field
@@ -68,7 +70,8 @@ IsHeaderSet old name value result new = IsHeader old name value × Answers old (
 -- they are none of a field, or memory was refused for them; a name that is none is told before that
 abbrev pub IsNoHeader : ReplyState → List ℕ → List ℕ → Result (Unit {0}) ReplyFault → Type 0
 IsNoHeader r name value result =
-    (r.is_held ≡ false) × (((result ≡ Err Memory) × ¬ (¬ (IsFieldName name))) ⊎ ((result ≡ Err BadHeader) × ((¬ (IsFieldName name)) ⊎ (¬ (IsFieldValue value)))))
+    (r.is_held ≡ false) × (((result ≡ Err Memory) × ¬ (¬ (IsFieldName name)))
+    ⊎ ((result ≡ Err BadHeader) × ((¬ (IsFieldName name)) ⊎ (¬ (IsFieldValue value)))))
 
 -- a name and a value are set as a field is, or they are none and the reply is as it was
 abbrev pub HeaderAnswers : ReplyState → List ℕ → List ℕ → Result (Unit {0}) ReplyFault → ReplyState → Type 0

@@ -35,5 +35,18 @@ impl<'a> Model for Call<'a> {
 
     ghost Value = { Asked };
 
-    ghost view = { λ c. record { method = c.method.now; request_uri = c.request_uri.now; context_path = c.context_path.now; servlet_path = c.servlet_path.now; path_info = option_map (λ t. t.now) c.path_info; query = option_map (λ t. t.now) c.query; params = c.params.now; fields = c.fields.now; body = c.body.now; attributes = c.attributes.now; resume = c.resume } };
+    ghost view = { λ c. record {
+      method = c.method.now;
+      request_uri = c.request_uri.now;
+      context_path = c.context_path.now;
+      servlet_path = c.servlet_path.now;
+      path_info = option_map (λ t. t.now) c.path_info;
+      query = option_map (λ t.
+          t.now) c.query;
+      params = c.params.now;
+      fields = c.fields.now;
+      body = c.body.now;
+      attributes = c.attributes.now;
+      resume = c.resume;
+    } };
 }

@@ -4,7 +4,8 @@ ghost use Rattle.std.specs.Prelude.{◌≡◌, ◌≢◌, ◌⊎◌, true, Err, 
 ghost use Rattle.http_header.specs.FieldName.{IsFieldName};
 ghost use Rattle.http_header.specs.FieldValue.{IsFieldValue, plain_value};
 ghost use Rattle.http_header.specs.Token.{lowercase};
-ghost use Rattle.sv_servlet.specs.Reply.{fault_name, new_reply, Answers, HeaderAnswers, status_result, field_result, write_result, reset_reply, cleared, held, is_reserved, is_full};
+ghost use Rattle.sv_servlet.specs.Reply.{fault_name, new_reply, Answers, HeaderAnswers, status_result, field_result};
+ghost use Rattle.sv_servlet.specs.Reply.{write_result, reset_reply, cleared, held, is_reserved, is_full};
 ghost use Rattle.sv_servlet.specs.declared.reply.ReplyFault.TheVariants.{Memory};
 
 use http::StatusCode;

@@ -1,5 +1,6 @@
 -- The calls of an edit (Jakarta Servlet 6.0, chapter "Sessions"): what is expected of each, from the edit that it is made on.
-use Rattle.std.specs.Prelude.{◌≡◌, ℕ, ◌+◌, ℤ, ◌&&◌, ◌||◌, Bool, true, false, Option, Some, None, Result, Ok, Err, IsOk, IsOkAnd, List, [], ◌∷◌, ◌++◌, length, is_some, nat_lt, nat_le, if◌then◌else◌, MatchResult, option_copied}
+use Rattle.std.specs.Prelude.{◌≡◌, ℕ, ◌+◌, ℤ, ◌&&◌, ◌||◌, Bool, true, false, Option, Some, None, Result, Ok}
+use Rattle.std.specs.Prelude.{Err, IsOk, IsOkAnd, List, [], ◌∷◌, ◌++◌, length, is_some, nat_lt, nat_le, if◌then◌else◌, MatchResult, option_copied}
 use Rattle.std.specs.Borrow.{Bor}
 use Rattle.sv_model.specs.Attributes.{attributes_size, names_of, value_of, with_attribute, without_attribute}
 use Rattle.sv_model.specs.declared.event.Event.{Event}

@@ -57,7 +57,18 @@ impl Model for SessionEdit {
 
     ghost Value = { Edit };
 
-    ghost view = { λ e. record { context = e.context; interval = e.interval; now = e.now; fresh = e.holding.fresh; handed = e.holding.handed; fate = e.holding.fate; birth = e.holding.birth; id_changed = e.id_changed; events = e.events.items } };
+    ghost view = { λ e. record {
+      context = e.context;
+      interval = e.interval;
+      now = e.now;
+      fresh = e.holding.fresh;
+      handed = e.holding.handed;
+      fate =
+          e.holding.fate;
+      birth = e.holding.birth;
+      id_changed = e.id_changed;
+      events = e.events.items;
+    } };
 }
 
 /// The key of the session that is handed in, and its fate as long as nobody ends it.

@@ -1,5 +1,6 @@
 -- The canonical path: without dot segments (RFC 3986, section 5.2.4) and decoded once (section 2.4).
-use Rattle.std.specs.Prelude.{ℕ, ◌-◌, Bool, ◌==◌, List, [], ◌∷◌, ◌++◌, length, take, drop, map, fold, codes, bytes_eq, if◌then◌else◌, slice_index_or, Option, Some, None, option_map}
+use Rattle.std.specs.Prelude.{ℕ, ◌-◌, Bool, ◌==◌, List, [], ◌∷◌, ◌++◌, length, take, drop}
+use Rattle.std.specs.Prelude.{map, fold, codes, bytes_eq, if◌then◌else◌, slice_index_or, Option, Some, None, option_map}
 use Rattle.std.specs.List.{flat_map, slice_split}
 use Rattle.percent_encoding.specs.Percent.{percent_decode}
 use Rattle.sv_target.specs.Segment.{cut, is_dots, is_good_segment}

@@ -1,5 +1,6 @@
 -- The cookie that names a session (Jakarta Servlet 6.0, section 7.1.1).
-use Rattle.std.specs.Prelude.{◌≡◌, ℕ, ◌<◌, ◌^◌, Bool, ◌&&◌, ◌==◌, nat_lt, All, List, length, ◌∷◌, ◌++◌, slice_get, slice_index, slice_range, codes, bytes_eq, Option, Some, None, option_and_then, if◌then◌else◌}
+use Rattle.std.specs.Prelude.{◌≡◌, ℕ, ◌<◌, ◌^◌, Bool, ◌&&◌, ◌==◌, nat_lt, All, List, length, ◌∷◌}
+use Rattle.std.specs.Prelude.{◌++◌, slice_get, slice_index, slice_range, codes, bytes_eq, Option, Some, None, option_and_then, if◌then◌else◌}
 use Rattle.std.specs.List.{filter_map, list_any}
 use Rattle.std.specs.Char.{is_ascii_uppercase}
 use Rattle.std.specs.Result.{result_ok}

@@ -1,5 +1,6 @@
 -- Targets of requests (RFC 9112, section 3.2; RFC 3986, section 3), in the words of the crate `http_uri`.
-use Rattle.std.specs.Prelude.{◌≡◌, ℕ, ◌⊎◌, Bool, true, false, ◌||◌, ◌&&◌, ◌==◌, nat_le, List, ◌∷◌, IsUtf8, length, take, codes, bytes_eq, if◌then◌else◌, Option, Some, None, is_none, option_map}
+use Rattle.std.specs.Prelude.{◌≡◌, ℕ, ◌⊎◌, Bool, true, false, ◌||◌, ◌&&◌, ◌==◌, nat_le, List, ◌∷◌}
+use Rattle.std.specs.Prelude.{IsUtf8, length, take, codes, bytes_eq, if◌then◌else◌, Option, Some, None, is_none, option_map}
 use Rattle.std.specs.Option.{option_map_or}
 use Rattle.std.specs.List.{list_any, list_all}
 use Rattle.http_uri.specs.Uri.{Spells, SpellsNone, uri_scheme, uri_authority, uri_path, uri_query}

@@ -2,7 +2,8 @@
 use Rattle.std.specs.Prelude.{◌≡◌, ℕ, List, Option, Some, None, option_map, IfSome, IfOk, Result, Ok, Err}
 use Rattle.sv_session.specs.Fault.{fault_name as session_fault_name}
 use Rattle.sv_session.specs.declared.fault.SessionFault.{SessionFault}
-use Rattle.sv_session.specs.declared.fault.SessionFault.TheVariants.{NoSession, BadName, ValueTooLong, SessionTooLarge, SecondCreation, SecretUsed, Memory as SessionMemory}
+use Rattle.sv_session.specs.declared.fault.SessionFault.TheVariants.{NoSession, BadName, ValueTooLong, SessionTooLarge}
+use Rattle.sv_session.specs.declared.fault.SessionFault.TheVariants.{SecondCreation, SecretUsed, Memory as SessionMemory}
 use Rattle.sv_servlet.specs.Filter.{verdict}
 use Rattle.sv_servlet.specs.Reply.{fault_name as reply_fault_name}
 use Rattle.sv_servlet.specs.Servlet.{Lent, answer}

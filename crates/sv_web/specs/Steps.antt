@@ -11,7 +11,8 @@ use Rattle.sv_servlet.specs.declared.filter.Before.{Before}
 use Rattle.sv_servlet.specs.declared.servlet.Next.{Next}
 use Rattle.sv_web.specs.Header.{header, html_type}
 use Rattle.sv_web.specs.Refusal.{fault_page, fault_sent}
-use Rattle.sv_web.specs.Work.{EditCall, Create, ChangeId, Invalidate, SetValue, ReplyCall, SetField, SetStatus, Write, Redirect, Work, Ends, Editing, Looking, Replying}
+use Rattle.sv_web.specs.Work.{EditCall, Create, ChangeId, Invalidate, SetValue, ReplyCall, SetField, SetStatus}
+use Rattle.sv_web.specs.Work.{Write, Redirect, Work, Ends, Editing, Looking, Replying}
 
 -- a call of the reply, and what follows it; where it is refused, the error page of the fault
 abbrev pub replying : ReplyCall → Work Next → Work Next

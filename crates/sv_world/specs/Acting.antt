@@ -61,7 +61,8 @@ pub record IsSilenced (d : model.Decision) (h : Heading) (n : Node) (f : Effect)
 -- what a stop leaves of a step, as its plan says
 abbrev pub rest_in : Bool → Plan → Rest
 rest_in kept p =
-    cond (kept && is_some p.entry) (record { kept = p.entry; entry = p.traced.entry; commit = p.traced.commit }) (record { kept = None; entry = None; commit = None })
+    cond (kept && is_some p.entry) (record { kept = p.entry; entry = p.traced.entry; commit = p.traced.commit })
+    (record { kept = None; entry = None; commit = None })
 
 -- what a stop leaves of a step
 abbrev pub rest_of : Bool → model.Decision → Rest

@@ -52,7 +52,8 @@ token_by node boot number = option_map (λ x. record { number = x; node = node; 
 
 -- why a node can't take a step
 abbrev pub step_by : List Line → ℕ → Bool → Option ℕ → Result ℕ WorldFault → Option WorldFault
-step_by trace node sent number (Ok boot) = cond sent (cond (is_unused (asked_of (items trace)) (token_by node boot number)) None (Some TokenUsed)) (Some NoPacket)
+step_by trace node sent number (Ok boot) =
+    cond sent (cond (is_unused (asked_of (items trace)) (token_by node boot number)) None (Some TokenUsed)) (Some NoPacket)
 step_by trace node sent number (Err fault) = Some fault
 
 -- why a packet can't be delivered, if it is one

@@ -54,7 +54,8 @@ pub record HaveHappened {E : Type 0} (meaning : E → EngineMeaning) (noted : E 
   pub trace : (world_of new).trace ≡ (world_of old).trace ++ lines
   pub each : map (λ l. l.event) lines ≡ events
   pub meanings : meanings_of meaning new ≡ meanings_of meaning old
-  pub heard : (n : ℕ) (m : EngineMeaning) → meanings_of meaning old n ≡ Some m → heard_of noted new n ≡ option_map (λ h. heard_all m h (told_at n lines)) (heard_of noted old n)
+  pub heard : (n : ℕ) (m : EngineMeaning) → meanings_of meaning old n ≡ Some m
+      → heard_of noted new n ≡ option_map (λ h. heard_all m h (told_at n lines)) (heard_of noted old n)
 
 -- a node has done what an event asks of it, and the trace has yet to get its line
 pub record HasActed {E : Type 0} (meaning : E → EngineMeaning) (noted : E → List (List ℕ)) (old new : Nodes E) (e : WorldEvent) (f : Effect) : Type 0 where
@@ -81,12 +82,14 @@ refusal None = Memory
 refusal (Some fault) = fault
 
 -- an event was refused
-pub record IsRefused {E : Type 0} (meaning : E → EngineMeaning) (noted : E → List (List ℕ)) (old new : Nodes E) (e : WorldEvent) (cause : WorldFault) : Type 0 where
+pub record IsRefused {E : Type 0} (meaning : E → EngineMeaning) (noted : E → List (List ℕ)) (old new : Nodes E) (e : WorldEvent)
+    (cause : WorldFault) : Type 0 where
   pub still : IsStill meaning noted old new
   pub fault : cause ≡ refusal (fault_of (cluster_of old) (world_of old) e)
 
 -- the events before a place have happened, and the one there was refused
-pub record HaveStopped {E : Type 0} (meaning : E → EngineMeaning) (noted : E → List (List ℕ)) (old new : Nodes E) (events : List WorldEvent) (f : RunFault) : Type 0 where
+pub record HaveStopped {E : Type 0} (meaning : E → EngineMeaning) (noted : E → List (List ℕ)) (old new : Nodes E) (events : List WorldEvent)
+    (f : RunFault) : Type 0 where
   pub within : f.place < length events
   pub before : HaveHappened meaning noted old new (take f.place events)
   pub fault : (e : WorldEvent) → slice_get events f.place ≡ Some e → f.fault ≡ refusal (fault_of (cluster_of old) (world_of new) e)

@@ -33,10 +33,13 @@ pub record IsParked (m : EngineMeaning) (size : ℕ) (arr : Token → ℕ) (aske
   pub key : named.0 ≡ p.key
   pub below : p.want < want
 
-pub record Waits (m : EngineMeaning) (places : ℕ → Place) (packets : List Packet) (cs : List Commit) (arr : Token → ℕ) (asked : Token → Request → Type 0) : Type 0 where
+pub record Waits (m : EngineMeaning) (places : ℕ → Place) (packets : List Packet) (cs : List Commit) (arr : Token → ℕ)
+    (asked : Token → Request → Type 0) : Type 0 where
   pub want_past : (from to : ℕ) (k : Key) (b x : ℕ) → In (Want from to k b x) packets → IsPast (places from) b x
   pub no_past : (from to : ℕ) (k : Key) (b x : ℕ) → In (No from to k b x) packets → IsPast (places to) b x
-  pub no_excuse : (from to : ℕ) (k : Key) (b x : ℕ) (p : Parked) → In (No from to k b x) packets → In p (places to).node.parked → b ≡ (places to).node.durable.boot → p.want ≡ x → p.key ≡ k → IsExcused m cs (arr (tok to (boot_of (places to)) p.token)) k
-  pub parked : (n : ℕ) (p : Parked) → In p (places n).node.parked → IsParked m (length cs) arr asked (tok n (boot_of (places n)) p.token) (places n).node.next_want p
+  pub no_excuse : (from to : ℕ) (k : Key) (b x : ℕ) (p : Parked) → In (No from to k b x) packets → In p (places to).node.parked
+      → b ≡ (places to).node.durable.boot → p.want ≡ x → p.key ≡ k → IsExcused m cs (arr (tok to (boot_of (places to)) p.token)) k
+  pub parked : (n : ℕ) (p : Parked) → In p (places n).node.parked
+      → IsParked m (length cs) arr asked (tok n (boot_of (places n)) p.token) (places n).node.next_want p
   pub excused : AllMayStand m arr [] cs
   pub served : AllServed asked cs

@@ -75,7 +75,8 @@ fn follow<E: Engine>(
     ensures meaning { E.meaning (engine_of core.new) ≡ E.meaning (engine_of core.old) }
     ensures setting { setting_of core.new ≡ setting_of core.old }
     ensures node { node_at core.new ≡ left (decision_at core.old plan.decision) }
-    ensures heard { E.heard (engine_of core.new) ≡ heard_all (E.meaning (engine_of core.old)) (E.heard (engine_of core.old)) (told (decision_at core.old plan.decision)) }
+    ensures heard { E.heard (engine_of core.new) ≡ heard_all (E.meaning (engine_of core.old)) (E.heard (engine_of core.old))
+        (told (decision_at core.old plan.decision)) }
     ensures journal { journal.new.items ≡ journal.old.items ++ option_to_list plan.entry }
     ensures effect { result ≡ whole_by heading plan.traced (outputs_in plan.decision) }
 {
@@ -104,7 +105,8 @@ fn carry_out<E: Engine>(
     ensures meaning { E.meaning (engine_of core.new) ≡ E.meaning (engine_of core.old) }
     ensures setting { setting_of core.new ≡ setting_of core.old }
     ensures node { OnOk result (node_at core.new ≡ left (decision_at core.old plan.decision)) }
-    ensures heard { OnOk result (E.heard (engine_of core.new) ≡ heard_all (E.meaning (engine_of core.old)) (E.heard (engine_of core.old)) (told (decision_at core.old plan.decision))) }
+    ensures heard { OnOk result (E.heard (engine_of core.new)
+        ≡ heard_all (E.meaning (engine_of core.old)) (E.heard (engine_of core.old)) (told (decision_at core.old plan.decision))) }
     ensures journal { OnOk result (journal.new.items ≡ journal.old.items ++ option_to_list plan.entry) }
     ensures packets { OnOk result (packets.new.items ≡ packets.old.items ++ sends_in (outputs_in plan.decision)) }
     ensures effect { IfOk result (λ f. f ≡ whole_by heading plan.traced (outputs_in plan.decision)) }
@@ -140,7 +142,9 @@ pub fn act<E: Engine>(
     ensures over { IsOver journal.new.items core.new }
     ensures meaning { E.meaning (engine_of core.new) ≡ E.meaning (engine_of core.old) }
     ensures setting { setting_of core.new ≡ setting_of core.old }
-    ensures done { IfOk result (λ f. IsCarriedOut (E.meaning (engine_of core.old)) (row_at (E.meaning (engine_of core.old)) (setting_of core.old) (node_at core.old) call.moment call.input) heading (E.heard (engine_of core.old)) (E.heard (engine_of core.new)) (node_at core.new) f) }
+    ensures done { IfOk result (λ f. IsCarriedOut (E.meaning (engine_of core.old))
+        (row_at (E.meaning (engine_of core.old)) (setting_of core.old) (node_at core.old) call.moment call.input) heading (E.heard (engine_of core.old))
+        (E.heard (engine_of core.new)) (node_at core.new) f) }
     ensures sent { IfOk result (λ f. packets.new.items ≡ packets.old.items ++ sends_in f.outputs) }
     ensures node { OnErr result (node_at core.new ≡ node_at core.old) }
     ensures heard { OnErr result (E.heard (engine_of core.new) ≡ E.heard (engine_of core.old)) }

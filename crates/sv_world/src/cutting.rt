@@ -82,8 +82,10 @@ pub fn cut<E: Engine>(
     ensures setting { setting_of core.new ≡ setting_of core.old }
     ensures journal { journal.new.items ≡ journal.old.items }
     ensures room { OnOk result (vec_len journal.new < vec_capacity journal.new) }
-    ensures rest { IfOk result (λ r. r ≡ rest_of kept (row_at (E.meaning (engine_of core.old)) (setting_of core.old) (node_at core.old) call.moment call.input)) }
-    ensures journaled { OnOk result (IsJournaled (setting_of core.old) (node_at core.old) (row_at (E.meaning (engine_of core.old)) (setting_of core.old) (node_at core.old) call.moment call.input)) }
+    ensures rest { IfOk result (λ r. r ≡ rest_of kept (row_at (E.meaning (engine_of core.old)) (setting_of core.old)
+        (node_at core.old) call.moment call.input)) }
+    ensures journaled { OnOk result (IsJournaled (setting_of core.old) (node_at core.old)
+        (row_at (E.meaning (engine_of core.old)) (setting_of core.old) (node_at core.old) call.moment call.input)) }
 {
     journal.try_reserve(1)?;
     let plan = decide(alloc, core, call)?;

@@ -89,7 +89,8 @@ pub fn hush<E: Engine>(
     ensures meaning { E.meaning (engine_of core.new) ≡ E.meaning (engine_of core.old) }
     ensures setting { setting_of core.new ≡ setting_of core.old }
     ensures heard { E.heard (engine_of core.new) ≡ E.heard (engine_of core.old) }
-    ensures done { IfOk result (λ f. IsSilenced (row_at (E.meaning (engine_of core.old)) (setting_of core.old) (node_at core.old) call.moment call.input) heading (node_at core.new) f) }
+    ensures done { IfOk result (λ f. IsSilenced (row_at (E.meaning (engine_of core.old)) (setting_of core.old)
+        (node_at core.old) call.moment call.input) heading (node_at core.new) f) }
     ensures node { OnErr result (node_at core.new ≡ node_at core.old) }
 {
     journal.try_reserve(1)?;

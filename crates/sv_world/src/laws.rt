@@ -56,9 +56,11 @@ pub fn headline()
 /// Its journal is then to fit under rules that leave room for as many keys as any of them; those of more than 65,536 keys do.
 /// Where the rules stay the same, this is `headline`.
 pub fn turned()
-    ensures headline { (m : EngineMeaning) → TouchesOnlyHanded m → (nodes : ℕ) (wide : Rules) (events : List Ruled) → AreWithin wide events → IsHeadline m (cluster_under nodes wide) (run_ruled m nodes nothing_happened events) }
+    ensures headline { (m : EngineMeaning) → TouchesOnlyHanded m → (nodes : ℕ) (wide : Rules) (events : List Ruled) → AreWithin wide events
+        → IsHeadline m (cluster_under nodes wide) (run_ruled m nodes nothing_happened events) }
     ensures widest { (wide : Rules) (events : List Ruled) → KEY_LIMIT < wide.keys → AreWithin wide events }
-    ensures same { (m : EngineMeaning) (c : Cluster) (w : World) (events : List WorldEvent) → run_ruled m c.nodes w (map (ruled c.rules) events) ≡ run m c w events }
+    ensures same { (m : EngineMeaning) (c : Cluster) (w : World) (events : List WorldEvent)
+        → run_ruled m c.nodes w (map (ruled c.rules) events) ≡ run m c w events }
 {}
 
 /// An event with a fault changes nothing; any other adds its line.
@@ -69,7 +71,8 @@ pub fn faults()
 /// Every list of calls of nodes over their disks is a list of events; so all of them hold of what the nodes keep, of what
 /// was put out and of what listeners were told.
 pub fn over_disks()
-    ensures { (m : EngineMeaning) → TouchesOnlyHanded m → (c : Cluster) (calls : List NodeCall) → AreCalls m c nothing_called (λ _. []) calls → AreWorld m c calls }
+    ensures { (m : EngineMeaning) → TouchesOnlyHanded m → (c : Cluster) (calls : List NodeCall) → AreCalls m c nothing_called (λ _. []) calls
+        → AreWorld m c calls }
 {}
 
 /// What each node does by itself, call by call, is what such calls do, and the network brings no packet that no node has put

@@ -71,7 +71,8 @@ pub fn decide<E: Engine>(alloc: Global, core: &mut Core<E>, call: Call) -> Resul
     ensures valid { E.valid (engine_of core.new) }
     ensures view { view_of E.meaning E.heard core.new ≡ view_of E.meaning E.heard core.old }
     ensures setting { setting_of core.new ≡ setting_of core.old }
-    ensures plan { IfOk result (λ p. IsPlan E.meaning core.new (row_at (E.meaning (engine_of core.old)) (setting_of core.old) (node_at core.old) call.moment call.input) p) }
+    ensures plan { IfOk result (λ p. IsPlan E.meaning core.new
+        (row_at (E.meaning (engine_of core.old)) (setting_of core.old) (node_at core.old) call.moment call.input) p) }
 {
     let decision = core.decide(call.moment, call.input)?;
     Ok(plan_of(alloc, decision)?)

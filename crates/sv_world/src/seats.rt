@@ -30,7 +30,8 @@ pub fn perform_at<E: Engine + Drop>(
     ensures number { length seats.new.items ≡ length seats.old.items }
     ensures settings { settings_by seats.new.items ≡ settings_by seats.old.items }
     ensures meanings { meanings_by E.meaning seats.new.items ≡ meanings_by E.meaning seats.old.items }
-    ensures done { IfOk result (λ f. (m : EngineMeaning) → meanings_by E.meaning seats.old.items order.node ≡ Some m → HaveDone E.heard m seats.old.items seats.new.items order f) }
+    ensures done { IfOk result (λ f. (m : EngineMeaning) → meanings_by E.meaning seats.old.items order.node ≡ Some m
+        → HaveDone E.heard m seats.old.items seats.new.items order f) }
     ensures sent { IfOk result (λ f. packets.new.items ≡ packets.old.items ++ sends_in f.outputs) }
     ensures undone { OnErr result (AreUndone E.heard seats.old.items seats.new.items) }
     ensures unsent { OnErr result (packets.new.items ≡ packets.old.items) }

@@ -22,7 +22,8 @@ impl<E: Engine + Drop> Seat<E> {
         ensures seat { IsSeat E.valid self.new }
         ensures setting { self.new.setting ≡ self.old.setting }
         ensures meaning { meaning_in E.meaning self.new ≡ meaning_in E.meaning self.old }
-        ensures done { IfOk result (λ f. (m : EngineMeaning) → meaning_in E.meaning self.old ≡ Some m → HasDone E.heard m self.old self.new (Silent moment input) f) }
+        ensures done { IfOk result (λ f. (m : EngineMeaning) → meaning_in E.meaning self.old ≡ Some m
+            → HasDone E.heard m self.old self.new (Silent moment input) f) }
         ensures silent { IfOk result (λ f. f.outputs ≡ []) }
         ensures undone { OnErr result (IsUndone E.heard self.old self.new) }
     {

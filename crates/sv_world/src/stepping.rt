@@ -29,7 +29,8 @@ impl<E: Engine + Drop> Seat<E> {
         ensures seat { IsSeat E.valid self.new }
         ensures setting { self.new.setting ≡ self.old.setting }
         ensures meaning { meaning_in E.meaning self.new ≡ meaning_in E.meaning self.old }
-        ensures done { IfOk result (λ f. (m : EngineMeaning) → meaning_in E.meaning self.old ≡ Some m → HasDone E.heard m self.old self.new (Step moment input) f) }
+        ensures done { IfOk result (λ f. (m : EngineMeaning) → meaning_in E.meaning self.old ≡ Some m
+            → HasDone E.heard m self.old self.new (Step moment input) f) }
         ensures sent { IfOk result (λ f. packets.new.items ≡ packets.old.items ++ sends_in f.outputs) }
         ensures undone { OnErr result (IsUndone E.heard self.old self.new) }
         ensures unsent { OnErr result (packets.new.items ≡ packets.old.items) }

@@ -37,7 +37,8 @@ impl<E: Engine + Drop> Seat<E> {
         ensures room { OnOk result (vec_len self.new.journal < vec_capacity self.new.journal) }
         ensures follows { IfOk result (λ r. MayFollow self.old.setting (place_of self.old).node.durable r.kept) }
         ensures rest { IfOk result (λ r. (m : EngineMeaning) → meaning_in E.meaning self.old ≡ Some m
-            → deed m self.old.setting (place_of self.old) (Torn moment input kept) ≡ halted_with (heading_by self.old.setting (place_of self.old).node.durable input) (place_of self.old).node.durable r) }
+            → deed m self.old.setting (place_of self.old) (Torn moment input kept)
+            ≡ halted_with (heading_by self.old.setting (place_of self.old).node.durable input) (place_of self.old).node.durable r) }
     {
         let call = Call {
             node: self.setting.node,
@@ -85,7 +86,8 @@ impl<E: Engine + Drop> Seat<E> {
         ensures seat { IsSeat E.valid self.new }
         ensures setting { self.new.setting ≡ self.old.setting }
         ensures meaning { meaning_in E.meaning self.new ≡ meaning_in E.meaning self.old }
-        ensures done { IfOk result (λ f. (m : EngineMeaning) → meaning_in E.meaning self.old ≡ Some m → HasDone E.heard m self.old self.new (Torn moment input kept) f) }
+        ensures done { IfOk result (λ f. (m : EngineMeaning) → meaning_in E.meaning self.old ≡ Some m
+            → HasDone E.heard m self.old self.new (Torn moment input kept) f) }
         ensures silent { IfOk result (λ f. f.outputs ≡ []) }
         ensures undone { OnErr result (IsUndone E.heard self.old self.new) }
     {

@@ -36,7 +36,8 @@ IsWithin o = KeepsWithin o.fate × BringsWithin o.birth
 
 counts_within : (held : Option (Key × Session)) (now : ℕ) (fresh : Key × Secret) → IfSome held (λ h. IsWithinLimits h.1) → IsWithin (counts_at held now fresh)
 counts_within None now fresh within = (tt, first_within now fresh)
-counts_within (Some (k, s)) now fresh within = cond_both (is_expired s now) _ _ (λ o. IsWithin o) (λ _. (tt, first_within now fresh)) (λ _. (again_within now s within, tt))
+counts_within (Some (k, s)) now fresh within =
+    cond_both (is_expired s now) _ _ (λ o. IsWithin o) (λ _. (tt, first_within now fresh)) (λ _. (again_within now s within, tt))
 
 pub keeps_limits : (secret : Secret) → KeepsLimits (counts secret)
 keeps_limits secret r held now fresh within = cond_both (is_head r.method) _ _ (λ o. IsWithin o) (λ _. (tt, tt)) (λ _. counts_within held now fresh within)

@@ -3,7 +3,8 @@
 ghost use Rattle.std.specs.Prelude.{◌≡◌, ◌<◌, ◌≤◌, ◌^◌, length, Option, option_copied, IfOk, OnOk, OnErr};
 ghost use Rattle.sv_model.specs.declared.session.TheConstants.{NAME_LIMIT, VALUE_LIMIT};
 ghost use Rattle.sv_model.specs.Attributes.{attributes_size, value_of, with_attribute};
-ghost use Rattle.sv_session.specs.Calls.{Admits, Answers, Gives, is_name, is_too_large, set_event, seen_value, get_result, names_result, set_result, value_result, remove_result};
+ghost use Rattle.sv_session.specs.Calls.{Admits, Answers, Gives, is_name, is_too_large, set_event};
+ghost use Rattle.sv_session.specs.Calls.{seen_value, get_result, names_result, set_result, value_result, remove_result};
 
 use super::SessionEdit;
 use crate::fault::SessionFault;

@@ -59,7 +59,8 @@ impl Holding {
     #[tactic(auto, unfolding(crate::specs::Edit::held_by))]
     pub fn held_mut(&mut self) -> Option<&mut Session>
         ensures* writes_back { sem 𝓛 (LendsHeld self.entry result) }
-        ensures value { option_map (λ session. session.now) result ≡ option_map (λ held. held.1) (held_by self.old.birth self.old.fate self.old.handed self.old.fresh) }
+        ensures value { option_map (λ session. session.now) result
+            ≡ option_map (λ held. held.1) (held_by self.old.birth self.old.fate self.old.handed self.old.fresh) }
     {
         match self.birth {
             Birth::Alive(_) => alive_mut(&mut self.birth),

@@ -14,7 +14,14 @@ use sv_model::{
 
 /// The target as it was sent, with status 200 and no fields.
 fn said(alloc: Global, request: &Request) -> Result<Response, AllocError>
-    ensures { IfOk result (λ response. response ≡ record { status = 200; fields = []; body = request.now.raw_path; head_only = false; close = request.now.close }) }
+    ensures { IfOk result (λ response. response ≡ record {
+      status = 200;
+      fields =
+          [];
+      body = request.now.raw_path;
+      head_only = false;
+      close = request.now.close;
+    }) }
 {
     let mut body = Sequence::new(alloc);
     body.extend_from_slice(request.raw_path.as_str().as_bytes())?;
