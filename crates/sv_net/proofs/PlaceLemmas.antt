@@ -1,6 +1,10 @@
 -- What stands at one place of a list.
-use Rattle.std.specs.Prelude.{◌≡◌, ℕ, zero, suc, List, [], ◌∷◌, slice_set, refl}
-use Rattle.std.proofs.Common.{ap}
+use Rattle.std.proofs.Common.{◌≡◌, ℕ, zero, suc, List, [], ◌∷◌, Option, Some, None, slice_set, inl, inr, refl, ap, sym, ◌∙◌, subst}
+use Rattle.std.specs.Prelude.{IfSome, slice_get}
+use Rattle.sv_net.specs.declared.connections.Connections.{Connections}
+use Rattle.sv_net.specs.declared.open.Open.{Open}
+use Rattle.sv_net.specs.declared.state.State.{State}
+use Rattle.sv_net.specs.Places.{places_of, elsewhere, with_at, held_in, held_at, Keeps}
 
 module _ {A : Type 0} where
   -- of two things that are set at one place the last one stands there
@@ -8,3 +12,40 @@ module _ {A : Type 0} where
   set_twice [] i x y = refl
   set_twice (z ∷ zs) zero x y = refl
   set_twice (z ∷ zs) (suc i) x y = ap (λ rest. z ∷ rest) (set_twice zs i x y)
+
+-- ---- who stands there
+
+set_holds : (P : Open → Type 0) (xs : List (Option Open)) (i : ℕ) (x : Open) → P x → IfSome (held_in (slice_get (slice_set xs i (Some x)) i)) P
+set_holds P [] i x p = tt
+set_holds P (y ∷ ys) zero x p = p
+set_holds P (y ∷ ys) (suc i) x p = set_holds P ys i x p
+
+none_held : (xs : List (Option Open)) (i : ℕ) → held_in (slice_get (slice_set xs i None) i) ≡ None
+none_held [] i = refl
+none_held (y ∷ ys) zero = refl
+none_held (y ∷ ys) (suc i) = none_held ys i
+
+pub nobody_holds : (P : Open → Type 0) {o : Option Open} → o ≡ None → IfSome o P
+nobody_holds P is = subst (λ o. IfSome o P) (sym is) tt
+
+-- the same places
+pub same_held : (place : ℕ) (old new : Connections) → places_of new ≡ places_of old → held_at new place ≡ held_at old place
+same_held place old new is = ap (λ xs. held_in (slice_get xs place)) is
+
+-- who was taken
+pub taken_held : (place : ℕ) (old new : Connections) → places_of new ≡ elsewhere place old → held_at new place ≡ None
+taken_held place old new is = ap (λ xs. held_in (slice_get xs place)) is ∙ none_held (places_of old) place
+
+-- who was put there
+pub put_holds : (P : Open → Type 0) (place : ℕ) (held : Open) (old new : Connections) → places_of new ≡ with_at place held old → P held → IfSome (held_at new place) P
+put_holds P place held old new is p = subst (λ xs. IfSome (held_in (slice_get xs place)) P) (sym is) (set_holds P (places_of old) place held p)
+
+-- who was kept
+pub keep_holds : (P : State → Type 0) (place : ℕ) (was : Open) (old new : Connections) → Keeps place was old new → held_at old place ≡ None → P was.state → IfSome (held_at new place) (λ held. P held.state)
+keep_holds P place was old new (inl k) none p = put_holds (λ held. P held.state) place k.held old new k.places (subst P (sym k.kept.state) p)
+keep_holds P place was old new (inr k) none p = nobody_holds (λ held. P held.state) (same_held place old new k.places ∙ none)
+
+-- what is so of each is so of whoever stands there
+pub holds_more : (P Q : State → Type 0) → ((s : State) → P s → Q s) → (o : Option Open) → IfSome o (λ held. P held.state) → IfSome o (λ held. Q held.state)
+holds_more P Q more None p = tt
+holds_more P Q more (Some held) p = more held.state p

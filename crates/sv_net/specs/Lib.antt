@@ -2,3 +2,4 @@ pub mod Peers
 pub mod Places
 pub mod Frames
 pub mod Hearing
+pub mod Saying

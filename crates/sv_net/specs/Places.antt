@@ -1,5 +1,5 @@
 -- The connections that are open, each at its place.
-use Rattle.std.specs.Prelude.{ℕ, ◌==◌, Bool, cond, List, Option, Some, None, slice_get, slice_set}
+use Rattle.std.specs.Prelude.{◌≡◌, ◌⊎◌, ◌-◌, ℕ, ◌==◌, Bool, cond, List, Option, Some, None, IfSome, slice_get, slice_set}
 use Rattle.sv_net.specs.declared.connections.Connections.{Connections}
 use Rattle.sv_net.specs.declared.open.Open.{Open}
 use Rattle.sv_net.specs.declared.persistence.Persistence.{Persistence}
@@ -17,6 +17,47 @@ persistence_of c = c.links.persistence
 -- what stands at all places but one
 abbrev pub elsewhere : ℕ → Connections → List (Option Open)
 elsewhere place c = slice_set (places_of c) place None
+
+-- the same, with this connection at that place; where there is no such place it stands nowhere
+abbrev pub with_at : ℕ → Open → Connections → List (Option Open)
+with_at place held c = slice_set (places_of c) place (Some held)
+
+-- who stands at a place; none where nobody does, or there is no such place
+abbrev pub held_in : Option (Option Open) → Option Open
+held_in None = None
+held_in (Some held) = held
+
+abbrev pub held_at : Connections → ℕ → Option Open
+held_at c place = held_in (slice_get (places_of c) place)
+
+-- how many are open
+abbrev pub count_of : Connections → ℕ
+count_of c = c.count
+
+-- a connection as it was, but for its socket
+pub record IsKept (was held : Open) : Type 0 where
+  pub state : held.state ≡ was.state
+  pub begun : held.begun ≡ was.begun
+  pub heard : held.heard ≡ was.heard
+
+-- it stands at its place
+pub record StandsAt (place : ℕ) (was : Open) (old new : Connections) : Type 0 where
+  pub held : Open
+  pub kept : IsKept was held
+  pub places : places_of new ≡ with_at place held old
+  pub count : count_of new ≡ count_of old
+
+-- it is closed: nobody else stands anywhere, and one less is open
+pub record IsClosed (old new : Connections) : Type 0 where
+  pub places : places_of new ≡ places_of old
+  pub count : count_of new ≡ count_of old - 1
+
+abbrev pub Keeps : ℕ → Open → Connections → Connections → Type 0
+Keeps place was old new = StandsAt place was old new ⊎ IsClosed old new
+
+-- who stands at a place has stood there before
+abbrev pub HasStood : ℕ → Connections → Connections → Type 0
+HasStood place old new = IfSome (held_at new place) (λ held. (was : Open) × (held_at old place ≡ Some was) × IsKept was held)
 
 -- how a client whose request waits under this number wants a refusal: the head alone, and whether its connection closes
 abbrev pub manner_for : ℕ → Bool → Bool → ℕ → Option (Bool × Bool)

@@ -1,7 +1,10 @@
 //! What clients are told.
 
-ghost use Rattle.std.specs.Prelude.{◌≡◌, None, is_some};
-ghost use Rattle.sv_net.specs.Places.{elsewhere, manner_at};
+ghost use Rattle.std.specs.Prelude.{◌≡◌, ◌||◌, None, IfSome, is_some};
+ghost use Rattle.sv_connection.specs.Serve.{memory_lines};
+ghost use Rattle.sv_net.specs.Places.{elsewhere, held_at, manner_at};
+ghost use Rattle.sv_net.specs.Saying.{Answers, Follows, Says, is_deadline, refused_as};
+ghost use Rattle.sv_net.specs.declared.state.Next.TheVariants.{Part};
 
 use crate::connections::Connections;
 use crate::open::Open;
@@ -12,10 +15,18 @@ use std::time::Duration;
 use sv_connection::{memory_lines, refusal};
 use sv_model::{Cause, Response};
 
+/// Whether the connection of a client closes behind its refusal: where it wants that, and where it has waited in vain.
+fn closes(cause: Cause, close: bool) -> bool
+    ensures { result ≡ (close || is_deadline cause) }
+{
+    close || matches!(cause, Cause::Deadline)
+}
+
 impl Connections {
     /// Says a text at a place. What isn't taken of it is kept, and leaves `text`.
     pub fn say(&mut self, place: usize, socket: Socket, text: &mut Vec<u8>, next: Next)
-        ensures { elsewhere place self.new ≡ elsewhere place self.old }
+        ensures said { held_at self.old place ≡ None → IfSome (held_at self.new place) (λ held. Says text.old.items next held.state) }
+        ensures others { elsewhere place self.new ≡ elsewhere place self.old }
     {
         let mut socket = socket;
         self.report.answered(text.as_slice());
@@ -65,7 +76,8 @@ impl Connections {
     /// What follows once a text is written. A client that is listened to further is gone on with in the next turn, so that each has
     /// one request a turn.
     pub(crate) fn follow(&mut self, place: usize, socket: Socket, next: Next)
-        ensures { elsewhere place self.new ≡ elsewhere place self.old }
+        ensures followed { held_at self.old place ≡ None → IfSome (held_at self.new place) (λ held. Follows next held.state) }
+        ensures others { elsewhere place self.new ≡ elsewhere place self.old }
     {
         match next {
             Next::Close => self.leave(place),
@@ -129,6 +141,7 @@ impl Connections {
         text: &mut Vec<u8>,
     )
         ensures nobody { manner_at self.old place token ≡ None → self.new ≡ self.old }
+        ensures answered { IfSome (manner_at self.old place token) (λ _. IfSome (held_at self.new place) (λ held. Answers response.now now held.state)) }
         ensures others { elsewhere place self.new ≡ elsewhere place self.old }
     {
         if !self.waits_at(place, token) {
@@ -149,7 +162,8 @@ impl Connections {
 
     /// Says to a client that memory was refused, and parts from it.
     fn refuse_for_memory(&mut self, place: usize, socket: Socket)
-        ensures { elsewhere place self.new ≡ elsewhere place self.old }
+        ensures said { held_at self.old place ≡ None → IfSome (held_at self.new place) (λ held. Says memory_lines Part held.state) }
+        ensures others { elsewhere place self.new ≡ elsewhere place self.old }
     {
         match Vec::from_slice(self.alloc, memory_lines()) {
             Ok(lines) => {
@@ -160,27 +174,30 @@ impl Connections {
         }
     }
 
+    /// The same to the client at a place.
+    fn starve(&mut self, place: usize)
+        ensures said { IfSome (held_at self.new place) (λ held. Says memory_lines Part held.state) }
+        ensures others { elsewhere place self.new ≡ elsewhere place self.old }
+    {
+        if let Some(open) = self.take(place) {
+            let (socket, _state, _begun, _heard) = open.into_parts();
+            self.refuse_for_memory(place, socket);
+        }
+    }
+
     /// Refuses the client that waits at a place for the answer under a token. The connection of one that has waited in vain closes.
     pub fn refuse(&mut self, place: usize, token: u64, cause: Cause, now: u64, text: &mut Vec<u8>)
         ensures nobody { manner_at self.old place token ≡ None → self.new ≡ self.old }
+        ensures refused { IfSome (manner_at self.old place token) (λ manner. IfSome (held_at self.new place)
+            (λ held. Answers (refused_as cause manner) now held.state)) }
         ensures others { elsewhere place self.new ≡ elsewhere place self.old }
     {
         let Some((head_only, close)) = self.manner_at(place, token) else {
             return;
         };
-        match refusal(
-            self.alloc,
-            cause,
-            head_only,
-            close || cause == Cause::Deadline,
-        ) {
+        match refusal(self.alloc, cause, head_only, closes(cause, close)) {
             Ok(response) => self.answer(place, token, &response, now, text),
-            Err(_) => {
-                if let Some(open) = self.take(place) {
-                    let (socket, _stage, _begun, _heard) = open.into_parts();
-                    self.refuse_for_memory(place, socket);
-                }
-            }
+            Err(_) => self.starve(place),
         }
     }
 }

@@ -1,7 +1,7 @@
 //! The connections that are open.
 
-ghost use Rattle.std.specs.Prelude.{◌≡◌};
-ghost use Rattle.sv_net.specs.Places.{places_of, elsewhere, persistence_of};
+ghost use Rattle.std.specs.Prelude.{◌≡◌, ◌-◌};
+ghost use Rattle.sv_net.specs.Places.{places_of, count_of, elsewhere, held_at, with_at, persistence_of, IsKept, Keeps, HasStood};
 
 use crate::links::Links;
 use crate::machine::Machine;
@@ -122,7 +122,10 @@ impl Connections {
 
     /// What stands at a place, which keeps the place.
     pub fn take(&mut self, place: usize) -> Option<Open>
-        ensures { elsewhere place self.new ≡ elsewhere place self.old }
+        ensures taken { result ≡ held_at self.old place }
+        ensures places { places_of self.new ≡ elsewhere place self.old }
+        ensures count { count_of self.new ≡ count_of self.old }
+        ensures others { elsewhere place self.new ≡ elsewhere place self.old }
     {
         if place >= self.places.len() {
             return None;
@@ -132,7 +135,9 @@ impl Connections {
 
     /// Puts a connection to its place.
     pub fn put(&mut self, place: usize, socket: Socket, state: State, begun: Duration)
-        ensures { elsewhere place self.new ≡ elsewhere place self.old }
+        ensures places { places_of self.new ≡ with_at place (record { socket = socket; state = state; begun = begun; heard = self.old.clock }) self.old }
+        ensures count { count_of self.new ≡ count_of self.old }
+        ensures others { elsewhere place self.new ≡ elsewhere place self.old }
     {
         let heard = self.clock;
         self.seat(
@@ -148,7 +153,9 @@ impl Connections {
 
     /// Sets a connection at its place.
     fn seat(&mut self, place: usize, open: Open)
-        ensures { elsewhere place self.new ≡ elsewhere place self.old }
+        ensures places { places_of self.new ≡ with_at place «open» self.old }
+        ensures count { count_of self.new ≡ count_of self.old }
+        ensures others { elsewhere place self.new ≡ elsewhere place self.old }
     {
         if place < self.places.len() {
             self.places[place] = Some(open);
@@ -157,7 +164,10 @@ impl Connections {
 
     /// Puts a connection that begins a state to its place.
     pub fn begin(&mut self, place: usize, socket: Socket, state: State)
-        ensures { elsewhere place self.new ≡ elsewhere place self.old }
+        ensures places { places_of self.new
+            ≡ with_at place (record { socket = socket; state = state; begun = self.old.clock; heard = self.old.clock }) self.old }
+        ensures count { count_of self.new ≡ count_of self.old }
+        ensures others { elsewhere place self.new ≡ elsewhere place self.old }
     {
         let begun = self.clock;
         self.put(place, socket, state, begun);
@@ -165,7 +175,8 @@ impl Connections {
 
     /// Puts a connection back as it was, and has the poll report it. Where that can't be, it is closed.
     pub fn keep(&mut self, place: usize, open: Open)
-        ensures { elsewhere place self.new ≡ elsewhere place self.old }
+        ensures kept { Keeps place «open» self.old self.new }
+        ensures others { elsewhere place self.new ≡ elsewhere place self.old }
     {
         let mut open = open;
         if self.watch(place, &mut open) {
@@ -176,7 +187,9 @@ impl Connections {
     }
 
     /// Has the poll report what the state of a connection waits for. False where it can't.
-    fn watch(&self, place: usize, open: &mut Open) -> bool {
+    fn watch(&self, place: usize, open: &mut Open) -> bool
+        ensures { IsKept «open».old «open».new }
+    {
         match open.state.interest() {
             Some(interest) => open.socket.watch(&self.registry, place, interest),
             None => true,
@@ -193,7 +206,8 @@ impl Connections {
 
     /// Has the poll report once more what comes at a place.
     fn watch_anew(&mut self, place: usize)
-        ensures { elsewhere place self.new ≡ elsewhere place self.old }
+        ensures stood { HasStood place self.old self.new }
+        ensures others { elsewhere place self.new ≡ elsewhere place self.old }
     {
         if let Some(mut open) = self.take(place) {
             let _ = open
@@ -205,7 +219,8 @@ impl Connections {
 
     /// Has a connection gone on with again, of which more may be there.
     pub fn call_again(&mut self, place: usize)
-        ensures { elsewhere place self.new ≡ elsewhere place self.old }
+        ensures stood { HasStood place self.old self.new }
+        ensures others { elsewhere place self.new ≡ elsewhere place self.old }
     {
         if self.has_come(place) {
             self.put_down(place);
@@ -216,7 +231,8 @@ impl Connections {
 
     /// Puts a place down as one where something is to be done. Where there is no memory for it the connection is closed.
     pub(crate) fn put_down(&mut self, place: usize)
-        ensures { elsewhere place self.new ≡ elsewhere place self.old }
+        ensures stood { HasStood place self.old self.new }
+        ensures others { elsewhere place self.new ≡ elsewhere place self.old }
     {
         let put: Result<(), AllocFailed<usize>> = self.due.push(place);
         if put.is_err() {
@@ -252,7 +268,8 @@ impl Connections {
 
     /// Gives a place up whose connection was taken.
     pub fn leave(&mut self, place: usize)
-        ensures { places_of self.new ≡ places_of self.old }
+        ensures places { places_of self.new ≡ places_of self.old }
+        ensures count { count_of self.new ≡ count_of self.old - 1 }
     {
         self.count = self.count.saturating_sub(1);
         let _: Result<(), AllocFailed<usize>> = self.free.push(place);

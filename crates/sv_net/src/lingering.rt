@@ -1,7 +1,9 @@
 //! Clients that are told all, and those that wait: what they still send, and whether they are there.
 
-ghost use Rattle.std.specs.Prelude.{◌≡◌};
-ghost use Rattle.sv_net.specs.Places.{elsewhere};
+ghost use Rattle.std.specs.Prelude.{◌≡◌, None, IfSome};
+ghost use Rattle.sv_net.specs.Places.{elsewhere, held_at};
+ghost use Rattle.sv_net.specs.Saying.{Follows};
+ghost use Rattle.sv_net.specs.declared.state.Next.TheVariants.{Part};
 
 use crate::connections::Connections;
 use crate::open::Open;
@@ -18,7 +20,8 @@ impl Connections {
     /// Says that nothing more is written, and reads on until the other end has closed too (RFC 9112, section 9.6). What came before
     /// may be unread.
     pub(crate) fn half_close(&mut self, place: usize, socket: Socket)
-        ensures { elsewhere place self.new ≡ elsewhere place self.old }
+        ensures parting { held_at self.old place ≡ None → IfSome (held_at self.new place) (λ held. Follows Part held.state) }
+        ensures others { elsewhere place self.new ≡ elsewhere place self.old }
     {
         let mut socket = socket;
         if socket.end_writing().is_err() {

@@ -1,5 +1,7 @@
 //! An open connection.
 
+ghost use Rattle.std.specs.Prelude.{◌≡◌};
+
 use crate::socket::Socket;
 use crate::state::State;
 use std::time::Duration;
@@ -37,7 +39,9 @@ impl Open {
     }
 
     /// A connection that begins a state at a moment.
-    pub(crate) fn at(socket: Socket, state: State, begun: Duration) -> Open {
+    pub(crate) fn at(socket: Socket, state: State, begun: Duration) -> Open
+        ensures { result ≡ record { socket = socket; state = state; begun = begun; heard = begun } }
+    {
         Open {
             socket,
             state,

@@ -1,6 +1,9 @@
 //! A connection's socket, which waits at most for a moment, and only for what comes first.
 
+ghost use Rattle.std.specs.Prelude.{◌≡◌, ◌≤◌, [], drop, length};
 ghost use Rattle.std.specs.Io.{ReadsAtMost, WritesAtMost};
+ghost use Rattle.sv_net.specs.Saying.{IsLeft};
+ghost use Rattle.sv_net.specs.declared.socket.Written.TheVariants as written;
 
 use mio::unix::SourceFd;
 use mio::{Interest, Registry, Token};
@@ -78,6 +81,14 @@ pub fn comes_later(fault: &io::Error) -> bool {
     matches!(fault.kind(), ErrorKind::WouldBlock | ErrorKind::Interrupted)
 }
 
+/// Cuts so many bytes off the front of a text.
+fn cut(text: &mut Vec<u8>, count: usize)
+    requires { count ≤ length text.old.items }
+    ensures { text.new.items ≡ drop count text.old.items }
+{
+    text.drain(..count);
+}
+
 impl From<mio::net::TcpStream> for Socket {
     fn from(stream: mio::net::TcpStream) -> Socket {
         Socket::new(TcpStream::from(stream), Patience::None)
@@ -139,7 +150,10 @@ impl Socket {
     }
 
     /// Writes what the other end takes now, and cuts it off.
-    pub fn write(&mut self, text: &mut Vec<u8>) -> Written {
+    pub fn write(&mut self, text: &mut Vec<u8>) -> Written
+        ensures left { IsLeft text.new.items text.old.items }
+        ensures all { result ≡ written.All → text.new.items ≡ [] }
+    {
         for _ in 0..WRITES {
             if text.is_empty() {
                 return Written::All;
@@ -147,9 +161,7 @@ impl Socket {
             match self.put(text.as_slice()) {
                 Ok(0) => return Written::Broken,
                 Ok(count) if count == text.len() => text.clear(),
-                Ok(count) => {
-                    text.drain(..count);
-                }
+                Ok(count) => cut(text, count),
                 Err(fault) if fault.kind() == ErrorKind::WouldBlock => return Written::Part,
                 Err(_) => return Written::Broken,
             }

@@ -3,5 +3,5 @@ use Rattle.sv_net.proofs.PlaceLemmas.{set_twice}
 use Rattle.sv_net.specs.Places.{places_of}
 use Rattle.sv_net.proofs.connections.Connections.seat.Goals as goal
 
-pub returns-then-place-len : goal.returns-then-place-len
-returns-then-place-len c = set_twice (places_of c.args.self.now) c.args.place (Some c.args.open) None
+pub returns-then-place-len-clause-others : goal.returns-then-place-len-clause-others
+returns-then-place-len-clause-others c = set_twice (places_of c.args.self.now) c.args.place (Some c.args.open) None

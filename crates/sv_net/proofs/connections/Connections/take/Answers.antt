@@ -3,5 +3,5 @@ use Rattle.sv_net.proofs.PlaceLemmas.{set_twice}
 use Rattle.sv_net.specs.Places.{places_of}
 use Rattle.sv_net.proofs.connections.Connections.take.Goals as goal
 
-pub returns : goal.returns
-returns c = set_twice (places_of c.args.self.now) c.args.place c.take.new.self None
+pub returns-clause-others : goal.returns-clause-others
+returns-clause-others c = set_twice (places_of c.args.self.now) c.args.place c.take.new.self None

@@ -1,0 +1,52 @@
+-- What stands at a place where a text was said.
+use Rattle.std.specs.Prelude.{◌≡◌, ◌⊎◌, ℕ, ◌||◌, ◌++◌, List, Vec, Bool, true, false}
+use Rattle.std.specs.declared.alloc.Global.{Global}
+use Rattle.sv_connection.specs.Reply.{refusal}
+use Rattle.sv_connection.specs.Serve.{memory_lines}
+use Rattle.sv_message.specs.Response.{IsResponseText}
+use Rattle.sv_model.specs.declared.output.Cause.{Cause}
+use Rattle.sv_model.specs.declared.output.Cause.TheVariants.{ParkFull, Deadline, TableFull, SerialsSpent, WantsSpent, JournalFull, Memory}
+use Rattle.sv_model.specs.declared.response.Response.{Response}
+use Rattle.sv_net.specs.declared.state.Next.{Next}
+use Rattle.sv_net.specs.declared.state.Next.TheVariants.{Close, Part, Listen}
+use Rattle.sv_net.specs.declared.state.State.{State}
+use Rattle.sv_net.specs.declared.state.State.TheVariants.{Asked, Parting, Saying}
+
+-- this is left of a text, behind what was taken of it
+abbrev pub IsLeft : List ℕ → List ℕ → Type 0
+IsLeft left text = (taken : List ℕ) × (text ≡ taken ++ left)
+
+-- the front of a text
+abbrev pub IsFront : List ℕ → List ℕ → Type 0
+IsFront front text = (rest : List ℕ) × (text ≡ front ++ rest)
+
+-- what is behind a text that was taken whole
+abbrev pub Follows : Next → State → Type 0
+Follows Close state = ⊥
+Follows Part state = (bytes : ℕ) × (state ≡ Parting bytes)
+Follows (Listen client) state = state ≡ Asked client
+
+-- what is left of a text waits to be said, or it was taken whole
+abbrev pub Says : List ℕ → Next → State → Type 0
+Says text next state = ((left : Vec ℕ Global) × (state ≡ Saying left next) × IsLeft left.items text) ⊎ Follows next state
+
+-- the text of a response with this time, or the lines that say that memory was refused, as far as there was memory for it
+abbrev pub IsText : Response → ℕ → List ℕ → Type 0
+IsText response now text = ((whole : List ℕ) × IsResponseText response now whole × IsFront text whole) ⊎ IsFront text memory_lines
+
+-- a response was said at this time
+abbrev pub Answers : Response → ℕ → State → Type 0
+Answers response now state = (text : List ℕ) × (next : Next) × IsText response now text × Says text next state
+
+abbrev pub is_deadline : Cause → Bool
+is_deadline ParkFull = false
+is_deadline Deadline = true
+is_deadline TableFull = false
+is_deadline SerialsSpent = false
+is_deadline WantsSpent = false
+is_deadline JournalFull = false
+is_deadline Memory = false
+
+-- the refusal of a client, by how it wants one; behind one for its time its connection closes
+abbrev pub refused_as : Cause → Bool × Bool → Response
+refused_as cause manner = refusal cause manner.0 (manner.1 || is_deadline cause)
