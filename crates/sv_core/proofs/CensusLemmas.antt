@@ -14,7 +14,7 @@ total_one (Sent e s to) c = omega arith
 total_one (Gone e) c = omega arith
 total_one (Ended e) c = omega arith
 
-total_all : (es : List Entry) (c : Census) → total (with_all es c) ≡ total c + length es
+pub total_all : (es : List Entry) (c : Census) → total (with_all es c) ≡ total c + length es
 total_all [] c = omega arith
 total_all (e ∷ es) c = total_all es (with_one e.1 c) ∙ omega (arith, total_one e.1 c)
 

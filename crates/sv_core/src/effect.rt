@@ -43,6 +43,7 @@ impl Table {
     }
 
     /// What a record says of one key, at a node that forgets those of this home.
+    #[inline(always)]
     fn take_record(&mut self, home: Option<u8>, entry: Record)
         requires { HasRoom self.old }
         ensures { keys_of self.new ≡ keys_behind home entry (keys_of self.old) }

@@ -97,6 +97,30 @@ fn ask<E: Engine>(
 }
 
 /// The request that waits at this place leaves and is served.
+// Out of line, so that a step with none to serve doesn't clear the values of this one.
+#[inline(never)]
+fn serve_at<E: Engine>(
+    engine: &mut E,
+    kept: &Kept,
+    moment: Moment,
+    at: usize,
+) -> Result<Decision, Memory>
+    requires valid { E.valid engine.old }
+    requires place { at < length kept.now.parked.items }
+    ensures valid { E.valid engine.new }
+    ensures meaning { E.meaning engine.new ≡ E.meaning engine.old }
+    ensures heard { E.heard engine.new ≡ E.heard engine.old }
+    ensures decision { (test : Parked → Bool) → Some at ≡ position test kept.now.parked.items
+        → IfOk result (λ d. decision_of kept.now.setting (node_of kept.now) d
+        ≡ serve_parked (E.meaning engine.old) kept.now.setting (node_of kept.now) moment test) }
+{
+    let parked = &kept.parked[at];
+    let request = parked.request.copy(kept.alloc)?;
+    let named = engine.names(&request);
+    serve(engine, kept, moment, parked.token, request, named, Some(at))
+}
+
+/// The request that waits at this place, if there is one, leaves and is served.
 fn serve_parked<E: Engine>(
     engine: &mut E,
     kept: &Kept,
@@ -112,13 +136,10 @@ fn serve_parked<E: Engine>(
         → IfOk result (λ d. decision_of kept.now.setting (node_of kept.now) d
         ≡ serve_parked (E.meaning engine.old) kept.now.setting (node_of kept.now) moment test) }
 {
-    let Some(at) = place else {
-        return Ok(Decision::nothing(kept.alloc));
-    };
-    let parked = &kept.parked[at];
-    let request = parked.request.copy(kept.alloc)?;
-    let named = engine.names(&request);
-    serve(engine, kept, moment, parked.token, request, named, place)
+    match place {
+        Some(at) => serve_at(engine, kept, moment, at),
+        None => Ok(Decision::nothing(kept.alloc)),
+    }
 }
 
 /// A parked request may be served by now.

@@ -186,7 +186,7 @@ fn tell_all<E: Engine>(
 }
 
 impl<E: Engine, D: Disk> Node<E, D> {
-    ghost use Rattle.sv_node.specs.Node.{IsNode};
+    ghost use Rattle.sv_node.specs.Node.{IsNode, restored_of};
     ghost use Rattle.sv_node.specs.Group.{IsGroup};
 
     /// Takes inputs one behind the other, each by a step on the state behind the one before, and makes all of their records
@@ -204,6 +204,7 @@ impl<E: Engine, D: Disk> Node<E, D> {
         ensures valid { IsNode E.valid D.tells D.seen D.may_leave self.new }
         ensures group { IsGroup E.meaning E.heard D.tells D.seen D.may_leave D.moment D.left_since D.failed self.old inputs.items (with_list (λ answers.
             map (with_list vec_items) answers.items) result) self.new }
+        ensures restored { restored_of self.new ≡ restored_of self.old }
     {
         if !self.journal.is_live() {
             return Err(StepFault::Failed);

@@ -121,7 +121,7 @@ impl<E: Engine, D: Disk> Node<E, D> {
 }
 
 impl<E: Engine, D: Disk> Node<E, D> {
-    ghost use Rattle.sv_node.specs.Node.{IsNode, engine_of, setting_of, durable_of};
+    ghost use Rattle.sv_node.specs.Node.{IsNode, engine_of, setting_of, durable_of, restored_of};
     ghost use Rattle.sv_node.specs.Compaction.{IsCompaction};
 
     /// The session for which a request would wait if it came now; none where it would be served at once.
@@ -138,6 +138,7 @@ impl<E: Engine, D: Disk> Node<E, D> {
         requires valid { IsNode E.valid D.tells D.seen D.may_leave self.old }
         ensures valid { IsNode E.valid D.tells D.seen D.may_leave self.new }
         ensures compaction { IsCompaction E.meaning E.heard D.tells D.seen D.may_leave D.moment D.left_since D.failed self.old result self.new }
+        ensures restored { restored_of self.new ≡ restored_of self.old }
     {
         if !self.journal.is_live() {
             return Err(JournalFault::Failed);
