@@ -2,6 +2,7 @@
 
 mod connections;
 mod containers;
+mod copies;
 mod cores;
 mod descriptors;
 mod dispatches;
@@ -194,6 +195,17 @@ fn of_container(alloc: Global, refusals: &mut Refusals, name: &str) -> Shown {
     }
 }
 
+fn of_dispatching(alloc: Global, refusals: &mut Refusals, name: &str) -> Shown {
+    match name {
+        "includer" => samples::includer(alloc, refusals),
+        "forwarder" => samples::forwarder(alloc, refusals),
+        "faulty" => samples::faulty(alloc, refusals),
+        "stamp" => samples::stamp(alloc, refusals),
+        "gate" => samples::gate(alloc, refusals),
+        _ => of_container(alloc, refusals, name),
+    }
+}
+
 fn of_samples(alloc: Global, refusals: &mut Refusals, name: &str) -> Shown {
     match name {
         "hello" => samples::hello(alloc, refusals),
@@ -201,12 +213,19 @@ fn of_samples(alloc: Global, refusals: &mut Refusals, name: &str) -> Shown {
         "snoop" => samples::snoop(alloc, refusals),
         "login" => samples::login(alloc, refusals),
         "renew" => samples::renew(alloc, refusals),
-        "includer" => samples::includer(alloc, refusals),
-        "forwarder" => samples::forwarder(alloc, refusals),
-        "faulty" => samples::faulty(alloc, refusals),
-        "stamp" => samples::stamp(alloc, refusals),
-        "gate" => samples::gate(alloc, refusals),
-        _ => of_container(alloc, refusals, name),
+        _ => of_dispatching(alloc, refusals, name),
+    }
+}
+
+fn of_reply(alloc: Global, refusals: &mut Refusals, name: &str) -> Shown {
+    match name {
+        "reply-header" => session::header(alloc, refusals),
+        "reply-header-again" => session::header_again(alloc, refusals),
+        "reply-set" => session::field(alloc, refusals),
+        "reply-write" => session::write(alloc, refusals),
+        "request-attributes-insert" => session::attribute(alloc, refusals),
+        "request-attributes-copy" => session::attributes(alloc, refusals),
+        _ => of_samples(alloc, refusals, name),
     }
 }
 
@@ -220,13 +239,16 @@ fn of_session(alloc: Global, refusals: &mut Refusals, name: &str) -> Shown {
         "edit-invalidate" => session::invalidate(alloc, refusals),
         "edit-create" => session::create(alloc, refusals),
         "edit-change-id" => session::change_id(alloc, refusals),
-        "reply-header" => session::header(alloc, refusals),
-        "reply-header-again" => session::header_again(alloc, refusals),
-        "reply-set" => session::field(alloc, refusals),
-        "reply-write" => session::write(alloc, refusals),
-        "request-attributes-insert" => session::attribute(alloc, refusals),
-        "request-attributes-copy" => session::attributes(alloc, refusals),
-        _ => of_samples(alloc, refusals, name),
+        _ => of_reply(alloc, refusals, name),
+    }
+}
+
+fn of_look(alloc: Global, refusals: &mut Refusals, name: &str) -> Shown {
+    match name {
+        "look-at" => descriptors::look(alloc, refusals),
+        "look-at-no-document" => descriptors::look_at_none(alloc, refusals),
+        "look-at-faults" => descriptors::look_at_faults(alloc, refusals),
+        _ => of_session(alloc, refusals, name),
     }
 }
 
@@ -237,10 +259,16 @@ fn of_descriptors(alloc: Global, refusals: &mut Refusals, name: &str) -> Shown {
         "document-from-toml" => descriptors::document(alloc, refusals),
         "document-faults" => descriptors::faults(alloc, refusals),
         "document-patterns" => descriptors::patterns(alloc, refusals),
-        "look-at" => descriptors::look(alloc, refusals),
-        "look-at-no-document" => descriptors::look_at_none(alloc, refusals),
-        "look-at-faults" => descriptors::look_at_faults(alloc, refusals),
-        _ => of_session(alloc, refusals, name),
+        _ => of_look(alloc, refusals, name),
+    }
+}
+
+fn of_mapping(alloc: Global, refusals: &mut Refusals, name: &str) -> Shown {
+    match name {
+        "pattern-read" => web::pattern(alloc, refusals),
+        "mappings-add" => web::mappings(alloc, refusals),
+        "filters-for" => web::filters(alloc, refusals),
+        _ => of_descriptors(alloc, refusals, name),
     }
 }
 
@@ -252,33 +280,12 @@ fn of_web(alloc: Global, refusals: &mut Refusals, name: &str) -> Shown {
         "target-read-within" => web::target_within(alloc, refusals),
         "params" => web::parameters(alloc, refusals),
         "cookies" => web::cookie_pairs(alloc, refusals),
-        "pattern-read" => web::pattern(alloc, refusals),
-        "mappings-add" => web::mappings(alloc, refusals),
-        "filters-for" => web::filters(alloc, refusals),
-        _ => of_descriptors(alloc, refusals, name),
+        _ => of_mapping(alloc, refusals, name),
     }
 }
 
-/// What a case shows in the end.
-pub fn shown(alloc: Global, refusals: &mut Refusals, name: &str) -> Shown {
+fn of_model(alloc: Global, refusals: &mut Refusals, name: &str) -> Shown {
     match name {
-        "text-copy" => model::text(alloc, refusals),
-        "bytes-copy" => model::bytes(alloc, refusals),
-        "field-copy" => model::field(alloc, refusals),
-        "request-copy" => model::request(alloc, refusals),
-        "response-copy" => model::response(alloc, refusals),
-        "attributes-copy" => model::attributes(alloc, refusals),
-        "session-copy" => model::session(alloc, refusals),
-        "key-state-copy" => model::state(alloc, refusals),
-        "change-copy" => model::change(alloc, refusals),
-        "record-copy" => model::record(alloc, refusals),
-        "packet-copy" => model::packet(alloc, refusals),
-        "event-copy" => model::event(alloc, refusals),
-        "told-copy" => model::told(alloc, refusals),
-        "commit-copy" => model::commit(alloc, refusals),
-        "input-copy" => model::input(alloc, refusals),
-        "input-packet-copy" => model::packet_in(alloc, refusals),
-        "output-copy" => model::output(alloc, refusals),
         "sequence-push" => model::push(alloc, refusals),
         "sequence-extend" => model::extend(alloc, refusals),
         "attributes-insert" => model::inserted(alloc, refusals),
@@ -288,5 +295,41 @@ pub fn shown(alloc: Global, refusals: &mut Refusals, name: &str) -> Shown {
         "plain-body" => model::body(alloc, refusals),
         "plain-page" => model::page(alloc, refusals),
         _ => of_web(alloc, refusals, name),
+    }
+}
+
+fn of_step_copy(alloc: Global, refusals: &mut Refusals, name: &str) -> Shown {
+    match name {
+        "told-copy" => copies::told(alloc, refusals),
+        "commit-copy" => copies::commit(alloc, refusals),
+        "input-copy" => copies::input(alloc, refusals),
+        "input-packet-copy" => copies::packet_in(alloc, refusals),
+        "output-copy" => copies::output(alloc, refusals),
+        _ => of_model(alloc, refusals, name),
+    }
+}
+
+fn of_node_copy(alloc: Global, refusals: &mut Refusals, name: &str) -> Shown {
+    match name {
+        "key-state-copy" => copies::state(alloc, refusals),
+        "change-copy" => copies::change(alloc, refusals),
+        "record-copy" => copies::record(alloc, refusals),
+        "packet-copy" => copies::packet(alloc, refusals),
+        "event-copy" => copies::event(alloc, refusals),
+        _ => of_step_copy(alloc, refusals, name),
+    }
+}
+
+/// What a case shows in the end.
+pub fn shown(alloc: Global, refusals: &mut Refusals, name: &str) -> Shown {
+    match name {
+        "text-copy" => copies::text(alloc, refusals),
+        "bytes-copy" => copies::bytes(alloc, refusals),
+        "field-copy" => copies::field(alloc, refusals),
+        "request-copy" => copies::request(alloc, refusals),
+        "response-copy" => copies::response(alloc, refusals),
+        "attributes-copy" => copies::attributes(alloc, refusals),
+        "session-copy" => copies::session(alloc, refusals),
+        _ => of_node_copy(alloc, refusals, name),
     }
 }

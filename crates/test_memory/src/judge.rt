@@ -64,16 +64,33 @@ fn growth_of(ran: &Ran, whole: &Ran) -> Growth {
     }
 }
 
-/// Each growth of a case is refused in turn.
-pub fn judge<M: Machine>(machine: &M, program: &str, name: &str) -> io::Result<Verdict> {
-    let whole = run(machine, program, name, 0)?;
-    if whole.said.starts_with(b"begin\n0 unprepared") || !whole.said.starts_with(b"begin\n0 ") {
-        return Ok(Verdict::Broken);
-    }
+/// The run without a refusal gets to its end.
+fn is_whole(whole: &Ran) -> bool {
+    whole.said.starts_with(b"begin\n0 ") && !whole.said.starts_with(b"begin\n0 unprepared")
+}
+
+/// What a growth that is refused shows beside the run in which none was.
+fn tried<M: Machine>(
+    machine: &M,
+    program: &str,
+    name: &str,
+    number: u64,
+    whole: &Ran,
+) -> io::Result<Growth> {
+    let ran = run(machine, program, name, number)?;
+    Ok(growth_of(&ran, whole))
+}
+
+/// Each growth is refused in turn, beside the run in which none was.
+fn judge_growths<M: Machine>(
+    machine: &M,
+    program: &str,
+    name: &str,
+    whole: &Ran,
+) -> io::Result<Verdict> {
     let mut found = Verdict::Unmet;
     for number in 1..GROWTHS {
-        let ran = run(machine, program, name, number)?;
-        match growth_of(&ran, &whole) {
+        match tried(machine, program, name, number, whole)? {
             Growth::None => return Ok(found),
             Growth::Spared => {}
             Growth::Named => found = Verdict::Named,
@@ -81,4 +98,14 @@ pub fn judge<M: Machine>(machine: &M, program: &str, name: &str) -> io::Result<V
         }
     }
     Ok(Verdict::Endless)
+}
+
+/// Each growth of a case is refused in turn.
+pub fn judge<M: Machine>(machine: &M, program: &str, name: &str) -> io::Result<Verdict> {
+    let whole = run(machine, program, name, 0)?;
+    if is_whole(&whole) {
+        judge_growths(machine, program, name, &whole)
+    } else {
+        Ok(Verdict::Broken)
+    }
 }

@@ -10,6 +10,7 @@ mod again;
 mod cases;
 mod given;
 mod judge;
+mod own;
 mod refusing;
 mod shown;
 

@@ -2,6 +2,7 @@
 //!
 //! What refuses it is a library in the C language, `refuse.c`, which stands before the C library's own calls.
 
+use crate::own::Own;
 use std::io;
 use std::process::{Command, Output, Processes};
 
@@ -32,10 +33,10 @@ fn add_words(command: &mut Command, words: &[&str]) -> io::Result<()> {
     Ok(())
 }
 
-fn compiler<M: Machine>(machine: &M) -> io::Result<Command> {
-    let mut command = Command::new(machine.alloc(), "cc")?;
+fn compiler<M: Machine>(machine: &M) -> io::Result<Own<Command>> {
+    let mut command = Own::new(Command::new(machine.alloc(), "cc")?);
     add_words(
-        &mut command,
+        &mut command.value,
         &["-O2", "-shared", "-fPIC", "-o", LIBRARY, "refuse.c"],
     )?;
     Ok(command)
@@ -44,7 +45,7 @@ fn compiler<M: Machine>(machine: &M) -> io::Result<Command> {
 /// Makes the library; whether the compiler could.
 pub fn compile<M: Machine>(machine: &M) -> io::Result<bool> {
     let mut command = compiler(machine)?;
-    Ok(command.status(machine)?.success())
+    Ok(command.value.status(machine)?.success())
 }
 
 fn prepare(command: &mut Command, name: &str, growth: &str) -> io::Result<()> {
@@ -55,9 +56,14 @@ fn prepare(command: &mut Command, name: &str, growth: &str) -> io::Result<()> {
 }
 
 /// The run of a case with a growth refused.
-fn case<M: Machine>(machine: &M, program: &str, name: &str, growth: &str) -> io::Result<Command> {
-    let mut command = Command::new(machine.alloc(), program)?;
-    prepare(&mut command, name, growth)?;
+fn case<M: Machine>(
+    machine: &M,
+    program: &str,
+    name: &str,
+    growth: &str,
+) -> io::Result<Own<Command>> {
+    let mut command = Own::new(Command::new(machine.alloc(), program)?);
+    prepare(&mut command.value, name, growth)?;
     Ok(command)
 }
 
@@ -73,9 +79,17 @@ fn left_by(output: Output) -> Ran {
     }
 }
 
+/// What a command leaves.
+fn left<M: Machine>(machine: &M, command: &mut Command) -> io::Result<Ran> {
+    match command.output(machine) {
+        Ok(output) => Ok(left_by(output)),
+        Err(fault) => Err(fault),
+    }
+}
+
 /// Runs a case with a growth refused, counted from 1; 0 refuses none.
 pub fn run<M: Machine>(machine: &M, program: &str, name: &str, growth: u64) -> io::Result<Ran> {
     let growth = format!(in machine.alloc(); "{growth}")?;
     let mut command = case(machine, program, name, growth.as_str())?;
-    Ok(left_by(command.output(machine)?))
+    left(machine, &mut command.value)
 }

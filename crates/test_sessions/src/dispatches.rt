@@ -1,25 +1,27 @@
 //! Dispatches over small servlets: how they end, and the status and the body that come of them.
+//!
+//! The servlets stand in tables, so that a row names the path that is asked for, and what else differs.
 
 ghost use Rattle.std.specs.Prelude.{◌≡◌};
 ghost use Rattle.sv_dispatch.specs.Stages.{IsSound, table_of};
 ghost use Rattle.sv_servlet.specs.declared.servlet.Phase.TheVariants.{Ready};
 ghost use Rattle.test_sessions.specs.Staged.{IsStaged};
 
-mod filters;
-mod kinds;
-mod nesting;
-mod pages;
-mod shown;
+pub mod filters;
+pub mod kinds;
+pub mod nesting;
+pub mod pages;
+pub mod shown;
 
+use crate::fault::RowFault;
 use crate::scripted::{Marking, Says, Scripted, Then};
+use crate::spelled::shown;
 use crate::staged::{add_filter, add_servlet};
 use http::Method;
-use std::alloc::Global;
-use std::process::Abort;
-use std::test::Fail;
+use std::alloc::{AllocError, Global};
 use sv_dispatch::{Ended, Stage, run};
 use sv_mapping::{Dispatcher, Dispatchers};
-use sv_servlet::{Call, Filter, Phase, RequestAttributes, Servlet};
+use sv_servlet::{Call, Filter, Phase, Replied, Reply, RequestAttributes, Servlet};
 
 /// A servlet of a path: its status, what it writes, and what is to follow.
 type Row = (&'static str, u16, Says, Then);
@@ -43,7 +45,7 @@ fn add_servlets(
     alloc: Global,
     stage: &mut Stage<Scripted, Marking>,
     rows: &[Row],
-) -> Result<(), Fail>
+) -> Result<(), RowFault>
     requires { IsStaged stage.old }
     ensures { IsStaged stage.new }
 {
@@ -52,6 +54,17 @@ fn add_servlets(
         add_servlet(alloc, stage, path, servlet_of(alloc, status, says, then))?;
     }
     Ok(())
+}
+
+/// What the second filter says: it passes, stops, sends an error or faults.
+fn then_of(word: &str) -> Result<Then, RowFault> {
+    match word {
+        "passes" => Ok(Then::Ends),
+        "stops" => Ok(Then::Forwards("")),
+        "sends" => Ok(Then::Fails(403)),
+        "faults" => Ok(Then::Faults("x")),
+        _ => Err(RowFault::Part),
+    }
 }
 
 /// A filter that is ready.
@@ -73,7 +86,7 @@ fn add_filters(
     stage: &mut Stage<Scripted, Marking>,
     kind: Dispatcher,
     then: Then,
-) -> Result<(), Fail>
+) -> Result<(), RowFault>
     requires { IsStaged stage.old }
     ensures { IsStaged stage.new }
 {
@@ -87,19 +100,20 @@ fn add_filters(
     add_filter(alloc, stage, kinds, filter_of(alloc, "<a", "a>", then))
 }
 
-/// A request for a path of the context `/shop`.
+const CONTEXT: &str = "/shop";
+
+/// A request for a path of the context.
 fn call_of<'a>(
     method: &'a Method,
     none: Option<&'a str>,
     attributes: &'a RequestAttributes,
     request_uri: &'a str,
-    servlet_path: &'a str,
 ) -> Call<'a> {
     Call {
         method,
         request_uri,
-        context_path: "/shop",
-        servlet_path,
+        context_path: CONTEXT,
+        servlet_path: request_uri.strip_prefix(CONTEXT).unwrap_or(""),
         path_info: none,
         query: none,
         params: &[],
@@ -110,30 +124,42 @@ fn call_of<'a>(
     }
 }
 
-/// What comes of a request: how it ends, the status and the body.
-type Want = (Ended, u16, &'static str);
-
-/// Dispatches a request for a path of the context, and compares.
-fn expect<S: Servlet, F: Filter>(
-    rt: &(impl Abort + AllocGlobal),
-    stage: Stage<S, F>,
+/// Dispatches a request for a path of the context.
+fn run_path<S: Servlet, F: Filter>(
+    alloc: Global,
+    stage: &mut Stage<S, F>,
     path: &str,
-    want: Want,
-) -> Result<(), Fail>
-    requires { IsSound (table_of S.serves S.servlet_phase F.filtering F.filter_phase stage) }
+) -> Result<Ended, AllocError>
+    requires { IsSound (table_of S.serves S.servlet_phase F.filtering F.filter_phase stage.old) }
 {
-    let alloc = rt.alloc();
-    let mut stage = stage;
     let method = Method::GET;
     let attributes = RequestAttributes::new(alloc);
-    let uri = format!(in alloc; "/shop{path}")?;
-    let call = call_of(&method, None, &attributes, uri.as_str(), path);
-    let ended = run(alloc, &mut stage, call)?;
-    let (want_ended, want_status, want_body) = want;
-    assert_eq!(rt; ended, want_ended, "at {path}");
-    let replied = stage.reply.finish();
-    assert_eq!(rt; replied.status.as_u16(), want_status, "at {path}");
-    let body = str::from_utf8(replied.body.as_slice())?;
-    assert_eq!(rt; body, want_body, "at {path}");
-    Ok(())
+    let uri = format!(in alloc; "{CONTEXT}{path}")?;
+    let call = call_of(&method, None, &attributes, uri.as_str());
+    run(alloc, stage, call)
+}
+
+/// The stage's reply; all else of it is dropped.
+fn reply_of<S: Servlet, F: Filter>(stage: Stage<S, F>) -> Reply {
+    stage.reply
+}
+
+/// How a dispatch ended, the status, and the body between angle brackets.
+fn ended_text(alloc: Global, ended: Ended, replied: &Replied) -> Result<String, AllocError> {
+    let body = shown(alloc, replied.body.as_slice())?;
+    format!(in alloc; "{ended:?} {} <{body}>", replied.status.as_u16())
+}
+
+/// Dispatches a request for a path of the context: what comes of it.
+fn dispatched<S: Servlet, F: Filter>(
+    alloc: Global,
+    stage: Stage<S, F>,
+    path: &str,
+) -> Result<String, RowFault>
+    requires { IsSound (table_of S.serves S.servlet_phase F.filtering F.filter_phase stage) }
+{
+    let mut stage = stage;
+    let ended = run_path(alloc, &mut stage, path)?;
+    let replied = reply_of(stage).finish();
+    Ok(ended_text(alloc, ended, &replied)?)
 }

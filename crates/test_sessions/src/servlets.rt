@@ -1,43 +1,43 @@
 //! Replies, attributes of a request, and objects in boxes.
 
-mod attributes;
-mod filters;
-mod lives;
-mod replies;
+pub mod attributes;
+pub mod filters;
+pub mod lives;
+pub mod replies;
 
+use crate::spelled::shown;
 use http::Method;
-use std::alloc::Global;
-use std::process::Abort;
-use std::test::Fail;
+use std::alloc::{AllocError, Global};
 use sv_model::{Field, Key, Secret};
 use sv_servlet::{Call, Replied, Reply, ReplyFault, RequestAttributes};
 use sv_session::SessionEdit;
 
-/// The fields as they are written, a line each.
-fn lines(alloc: Global, fields: &[Field]) -> Result<String, Fail> {
+fn push_field(alloc: Global, text: &mut String, field: &Field) -> Result<(), AllocError> {
+    let value = field.value.to_str().unwrap_or("?");
+    let line = format!(in alloc; "<{}: {value}> ", field.name.as_str())?;
+    text.push_str(&line)?;
+    Ok(())
+}
+
+/// The fields in order, each between angle brackets and before a blank.
+fn fields_text(alloc: Global, fields: &[Field]) -> Result<String, AllocError> {
     let mut text = String::new(alloc);
     for field in fields {
-        text.push_str(field.name.as_str())?;
-        text.push_str(": ")?;
-        text.push_str(field.value.to_str()?)?;
-        text.push_str("\n")?;
+        push_field(alloc, &mut text, field)?;
     }
     Ok(text)
 }
 
-/// A reply is this status, these fields and this body.
-fn expect_reply(
-    rt: &(impl Abort + AllocGlobal),
-    replied: &Replied,
-    status: u16,
-    fields: &str,
-    body: &[u8],
-) -> Result<(), Fail> {
-    assert_eq!(rt; replied.status.as_u16(), status);
-    let text = lines(rt.alloc(), replied.fields.as_slice())?;
-    assert_eq!(rt; text.as_str(), fields);
-    assert_eq!(rt; replied.body.as_slice(), body);
-    Ok(())
+/// The status, the fields and the body of what a reply has come to.
+fn replied_text(alloc: Global, replied: &Replied) -> Result<String, AllocError> {
+    let fields = fields_text(alloc, replied.fields.as_slice())?;
+    let body = shown(alloc, replied.body.as_slice())?;
+    format!(in alloc; "{} {fields}<{body}>", replied.status.as_u16())
+}
+
+/// The status, the fields and the body of a reply.
+fn reply_text(alloc: Global, reply: Reply) -> Result<String, AllocError> {
+    replied_text(alloc, &reply.finish())
 }
 
 /// A reply with a status, a field and a body.

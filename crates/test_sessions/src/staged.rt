@@ -4,8 +4,8 @@ ghost use Rattle.std.specs.Prelude.{◌≡◌};
 ghost use Rattle.sv_dispatch.specs.Stages.{IsSound, table_of};
 ghost use Rattle.sv_servlet.specs.declared.servlet.Phase.TheVariants.{Ready};
 
+use crate::fault::RowFault;
 use std::alloc::Global;
-use std::test::Fail;
 use sv_dispatch::{ErrorPage, Hosted, PageFor, Stage};
 use sv_mapping::{Dispatchers, FilterMapping, FilterTarget, Mappings, Pattern};
 use sv_model::{Key, Secret, Text};
@@ -34,7 +34,7 @@ pub fn add_servlet<S: Servlet, F: Filter>(
     stage: &mut Stage<S, F>,
     path: &str,
     servlet: S,
-) -> Result<(), Fail>
+) -> Result<(), RowFault>
     requires sound { IsSound (table_of S.serves S.servlet_phase F.filtering F.filter_phase stage.old) }
     requires ready { S.servlet_phase servlet ≡ Ready }
     ensures { IsSound (table_of S.serves S.servlet_phase F.filtering F.filter_phase stage.new) }
@@ -56,7 +56,7 @@ pub fn add_filter<S: Servlet, F: Filter>(
     stage: &mut Stage<S, F>,
     dispatchers: Dispatchers,
     filter: F,
-) -> Result<(), Fail>
+) -> Result<(), RowFault>
     requires sound { IsSound (table_of S.serves S.servlet_phase F.filtering F.filter_phase stage.old) }
     requires ready { F.filter_phase filter ≡ Ready }
     ensures { IsSound (table_of S.serves S.servlet_phase F.filtering F.filter_phase stage.new) }
@@ -82,7 +82,7 @@ pub fn add_page<S: Servlet, F: Filter>(
     stage: &mut Stage<S, F>,
     page_for: PageFor,
     path: &str,
-) -> Result<(), Fail>
+) -> Result<(), RowFault>
     requires { IsSound (table_of S.serves S.servlet_phase F.filtering F.filter_phase stage.old) }
     ensures { IsSound (table_of S.serves S.servlet_phase F.filtering F.filter_phase stage.new) }
 {

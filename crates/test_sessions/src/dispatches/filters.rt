@@ -1,53 +1,60 @@
 //! Filters round a servlet (Jakarta Servlet 6.0, chapter "Filtering").
+//!
+//! The part of `chain` is what the second filter says of a request for `/w`; there is no error page. `included` has no parts.
 
-use super::{Want, add_filters, expect, filter_of, servlet_of};
+ghost use Rattle.test_sessions.specs.Staged.{IsStaged};
+
+use super::{add_filters, add_servlets, dispatched, filter_of, then_of};
+use crate::dispatches::Row;
+use crate::fault::RowFault;
 use crate::scripted::{Marking, Says, Scripted, Then};
-use crate::staged::{add_filter, add_servlet, empty_stage};
-use std::test::Fail;
-use sv_dispatch::{Ended, Stage};
+use crate::staged::{add_filter, empty_stage};
+use std::alloc::Global;
+use sv_dispatch::Stage;
 use sv_mapping::{Dispatcher, Dispatchers};
 
-/// What the second filter says, and what comes of a request for `/w`.
-const ROWS: [(Then, Want); 4] = [
-    (Then::Ends, (Ended::Normal, 200, "<b<aHello\na>b>")),
-    (Then::Forwards(""), (Ended::Normal, 200, "<b<ab>")),
-    (Then::Fails(403), (Ended::Plain(403), 403, "")),
-    (Then::Faults("x"), (Ended::Plain(500), 500, "")),
-];
+static HELLO: [Row; 1] = [("/w", 200, Says::Text("Hello\n"), Then::Ends)];
+
+/// The servlet, and the two filters.
+fn furnish(alloc: Global, stage: &mut Stage<Scripted, Marking>, then: Then) -> Result<(), RowFault>
+    requires { IsStaged stage.old }
+    ensures { IsStaged stage.new }
+{
+    add_servlets(alloc, stage, &HELLO)?;
+    add_filters(alloc, stage, Dispatcher::Request, then)
+}
 
 /// `before` runs in order of the mappings and `after` in reverse, of those that passed.
-#[test]
-fn chains(rt: HostRuntime) -> Result<(), Fail> {
-    let alloc = rt.alloc();
-    for (then, want) in ROWS {
-        let mut stage: Stage<Scripted, Marking> = empty_stage(alloc);
-        let hello = servlet_of(alloc, 200, Says::Text("Hello\n"), Then::Ends);
-        add_servlet(alloc, &mut stage, "/w", hello)?;
-        add_filters(alloc, &mut stage, Dispatcher::Request, then)?;
-        expect(&rt, stage, "/w", want)?;
-    }
-    Ok(())
+pub fn chain(alloc: Global, word: &str) -> Result<String, RowFault> {
+    let then = then_of(word)?;
+    let mut stage: Stage<Scripted, Marking> = empty_stage(alloc);
+    furnish(alloc, &mut stage, then)?;
+    dispatched(alloc, stage, "/w")
+}
+
+static INCLUDING: [Row; 2] = [
+    ("/w", 200, Says::Text("w"), Then::Ends),
+    ("/iw", 200, Says::Text("["), Then::Includes("/w")),
+];
+
+/// A servlet, one that includes it, and a filter of includes.
+fn furnish_including(alloc: Global, stage: &mut Stage<Scripted, Marking>) -> Result<(), RowFault>
+    requires { IsStaged stage.old }
+    ensures { IsStaged stage.new }
+{
+    add_servlets(alloc, stage, &INCLUDING)?;
+    let includes = Dispatchers::of(&[Dispatcher::Include]);
+    add_filter(
+        alloc,
+        stage,
+        includes,
+        filter_of(alloc, "<", ">", Then::Ends),
+    )
 }
 
 /// A filter runs in the dispatches that its mapping names, here those of includes.
-#[test]
-fn filters_of_includes(rt: HostRuntime) -> Result<(), Fail> {
-    let alloc = rt.alloc();
+pub fn included(alloc: Global) -> Result<String, RowFault> {
     let mut stage: Stage<Scripted, Marking> = empty_stage(alloc);
-    add_servlet(
-        alloc,
-        &mut stage,
-        "/w",
-        servlet_of(alloc, 200, Says::Text("w"), Then::Ends),
-    )?;
-    let including = servlet_of(alloc, 200, Says::Text("["), Then::Includes("/w"));
-    add_servlet(alloc, &mut stage, "/iw", including)?;
-    let filter = filter_of(alloc, "<", ">", Then::Ends);
-    add_filter(
-        alloc,
-        &mut stage,
-        Dispatchers::of(&[Dispatcher::Include]),
-        filter,
-    )?;
-    expect(&rt, stage, "/iw", (Ended::Normal, 200, "[<w>7]"))
+    furnish_including(alloc, &mut stage)?;
+    dispatched(alloc, stage, "/iw")
 }

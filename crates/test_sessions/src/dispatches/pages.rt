@@ -1,13 +1,13 @@
-//! Error pages (Jakarta Servlet 6.0, section 10.9).
+//! Error pages (Jakarta Servlet 6.0, section 10.9). The part of `page` is the path that is asked for.
 
 ghost use Rattle.test_sessions.specs.Staged.{IsStaged};
 
-use super::{Row, Want, add_servlets, expect};
+use super::{Row, add_servlets, dispatched};
+use crate::fault::RowFault;
 use crate::scripted::{Marking, Says, Scripted, Then};
 use crate::staged::{add_page, empty_stage};
 use std::alloc::Global;
-use std::test::Fail;
-use sv_dispatch::{Ended, PageFor, Stage};
+use sv_dispatch::{PageFor, Stage};
 use sv_model::Text;
 
 const STATUS: Says = Says::Attribute("jakarta.servlet.error.status_code");
@@ -16,7 +16,7 @@ const MESSAGE: Says = Says::Attribute("jakarta.servlet.error.message");
 
 const NAME: Says = Says::Attribute("jakarta.servlet.error.servlet_name");
 
-const SERVLETS: [Row; 9] = [
+static SERVLETS: [Row; 9] = [
     ("/404", 200, Says::Text("f"), Then::Fails(404)),
     ("/418", 200, Says::Text("f"), Then::Fails(418)),
     ("/99", 200, Says::Text("f"), Then::Fails(99)),
@@ -28,18 +28,8 @@ const SERVLETS: [Row; 9] = [
     ("/again", 200, MESSAGE, Then::Fails(400)),
 ];
 
-/// A page by its status or its fault before the default; a code outside 400 to 599 has status 500, and so has a fault;
-/// an error in an error page gives the plain page of 500. A page that sets a status has it.
-const ROWS: [(&str, Want); 5] = [
-    ("/404", (Ended::ErrorPage(404), 404, "404")),
-    ("/x", (Ended::ErrorPage(500), 500, "x")),
-    ("/99", (Ended::ErrorPage(500), 503, "/99")),
-    ("/y", (Ended::ErrorPage(500), 503, "/y")),
-    ("/418", (Ended::Plain(500), 500, "")),
-];
-
 /// The default page, and those of two statuses and of a fault.
-fn add_pages(alloc: Global, stage: &mut Stage<Scripted, Marking>) -> Result<(), Fail>
+fn add_pages(alloc: Global, stage: &mut Stage<Scripted, Marking>) -> Result<(), RowFault>
     requires { IsStaged stage.old }
     ensures { IsStaged stage.new }
 {
@@ -50,14 +40,11 @@ fn add_pages(alloc: Global, stage: &mut Stage<Scripted, Marking>) -> Result<(), 
     add_page(alloc, stage, fault, "/message")
 }
 
-#[test]
-fn error_pages(rt: HostRuntime) -> Result<(), Fail> {
-    let alloc = rt.alloc();
-    for (path, want) in ROWS {
-        let mut stage: Stage<Scripted, Marking> = empty_stage(alloc);
-        add_servlets(alloc, &mut stage, &SERVLETS)?;
-        add_pages(alloc, &mut stage)?;
-        expect(&rt, stage, path, want)?;
-    }
-    Ok(())
+/// A page by its status or its fault before the default; a code outside 400 to 599 has status 500, and so has a fault;
+/// an error in an error page gives the plain page of 500. A page that sets a status has it.
+pub fn page(alloc: Global, path: &str) -> Result<String, RowFault> {
+    let mut stage: Stage<Scripted, Marking> = empty_stage(alloc);
+    add_servlets(alloc, &mut stage, &SERVLETS)?;
+    add_pages(alloc, &mut stage)?;
+    dispatched(alloc, stage, path)
 }

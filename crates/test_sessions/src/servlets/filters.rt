@@ -1,4 +1,4 @@
-//! A boxed filter, through its bound.
+//! A boxed filter, through its bound. `filter` has no parts.
 
 ghost use Rattle.std.specs.Prelude.{◌≡◌};
 ghost use Rattle.sv_servlet.specs.Filter.{verdict};
@@ -7,11 +7,10 @@ ghost use Rattle.sv_servlet.specs.Servlet.{lent};
 ghost use Rattle.sv_servlet.specs.declared.filter.Before.TheVariants.{Stop};
 ghost use Rattle.sv_servlet.specs.declared.servlet.Phase.TheVariants.{Ready};
 
-use super::{call_of, expect_reply, fresh_edit, written};
+use super::{call_of, fresh_edit, reply_text, written};
+use crate::fault::RowFault;
 use http::Method;
-use std::alloc::AllocError;
-use std::process::Abort;
-use std::test::Fail;
+use std::alloc::{AllocError, Global};
 use sv_servlet::{Before, Call, Filter, InitFault, Phase, Reply, RequestAttributes};
 use sv_session::SessionEdit;
 
@@ -59,56 +58,58 @@ fn is_stop(before: Before) -> bool {
     matches!(&before, Before::Stop)
 }
 
-/// Calls a filter before and after; it stops.
+/// Calls a filter before and after; whether it stops.
 fn call_both<F: Filter>(
-    rt: &(impl Abort + AllocGlobal),
     filter: &mut F,
     call: &Call<'_>,
     edit: &mut SessionEdit,
     reply: &mut Reply,
-) -> Result<(), Fail>
+) -> Result<bool, AllocError>
     requires { F.filter_phase filter.old ≡ Ready }
     ensures { F.filter_phase filter.new ≡ Ready }
 {
-    let before = filter.before(call, edit, reply)?;
-    assert!(rt; is_stop(before));
+    let stops = is_stop(filter.before(call, edit, reply)?);
     filter.after(call, edit, reply)?;
-    Ok(())
+    Ok(stops)
 }
 
-/// Filters one request through the bound.
+/// Filters one request through the bound; whether the filter stops it.
 fn filter_once<F: Filter>(
-    rt: &(impl Abort + AllocGlobal),
+    alloc: Global,
     filter: &mut F,
     reply: &mut Reply,
-) -> Result<(), Fail>
+) -> Result<bool, AllocError>
     requires { F.filter_phase filter.old ≡ Ready }
     ensures { F.filter_phase filter.new ≡ Ready }
 {
-    let alloc = rt.alloc();
     let method = Method::GET;
     let attributes = RequestAttributes::new(alloc);
     let call = call_of(&method, None, &attributes);
     let mut edit = fresh_edit(alloc);
-    call_both(rt, filter, &call, &mut edit, reply)
+    call_both(filter, &call, &mut edit, reply)
+}
+
+/// Whether the filter has stopped a request, and the reply.
+fn stopped_text(alloc: Global, has_stopped: bool, reply: Reply) -> Result<String, AllocError> {
+    let text = reply_text(alloc, reply)?;
+    format!(in alloc; "stops {has_stopped}; {text}")
 }
 
 /// Filters one request, with a reply that has a status and a body so far.
-fn filter_with<F: Filter>(rt: &(impl Abort + AllocGlobal), filter: &mut F) -> Result<(), Fail>
+fn filtered<F: Filter>(alloc: Global, filter: &mut F) -> Result<String, RowFault>
     requires { F.filter_phase filter.old ≡ Ready }
     ensures { F.filter_phase filter.new ≡ Ready }
 {
-    let mut reply = written(rt.alloc())?;
-    filter_once(rt, filter, &mut reply)?;
-    expect_reply(rt, &reply.finish(), 404, "x-a: 1\n", b"")
+    let mut reply = written(alloc)?;
+    let has_stopped = filter_once(alloc, filter, &mut reply)?;
+    Ok(stopped_text(alloc, has_stopped, reply)?)
 }
 
 /// Each call reaches the filter in the box.
-#[test]
-fn a_boxed_filter(rt: HostRuntime) -> Result<(), Fail> {
-    let mut filter: Box<dyn Filter> = Box::new(rt.alloc(), Emptying { phase: Phase::New })?;
+pub fn boxed(alloc: Global) -> Result<String, RowFault> {
+    let mut filter: Box<dyn Filter> = Box::new(alloc, Emptying { phase: Phase::New })?;
     filter.init()?;
-    filter_with(&rt, &mut filter)?;
+    let text = filtered(alloc, &mut filter)?;
     filter.destroy();
-    Ok(())
+    Ok(text)
 }

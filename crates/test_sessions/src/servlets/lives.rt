@@ -1,18 +1,18 @@
-//! The life of boxed servlets.
+//! The life of boxed servlets. `lives` has no parts.
 
-ghost use Rattle.std.specs.Prelude.{◌≡◌};
+ghost use Rattle.std.specs.Prelude.{◌≡◌, IfOk};
 ghost use Rattle.sv_servlet.specs.Reply.{cleared};
 ghost use Rattle.sv_servlet.specs.Servlet.{answer, lent};
 ghost use Rattle.sv_servlet.specs.declared.servlet.Next.TheVariants.{Done};
-ghost use Rattle.sv_servlet.specs.declared.servlet.Phase.TheVariants.{Ready};
+ghost use Rattle.sv_servlet.specs.declared.servlet.Phase.TheVariants.{New, Ready};
 
-use super::{call_of, expect_reply, fresh_edit, written};
+use super::{call_of, fresh_edit, reply_text, written};
+use crate::fault::RowFault;
+use crate::spelled::push_listed;
 use http::Method;
 use std::alloc::{AllocError, Global};
 use std::cell::RefCell;
-use std::process::Abort;
 use std::rc::Rc;
-use std::test::Fail;
 use sv_servlet::{Call, InitFault, Next, Phase, Reply, RequestAttributes, Servlet};
 use sv_session::SessionEdit;
 
@@ -85,85 +85,118 @@ fn is_done(next: Next) -> bool {
     matches!(&next, Next::Done)
 }
 
-/// Asks a servlet through the bound.
+/// Asks a servlet through the bound; whether it is done then.
 fn ask<S: Servlet>(
     alloc: Global,
     servlet: &mut S,
     edit: &mut SessionEdit,
     reply: &mut Reply,
-) -> Result<Next, Fail>
+) -> Result<bool, AllocError>
     requires { S.servlet_phase servlet.old ≡ Ready }
     ensures { S.servlet_phase servlet.new ≡ Ready }
 {
-    let method = Method::from_bytes(alloc, b"GET")?;
+    let method = Method::GET;
     let attributes = RequestAttributes::new(alloc);
     let call = call_of(&method, None, &attributes);
-    let next = servlet.service(&call, edit, reply)?;
-    Ok(next)
+    Ok(is_done(servlet.service(&call, edit, reply)?))
 }
 
-/// Serves one request, which is done and tells nothing of a session.
-fn serve_once<S: Servlet>(
-    rt: &(impl Abort + AllocGlobal),
+/// Whether a request is done, how many events are told of its session, and the reply.
+fn answer_text(
+    alloc: Global,
+    is_done: bool,
+    edit: SessionEdit,
+    reply: Reply,
+) -> Result<String, AllocError> {
+    let events = edit.finish().events.len();
+    let text = reply_text(alloc, reply)?;
+    format!(in alloc; "done {is_done}, events {events}, {text}")
+}
+
+/// What comes of one request, with a reply that has a status and a body so far.
+fn answered<S: Servlet>(
+    alloc: Global,
     servlet: &mut S,
-    reply: &mut Reply,
-) -> Result<(), Fail>
+    mut reply: Reply,
+) -> Result<String, AllocError>
     requires { S.servlet_phase servlet.old ≡ Ready }
     ensures { S.servlet_phase servlet.new ≡ Ready }
 {
-    let alloc = rt.alloc();
     let mut edit = fresh_edit(alloc);
-    let next = ask(alloc, servlet, &mut edit, reply)?;
-    assert!(rt; is_done(next));
-    assert_eq!(rt; edit.finish().events.len(), 0);
+    let is_done = ask(alloc, servlet, &mut edit, &mut reply)?;
+    answer_text(alloc, is_done, edit, reply)
+}
+
+/// Serves one request.
+fn serve<S: Servlet>(alloc: Global, servlet: &mut S, list: &mut String) -> Result<(), RowFault>
+    requires { S.servlet_phase servlet.old ≡ Ready }
+    ensures { S.servlet_phase servlet.new ≡ Ready }
+{
+    let text = answered(alloc, servlet, written(alloc)?)?;
+    push_listed(list, &text)?;
     Ok(())
 }
 
-/// Serves one request, with a reply that has a status and a body so far.
-fn serve_with<S: Servlet>(rt: &(impl Abort + AllocGlobal), servlet: &mut S) -> Result<(), Fail>
-    requires { S.servlet_phase servlet.old ≡ Ready }
-    ensures { S.servlet_phase servlet.new ≡ Ready }
+/// Two servlets are initialised, serve in turn, and are destroyed.
+fn live<S: Servlet>(
+    alloc: Global,
+    first: &mut S,
+    second: &mut S,
+    list: &mut String,
+) -> Result<(), RowFault>
+    requires first { S.servlet_phase first.old ≡ New }
+    requires second { S.servlet_phase second.old ≡ New }
 {
-    let mut reply = written(rt.alloc())?;
-    serve_once(rt, servlet, &mut reply)?;
-    expect_reply(rt, &reply.finish(), 404, "x-a: 1\n", b"")
+    first.init()?;
+    second.init()?;
+    serve(alloc, second, list)?;
+    serve(alloc, first, list)?;
+    serve(alloc, second, list)?;
+    second.destroy();
+    first.destroy();
+    Ok(())
+}
+
+/// A new servlet of a number.
+fn new_noting(number: u8, notes: &Notes) -> Result<Noting, RowFault>
+    ensures { IfOk result (λ servlet. servlet.phase ≡ New) }
+{
+    match notes.clone() {
+        Ok(notes) => Ok(Noting {
+            number,
+            notes,
+            phase: Phase::New,
+        }),
+        Err(_) => Err(RowFault::Call),
+    }
+}
+
+/// Two servlets live in boxes, and the first one is dropped first.
+fn lived(alloc: Global, notes: &Notes, list: &mut String) -> Result<(), RowFault> {
+    let mut first: Box<dyn Servlet> = Box::new(alloc, new_noting(b'1', notes)?)?;
+    let mut second: Box<dyn Servlet> = Box::new(alloc, new_noting(b'2', notes)?)?;
+    live(alloc, &mut first, &mut second, list)?;
+    drop(first);
+    drop(second);
+    Ok(())
+}
+
+/// Behind what was answered, what was noted.
+fn noted(alloc: Global, text: &str, notes: &Notes) -> Result<String, RowFault> {
+    match notes.try_borrow() {
+        Ok(notes) => {
+            let noted = str::from_utf8(notes.as_slice()).unwrap_or("?");
+            Ok(format!(in alloc; "{text}; {noted}")?)
+        }
+        Err(_) => Err(RowFault::Call),
+    }
 }
 
 /// A servlet is initialised once, serves any number of requests and is destroyed once (Jakarta Servlet 6.0,
 /// section "Servlet Life Cycle"), and each call reaches the object in the box.
-#[test]
-fn boxed_servlets(rt: HostRuntime) -> Result<(), Fail> {
-    let alloc = rt.alloc();
+pub fn lives(alloc: Global) -> Result<String, RowFault> {
     let notes: Notes = Rc::new(alloc, RefCell::new(Vec::new(alloc)))?;
-    let first: Box<dyn Servlet> = Box::new(
-        alloc,
-        Noting {
-            number: b'1',
-            notes: notes.clone()?,
-            phase: Phase::New,
-        },
-    )?;
-    let second: Box<dyn Servlet> = Box::new(
-        alloc,
-        Noting {
-            number: b'2',
-            notes: notes.clone()?,
-            phase: Phase::New,
-        },
-    )?;
-    let mut servlets = Vec::new(alloc);
-    servlets.push(first)?;
-    servlets.push(second)?;
-    servlets[0].init()?;
-    servlets[1].init()?;
-    serve_with(&rt, &mut servlets[1])?;
-    serve_with(&rt, &mut servlets[0])?;
-    serve_with(&rt, &mut servlets[1])?;
-    servlets[1].destroy();
-    servlets[0].destroy();
-    drop(servlets);
-    let lived = notes.try_borrow()?;
-    let want: &[u8] = b"1i2i2s1s2s2d1d1-2-";
-    assert_eq!(rt; lived.as_slice(), want);
-    Ok(())
+    let mut list = String::new(alloc);
+    lived(alloc, &notes, &mut list)?;
+    noted(alloc, &list, &notes)
 }

@@ -1,62 +1,49 @@
 //! When sessions expire, and how they are joined to a request.
+//!
+//! The parts of `expired` are the last request, the interval, and the second that is asked for; of `joined` the last request, and the
+//! second of the request that the session is joined to.
 
 use super::session;
+use crate::fault::RowFault;
+use crate::row::{first, interval, seconds};
+use std::alloc::{AllocError, Global};
+use sv_model::Session;
 use sv_session::{expired, join_request};
 
-const LATEST: u64 = u64::MAX;
-
-/// The last request, the interval, the second that is asked for, and whether the session has expired by then:
-/// where the interval is above 0, from the second on that lies it behind the last request.
-const ROWS: [(u64, i32, u64, bool); 16] = [
-    (1_000, 60, 1_059, false),
-    (1_000, 60, 1_060, true),
-    (1_000, 60, 1_061, true),
-    (1_000, 60, 999, false),
-    (1_000, 60, 0, false),
-    (1_000, 1, 1_000, false),
-    (1_000, 1, 1_001, true),
-    (0, 0, LATEST, false),
-    (0, -1, LATEST, false),
-    (0, i32::MIN, LATEST, false),
-    (0, i32::MAX, 2_147_483_646, false),
-    (0, i32::MAX, 2_147_483_647, true),
-    (LATEST, i32::MAX, LATEST, false),
-    (LATEST - 2_147_483_646, i32::MAX, LATEST, false),
-    (LATEST - 2_147_483_647, i32::MAX, LATEST, true),
-    (LATEST, 1, LATEST, false),
-];
-
-#[test]
-fn sessions_expire(rt: HostRuntime) {
-    for (last, interval, now, want) in ROWS {
-        let mut session = session(rt.alloc());
-        session.last = last;
-        session.interval = interval;
-        assert_eq!(rt;
-            expired(&session, now),
-            want,
-            "last {last}, interval {interval}, at {now}"
-        );
-    }
+/// Whether a session has expired.
+fn has_expired(alloc: Global, last: u64, interval: i32, now: u64) -> bool {
+    let mut session = session(alloc);
+    session.last = last;
+    session.interval = interval;
+    expired(&session, now)
 }
 
-/// A session that is joined to a request is no longer fresh, and its last request doesn't go back.
-#[test]
-fn sessions_are_joined(rt: HostRuntime) {
-    let rows: [(u64, u64, u64); 4] = [
-        (1_060, 1_100, 1_100),
-        (1_060, 1_060, 1_060),
-        (1_060, 1_000, 1_060),
-        (0, LATEST, LATEST),
-    ];
-    for (last, now, want) in rows {
-        let mut session = session(rt.alloc());
-        session.last = last;
-        session.fresh = true;
-        join_request(&mut session, now);
-        assert_eq!(rt; session.last, want, "last {last}, joined at {now}");
-        assert!(rt; !session.fresh, "last {last}, joined at {now}");
-        assert_eq!(rt; session.created, 1_000);
-        assert_eq!(rt; session.interval, 1_800);
-    }
+pub fn expires(alloc: Global, parts: &str) -> Result<String, RowFault> {
+    let (last, rest) = first(parts);
+    let (given, now) = first(rest);
+    let is_so = has_expired(alloc, seconds(last)?, interval(given)?, seconds(now)?);
+    Ok(format!(in alloc; "{is_so}")?)
+}
+
+/// A fresh session of a last request, joined to another one.
+fn fresh_joined(alloc: Global, last: u64, now: u64) -> Session {
+    let mut session = session(alloc);
+    session.last = last;
+    session.fresh = true;
+    join_request(&mut session, now);
+    session
+}
+
+/// The last request, fresh, created, and the interval.
+fn times_text(alloc: Global, session: &Session) -> Result<String, AllocError> {
+    format!(in alloc;
+        "{} {} {} {}",
+        session.last, session.fresh, session.created, session.interval
+    )
+}
+
+pub fn joined(alloc: Global, parts: &str) -> Result<String, RowFault> {
+    let (last, now) = first(parts);
+    let session = fresh_joined(alloc, seconds(last)?, seconds(now)?);
+    Ok(times_text(alloc, &session)?)
 }

@@ -1,42 +1,60 @@
 //! What an edit tells.
 
+use super::left::secret_byte;
+use crate::spelled::{push_listed, shown};
+use std::alloc::{AllocError, Global};
 use sv_model::{Event, Key, Told};
 
-/// An event: what it is, the key, and a name with its value.
-pub type Line = (&'static str, Key, &'static str, &'static [u8]);
+/// A word, the context and the key.
+fn of_key(alloc: Global, word: &str, context: u8, key: Key) -> Result<String, AllocError> {
+    format!(in alloc; "{word} {context}/{}.{}", key.home, key.serial)
+}
 
-fn is_line(event: &Event, line: Line) -> bool {
-    let (what, key, name, value) = line;
+/// The same, and a name with its value.
+fn of_value(alloc: Global, front: &str, name: &str, value: &[u8]) -> Result<String, AllocError> {
+    let value = shown(alloc, value)?;
+    format!(in alloc; "{front} {name}={value}")
+}
+
+/// An event that has the key of a session.
+fn key_of(event: &Event) -> Option<(&'static str, Key)> {
     match event {
-        Event::Created(its) => what == "created" && *its == key,
-        Event::Destroyed(its) => what == "destroyed" && *its == key,
-        Event::Added {
-            key: its,
-            name: named,
-            value: new,
-        } => what == "added" && *its == key && named.as_str() == name && new.as_slice() == value,
-        Event::Removed {
-            key: its,
-            name: named,
-            old,
-        } => what == "removed" && *its == key && named.as_str() == name && old.as_slice() == value,
-        Event::Replaced {
-            key: its,
-            name: named,
-            old,
-        } => what == "replaced" && *its == key && named.as_str() == name && old.as_slice() == value,
-        Event::IdChanged { key: its, old } => {
-            what == "changed" && *its == key && old.0.as_slice() == value
-        }
-        _ => false,
+        Event::Created(key) => Some(("created", *key)),
+        Event::Destroyed(key) => Some(("destroyed", *key)),
+        Event::Added { key, .. } => Some(("added", *key)),
+        Event::Removed { key, .. } => Some(("removed", *key)),
+        Event::Replaced { key, .. } => Some(("replaced", *key)),
+        Event::IdChanged { key, .. } => Some(("changed", *key)),
+        _ => None,
     }
 }
 
-/// These events, in this order, in the edit's context.
-pub fn tells(events: &[Told], lines: &[Line]) -> bool {
-    let mut is_told = events.len() == lines.len();
-    for (told, line) in events.iter().zip(lines) {
-        is_told = is_told && told.context == 3 && is_line(&told.event, *line);
+fn front_text(alloc: Global, told: &Told) -> Result<String, AllocError> {
+    match key_of(&told.event) {
+        Some((word, key)) => of_key(alloc, word, told.context, key),
+        None => String::from_str(alloc, "an event of no session"),
     }
-    is_told
+}
+
+/// An event with the value that is new, or that was there; or with the byte of the secret that was there.
+fn event_text(alloc: Global, told: &Told) -> Result<String, AllocError> {
+    let front = front_text(alloc, told)?;
+    match &told.event {
+        Event::Added { name, value, .. } => {
+            of_value(alloc, &front, name.as_str(), value.as_slice())
+        }
+        Event::Removed { name, old, .. } => of_value(alloc, &front, name.as_str(), old.as_slice()),
+        Event::Replaced { name, old, .. } => of_value(alloc, &front, name.as_str(), old.as_slice()),
+        Event::IdChanged { old, .. } => format!(in alloc; "{front} {}", secret_byte(old)),
+        _ => Ok(front),
+    }
+}
+
+/// The events in order, between square brackets.
+pub fn events_text(alloc: Global, events: &[Told]) -> Result<String, AllocError> {
+    let mut list = String::new(alloc);
+    for told in events {
+        push_listed(&mut list, &event_text(alloc, told)?)?;
+    }
+    format!(in alloc; "[{list}]")
 }

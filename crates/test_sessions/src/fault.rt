@@ -1,0 +1,49 @@
+//! Why nothing came of a row.
+
+use std::alloc::{AllocError, AllocFailed};
+use sv_mapping::MappingFault;
+use sv_servlet::{InitFault, ReplyFault};
+use thiserror::Error;
+
+/// Why nothing came of a row: it is printed in the row's line, which then differs from what is expected.
+#[derive(Clone, Copy, Debug, PartialEq, Eq, Error)]
+pub enum RowFault {
+    #[error("there is no such kind of row")]
+    Kind,
+    #[error("a part isn't what this kind of row has")]
+    Part,
+    #[error("memory was refused")]
+    Memory,
+    #[error("a call was refused that has to succeed")]
+    Call,
+}
+
+impl From<AllocError> for RowFault {
+    fn from(_: AllocError) -> Self {
+        RowFault::Memory
+    }
+}
+
+impl<T: Drop> From<AllocFailed<T>> for RowFault {
+    fn from(_: AllocFailed<T>) -> Self {
+        RowFault::Memory
+    }
+}
+
+impl From<MappingFault> for RowFault {
+    fn from(_: MappingFault) -> Self {
+        RowFault::Call
+    }
+}
+
+impl From<ReplyFault> for RowFault {
+    fn from(_: ReplyFault) -> Self {
+        RowFault::Call
+    }
+}
+
+impl From<InitFault> for RowFault {
+    fn from(_: InitFault) -> Self {
+        RowFault::Call
+    }
+}

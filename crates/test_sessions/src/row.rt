@@ -1,0 +1,45 @@
+//! The parts of a row.
+
+use crate::fault::RowFault;
+
+/// The first part, and the parts behind it.
+pub fn first(parts: &str) -> (&str, &str) {
+    parts.split_once('|').unwrap_or((parts, ""))
+}
+
+/// A call's first word, and what stands behind its blank.
+pub fn called(part: &str) -> (&str, &str) {
+    part.split_once(' ').unwrap_or((part, ""))
+}
+
+/// The number of seconds that a part is.
+pub fn seconds(part: &str) -> Result<u64, RowFault> {
+    match part.parse::<u64>() {
+        Ok(number) => Ok(number),
+        Err(_) => Err(RowFault::Part),
+    }
+}
+
+/// The interval that a part is.
+pub fn interval(part: &str) -> Result<i32, RowFault> {
+    match part.parse::<i32>() {
+        Ok(number) => Ok(number),
+        Err(_) => Err(RowFault::Part),
+    }
+}
+
+/// The status that a part is.
+pub fn status(part: &str) -> Result<u16, RowFault> {
+    match part.parse::<u16>() {
+        Ok(number) => Ok(number),
+        Err(_) => Err(RowFault::Part),
+    }
+}
+
+/// The length that a part is.
+pub fn length(part: &str) -> Result<usize, RowFault> {
+    match part.parse::<usize>() {
+        Ok(number) => Ok(number),
+        Err(_) => Err(RowFault::Part),
+    }
+}
