@@ -35,9 +35,9 @@ pub const SERVLETS: [Part; 3] = [(1, "s3"), (0, "s2"), (0, "s1")];
 
 pub const FILTERS: [Part; 3] = [(0, "f2"), (1, "f3"), (0, "f1")];
 
-pub const LISTENERS: [Part; 4] = [(1, "l4"), (0, "l2"), (1, "l3"), (0, "l1")];
+pub static LISTENERS: [Part; 4] = [(1, "l4"), (0, "l2"), (1, "l3"), (0, "l1")];
 
-pub const NAMES: [&str; 10] = ["s1", "s2", "s3", "f1", "f2", "f3", "l1", "l2", "l3", "l4"];
+pub static NAMES: [&str; 10] = ["s1", "s2", "s3", "f1", "f2", "f3", "l1", "l2", "l3", "l4"];
 
 // A context's listeners hear before its filters are initialised, and these are before its servlets; each in the order of
 // declaration, and so are the contexts.

@@ -8,7 +8,7 @@ use std::test::Fail;
 use sv_journal::{JournalFault, MemoryDisk};
 
 // The worked example: an empty journal, and one with the first record that a node writes.
-const FIRST_RECORD: [u8; 10] = [2, 1, 0, 0, 0, 0, 0, 0, 0, 1];
+static FIRST_RECORD: [u8; 10] = [2, 1, 0, 0, 0, 0, 0, 0, 0, 1];
 
 #[test]
 fn a_new_journal_is_the_header_and_a_closed_gate(rt: HostRuntime) -> Result<(), Fail> {
@@ -46,7 +46,7 @@ fn an_entry_is_a_gate_a_length_and_the_payload(rt: HostRuntime) -> Result<(), Fa
 
 // What stands behind a header of generation 1, and the entries that are read, each with a bar behind it, or none where
 // that is damage.
-const REST: [(&str, &[u8], Option<&[u8]>); 9] = [
+static REST: [(&str, &[u8], Option<&[u8]>); 9] = [
     (
         "whole",
         b"\xA5\0\0\0\x0A\x02\x01\0\0\0\0\0\0\0\x01\0",
@@ -128,7 +128,7 @@ fn entry_of(alloc: Global, front: &[u8], count: usize) -> Result<Vec<u8>, AllocE
 // on B are what a stop leaves of a first opening.
 const EMPTY: &[u8] = b"\xA5SVJRNL\x01\0\0\0\0\0\0\0\x01\0";
 
-const BLANK: [(&str, &[u8], &[u8], bool); 11] = [
+static BLANK: [(&str, &[u8], &[u8], bool); 11] = [
     (
         "A closed, 17 bytes",
         b"\x5ASVJRNL\x01\0\0\0\0\0\0\0\x01\0",

@@ -70,7 +70,7 @@ fn found_in_cut(
 const CURRENT: &[u8] = b"\xA5SVJRNL\x01\0\0\0\0\0\0\0\x02\xA5\0\0\0\x03two\0";
 
 // Disk B as a compaction to `new` leaves it before its first sync and after each of the four, and what is read then and behind that.
-const STOPPED: [(&str, &[u8], &[u8]); 5] = [
+static STOPPED: [(&str, &[u8], &[u8]); 5] = [
     (
         "before",
         b"\xA5SVJRNL\x01\0\0\0\0\0\0\0\x01\xA5\0\0\0\x03one\0",

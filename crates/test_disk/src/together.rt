@@ -8,7 +8,7 @@ use std::process::Abort;
 use std::test::Fail;
 use sv_journal::{JournalFault, MemoryDisk};
 
-const THREE: [&[u8]; 3] = [b"x", b"", b"yz"];
+static THREE: [&[u8]; 3] = [b"x", b"", b"yz"];
 
 // A journal with one entry.
 fn with_one(alloc: Global) -> Result<Held<MemoryDisk>, Fail> {

@@ -57,7 +57,7 @@ struct Page {
 }
 
 /// The phrases are those of RFC 9110, section 15; it has none for 299.
-const PAGES: [Page; 3] = [
+static PAGES: [Page; 3] = [
     Page {
         code: 404,
         so_far: &[("x-a", "1")],

@@ -47,7 +47,7 @@ fn acknowledgement(epoch: u64) -> Input {
 }
 
 /// Node 1 takes the session with epoch 2 and acknowledges that.
-const ACKNOWLEDGED: [Row; 3] = [
+static ACKNOWLEDGED: [Row; 3] = [
     (Act::First(0), "Commit makes 0.1, served, answer 1"),
     (
         Act::Move(0, K1, 1),

@@ -17,7 +17,7 @@ const MADE: Row = (Given::First, "+answer 1;");
 
 const ENDED: Row = (Given::Later, "+");
 
-const ALL_ARE_OVER: [Row; 13] = [
+static ALL_ARE_OVER: [Row; 13] = [
     (Given::Hello, "answer 0;"),
     (Given::Known((0, 1)), OVER),
     (Given::Known((0, 65_536)), OVER),
@@ -45,7 +45,7 @@ fn keys_that_are_over(rt: HostRuntime) -> Result<(), Fail> {
 }
 
 /// One of three keys ends, and another one is made.
-const ROOM_AGAIN: [Row; 6] = [
+static ROOM_AGAIN: [Row; 6] = [
     (Given::First, FULL),
     ENDED,
     (Given::Known((0, 1)), OVER),
@@ -104,7 +104,7 @@ fn it_is_never_full_for_ever(rt: HostRuntime) -> Result<(), Fail> {
 }
 
 /// One of node 1 has ended here, and an own one has gone away.
-const THREE_ARE_KEPT: [Row; 7] = [
+static THREE_ARE_KEPT: [Row; 7] = [
     (Given::Grant((1, 1), 2), "+Ack 0 to 1 epoch 2;"),
     ENDED,
     (Given::Known((1, 1)), "Ended 2"),
@@ -115,7 +115,7 @@ const THREE_ARE_KEPT: [Row; 7] = [
 ];
 
 /// The own one comes back and ends at home; then it is over, and an old Grant of it is acknowledged and no more.
-const BACK_AT_HOME: [Row; 4] = [
+static BACK_AT_HOME: [Row; 4] = [
     (Given::Grant((0, 1), 3), "+Ack 0 to 1 epoch 3;"),
     ENDED,
     (Given::Known((0, 1)), OVER),

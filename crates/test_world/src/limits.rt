@@ -85,7 +85,7 @@ fn full(alloc: Global) -> Result<Vec<Record>, Fail> {
     Ok(records)
 }
 
-const IS_FULL: [Row; 5] = [
+static IS_FULL: [Row; 5] = [
     (Given::Hello, "answer 0;"),
     (Given::First, "refuse TableFull;"),
     (Given::Grant((1, 1), 2), ""),
@@ -116,7 +116,7 @@ const NO_SERIAL: [Row; 2] = [
     (Given::First, "refuse SerialsSpent;"),
 ];
 
-const NO_EPOCH: [Row; 3] = [
+static NO_EPOCH: [Row; 3] = [
     (
         Given::Grant((1, 1), u64::MAX),
         "+Ack 0 to 1 epoch 18446744073709551615;",

@@ -11,7 +11,7 @@ const FULL: &str = "refuse TableFull;";
 const NEW: Row = (Given::First, "+answer 1;");
 
 /// None has become known, and the one that comes back is taken.
-const FEWER: [Row; 5] = [
+static FEWER: [Row; 5] = [
     (Given::First, FULL),
     (Given::Grant((1, 2), 2), ""),
     (Given::Grant((1, 1), 3), "+Ack 0 to 1 epoch 3;"),

@@ -21,7 +21,7 @@ fn expect_rows(rt: &impl Abort, cluster: &mut Cluster, rows: &[Row]) -> Result<(
 }
 
 /// A session is made at node 0, wanted by node 1 and handed over to it.
-const HANDED_OVER: [Row; 10] = [
+static HANDED_OVER: [Row; 10] = [
     (Step::First(0), "answer 1"),
     (Step::Again(1, K1), "p0 Want 1 to 0, p1 Want 1 to 2"),
     (Step::Deliver(0), "p2 Grant 0 to 1 epoch 2"),
@@ -35,7 +35,7 @@ const HANDED_OVER: [Row; 10] = [
 ];
 
 /// Then it goes back and forth by order, and an old packet comes once more.
-const BACK_AND_FORTH: [Row; 15] = [
+static BACK_AND_FORTH: [Row; 15] = [
     (Step::Deliver(2), "p4 Ack 1 to 0 epoch 2"),
     (Step::State(1, K1), "Active 2 count 2"),
     (Step::Move(1, K1, 0), "p5 Grant 1 to 0 epoch 3, moved"),
@@ -54,7 +54,7 @@ const BACK_AND_FORTH: [Row; 15] = [
 ];
 
 /// What a node has handed over, or has never held, it doesn't move.
-const REFUSED_MOVES: [Row; 4] = [
+static REFUSED_MOVES: [Row; 4] = [
     (Step::Move(0, (0, 9), 1), "refused UnknownKey"),
     (Step::Move(0, K1, 1), "refused NotActive"),
     (Step::Move(1, K1, 1), "refused BadPeer"),
@@ -72,7 +72,7 @@ fn sessions_go_from_node_to_node(rt: HostRuntime) -> Result<(), Fail> {
 }
 
 /// A move whose record is kept and whose Grant never left is sent again in time.
-const TORN_MOVE: [Row; 6] = [
+static TORN_MOVE: [Row; 6] = [
     (Step::First(0), "answer 1"),
     (Step::TornMove(0, K1, 1, true), ""),
     (Step::State(0, K1), "Sent 2 to 1 count 1"),
@@ -82,7 +82,7 @@ const TORN_MOVE: [Row; 6] = [
 ];
 
 /// A request whose record is kept has been counted though its answer never left.
-const TORN_KEPT: [Row; 4] = [
+static TORN_KEPT: [Row; 4] = [
     (Step::First(0), "answer 1"),
     (Step::TornAgain(0, K1, true), ""),
     (Step::Again(0, K1), "answer 3"),
@@ -90,7 +90,7 @@ const TORN_KEPT: [Row; 4] = [
 ];
 
 /// One whose record isn't kept hasn't.
-const TORN_NOT_KEPT: [Row; 4] = [
+static TORN_NOT_KEPT: [Row; 4] = [
     (Step::First(0), "answer 1"),
     (Step::TornAgain(0, K1, false), ""),
     (Step::Again(0, K1), "answer 2"),
@@ -98,7 +98,7 @@ const TORN_NOT_KEPT: [Row; 4] = [
 ];
 
 /// A session that was taken over is there behind a stop, and so is the boot number.
-const TAKEN_THEN_STOPPED: [Row; 5] = [
+static TAKEN_THEN_STOPPED: [Row; 5] = [
     (Step::Restart(1), ""),
     (Step::Again(1, K1), "answer 3"),
     (Step::Restart(1), ""),
@@ -107,7 +107,7 @@ const TAKEN_THEN_STOPPED: [Row; 5] = [
 ];
 
 /// What is Gone stays Gone in a snapshot and behind it.
-const COMPACTED: [Row; 8] = [
+static COMPACTED: [Row; 8] = [
     (Step::Compact(0), ""),
     (Step::State(0, K1), "Gone 2"),
     (Step::Boot(0), "2"),
@@ -133,7 +133,7 @@ fn stops_lose_and_double_nothing(rt: HostRuntime) -> Result<(), Fail> {
 }
 
 /// A request for a session that its home never made is served without it, once.
-const NEVER_MADE: [Row; 6] = [
+static NEVER_MADE: [Row; 6] = [
     (Step::Again(1, K1), "p0 Want 1 to 0, p1 Want 1 to 2"),
     (Step::Deliver(0), "p2 No 0 to 1"),
     (Step::Deliver(2), "answer 1"),
@@ -143,7 +143,7 @@ const NEVER_MADE: [Row; 6] = [
 ];
 
 /// A No to an earlier start serves nothing.
-const OLD_NO: [Row; 5] = [
+static OLD_NO: [Row; 5] = [
     (Step::Again(1, K1), "p0 Want 1 to 0, p1 Want 1 to 2"),
     (Step::Deliver(0), "p2 No 0 to 1"),
     (Step::Restart(1), ""),
@@ -153,7 +153,7 @@ const OLD_NO: [Row; 5] = [
 
 /// Of three that wait the second is served when its session has come, and then of the others the one that came first, though
 /// its session has come last.
-const IN_LINE: [Row; 18] = [
+static IN_LINE: [Row; 18] = [
     (Step::First(0), "answer 1"),
     (Step::First(0), "answer 1"),
     (Step::First(0), "answer 1"),
@@ -175,7 +175,7 @@ const IN_LINE: [Row; 18] = [
 ];
 
 /// A No to the second of three that wait lets it leave, and no other: the third is asked for again.
-const NO_IN_THE_MIDDLE: [Row; 9] = [
+static NO_IN_THE_MIDDLE: [Row; 9] = [
     (Step::Again(1, K1), "p0 Want 1 to 0, p1 Want 1 to 2"),
     (Step::Again(1, (0, 2)), "p2 Want 1 to 0, p3 Want 1 to 2"),
     (Step::Again(1, (0, 3)), "p4 Want 1 to 0, p5 Want 1 to 2"),
@@ -188,7 +188,7 @@ const NO_IN_THE_MIDDLE: [Row; 9] = [
 ];
 
 /// A session ends at the second in which it has gone 60 without a request, and the next request makes another.
-const EXPIRED: [Row; 6] = [
+static EXPIRED: [Row; 6] = [
     (Step::First(0), "answer 1"),
     (Step::Tick(0, 1059), ""),
     (Step::State(0, K1), "Active 1 count 1"),
@@ -198,7 +198,7 @@ const EXPIRED: [Row; 6] = [
 ];
 
 /// Requests wait for 30 seconds; what was asked for is asked for again until then.
-const WAITED: [Row; 5] = [
+static WAITED: [Row; 5] = [
     (Step::Again(1, K1), "p0 Want 1 to 0, p1 Want 1 to 2"),
     (Step::Tick(1, 1029), "p2 Want 1 to 0, p3 Want 1 to 2"),
     (Step::Tick(1, 1030), "refuse Deadline"),

@@ -11,7 +11,7 @@ use test_engine::Counter;
 /// Each of the ten kinds of event. A session goes from node 0 to node 1, whose next move is cut behind its record, so that
 /// its Grant is sent when time passes; then from node 2 back to node 0, in whose table it was last sent with epoch 2. There a
 /// request is served whose answer never leaves.
-pub const EVERY_KIND: [Row; 15] = [
+pub static EVERY_KIND: [Row; 15] = [
     (Act::First(0), "Commit makes 0.1, served, answer 1"),
     (Act::Again(1, K1), "p0 Want 1 to 0, p1 Want 1 to 2"),
     (
@@ -79,7 +79,7 @@ fn a_run_of_every_kind(rt: HostRuntime) -> Result<(), Fail> {
 }
 
 /// The third and the fifth can't happen.
-const FAULTY: [Row; 5] = [
+static FAULTY: [Row; 5] = [
     (Act::First(0), "Commit makes 0.1, served, answer 1"),
     (Act::Crash(0), ""),
     (Act::Again(0, K1), "NotRunning"),

@@ -52,7 +52,7 @@ const BAD_TARGET: (Outcome, usize) = (
     0,
 );
 
-pub(super) const ANSWERS: [Row; 19] = [
+pub(super) static ANSWERS: [Row; 19] = [
     Row {
         name: "two requests in one piece",
         single: false,
@@ -208,7 +208,7 @@ pub(super) const ANSWERS: [Row; 19] = [
 ];
 
 /// Each page closes its connection, and what stands behind the request is left.
-pub(super) const REFUSALS: [Row; 9] = [
+pub(super) static REFUSALS: [Row; 9] = [
     Row {
         name: "no head",
         single: false,

@@ -3,7 +3,7 @@
 use std::test::Fail;
 use sv_config::ConfigFault;
 
-const FAULTS: [ConfigFault; 8] = [
+static FAULTS: [ConfigFault; 8] = [
     ConfigFault::NotToml,
     ConfigFault::MissingField,
     ConfigFault::WrongKind,

@@ -10,7 +10,7 @@ struct Row(&'static str, Fault, &'static str, u8);
 
 /// The smallest ones of `docs/CONFIGURING.md`, and then those that name what the program hasn't got. A descriptor's own
 /// fault is found first.
-const ROWS: [Row; 12] = [
+static ROWS: [Row; 12] = [
     Row("a = ", Fault::NotToml, "NotToml", 3),
     Row("", Fault::MissingField, "MissingField", 3),
     Row("context = 1", Fault::WrongKind, "WrongKind", 3),

@@ -4,7 +4,7 @@ use super::{Row, expect_rows};
 use std::test::Fail;
 use sv_showcase::BUILT_IN;
 
-const BUILT_IN_ROWS: [Row; 5] = [
+static BUILT_IN_ROWS: [Row; 5] = [
     Row(
         "below an include status and fields stand still",
         "GET /shop/inc?path=/faulty HTTP/1.1\r\nHost: localhost\r\n\r\n",
@@ -45,7 +45,7 @@ filter-mapping = [
 ]
 "#;
 
-const STAMP_ROWS: [Row; 1] = [Row(
+static STAMP_ROWS: [Row; 1] = [Row(
     "a filter that is mapped by pattern stands before one by servlet, and each once",
     "GET /shop/hello HTTP/1.1\r\nHost: localhost\r\n\r\n",
     "HTTP/1.1 200 OK\r\nDate: Sun, 06 Nov 1994 08:49:37 GMT\r\ncontent-type: text/plain\r\nContent-Length: 14\r\n\r\n<b<aHello\na>b>",
@@ -59,7 +59,7 @@ filter = [{ name = "gate" }]
 filter-mapping = [{ filter = "gate", pattern = "/*" }]
 "#;
 
-const GATE_ROWS: [Row; 2] = [
+static GATE_ROWS: [Row; 2] = [
     Row(
         "a filter that sends an error",
         "GET /shop/hello HTTP/1.1\r\nHost: localhost\r\n\r\n",
@@ -82,7 +82,7 @@ servlet = [
 error-page = [{ status = 404, path = "/oops" }, { path = "/snoop" }]
 "#;
 
-const PAGE_ROWS: [Row; 2] = [
+static PAGE_ROWS: [Row; 2] = [
     Row(
         "an error page that faults",
         "GET /shop/faulty?code=404 HTTP/1.1\r\nHost: localhost\r\n\r\n",

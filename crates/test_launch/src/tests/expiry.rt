@@ -18,7 +18,7 @@ const SHORT: &str =
 /// What the stream shows, the moments of its two requests, the stream, and all that is written for it.
 struct Timed(&'static str, [u64; 2], &'static str, &'static str);
 
-const ROWS: [Timed; 3] = [
+static ROWS: [Timed; 3] = [
     Timed(
         "59 seconds behind a request the session lives",
         [1000, 1059],

@@ -4,7 +4,7 @@ use super::{Row, expect_rows};
 use std::test::Fail;
 use sv_showcase::BUILT_IN;
 
-const BUILT_IN_ROWS: [Row; 6] = [
+static BUILT_IN_ROWS: [Row; 6] = [
     Row(
         "the context's root",
         "GET /shop/ HTTP/1.1\r\nHost: localhost\r\n\r\n",
@@ -50,7 +50,7 @@ servlet = [
 ]
 "#;
 
-const PATTERN_ROWS: [Row; 8] = [
+static PATTERN_ROWS: [Row; 8] = [
     Row(
         "a prefix before an extension",
         "GET /foo/bar/index.bop HTTP/1.1\r\nHost: localhost\r\n\r\n",
@@ -104,7 +104,7 @@ path = "/a/b"
 servlet = [{ name = "snoop", patterns = ["/"] }]
 "#;
 
-const CONTEXT_ROWS: [Row; 3] = [
+static CONTEXT_ROWS: [Row; 3] = [
     Row(
         "a context's path ends at a slash",
         "GET /a/bc HTTP/1.1\r\nHost: localhost\r\n\r\n",

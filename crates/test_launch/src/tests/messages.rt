@@ -4,7 +4,7 @@ use super::{Row, expect_rows};
 use std::test::Fail;
 use sv_showcase::BUILT_IN;
 
-const ROWS: [Row; 22] = [
+static ROWS: [Row; 22] = [
     Row(
         "one request",
         "GET /shop/hello HTTP/1.1\r\nHost: localhost\r\n\r\n",

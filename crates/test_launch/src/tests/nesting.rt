@@ -4,7 +4,7 @@ use super::{Row, expect_rows};
 use std::test::Fail;
 use sv_showcase::BUILT_IN;
 
-const BUILT_IN_ROWS: [Row; 12] = [
+static BUILT_IN_ROWS: [Row; 12] = [
     Row(
         "an include with a query: its parameters stand first, the request keeps its own URI and query",
         "GET /shop/inc?path=/snoop%3Fa=1 HTTP/1.1\r\nHost: localhost\r\n\r\n",
@@ -79,7 +79,7 @@ servlet = [
 error-page = [{ path = "/snoop" }]
 "#;
 
-const PAGE_ROWS: [Row; 3] = [
+static PAGE_ROWS: [Row; 3] = [
     Row(
         "an error page that is reached from an include sees the request as it came",
         "GET /shop/inc?path=/faulty%3Ffault=x HTTP/1.1\r\nHost: localhost\r\n\r\n",
@@ -117,7 +117,7 @@ filter-mapping = [
 error-page = [{ status = 404, path = "/hello" }]
 "#;
 
-const MARKED_ROWS: [Row; 3] = [
+static MARKED_ROWS: [Row; 3] = [
     Row(
         "filters of an include, round what is included",
         "GET /shop/inc?path=/hello HTTP/1.1\r\nHost: localhost\r\n\r\n",
@@ -150,7 +150,7 @@ filter-mapping = [{ filter = "gate", servlet = "hello", dispatch = ["FORWARD", "
 error-page = [{ status = 404, path = "/hello" }]
 "#;
 
-const GUARDED_ROWS: [Row; 4] = [
+static GUARDED_ROWS: [Row; 4] = [
     Row(
         "a filter that sends an error in a forward",
         "GET /shop/fwd HTTP/1.1\r\nHost: localhost\r\n\r\n",

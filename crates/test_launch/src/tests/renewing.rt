@@ -19,7 +19,7 @@ servlet = [
 ]
 "#;
 
-const ROWS: [Row; 2] = [
+static ROWS: [Row; 2] = [
     Row(
         "the old secret is turned away, and the new one names the session",
         "GET /shop/count HTTP/1.1\r\nHost: localhost\r\n\r\nGET /shop/renew HTTP/1.1\r\nHost: localhost\r\nCookie: JSESSIONID=0000000000000000000100000000000000000000000000000001\r\n\r\nGET /shop/count HTTP/1.1\r\nHost: localhost\r\nCookie: JSESSIONID=0000000000000000000100000000000000000000000000000001\r\n\r\nGET /shop/count HTTP/1.1\r\nHost: localhost\r\nCookie: JSESSIONID=0000000000000000000100000000000000000000000000000002\r\n\r\n",

@@ -7,7 +7,7 @@ use super::{Row, expect_rows};
 use std::test::Fail;
 use sv_showcase::BUILT_IN;
 
-const ROWS: [Row; 10] = [
+static ROWS: [Row; 10] = [
     Row(
         "a session and its cookie",
         "GET /shop/count HTTP/1.1\r\nHost: localhost\r\n\r\nGET /shop/count HTTP/1.1\r\nHost: localhost\r\nCookie: JSESSIONID=0000000000000000000100000000000000000000000000000001\r\n\r\n",

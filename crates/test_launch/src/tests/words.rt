@@ -9,7 +9,7 @@ use sv_net::Persistence;
 /// Three words, and what they ask for.
 struct Line([&'static str; 3], Result<Words<'static>, Arguments>);
 
-const LINES: [Line; 8] = [
+static LINES: [Line; 8] = [
     Line(
         ["--once", "-", "784111777"],
         Ok(Words::Once {
@@ -60,7 +60,7 @@ fn words(rt: HostRuntime) -> Result<(), Fail> {
 }
 
 /// One word, and what it asks of the program itself.
-const SINGLE: [(&str, Result<Words<'static>, Arguments>); 6] = [
+static SINGLE: [(&str, Result<Words<'static>, Arguments>); 6] = [
     ("--help", Ok(Words::Help)),
     ("-h", Ok(Words::Help)),
     ("--version", Ok(Words::Version)),
@@ -83,7 +83,7 @@ fn one_word(rt: HostRuntime) -> Result<(), Fail> {
 }
 
 /// A fourth word in front, and what it has the words of a node ask for.
-const FRONTS: [(&str, Result<Words<'static>, Arguments>); 2] = [
+static FRONTS: [(&str, Result<Words<'static>, Arguments>); 2] = [
     (
         "--keep-alive",
         Ok(Words::Node(NodeWords {
@@ -135,7 +135,7 @@ const ALL: Option<Options<'static>> = Some(Options {
 
 /// In any order, three at most, and of two equal ones the last one counts. What stands behind `--log` and `--metrics` is a path,
 /// whatever it is.
-const OPTIONS: [Before; 8] = [
+static OPTIONS: [Before; 8] = [
     Before(&["--log", "l"], LOGGED),
     Before(&["--metrics", "m"], COUNTED),
     Before(&["--log", "l", "--metrics", "m", "--keep-alive"], ALL),

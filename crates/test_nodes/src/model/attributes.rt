@@ -51,7 +51,7 @@ struct Step {
 
 /// Names are in order of their bytes: capitals before small letters, and `é` (0xC3 0xA9) behind `z` (0x7A).
 /// The bytes of all are added up by hand.
-const PUT: [Step; 6] = [
+static PUT: [Step; 6] = [
     Step {
         name: "z",
         value: b"1",
