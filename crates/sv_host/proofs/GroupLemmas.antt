@@ -1,5 +1,5 @@
 -- One input more in a group, or one less.
-use Rattle.std.proofs.Common.{◌≡◌, ◌≤◌, ℕ, zero, suc, List, [], ◌∷◌, ◌++◌, refl, arith}
+use Rattle.std.proofs.Common.{◌≡◌, ◌≤◌, ℕ, zero, suc, List, [], ◌∷◌, ◌++◌, length, refl, ap, arith}
 use Rattle.std.specs.Prelude.{remove}
 use Rattle.std.specs.List.{AllByRecursion}
 use Rattle.sv_model.specs.declared.input.Input.{Input}
@@ -23,6 +23,13 @@ number_on low [] i = refl
 number_on low (x ∷ is) i = number_on (number_in low x.1) is i
 
 -- ---- one less
+
+-- there is none at a place
+pub nothing_there : {A : Type 0} (xs : List A) (at : ℕ) → length xs ≤ at → remove xs at ≡ xs
+nothing_there [] zero past = refl
+nothing_there [] (suc at) past = refl
+nothing_there (x ∷ xs) zero past = absurd (omega (arith, past))
+nothing_there (x ∷ xs) (suc at) past = ap (λ rest. x ∷ rest) (nothing_there xs at (omega (arith, past)))
 
 pub within_less : (is : List (Moment × Input)) (at : ℕ) → AllByRecursion (λ x. IsInput x.1) is → AllByRecursion (λ x. IsInput x.1) (remove is at)
 within_less [] zero all = tt

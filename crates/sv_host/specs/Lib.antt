@@ -1,3 +1,4 @@
+pub mod Outcome
 pub mod Outputs
 pub mod Round
 pub mod Time
@@ -9,4 +10,5 @@ pub mod Room
 pub mod Host
 pub mod Group
 pub mod Serve
+pub mod Stops
 pub mod Serving

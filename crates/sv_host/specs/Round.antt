@@ -1,6 +1,11 @@
 -- Which packets of a tick are sent: in the order of the wants as their requests came, and then of the sessions by their keys, those
 -- behind the last one that was sent before, and then those from the first one on.
-use Rattle.std.specs.Prelude.{ℕ, ◌+◌, ◌&&◌, ◌||◌, ◌==◌, Bool, true, false, nat_lt, min, Option, Some, None}
+use Rattle.std.specs.Prelude.{◌≡◌, ℕ, ◌+◌, ◌-◌, ◌&&◌, ◌||◌, ◌==◌, Bool, true, false, not, nat_lt, min, List, Option, Some, None}
+use Rattle.std.specs.List.{count_by}
+use Rattle.sv_model.specs.declared.output.Output.{Output}
+use Rattle.sv_model.specs.Outputs.{sends_in}
+use Rattle.sv_host.specs.declared.round.Round.{Round}
+use Rattle.sv_host.specs.declared.round.TheConstants.{ROUND_LIMIT}
 use Rattle.sv_model.specs.declared.packet.Packet.{Packet}
 use Rattle.sv_model.specs.declared.packet.Packet.TheVariants.{Want, Grant, Ack, No}
 use Rattle.sv_host.specs.declared.round.Rank.{Rank}
@@ -23,6 +28,21 @@ is_behind a b = nat_lt b.kind a.kind || ((a.kind == b.kind) && (nat_lt b.number 
 abbrev pub is_next : Option Rank → Rank → Bool
 is_next None rank = true
 is_next (Some last) rank = is_behind rank last
+
+-- how many of these packets come behind it, and how many don't
+abbrev pub behind_in : Option Rank → List Output → ℕ
+behind_in last outputs = count_by (λ p. is_next last (rank_of p)) (sends_in outputs)
+
+abbrev pub front_in : Option Rank → List Output → ℕ
+front_in last outputs = count_by (λ p. not (is_next last (rank_of p))) (sends_in outputs)
+
+-- the share of a tick that puts out these: those behind the last one, and as many of the others as are then let pass
+pub record IsShareOf (round : Round) (outputs : List Output) (share : Share) : Type 0 where
+  pub before : share.before ≡ round
+  pub last : share.last ≡ round.last
+  pub behind : share.behind ≡ min (behind_in round.last outputs) ROUND_LIMIT
+  pub front : share.front ≡ min (front_in round.last outputs) (ROUND_LIMIT - share.behind)
+  pub wraps : share.wraps ≡ nat_lt 0 share.front
 
 -- a share has some left for a packet: of those behind the last one, or of those from the first one on
 abbrev pub has_left : Share → Bool → Bool

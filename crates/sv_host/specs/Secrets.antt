@@ -6,7 +6,8 @@ use Rattle.sv_model.specs.declared.key.Moment.{Moment}
 use Rattle.sv_model.specs.declared.key.Secret.{Secret}
 use Rattle.sv_model.specs.NodeState.{last_number}
 use Rattle.sv_host.specs.declared.fault.Stop.{Stop}
-use Rattle.sv_host.specs.declared.fault.Stop.TheVariants.{Done}
+use Rattle.sv_host.specs.declared.fault.HostFault.TheVariants as host
+use Rattle.sv_host.specs.declared.fault.Stop.TheVariants.{Done, Fault}
 use Rattle.sv_host.specs.declared.secrets.Secrets.{Secrets}
 use Rattle.sv_host.specs.declared.secrets.Source.{Source}
 use Rattle.sv_host.specs.declared.secrets.Source.TheVariants.{Read, Counted}
@@ -28,9 +29,10 @@ abbrev pub first_by : {T : Type 0} → Option T → Option ℕ
 first_by None = Some 0
 first_by (Some path) = None
 
--- one more is drawn: of those that are counted the next, until the numbers are spent
+-- one more is drawn: of those that are counted the next, until the numbers are spent; else one that can be read
 abbrev pub Draws : Option ℕ → Result Secret Stop → Option ℕ → Type 0
-Draws None answer new = new ≡ None
+Draws None (Ok secret) new = new ≡ None
+Draws None (Err stop) new = (stop ≡ Fault host.Secrets) × (new ≡ None)
 Draws (Some last) (Ok secret) new = (secret ≡ secret_of (last + 1)) × (new ≡ Some (last + 1))
 Draws (Some last) (Err stop) new = (stop ≡ Done) × (last ≡ last_number) × (new ≡ Some last)
 

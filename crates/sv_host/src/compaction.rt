@@ -1,10 +1,14 @@
 //! The journal, written anew once it has grown enough.
 
-ghost use Rattle.std.specs.Prelude.{IsTrue, OnOk, ℕ, ◌≡◌, false};
+ghost use Rattle.std.specs.Prelude.{IsTrue, IfErr, OnOk, ℕ, ◌≡◌, ◌⊎◌, false};
 ghost use Rattle.sv_node.specs.Call.{compaction_ends};
 ghost use Rattle.sv_node.specs.History.{HasGone};
 ghost use Rattle.sv_node.specs.Node.{IsNode, journal_of};
+ghost use Rattle.sv_journal.specs.declared.journal_fault.JournalFault.TheVariants.{Device, Failed};
 ghost use Rattle.sv_host.specs.Serving.{IsServing, HasServed};
+ghost use Rattle.sv_host.specs.Stops.{HasFailed};
+ghost use Rattle.sv_host.specs.declared.fault.HostFault.TheVariants.{Device as HostDevice};
+ghost use Rattle.sv_host.specs.declared.fault.Stop.TheVariants.{Fault};
 
 use crate::fault::{HostFault, Stop};
 use crate::group::Group;
@@ -20,7 +24,8 @@ const COMPACTING: u64 = 4_194_304;
 /// What comes of a compaction that was refused: a node goes on, unless its disk has failed, and tries again behind the next
 /// connection.
 fn not_compacted(fault: JournalFault) -> Result<(), Stop>
-    ensures { OnOk result (compaction_ends fault ≡ false) }
+    ensures goes_on { OnOk result (compaction_ends fault ≡ false) }
+    ensures stops { IfErr result (λ stop. ((fault ≡ Device) ⊎ (fault ≡ Failed)) × (stop ≡ Fault HostDevice)) }
 {
     match fault {
         JournalFault::Full | JournalFault::Memory | JournalFault::Damaged => Ok(()),
@@ -33,6 +38,7 @@ fn compact<E: Engine, D: Disk>(server: &mut Server, node: &mut Node<E, D>) -> Re
     requires valid { IsNode E.valid D.tells D.seen D.may_leave node.old }
     requires live { IsTrue (journal_of node.old).live }
     ensures valid { IsNode E.valid D.tells D.seen D.may_leave node.new }
+    ensures stops { IfErr result (HasFailed node.new) }
     ensures gone { (low : ℕ) → HasGone E.meaning E.heard D.tells D.may_leave low low node.old node.new result }
 {
     let len = node.journal_len();
@@ -62,7 +68,8 @@ pub fn compact_in_turn<E: Engine, D: Disk>(
     group: &mut Group,
 ) -> Result<(), Stop>
     requires { IsServing E.valid D.tells D.seen D.may_leave node.old group.old }
-    ensures { HasServed E.meaning E.heard E.valid D.tells D.seen D.may_leave node.old group.old node.new group.new result }
+    ensures stops { IfErr result (HasFailed node.new) }
+    ensures served { HasServed E.meaning E.heard E.valid D.tells D.seen D.may_leave node.old group.old node.new group.new result }
 {
     compact(server, node)
 }

@@ -1,8 +1,9 @@
 //! What has come on the connections, gathered as the next group.
 
-ghost use Rattle.std.specs.Prelude.{IfOk, IfSome, ◌<◌};
-ghost use Rattle.sv_host.specs.Group.{Comes, IsRising, number_of};
+ghost use Rattle.std.specs.Prelude.{IfOk, IfErr, IfSome, ◌<◌};
+ghost use Rattle.sv_host.specs.Group.{Comes, HasMore, IsRising, number_of};
 ghost use Rattle.sv_host.specs.Serving.{HasGathered};
+ghost use Rattle.sv_host.specs.Stops.{IsEnding, IsTold, LacksNumbers};
 
 use crate::fault::Stop;
 use crate::group::{Came, Group};
@@ -17,7 +18,8 @@ const PACKETS: u32 = 16;
 
 /// The number of the next request; behind the last there is none.
 fn next_number(group: &Group) -> Result<u64, Stop>
-    ensures { IfOk result (λ number. number_of group.now < number) }
+    ensures above { IfOk result (λ number. number_of group.now < number) }
+    ensures ends { IfErr result (LacksNumbers group.now) }
 {
     let number = group.number();
     if number == u64::MAX {
@@ -40,7 +42,9 @@ fn add<M: Machine>(
     requires comes { Comes number came }
     requires above { number_of group.old < number }
     requires rising { IsRising group.old }
-    ensures { HasGathered group.old group.new }
+    ensures gathered { HasGathered group.old group.new }
+    ensures more { HasMore group.old group.new }
+    ensures ends { IfErr result (IsEnding server.new group.new) }
 {
     let Came {
         input,
@@ -72,7 +76,9 @@ fn add_some<M: Machine>(
     requires comes { IfOk came (λ came. IfSome came (λ came. Comes number came)) }
     requires above { number_of group.old < number }
     requires rising { IsRising group.old }
-    ensures { HasGathered group.old group.new }
+    ensures gathered { HasGathered group.old group.new }
+    ensures more { HasMore group.old group.new }
+    ensures ends { IfErr came (IsTold server.old) → IfErr result (IsEnding server.new group.new) }
 {
     match came {
         Ok(Some(came)) => match add(machine, server, group, came, number) {
@@ -93,7 +99,9 @@ fn gather_one<M: Machine>(
     piece: &mut [u8; PIECE],
 ) -> Result<bool, Stop>
     requires { IsRising group.old }
-    ensures { HasGathered group.old group.new }
+    ensures gathered { HasGathered group.old group.new }
+    ensures more { HasMore group.old group.new }
+    ensures ends { IfErr result (IsEnding server.new group.new) }
 {
     let number = next_number(group)?;
     let came = serve(server, place, piece, number);
@@ -110,7 +118,9 @@ fn gather_some<M: Machine>(
     piece: &mut [u8; PIECE],
 ) -> Result<(), Stop>
     requires { IsRising group.old }
-    ensures { HasGathered group.old group.new }
+    ensures gathered { HasGathered group.old group.new }
+    ensures more { HasMore group.old group.new }
+    ensures ends { IfErr result (IsEnding server.new group.new) }
 {
     for _ in 0..PACKETS {
         if !gather_one(machine, server, group, place, piece)? {
@@ -132,7 +142,9 @@ fn gather_reported<M: Machine>(
     acceptor: &mut Acceptor,
 ) -> Result<(), Stop>
     requires { IsRising group.old }
-    ensures { HasGathered group.old group.new }
+    ensures gathered { HasGathered group.old group.new }
+    ensures more { HasMore group.old group.new }
+    ensures ends { IfErr result (IsEnding server.new group.new) }
 {
     let mut count: usize = 0;
     let (places, piece) = acceptor.turn();
@@ -186,7 +198,9 @@ fn gather_behind<M: Machine>(
     piece: &mut [u8; PIECE],
 ) -> Result<(), Stop>
     requires { IsRising group.old }
-    ensures { HasGathered group.old group.new }
+    ensures gathered { HasGathered group.old group.new }
+    ensures more { HasMore group.old group.new }
+    ensures ends { IfErr result (IsEnding server.new group.new) }
 {
     if !server.connections.is_peer(place) {
         return Ok(());
@@ -207,7 +221,9 @@ fn gather_newcomer<M: Machine>(
     piece: &mut [u8; PIECE],
 ) -> Result<(), Stop>
     requires { IsRising group.old }
-    ensures { HasGathered group.old group.new }
+    ensures gathered { HasGathered group.old group.new }
+    ensures more { HasMore group.old group.new }
+    ensures ends { IfErr result (IsEnding server.new group.new) }
 {
     let (place, open) = newcomer;
     let number = next_number(group)?;
@@ -227,7 +243,9 @@ fn gather_new<M: Machine>(
     acceptor: &mut Acceptor,
 ) -> Result<(), Stop>
     requires { IsRising group.old }
-    ensures { HasGathered group.old group.new }
+    ensures gathered { HasGathered group.old group.new }
+    ensures more { HasMore group.old group.new }
+    ensures ends { IfErr result (IsEnding server.new group.new) }
 {
     match admit(machine, server, acceptor) {
         Some(newcomer) => gather_newcomer(machine, server, group, newcomer, acceptor.piece()),
@@ -243,7 +261,9 @@ pub fn gather<M: Machine>(
     acceptor: &mut Acceptor,
 ) -> Result<(), Stop>
     requires { IsRising group.old }
-    ensures { HasGathered group.old group.new }
+    ensures gathered { HasGathered group.old group.new }
+    ensures more { HasMore group.old group.new }
+    ensures ends { IfErr result (IsEnding server.new group.new) }
 {
     gather_reported(machine, server, group, acceptor)?;
     gather_new(machine, server, group, acceptor)

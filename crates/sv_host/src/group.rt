@@ -1,6 +1,7 @@
 //! What has come to a node and is made durable together.
 
-ghost use Rattle.std.specs.Prelude.{◌≡◌, ◌<◌, OnOk, vec_len, vec_capacity};
+ghost use Rattle.std.specs.Option.{option_map};
+ghost use Rattle.std.specs.Prelude.{◌≡◌, ◌==◌, ◌<◌, [], slice_get, IsTrue, IsFalse, OnOk, OnErr, length, remove, vec_len, vec_capacity};
 ghost use Rattle.sv_model.specs.Ranges.{IsInput};
 ghost use Rattle.sv_node.specs.History.{IsAbove, number_in};
 
@@ -64,6 +65,15 @@ impl Drop for Group {
     }
 }
 
+/// Takes the one at a place out, where there is one.
+fn cut_out<T: Drop>(items: &mut Vec<T>, at: usize)
+    ensures { items.new.items ≡ remove items.old.items at }
+{
+    if at < items.len() {
+        items.remove(at);
+    }
+}
+
 /// The greatest number so far, with this input.
 fn number_with(number: u64, input: &Input) -> u64
     ensures { result ≡ number_in number input.now }
@@ -75,13 +85,14 @@ fn number_with(number: u64, input: &Input) -> u64
 }
 
 impl Group {
-    ghost use Rattle.sv_host.specs.Group.{inputs_of, before_of, number_of, IsRising};
+    ghost use Rattle.sv_host.specs.Group.{inputs_of, ways_of, before_of, number_of, HasOneMore, IsFull, IsRising, IsSame, request_in};
 
     /// No input yet; no request has come before.
     pub fn new(alloc: Global) -> Group
         ensures rising { IsRising result }
         ensures number { number_of result ≡ 0 }
         ensures before { before_of result ≡ 0 }
+        ensures empty { inputs_of result ≡ [] }
     {
         Group {
             inputs: Vec::new(alloc),
@@ -92,11 +103,15 @@ impl Group {
         }
     }
 
-    pub fn is_empty(&self) -> bool {
+    pub fn is_empty(&self) -> bool
+        ensures { result ≡ (length (inputs_of self.now) == 0) }
+    {
         self.inputs.is_empty()
     }
 
-    pub fn len(&self) -> usize {
+    pub fn len(&self) -> usize
+        ensures { result ≡ length (inputs_of self.now) }
+    {
         self.inputs.len()
     }
 
@@ -115,9 +130,9 @@ impl Group {
     /// Makes room for one more.
     fn reserve(&mut self) -> Result<(), AllocError>
         ensures room { OnOk result ((vec_len self.new.inputs < vec_capacity self.new.inputs) × (vec_len self.new.ways < vec_capacity self.new.ways)) }
-        ensures same { inputs_of self.new ≡ inputs_of self.old }
+        ensures full { OnErr result (IsFull self.old) }
+        ensures same { IsSame self.old self.new }
         ensures before { before_of self.new ≡ before_of self.old }
-        ensures number { number_of self.new ≡ number_of self.old }
     {
         self.inputs.try_reserve(1)?;
         self.ways.try_reserve(1)?;
@@ -131,6 +146,9 @@ impl Group {
         requires above { IsAbove (number_of self.old) input }
         ensures rising { IsRising self.new }
         ensures before { before_of self.new ≡ before_of self.old }
+        ensures added { IsTrue result → HasOneMore (moment, input) (record { asker = asker; packets = packets }) self.old self.new }
+        ensures same { IsFalse result → IsSame self.old self.new }
+        ensures full { IsFalse result → IsFull self.old }
     {
         if self.reserve().is_err() {
             return false;
@@ -142,7 +160,9 @@ impl Group {
     }
 
     /// The request at a place of them, and the number under which it came; none where it is something else.
-    pub fn request(&self, at: usize) -> Option<(u64, &Request)> {
+    pub fn request(&self, at: usize) -> Option<(u64, &Request)>
+        ensures { option_map (λ r. (r.0, r.1.now)) result ≡ request_in (slice_get (inputs_of self.now) at) }
+    {
         match self.inputs.get(at) {
             Some((_, Input::Ask { token, request })) => Some((*token, request)),
             _ => None,
@@ -154,16 +174,19 @@ impl Group {
         requires rising { IsRising self.old }
         ensures rising { IsRising self.new }
         ensures before { before_of self.new ≡ before_of self.old }
+        ensures number { number_of self.new ≡ number_of self.old }
+        ensures inputs { inputs_of self.new ≡ remove (inputs_of self.old) at }
+        ensures ways { ways_of self.new ≡ remove (ways_of self.old) at }
     {
-        if at < self.inputs.len() && at < self.ways.len() {
-            self.inputs.remove(at);
-            self.ways.remove(at);
-        }
+        cut_out(&mut self.inputs, at);
+        cut_out(&mut self.ways, at);
     }
 
     /// Takes all of them out; what comes from now on is of the next group.
     pub fn take(&mut self) -> (Vec<(Moment, Input)>, Vec<Way>)
         ensures inputs { result.0.items ≡ inputs_of self.old }
+        ensures ways { result.1.items ≡ ways_of self.old }
+        ensures empty { inputs_of self.new ≡ [] }
         ensures before { before_of self.new ≡ number_of self.old }
         ensures number { number_of self.new ≡ number_of self.old }
         ensures rising { IsRising self.new }

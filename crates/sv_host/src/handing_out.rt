@@ -1,11 +1,14 @@
 //! What a group has put out, handed to whom it is for.
 
-ghost use Rattle.std.specs.Prelude.{IfErr, OnOk, ◌≡◌, false};
+ghost use Rattle.std.specs.Prelude.{IfErr, IfSome, IsOk, OnOk, ◌≡◌, false};
 ghost use Rattle.sv_model.specs.Ranges.{IsPacket};
 ghost use Rattle.sv_node.specs.Call.{step_ends};
 ghost use Rattle.std.specs.List.{AllByRecursion};
 ghost use Rattle.sv_host.specs.Outputs.{AreHandedOn, AreSendable, IsHandedOn, IsSendable};
-ghost use Rattle.sv_host.specs.Parked.{clients_of, without};
+ghost use Rattle.sv_host.specs.Outcome.{refused};
+ghost use Rattle.sv_host.specs.Parked.{clients_of, place_under, without};
+ghost use Rattle.sv_net.specs.Places.{held_at, manner_at};
+ghost use Rattle.sv_net.specs.Saying.{Answers, refused_as};
 
 use crate::fault::Stop;
 use crate::group::{Asker, Group, Way};
@@ -37,7 +40,9 @@ impl Server {
 
     /// Answers the client that waits under a token.
     fn answer(&mut self, token: u64, response: &Response, now: u64)
-        ensures { clients_of self.new.parked ≡ without token (clients_of self.old.parked) }
+        ensures clients { clients_of self.new.parked ≡ without token (clients_of self.old.parked) }
+        ensures answered { IfSome (place_under token (clients_of self.old.parked)) (λ place. IfSome (manner_at self.old.connections place token)
+            (λ _. IfSome (held_at self.new.connections place) (λ held. Answers response.now now held.state))) }
     {
         if let Some(place) = self.parked.take(token) {
             self.connections
@@ -47,7 +52,9 @@ impl Server {
 
     /// Refuses the client that waits under a token.
     pub fn refuse(&mut self, token: u64, cause: Cause, now: u64)
-        ensures { clients_of self.new.parked ≡ without token (clients_of self.old.parked) }
+        ensures clients { clients_of self.new.parked ≡ without token (clients_of self.old.parked) }
+        ensures refused { IfSome (place_under token (clients_of self.old.parked)) (λ place. IfSome (manner_at self.old.connections place token)
+            (λ manner. IfSome (held_at self.new.connections place) (λ held. Answers (refused_as cause manner) now held.state))) }
     {
         if let Some(place) = self.parked.take(token) {
             self.connections.report.note(Event::Refused {
@@ -199,7 +206,8 @@ impl Server {
 
     /// What comes of a group of which no step was taken. Where a disk has failed nobody is told: its records may be there.
     fn not_taken(&mut self, ways: &[Way], fault: StepFault) -> Result<Taken, Stop>
-        ensures { OnOk result (step_ends fault ≡ false) }
+        ensures refused { result ≡ refused fault }
+        ensures goes_on { OnOk result (step_ends fault ≡ false) }
     {
         let taken = refused(fault)?;
         self.refuse_all(ways, fault);
@@ -214,7 +222,9 @@ impl Server {
         answers: Result<Vec<Result<Vec<Output>, StepFault>>, StepFault>,
     ) -> Result<Taken, Stop>
         requires { AreHandedOn answers }
-        ensures { IfErr answers (λ fault. OnOk result (step_ends fault ≡ false)) }
+        ensures refused { IfErr answers (λ fault. result ≡ refused fault) }
+        ensures taken { OnOk answers (IsOk result) }
+        ensures goes_on { IfErr answers (λ fault. OnOk result (step_ends fault ≡ false)) }
     {
         match answers {
             Ok(answers) => Ok(self.hand_out_all(machine, ways, answers)),

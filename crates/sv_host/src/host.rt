@@ -200,6 +200,7 @@ impl Host {
                 expiry: Expiry::NONE,
                 round: Round::START,
                 compacted: 0,
+                was_told: false,
                 alloc,
             },
         })

@@ -1,12 +1,16 @@
 //! What is done with what has come on a connection.
 
-ghost use Rattle.std.specs.Prelude.{◌≡◌, ◌++◌, ◌∷◌, [], IfOk, IfSome, ℕ, ◌<◌};
-ghost use Rattle.sv_model.specs.Ranges.{IsInput, IsPacket};
-ghost use Rattle.sv_node.specs.History.{IsAbove};
+ghost use Rattle.std.specs.Prelude.{◌≡◌, ◌++◌, ◌∷◌, [], true, Some, IfOk, IfErr, IfSome, IfNone, ℕ, ◌<◌};
+ghost use Rattle.std.specs.Option.{option_map};
 ghost use Rattle.sv_record.specs.Frame.{IsFrame};
+ghost use Rattle.sv_record.specs.declared.frame.Frame.TheVariants.{Halt as HaltFrame};
+ghost use Rattle.sv_model.specs.declared.input.Input.TheVariants.{Ask, Packet as PacketInput};
 ghost use Rattle.sv_host.specs.Group.{Comes};
-ghost use Rattle.sv_host.specs.Parked.{clients_of};
-ghost use Rattle.sv_host.specs.declared.group.Asker.TheVariants.{Client as ClientAsker};
+ghost use Rattle.sv_host.specs.Parked.{clients_of, loses_one, IsFull};
+ghost use Rattle.sv_host.specs.Serve.{input_of};
+ghost use Rattle.sv_host.specs.Stops.{IsTold};
+ghost use Rattle.sv_host.specs.declared.group.Asker.TheVariants.{Client as ClientAsker, Command, Nobody};
+ghost use Rattle.sv_host.specs.declared.packets.Packets.TheVariants.{All};
 
 use crate::fault::Stop;
 use crate::group::{Asker, Came};
@@ -36,9 +40,11 @@ pub fn ask(
     token: u64,
 ) -> Option<Came>
     ensures comes { IfSome result (λ came. Comes token came) }
+    ensures full { IfNone result (IsFull server.old.parked) }
+    ensures lost { IfNone result (loses_one server.new.parked ≡ true) }
     ensures parked { IfSome result (λ came. clients_of server.new.parked ≡ clients_of server.old.parked ++ (record { token = token; place = from.place })
         ∷ []) }
-    ensures asker { IfSome result (λ came. came.asker ≡ ClientAsker from.place token) }
+    ensures came { IfSome result (λ came. came ≡ record { input = Ask token request; asker = ClientAsker from.place token; packets = All }) }
 {
     let Lifted { place, socket } = from;
     if !server.parked.add(ParkedClient { token, place }) {
@@ -98,8 +104,7 @@ fn tell(server: &Server, socket: &mut Socket, byte: u8) {
 
 /// Keeps the connection of a node for what it sends behind its packet, which is to be given to the node here.
 fn receive(server: &mut Server, from: Lifted, packet: Packet, rest: Vec<u8>) -> Option<Came>
-    requires { IsPacket packet }
-    ensures { (number : ℕ) → IfSome result (λ came. Comes number came) }
+    ensures { result ≡ Some (record { input = PacketInput packet; asker = Nobody; packets = All }) }
 {
     let Lifted { place, socket } = from;
     let peer = Peer {
@@ -116,9 +121,7 @@ fn receive(server: &mut Server, from: Lifted, packet: Packet, rest: Vec<u8>) -> 
 
 /// Keeps whoever gave a command for the answer to it.
 fn obey(server: &mut Server, from: Lifted, input: Input, packets: Packets) -> Option<Came>
-    requires input { IsInput input }
-    requires no_request { (low : ℕ) → IsAbove low input }
-    ensures { (number : ℕ) → IfSome result (λ came. Comes number came) }
+    ensures { result ≡ Some (record { input = input; asker = Command from.place; packets = packets }) }
 {
     let Lifted { place, socket } = from;
     server.connections.begin(place, socket, State::Ordering);
@@ -137,7 +140,9 @@ pub fn take_frame(
     rest: Vec<u8>,
 ) -> Result<Option<Came>, Stop>
     requires { IsFrame frame }
-    ensures { (number : ℕ) → IfOk result (λ came. IfSome came (λ came. Comes number came)) }
+    ensures comes { (number : ℕ) → IfOk result (λ came. IfSome came (λ came. Comes number came)) }
+    ensures input { IfOk result (λ came. option_map (λ came. came.input) came ≡ input_of frame) }
+    ensures told { IfErr result (λ stop. (frame ≡ HaltFrame) × IsTold server.new stop) }
 {
     match frame {
         Frame::Peer(packet) => Ok(receive(server, from, packet, rest)),
@@ -153,6 +158,7 @@ pub fn take_frame(
             let mut socket = from.socket;
             server.connections.report.note(Event::HaltOrdered);
             tell(server, &mut socket, 0);
+            server.was_told = true;
             Err(Stop::Done)
         }
     }

@@ -2,6 +2,7 @@
 
 ghost use Rattle.std.specs.Prelude.{OnOk, ◌≡◌, false};
 ghost use Rattle.sv_node.specs.Call.{step_ends};
+ghost use Rattle.sv_host.specs.Outcome.{answer_byte, cause_of, refusal_byte, refused, sum_up};
 
 use crate::fault::{HostFault, Stop};
 use sv_model::{Cause, MoveRefusal, Output, StepFault};
@@ -20,7 +21,9 @@ pub enum Taken {
 }
 
 /// What was put out by a step.
-pub fn sum_up(outputs: &[Output]) -> Taken {
+pub fn sum_up(outputs: &[Output]) -> Taken
+    ensures { result ≡ sum_up outputs.now }
+{
     match outputs {
         [] => Taken::Quiet,
         [Output::MoveRefused(why)] => Taken::MoveRefused(*why),
@@ -29,7 +32,9 @@ pub fn sum_up(outputs: &[Output]) -> Taken {
 }
 
 /// What a command that isn't done is answered with.
-fn refusal_byte(why: MoveRefusal) -> u8 {
+fn refusal_byte(why: MoveRefusal) -> u8
+    ensures { result ≡ refusal_byte why }
+{
     match why {
         MoveRefusal::UnknownKey => 1,
         MoveRefusal::NotActive => 2,
@@ -39,7 +44,9 @@ fn refusal_byte(why: MoveRefusal) -> u8 {
 }
 
 /// The byte that answers a command.
-pub fn answer_byte(taken: Taken) -> u8 {
+pub fn answer_byte(taken: Taken) -> u8
+    ensures { result ≡ answer_byte taken }
+{
     match taken {
         Taken::Quiet | Taken::Busy => 0,
         Taken::MoveRefused(why) => refusal_byte(why),
@@ -48,7 +55,9 @@ pub fn answer_byte(taken: Taken) -> u8 {
 }
 
 /// Why a request is refused whose step was.
-pub fn cause_of(fault: StepFault) -> Cause {
+pub fn cause_of(fault: StepFault) -> Cause
+    ensures { result ≡ cause_of fault }
+{
     match fault {
         StepFault::Full => Cause::JournalFull,
         StepFault::Memory | StepFault::Failed | StepFault::Device => Cause::Memory,
@@ -57,7 +66,8 @@ pub fn cause_of(fault: StepFault) -> Cause {
 
 /// What comes of a step that was refused: a node goes on, unless its disk has failed.
 pub fn refused(fault: StepFault) -> Result<Taken, Stop>
-    ensures { OnOk result (step_ends fault ≡ false) }
+    ensures refused { result ≡ refused fault }
+    ensures goes_on { OnOk result (step_ends fault ≡ false) }
 {
     match fault {
         StepFault::Full | StepFault::Memory => Ok(Taken::Refused),

@@ -25,7 +25,7 @@ pub enum Sending {
 
 impl Sending {
     pub fn of(packets: Packets, round: Round, outputs: &[Output]) -> Sending
-        ensures { IsSending packets round result }
+        ensures { IsSending packets round outputs.now result }
     {
         match packets {
             Packets::All => Sending::All,

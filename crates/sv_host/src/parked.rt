@@ -1,7 +1,7 @@
 //! Clients whose requests wait for their sessions.
 
-ghost use Rattle.std.specs.Prelude.{◌≡◌, ◌++◌, [], ◌∷◌, ◌<◌, IsTrue, IsFalse, IfSome, length, position};
-ghost use Rattle.sv_host.specs.Parked.{clients_of, is_under, place_under, without};
+ghost use Rattle.std.specs.Prelude.{◌≡◌, ◌++◌, [], ◌∷◌, ◌<◌, ◌||◌, false, not, IsTrue, IsFalse, IfSome, length, position};
+ghost use Rattle.sv_host.specs.Parked.{clients_of, is_under, loses_one, may_wait, place_under, without, IsFull};
 
 use std::alloc::{AllocFailed, Global};
 
@@ -39,7 +39,8 @@ fn position(clients: &[ParkedClient], token: u64) -> Option<usize>
 
 impl ParkedClients {
     pub fn new(alloc: Global) -> ParkedClients
-        ensures { clients_of result ≡ [] }
+        ensures clients { clients_of result ≡ [] }
+        ensures lost { loses_one result ≡ false }
     {
         ParkedClients {
             clients: Vec::new(alloc),
@@ -52,6 +53,8 @@ impl ParkedClients {
     pub fn add(&mut self, client: ParkedClient) -> bool
         ensures kept { IsTrue result → clients_of self.new ≡ clients_of self.old ++ client ∷ [] }
         ensures refused { IsFalse result → clients_of self.new ≡ clients_of self.old }
+        ensures full { IsFalse result → IsFull self.old }
+        ensures lost { loses_one self.new ≡ (loses_one self.old || not result) }
     {
         let kept: Result<(), AllocFailed<ParkedClient>> = self.clients.push(client);
         let is_kept = kept.is_ok();
@@ -62,12 +65,16 @@ impl ParkedClients {
     }
 
     /// How many clients wait.
-    pub fn len(&self) -> usize {
+    pub fn len(&self) -> usize
+        ensures { result ≡ length (clients_of self.now) }
+    {
         self.clients.len()
     }
 
     /// A request may be waiting at the node.
-    pub fn may_wait(&self) -> bool {
+    pub fn may_wait(&self) -> bool
+        ensures { result ≡ may_wait self.now }
+    {
         self.has_lost || !self.clients.is_empty()
     }
 
@@ -75,6 +82,7 @@ impl ParkedClients {
     pub fn take(&mut self, token: u64) -> Option<usize>
         ensures place { result ≡ place_under token (clients_of self.old) }
         ensures others { clients_of self.new ≡ without token (clients_of self.old) }
+        ensures lost { loses_one self.new ≡ loses_one self.old }
     {
         let at = position(self.clients.as_slice(), token)?;
         Some(self.clients.swap_remove(at).place)

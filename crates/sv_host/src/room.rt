@@ -1,9 +1,10 @@
 //! Room for requests that wait, by the home of the session that each of them waits for.
 
-ghost use Rattle.std.specs.Prelude.{◌≡◌, ◌+◌, cond, slice_set, IsTrue};
+ghost use Rattle.std.specs.Prelude.{◌≡◌, ◌≤◌, ◌<◌, ◌+◌, cond, length, slice_set, IsTrue};
 ghost use Rattle.sv_core.specs.Waiting.{awaited};
-ghost use Rattle.sv_node.specs.Node.{durable_of, engine_of, setting_of};
-ghost use Rattle.sv_host.specs.Room.{count_in, has_room, may_come};
+ghost use Rattle.sv_node.specs.Node.{durable_of, engine_of, setting_of, state_of};
+ghost use Rattle.sv_host.specs.Parked.{clients_of};
+ghost use Rattle.sv_host.specs.Room.{awaited_by, count_in, counted, has_room, left_of, may_come, room_behind, room_of, KeepsOne};
 ghost use Rattle.sv_host.specs.Group.{inputs_of, IsRising};
 ghost use Rattle.sv_host.specs.Serving.{HasGathered};
 
@@ -28,7 +29,9 @@ pub struct Room {
 
 impl Room {
     /// The requests that wait at a node.
-    pub fn of(parked: &[Parked]) -> Room {
+    pub fn of(parked: &[Parked]) -> Room
+        ensures { result ≡ room_of parked.now }
+    {
         let mut room = Room { counts: [0; NODES] };
         for one in parked {
             room.take(one.key.home);
@@ -39,6 +42,7 @@ impl Room {
     /// Counts one more that waits for a session of this home, where it may; whether it may.
     pub fn take(&mut self, home: u8) -> bool
         ensures taken { result ≡ has_room self.old home }
+        ensures room { self.new ≡ counted self.old home }
         ensures counted { self.new.counts ≡ cond result (slice_set self.old.counts home (count_in self.old home + 1)) self.old.counts }
     {
         let at = usize::from(home);
@@ -53,7 +57,9 @@ impl Room {
 impl Server {
     /// Whether a request of a group may be given to the node: it wouldn't wait, or the home of its session has places left.
     fn may_come<E: Engine, D: Disk>(node: &Node<E, D>, room: &mut Room, request: &Request) -> bool
-        ensures { result ≡ may_come room.old (awaited (setting_of node.now) (durable_of node.now) ((E.meaning (engine_of node.now)).names request.now)) }
+        ensures may { result ≡ may_come room.old (awaited (setting_of node.now) (durable_of node.now) ((E.meaning (engine_of node.now)).names request.now)) }
+        ensures room { room.new
+            ≡ room_behind room.old (awaited (setting_of node.now) (durable_of node.now) ((E.meaning (engine_of node.now)).names request.now)) }
     {
         match node.awaited(request) {
             Some(key) => room.take(key.home),
@@ -72,6 +78,8 @@ impl Server {
         requires { IsRising group.old }
         ensures gathered { HasGathered group.old group.new }
         ensures stays { IsTrue result → inputs_of group.new ≡ inputs_of group.old }
+        ensures kept { KeepsOne (awaited_by (E.meaning (engine_of node.now)) (setting_of node.now) (durable_of node.now)) at room.old group.old room.new
+            group.new result }
     {
         let Some((token, request)) = group.request(at) else {
             return true;
@@ -87,14 +95,18 @@ impl Server {
     /// Refuses those requests of a group that would wait for sessions of a home for which as many wait as may.
     pub fn keep_shares<E: Engine, D: Disk>(&mut self, node: &Node<E, D>, group: &mut Group)
         requires { IsRising group.old }
-        ensures { HasGathered group.old group.new }
+        ensures gathered { HasGathered group.old group.new }
+        ensures few { length (clients_of self.old.parked) ≤ HOME_LIMIT → inputs_of group.new ≡ inputs_of group.old }
+        ensures kept { HOME_LIMIT < length (clients_of self.old.parked) → inputs_of group.new
+            ≡ left_of (awaited_by (E.meaning (engine_of node.now)) (setting_of node.now) (durable_of node.now)) (room_of (state_of node.now).parked)
+            (inputs_of group.old) }
     {
         if self.parked.len() <= HOME_LIMIT {
             return;
         }
         let mut room = Room::of(node.parked());
         let mut at: usize = 0;
-        for _ in 0..group.len() {
+        for _done in 0..group.len() {
             if self.keep_one(node, &mut room, group, at) {
                 at = at.saturating_add(1);
             }

@@ -3,7 +3,7 @@
 //! A tick puts out again all that may have been lost: the wants of each request that waits, and each session that is on its way. Where
 //! a node is down or slow these can be thousands, each of them a connection, so only some are sent each second, in turn.
 
-ghost use Rattle.std.specs.Prelude.{◌≡◌, ◌≤◌, ◌+◌, true, false, IsTrue, IsFalse, [], ◌∷◌, length};
+ghost use Rattle.std.specs.Prelude.{◌≡◌, ◌≤◌, ◌+◌, ◌-◌, ◌^◌, true, false, min, IsTrue, IsFalse, [], ◌∷◌, length};
 ghost use Rattle.sv_model.specs.Outputs.{packet_in, sends_in};
 
 use sv_model::{Output, Packet};
@@ -80,7 +80,7 @@ pub struct Share {
 }
 
 impl Round {
-    ghost use Rattle.sv_host.specs.Round.{is_next};
+    ghost use Rattle.sv_host.specs.Round.{behind_in, front_in, is_next, IsShareOf};
 
     /// None was sent so far.
     pub const START: Round = Round { last: None };
@@ -96,7 +96,10 @@ impl Round {
     }
 
     /// How many packets come behind the last one, and how many don't.
-    fn count(self, outputs: &[Output]) -> (usize, usize) {
+    fn count(self, outputs: &[Output]) -> (usize, usize)
+        ensures behind { result.0 ≡ min (behind_in self.last outputs.now) (2 ^ 64 - 1) }
+        ensures front { result.1 ≡ min (front_in self.last outputs.now) (2 ^ 64 - 1) }
+    {
         let mut behind: usize = 0;
         let mut front: usize = 0;
         for output in outputs {
@@ -113,8 +116,7 @@ impl Round {
 
     /// The share of a tick that puts out these.
     pub fn share(self, outputs: &[Output]) -> Share
-        ensures before { result.before ≡ self }
-        ensures last { result.last ≡ self.last }
+        ensures { IsShareOf self outputs.now result }
     {
         let (behind, front) = self.count(outputs);
         let behind = at_most(behind, ROUND_LIMIT);
@@ -130,7 +132,8 @@ impl Round {
 }
 
 fn at_most(count: usize, limit: usize) -> usize
-    ensures { result ≤ limit }
+    ensures least { result ≡ min count limit }
+    ensures within { result ≤ limit }
 {
     if count < limit { count } else { limit }
 }

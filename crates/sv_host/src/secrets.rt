@@ -1,7 +1,9 @@
 //! The secrets under which sessions are made.
 
-ghost use Rattle.std.specs.Prelude.{◌≡◌, IfOk};
+ghost use Rattle.std.specs.Prelude.{◌≡◌, IfOk, IfErr};
 ghost use Rattle.sv_host.specs.Secrets.{secret_of, first_by, last_in, last_of, Draws};
+ghost use Rattle.sv_host.specs.declared.fault.HostFault.TheVariants.{Secrets as SecretsFault};
+ghost use Rattle.sv_host.specs.declared.fault.Stop.TheVariants.{Fault};
 
 use crate::fault::{HostFault, Stop};
 use std::fs::File;
@@ -40,7 +42,9 @@ pub fn secret_of(number: u64) -> Secret
 }
 
 /// The next 16 bytes of a file.
-fn read_secret(file: &mut File) -> Result<Secret, Stop> {
+fn read_secret(file: &mut File) -> Result<Secret, Stop>
+    ensures { IfErr result (λ stop. stop ≡ Fault SecretsFault) }
+{
     let mut bytes = [0u8; 16];
     match file.read_exact(&mut bytes) {
         Ok(()) => Ok(Secret(bytes)),

@@ -1,8 +1,9 @@
 //! What comes on one connection.
 
-ghost use Rattle.std.specs.Prelude.{IfOk, IfSome, ℕ, ◌<◌};
+ghost use Rattle.std.specs.Prelude.{IfOk, IfErr, IfSome, ℕ, ◌<◌};
 ghost use Rattle.sv_host.specs.Group.{Comes};
 ghost use Rattle.sv_host.specs.Serve.{Brings};
+ghost use Rattle.sv_host.specs.Stops.{IsTold};
 
 use crate::fault::Stop;
 use crate::group::Came;
@@ -40,7 +41,8 @@ fn take(
     piece: &[u8],
     token: u64,
 ) -> Result<Progress, Stop>
-    ensures { IfOk result (λ progress. Brings token progress) }
+    ensures brings { IfOk result (λ progress. Brings token progress) }
+    ensures told { IfErr result (IsTold server.new) }
 {
     let (socket, state, since) = server.connections.begun(open, piece);
     let from = Lifted { place, socket };
@@ -106,7 +108,8 @@ fn listen_once(
     piece: &mut [u8; PIECE],
     token: u64,
 ) -> Result<Progress, Stop>
-    ensures { IfOk result (λ progress. Brings token progress) }
+    ensures brings { IfOk result (λ progress. Brings token progress) }
+    ensures told { IfErr result (IsTold server.new) }
 {
     let mut open = open;
     match look(&mut open.socket, piece) {
@@ -126,7 +129,8 @@ fn go_on_with(
     piece: &mut [u8; PIECE],
     token: u64,
 ) -> Result<Progress, Stop>
-    ensures { IfOk result (λ progress. Brings token progress) }
+    ensures brings { IfOk result (λ progress. Brings token progress) }
+    ensures told { IfErr result (IsTold server.new) }
 {
     match open.state.turn() {
         Turn::Serve => take(server, place, open, &[], token),
@@ -146,7 +150,8 @@ pub fn serve(
     piece: &mut [u8; PIECE],
     token: u64,
 ) -> Result<Option<Came>, Stop>
-    ensures { IfOk result (λ came. IfSome came (λ came. Comes token came)) }
+    ensures comes { IfOk result (λ came. IfSome came (λ came. Comes token came)) }
+    ensures told { IfErr result (IsTold server.new) }
 {
     for _ in 0..PIECES {
         let Some(open) = server.connections.take(place) else {
@@ -170,7 +175,8 @@ pub fn serve_newcomer(
     piece: &mut [u8; PIECE],
     token: u64,
 ) -> Result<Option<Came>, Stop>
-    ensures { IfOk result (λ came. IfSome came (λ came. Comes token came)) }
+    ensures comes { IfOk result (λ came. IfSome came (λ came. Comes token came)) }
+    ensures told { IfErr result (IsTold server.new) }
 {
     match listen_once(server, place, open, piece, token)? {
         Progress::More => serve(server, place, piece, token),

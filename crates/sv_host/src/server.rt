@@ -40,6 +40,8 @@ pub struct Server {
     pub round: Round,
     /// The length of the journal behind its last compaction; 0 before the first.
     pub compacted: u64,
+    /// A command has told it to stop.
+    pub was_told: bool,
     pub alloc: Global,
 }
 
@@ -58,6 +60,7 @@ impl Drop for Server {
             expiry: _,
             round: _,
             compacted: _,
+            was_told: _,
             alloc: _,
         } = self;
     }

@@ -1,4 +1,5 @@
 use Rattle.sv_host.proofs.LifeLemmas.{compaction_done, compaction_refused}
+use Rattle.sv_host.proofs.StopLemmas.{compaction_stops}
 use Rattle.sv_host.proofs.compaction.compact.Goals as goal
 
 pub returns-in-Ok-clause-gone : goal.returns-in-Ok-clause-gone
@@ -12,4 +13,11 @@ returns-in-Err-clause-gone g c = λ low.
     let e = g.E.Engine in
     let d = g.D.Disk in
     compaction_refused e.meaning e.heard d.tells d.seen d.may_leave d.moment d.left_since d.failed low c.args.node.now c.compact.new.self c.requires.live c.in-Err.fault c.not_compacted.result
-    c.in-Err.ensures.compaction c.not_compacted.ensures
+    c.in-Err.ensures.compaction c.not_compacted.ensures.goes_on
+
+pub returns-in-Err-clause-stops : goal.returns-in-Err-clause-stops
+returns-in-Err-clause-stops g c =
+    let e = g.E.Engine in
+    let d = g.D.Disk in
+    compaction_stops e.meaning e.heard d.tells d.seen d.may_leave d.moment d.left_since d.failed c.args.node.now c.compact.new.self c.requires.live c.in-Err.fault c.not_compacted.result
+    c.in-Err.ensures.compaction c.not_compacted.ensures.stops

@@ -5,4 +5,4 @@ pub compact_in_turn-requires : goal.compact_in_turn-requires
 compact_in_turn-requires g c = serves_on c.in_ok-settle.was c.settle.ensures
 
 pub returns : goal.returns
-returns g c = served_then c.in_ok-settle.was c.settle.ensures c.compact_in_turn.ensures
+returns g c = served_then c.in_ok-settle.was c.settle.ensures c.compact_in_turn.ensures.served

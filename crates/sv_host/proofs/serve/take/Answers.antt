@@ -1,4 +1,4 @@
 use Rattle.sv_host.proofs.serve.take.Goals as goal
 
-pub returns-in-Ok : goal.returns-in-Ok
-returns-in-Ok c = c.progress_of-in-Ok.ensures c.args.token (c.in-Ok.ensures c.args.token)
+pub returns-in-Ok-clause-brings : goal.returns-in-Ok-clause-brings
+returns-in-Ok-clause-brings c = c.progress_of-in-Ok.ensures c.args.token (c.in-Ok.ensures.comes c.args.token)

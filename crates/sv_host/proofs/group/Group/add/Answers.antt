@@ -14,10 +14,10 @@ returns-clause-rising c =
     let old = c.args.self.now in
     let is = old.inputs.items in
     let i : Moment × Input = (c.args.moment, c.args.input) in
-    let items : c.push_reserved.new.self.items ≡ is ++ i ∷ [] = c.push_reserved.ensures.items ∙ ap (λ (xs : List (Moment × Input)). xs ++ i ∷ []) c.reserve.ensures.same in
+    let items : c.push_reserved.new.self.items ≡ is ++ i ∷ [] = c.push_reserved.ensures.items ∙ ap (λ (xs : List (Moment × Input)). xs ++ i ∷ []) c.reserve.ensures.same.inputs in
     let before = c.reserve.ensures.before in
     let last : numbers_in old.before (all_given is) ≤ old.number = c.requires.rising.number in
-    let number_is : number_in old.number c.args.input ≡ c.number_with-self.result = ap (λ (n : ℕ). number_in n c.args.input) (sym c.reserve.ensures.number) ∙ sym c.number_with-self.ensures in
+    let number_is : number_in old.number c.args.input ≡ c.number_with-self.result = ap (λ (n : ℕ). number_in n c.args.input) (sym c.reserve.ensures.same.number) ∙ sym c.number_with-self.ensures in
     record {
       within = subst (λ (xs : List (Moment × Input)). AllByRecursion (λ x. IsInput x.1) xs) (sym items) (all_within is i c.requires.rising.within c.requires.input);
       rises = subst (λ (xs : List (Moment × Input)). RiseIn c.reserve.new.self.before (all_given xs)) (sym items)

@@ -8,11 +8,11 @@ use Rattle.sv_node.specs.History.{RiseIn, numbers_in}
 use Rattle.sv_host.proofs.GroupLemmas.{within_less, rises_less, number_less}
 use Rattle.sv_host.proofs.group.Group.leave_out.Goals as goal
 
-pub returns-then-at-len-2-clause-rising : goal.returns-then-at-len-2-clause-rising
-returns-then-at-len-2-clause-rising c =
+pub returns-clause-rising : goal.returns-clause-rising
+returns-clause-rising c =
     let old = c.args.self.now in
     let is = old.inputs.items in
-    let items = sym c.remove.ensures.items in
+    let items = sym c.cut_out.ensures in
     let less = number_less old.before is c.args.at c.requires.rising.rises in
     record {
       within = subst (λ (xs : List (Moment × Input)). AllByRecursion (λ x. IsInput x.1) xs) items (within_less is c.args.at c.requires.rising.within);

@@ -30,5 +30,5 @@ returns g c =
       gone = group_served e.meaning e.heard d.tells d.seen d.may_leave d.moment d.left_since d.failed c.args.group.now.before c.args.node.now c.step_all-answers.new.self c.requires.live c.take-inputs.new.self.before c.take-inputs.result.0.items
           (subst (λ (xs : List (Moment × Input)). RiseIn c.args.group.now.before (all_given xs)) (sym t.inputs) rising.rises)
           (subst (λ (n : ℕ). n ≤ c.take-inputs.new.self.before) (ap (λ (xs : List (Moment × Input)). numbers_in c.args.group.now.before (all_given xs)) (sym t.inputs)) (subst (λ (n : ℕ). numbers_in c.args.group.now.before (all_given c.args.group.now.inputs.items) ≤ n) (sym t.before) rising.number))
-          c.step_all-answers.result c.hand_out.result c.step_all-answers.ensures.group c.hand_out.ensures;
+          c.step_all-answers.result c.hand_out.result c.step_all-answers.ensures.group c.hand_out.ensures.goes_on;
     }

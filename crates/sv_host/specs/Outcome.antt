@@ -1,0 +1,55 @@
+-- What comes of a step, and what is answered for it.
+use Rattle.std.specs.Prelude.{ℕ, List, [], ◌∷◌, Result, Ok, Err}
+use Rattle.sv_model.specs.declared.output.Cause.{Cause}
+use Rattle.sv_model.specs.declared.output.Cause.TheVariants as cause
+use Rattle.sv_model.specs.declared.output.MoveRefusal.{MoveRefusal}
+use Rattle.sv_model.specs.declared.output.MoveRefusal.TheVariants.{UnknownKey, NotActive, BadPeer, EpochsSpent}
+use Rattle.sv_model.specs.declared.output.Output.{Output}
+use Rattle.sv_model.specs.declared.output.Output.TheVariants as output
+use Rattle.sv_model.specs.declared.site.StepFault.{StepFault}
+use Rattle.sv_model.specs.declared.site.StepFault.TheVariants as step
+use Rattle.sv_host.specs.declared.fault.HostFault.TheVariants as host
+use Rattle.sv_host.specs.declared.fault.Stop.{Stop}
+use Rattle.sv_host.specs.declared.fault.Stop.TheVariants.{Fault}
+use Rattle.sv_host.specs.declared.outcome.Taken.{Taken}
+use Rattle.sv_host.specs.declared.outcome.Taken.TheVariants.{Quiet, Busy, MoveRefused, Refused}
+
+-- of one output alone
+abbrev pub alone : Output → Taken
+alone (output.Answer token response) = Busy
+alone (output.Refuse token cause) = Busy
+alone (output.Send packet) = Busy
+alone output.Moved = Busy
+alone (output.MoveRefused why) = MoveRefused why
+
+abbrev pub sum_up : List Output → Taken
+sum_up [] = Quiet
+sum_up (o ∷ []) = alone o
+sum_up (o ∷ p ∷ os) = Busy
+
+-- the bytes that answer a command
+abbrev pub refusal_byte : MoveRefusal → ℕ
+refusal_byte UnknownKey = 1
+refusal_byte NotActive = 2
+refusal_byte BadPeer = 3
+refusal_byte EpochsSpent = 4
+
+abbrev pub answer_byte : Taken → ℕ
+answer_byte Quiet = 0
+answer_byte Busy = 0
+answer_byte (MoveRefused why) = refusal_byte why
+answer_byte Refused = 5
+
+-- why a request is refused whose step was
+abbrev pub cause_of : StepFault → Cause
+cause_of step.Failed = cause.Memory
+cause_of step.Full = cause.JournalFull
+cause_of step.Device = cause.Memory
+cause_of step.Memory = cause.Memory
+
+-- a node goes on behind a step that was refused, unless its disk has failed
+abbrev pub refused : StepFault → Result Taken Stop
+refused step.Failed = Err (Fault host.Device)
+refused step.Full = Ok Refused
+refused step.Device = Err (Fault host.Device)
+refused step.Memory = Ok Refused
