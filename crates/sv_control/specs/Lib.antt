@@ -1,7 +1,6 @@
 pub mod Kept
 pub mod Lines
 pub mod Losing
-pub mod Moving
 pub mod Naming
 pub mod Places
 pub mod Records

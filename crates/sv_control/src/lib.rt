@@ -3,10 +3,9 @@
 //!
 //! Under the program `kegctl`, a `main` over it, which has the files and the sockets. [`entries_of`] reads a journal from images of
 //! its two files, in memory, so that nothing is ever written; [`replay`] gives what its records give. [`session_line`] is
-//! what is shown of a session and [`ShownRecord`] of a record, and [`places_of`] says where each record stands; [`active_keys`] says
-//! which sessions are at a node, [`left_in`] how many are left of a drain, [`Room`] how full the node's table of keys is, and
-//! [`KeysLine`] of what; [`look_at`] tells of a descriptor, and [`losses`] of one that takes the place of another; [`is_anothers`] and
-//! [`is_own`] say whose journal a record can be in.
+//! what is shown of a session and [`ShownRecord`] of a record, and [`places_of`] says where each record stands; [`Room`] says how full
+//! the node's table of keys is, and [`KeysLine`] of what; [`look_at`] tells of a descriptor, and [`losses`] of one that takes the place
+//! of another; [`is_anothers`] and [`is_own`] say whose journal a record can be in.
 #![tactic(auto)]
 
 mod descriptor;
@@ -15,7 +14,6 @@ mod kept;
 pub mod laws;
 mod lines;
 mod losing;
-mod moving;
 mod naming;
 mod places;
 mod records;
@@ -27,7 +25,6 @@ pub use images::{FoundFault, entries_of};
 pub use kept::{Replayed, records_of, replay};
 pub use lines::{AttributeLine, SessionLine, SessionPlace, SessionTimes, Shown, session_line};
 pub use losing::{Moved, losses, moved_contexts};
-pub use moving::{Left, active_keys, left_in};
 pub use naming::{ShownKey, key_text, shown_key};
 pub use places::{RecordPlace, places_of};
 pub use records::ShownRecord;

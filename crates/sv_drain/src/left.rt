@@ -1,7 +1,7 @@
 //! What is left of a drain, by a snapshot of what the node keeps.
 
 ghost use Rattle.std.specs.Prelude.{◌≡◌, ◌↔◌, ◌++◌, IfOk, OnOk, IsTrue};
-ghost use Rattle.sv_control.specs.Moving.{active_at, active_in, sent_at, sent_in, left_of};
+ghost use Rattle.sv_drain.specs.Left.{active_at, active_in, sent_at, sent_in, left_of};
 
 use std::alloc::{AllocError, Global};
 use sv_model::{Key, KeyState, Record};
@@ -20,7 +20,7 @@ fn add_active(keys: &mut Vec<Key>, entry: &Record) -> Result<(), AllocError>
 }
 
 /// The keys of the sessions that are active by a snapshot, in its order: a drain that leaves any of them isn't done.
-pub fn active_keys(alloc: Global, kept: &[Record]) -> Result<Vec<Key>, AllocError>
+fn active_keys(alloc: Global, kept: &[Record]) -> Result<Vec<Key>, AllocError>
     ensures { IfOk result (λ keys. keys.items ≡ active_in kept.now) }
 {
     let mut keys = Vec::new(alloc);
