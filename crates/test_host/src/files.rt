@@ -1,7 +1,7 @@
 //! Files of a test's own.
 
 use std::test::Fail;
-use std::{env, process};
+use std::{env, fs, process};
 
 /// The path of a file of this test's process alone, which is left where temporary files go.
 pub fn own_path(rt: &HostRuntime, name: &str) -> Result<String, Fail> {
@@ -9,4 +9,11 @@ pub fn own_path(rt: &HostRuntime, name: &str) -> Result<String, Fail> {
     let folder = folder.as_path();
     let id = process::id(rt.process());
     Ok(format!(in rt.alloc(); "{}/sv_host-{id}-{name}", folder.to_string_lossy())?)
+}
+
+/// Such a path where no file stands.
+pub fn new_path(rt: &HostRuntime, name: &str) -> Result<String, Fail> {
+    let path = own_path(rt, name)?;
+    let _ = fs::remove_file(rt, &path);
+    Ok(path)
 }

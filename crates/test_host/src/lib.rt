@@ -1,8 +1,10 @@
-//! Tests of a node on its machine, as a program calls it: over real sockets, from its start to its end.
+//! Tests of a node on its machine, as a program calls it: over real sockets, from its start to its end; of what it tells its operator;
+//! and of a program's words, its descriptors, and streams of requests that its own objects serve.
 //!
-//! A node serves its callers in the order in which they connect, and a caller who has connected waits to be served. So a test
-//! needs one thread: each caller connects and says all that it will say, the last one that the node is to stop; then the
-//! node runs; and then each caller reads what it was told. Frames are spelled byte by byte.
+//! It stands on `sv_host` and `sv_launch`, and proves nothing of its own. A node serves its callers in the order in which they connect,
+//! and a caller who has connected waits to be served. So a test needs one thread: each caller connects and says all that it will
+//! say, the last one that the node is to stop; then the node runs; and then each caller reads what it was told. Frames are spelled
+//! byte by byte.
 #![tactic(auto)]
 
 #[cfg(test)]
@@ -16,7 +18,11 @@ mod files;
 #[cfg(test)]
 mod kept;
 #[cfg(test)]
+mod launch;
+#[cfg(test)]
 mod lives;
+#[cfg(test)]
+mod log;
 #[cfg(test)]
 mod peers;
 #[cfg(test)]

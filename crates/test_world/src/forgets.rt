@@ -1,11 +1,13 @@
 //! A node that forgets its own keys that have ended there.
 
-use crate::alone::{Given, Row, counted, expect, expect_of, first, is_refused, recovered, setting};
+use crate::alone::{
+    Given, Row, counted, expect, expect_of, first, is_refused, key, recovered, setting,
+};
 use std::alloc::Global;
 use std::process::Abort;
 use std::test::Fail;
 use sv_core::Core;
-use sv_model::Record;
+use sv_model::{Change, Record};
 use test_engine::Counter;
 
 /// What is known of a key that was forgotten.
@@ -131,6 +133,60 @@ fn only_own_keys_that_ended_here_are_forgotten(rt: HostRuntime) -> Result<(), Fa
     assert_eq!(&rt; left.len(), 3);
     let left = expect_of(&rt, alloc, set, &left, &BACK_AT_HOME)?;
     assert_eq!(&rt; left.len(), 2);
+    Ok(())
+}
+
+/// A request that made a session of key 1 and ended it.
+fn ended_at_birth() -> Record {
+    Record::Commit {
+        named: Change::Absent,
+        born: Change::Ended(key((0, 1))),
+    }
+}
+
+/// Key 1 is over, and the next session has key 2.
+static SERIAL_IS_SPENT: [Row; 3] = [
+    (Given::Known((0, 1)), OVER),
+    MADE,
+    (Given::Known((0, 2)), "Active 1 count 1"),
+];
+
+/// Nothing is kept of a session that ended in the request that made it, and yet no other has its key.
+#[test]
+fn a_session_that_ends_at_birth_takes_its_serial(rt: HostRuntime) -> Result<(), Fail> {
+    let alloc = rt.alloc();
+    let records = [counted(1), ended_at_birth()];
+    let left = expect_of(&rt, alloc, setting(10, true), &records, &SERIAL_IS_SPENT)?;
+    assert_eq!(&rt; left.len(), 2);
+    Ok(())
+}
+
+/// The first of two keys ends, and two more are made.
+static EACH_HAS_A_PLACE: [Row; 10] = [
+    MADE,
+    MADE,
+    ENDED,
+    MADE,
+    MADE,
+    (Given::Known((0, 1)), OVER),
+    (Given::Again(0, 3), "+answer 2;"),
+    (Given::Known((0, 2)), "Active 1 count 1"),
+    (Given::Known((0, 3)), "Active 1 count 2"),
+    (Given::Known((0, 4)), "Active 1 count 1"),
+];
+
+/// The place in the table that a forgotten key leaves is given to one key, and not to the next one, too.
+#[test]
+fn a_place_is_given_to_one_key(rt: HostRuntime) -> Result<(), Fail> {
+    let alloc = rt.alloc();
+    let left = expect_of(
+        &rt,
+        alloc,
+        setting(10, true),
+        &[counted(1)],
+        &EACH_HAS_A_PLACE,
+    )?;
+    assert_eq!(&rt; left.len(), 4);
     Ok(())
 }
 

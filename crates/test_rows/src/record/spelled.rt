@@ -1,4 +1,4 @@
-//! Records and packets: what bytes say, and that it is spelled so.
+//! Records and packets: what bytes say, and that a copy of it is spelled so.
 
 use crate::digits::bytes_of_digits;
 use crate::fault::RowFault;
@@ -9,9 +9,25 @@ use std::alloc::{AllocError, Global};
 use sv_model::{Packet, Record};
 use sv_record::{RecordFault, read_packet, read_record, write_packet, write_record};
 
+/// The spelling of a copy of a record.
+fn copied_record(alloc: Global, record: &Record) -> Result<Vec<u8>, RecordFault> {
+    let copy = record.copy(alloc)?;
+    let mut spelled = Vec::new(alloc);
+    write_record(&copy, &mut spelled)?;
+    Ok(spelled)
+}
+
+/// The spelling of a copy of a packet.
+fn copied_packet(alloc: Global, packet: &Packet) -> Result<Vec<u8>, RecordFault> {
+    let copy = packet.copy(alloc)?;
+    let mut spelled = Vec::new(alloc);
+    write_packet(&copy, &mut spelled)?;
+    Ok(spelled)
+}
+
 /// What has a spelling in bytes.
 pub trait Spelled: Drop {
-    /// What is read of bytes, and its spelling.
+    /// What is read of bytes, and the spelling of its copy.
     fn again(alloc: Global, bytes: &[u8]) -> Result<(Self, Vec<u8>), RecordFault>;
 
     /// All that it says.
@@ -20,9 +36,8 @@ pub trait Spelled: Drop {
 
 impl Spelled for Record {
     fn again(alloc: Global, bytes: &[u8]) -> Result<(Record, Vec<u8>), RecordFault> {
-        let mut again = Vec::new(alloc);
         let record = read_record(alloc, bytes)?;
-        write_record(&record, &mut again)?;
+        let again = copied_record(alloc, &record)?;
         Ok((record, again))
     }
 
@@ -33,9 +48,8 @@ impl Spelled for Record {
 
 impl Spelled for Packet {
     fn again(alloc: Global, bytes: &[u8]) -> Result<(Packet, Vec<u8>), RecordFault> {
-        let mut again = Vec::new(alloc);
         let packet = read_packet(alloc, bytes)?;
-        write_packet(&packet, &mut again)?;
+        let again = copied_packet(alloc, &packet)?;
         Ok((packet, again))
     }
 

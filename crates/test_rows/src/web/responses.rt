@@ -37,7 +37,7 @@ fn written(alloc: Global, response: &Response, now: u64) -> Result<String, Alloc
     }
 }
 
-/// The response `Hello` of a status, to `HEAD` or another method, which `closes` or `stays`, at a moment in seconds
+/// A copy of the response `Hello` of a status, to `HEAD` or another method, which `closes` or `stays`, at a moment in seconds
 /// since 1970.
 pub fn response(alloc: Global, parts: &str) -> Result<String, RowFault> {
     let (code, rest) = first(parts);
@@ -48,5 +48,5 @@ pub fn response(alloc: Global, parts: &str) -> Result<String, RowFault> {
         return Err(RowFault::Part);
     };
     let response = hello(alloc, status, method == "HEAD", fate == "closes")?;
-    Ok(written(alloc, &response, now)?)
+    Ok(written(alloc, &response.copy(alloc)?, now)?)
 }

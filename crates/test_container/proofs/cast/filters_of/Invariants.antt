@@ -1,7 +1,0 @@
-use Rattle.sv_container.specs.Life.{AreNamedNew}
-use Rattle.test_container.specs.declared.noting.NotingFilter.{NotingFilter}
-use Rattle.test_container.proofs.cast.filters_of.Given as goal
-
--- the filters so far are as they were made
-abbrev pub invariant-loop-part : goal.invariant-loop-part
-invariant-loop-part l = AreNamedNew (λ (f : NotingFilter). f.phase) l.all.items

@@ -1,7 +1,0 @@
-use Rattle.sv_container.specs.Life.{AreNamedNew}
-use Rattle.test_container.specs.declared.noting.NotingServlet.{NotingServlet}
-use Rattle.test_container.proofs.cast.servlets_of.Given as goal
-
--- the servlets so far are as they were made
-abbrev pub invariant-loop-part : goal.invariant-loop-part
-invariant-loop-part l = AreNamedNew (λ (s : NotingServlet). s.phase) l.all.items

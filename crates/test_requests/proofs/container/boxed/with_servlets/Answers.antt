@@ -1,0 +1,19 @@
+use Rattle.std.proofs.Common.{◌≡◌, ◌∙◌, refl, inl}
+use Rattle.std.proofs.lemmas.List.Elements.{All-push}
+use denote.Param.Object.{Made, read_made}
+use Rattle.sv_servlet.specs.declared.servlet.Phase.{Phase}
+use Rattle.sv_servlet.specs.declared.servlet.Phase.TheVariants.{New}
+use Rattle.test_requests.proofs.container.boxed.with_servlets.OwnLists.{own-1}
+use Rattle.test_requests.proofs.container.boxed.with_servlets.Goals as goal
+
+-- a box of an object has the object's phase
+boxed : (at i : own-1.I) (y : (own-1.entry i).0.Denot) (x : (own-1.entry at).0.Denot) → Made (λ j. (own-1.entry j).0.coded.code) (own-1.entry at).0.coded.code at i y x
+    → (own-1.entry i).1.filter_phase y ≡ (own-1.entry at).1.filter_phase x
+boxed at i y x made = read_made own-1 (own-1.entry at) at refl Phase (λ e v. e.1.filter_phase v) i y x made
+
+pub loop-part-preserved : goal.loop-part-preserved
+loop-part-preserved g c =
+    let fresh : (own-1.entry c.into_dyn_box.result.vtable).1.filter_phase c.into_dyn_box.result.value ≡ New =
+    boxed (inl tt) c.into_dyn_box.result.vtable c.into_dyn_box.result.value c.in_ok-new.field-0.value c.into_dyn_box.ensures.1 ∙ (rw c.in_ok-new.ensures.ok c.in_ok-filter_of.ensures)
+    in
+    rw c.in_ok-push.ensures.items (All-push (λ n. (own-1.entry n.object.vtable).1.filter_phase n.object.value ≡ New) _ _ c.loop-part.invariant fresh)

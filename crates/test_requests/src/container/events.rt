@@ -1,0 +1,94 @@
+//! Which listeners hear an event, and in which order.
+
+use crate::container::cast::{expect_notes, new_diary};
+use crate::container::lives::started;
+use std::alloc::{AllocError, Global};
+use std::process::Abort;
+use std::test::Fail;
+use sv_model::{Engine, Event, Key, Secret, Sequence, Text, Told};
+
+const KEY: Key = Key { home: 0, serial: 1 };
+
+/// A context and an event, by their numbers, and what is noted.
+type Row = (u8, u8, &'static str);
+
+// What ends something is heard by the last declared first, all else by the first declared first; in its context alone.
+const ROWS: [Row; 14] = [
+    (0, 1, "l1.up l2.up "),
+    (0, 2, "l2.down l1.down "),
+    (0, 3, "l1.in l2.in "),
+    (0, 4, "l2.out l1.out "),
+    (0, 5, "l1.created l2.created "),
+    (0, 6, "l2.destroyed l1.destroyed "),
+    (0, 7, "l1.added l2.added "),
+    (0, 8, "l1.removed l2.removed "),
+    (0, 9, "l1.replaced l2.replaced "),
+    (0, 10, "l1.passivate l2.passivate "),
+    (0, 11, "l1.activate l2.activate "),
+    (0, 12, "l1.changed l2.changed "),
+    (1, 6, "l4.destroyed l3.destroyed "),
+    (2, 3, ""),
+];
+
+/// The event of a number, from 1 on in the order of the variants.
+fn event_of(alloc: Global, number: u8) -> Result<Event, AllocError> {
+    let name = Text::from_str(alloc, "a")?;
+    let old = Sequence::new(alloc);
+    Ok(match number {
+        1 => Event::ContextUp,
+        2 => Event::ContextDown,
+        3 => Event::RequestIn,
+        4 => Event::RequestOut,
+        5 => Event::Created(KEY),
+        6 => Event::Destroyed(KEY),
+        7 => Event::Added {
+            key: KEY,
+            name,
+            value: old,
+        },
+        8 => Event::Removed {
+            key: KEY,
+            name,
+            old,
+        },
+        9 => Event::Replaced {
+            key: KEY,
+            name,
+            old,
+        },
+        10 => Event::Passivate(KEY),
+        11 => Event::Activate(KEY),
+        _ => Event::IdChanged {
+            key: KEY,
+            old: Secret([7; 16]),
+        },
+    })
+}
+
+/// Tells an engine an event.
+fn tell<E: Engine>(engine: &mut E, told: Told)
+    requires { E.valid engine.old }
+    ensures { E.valid engine.new }
+{
+    engine.tell(&[told]);
+}
+
+fn expect_heard(rt: &(impl Abort + AllocGlobal), row: &Row) -> Result<(), Fail> {
+    let (context, number, want) = *row;
+    let diary = new_diary(rt.alloc())?;
+    let mut container = started(rt.alloc(), &diary, "")?;
+    if let Ok(mut notes) = diary.try_borrow_mut() {
+        notes.clear();
+    }
+    let event = event_of(rt.alloc(), number)?;
+    tell(&mut container, Told { context, event });
+    expect_notes(rt, &diary, want, want)
+}
+
+#[test]
+fn listeners_hear_in_order(rt: HostRuntime) -> Result<(), Fail> {
+    for row in ROWS {
+        expect_heard(&rt, &row)?;
+    }
+    Ok(())
+}

@@ -1,0 +1,4 @@
+pub mod Scripted
+pub mod Staged
+pub mod Status
+pub mod Echo

@@ -1,2 +1,0 @@
-pub mod Scripted
-pub mod Staged
