@@ -25,11 +25,16 @@ pub enum Given {
     /// What node 1 sends of a key.
     Want(KeyName),
     Grant(KeyName, u64),
+    /// One of a session that nothing has named for its time.
+    StaleGrant(KeyName, u64),
     Ack(KeyName, u64),
     /// The key is to go to node 1.
     Move(KeyName),
     /// A minute and a second have passed: each session's time is over.
     Later,
+    Tick,
+    /// Those who wait are looked at.
+    Poke,
     /// What is known of a key.
     Known(KeyName),
 }
@@ -85,11 +90,16 @@ pub fn is_refused(alloc: Global, setting: Setting, records: &[Record]) -> bool {
 }
 
 pub fn session(alloc: Global) -> Session {
+    session_of(alloc, NOW)
+}
+
+/// A session that was named last in this second.
+fn session_of(alloc: Global, last: u64) -> Session {
     Session {
         context: 0,
         secret: SECRET,
         created: 1,
-        last: NOW,
+        last,
         interval: 60,
         fresh: true,
         attributes: Attributes::new(alloc),
@@ -137,6 +147,17 @@ fn asked(request: Request) -> Input {
     Input::Ask { token: 1, request }
 }
 
+/// A session that node 1 hands over.
+fn grant(name: KeyName, epoch: u64, session: Session) -> Input {
+    Input::Packet(Packet::Grant {
+        from: 1,
+        to: 0,
+        key: key(name),
+        epoch,
+        session,
+    })
+}
+
 /// A packet of node 1 about a key, or an order to move it there.
 fn carried(alloc: Global, given: Given) -> Input {
     let (from, to) = (1, 0);
@@ -148,13 +169,8 @@ fn carried(alloc: Global, given: Given) -> Input {
             boot: 1,
             want: 1,
         }),
-        Given::Grant(name, epoch) => Input::Packet(Packet::Grant {
-            from,
-            to,
-            key: key(name),
-            epoch,
-            session: session(alloc),
-        }),
+        Given::Grant(name, epoch) => grant(name, epoch, session(alloc)),
+        Given::StaleGrant(name, epoch) => grant(name, epoch, session_of(alloc, NOW - 60)),
         Given::Ack(name, epoch) => Input::Packet(Packet::Ack {
             from,
             to,
@@ -174,6 +190,7 @@ fn input(alloc: Global, given: Given) -> Result<Input, AllocError> {
         Given::Hello => Ok(asked(hello(alloc)?)),
         Given::First => Ok(asked(request(alloc, &[])?)),
         Given::Again(home, serial) => Ok(asked(request(alloc, &[home, serial])?)),
+        Given::Poke => Ok(Input::Poke),
         _ => Ok(carried(alloc, given)),
     }
 }

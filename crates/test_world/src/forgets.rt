@@ -124,6 +124,34 @@ static BACK_AT_HOME: [Row; 4] = [
     (Given::Grant((0, 1), 3), "Ack 0 to 1 epoch 3;"),
 ];
 
+/// A request waits at home for a session that is away; the session comes back and ends, and the request is served without it, in
+/// a session of its own.
+static SERVED_WITHOUT: [Row; 8] = [
+    MADE,
+    (Given::Move((0, 1)), "+Grant 0 to 1 epoch 2;moved;"),
+    (Given::Ack((0, 1), 2), "+"),
+    (Given::Again(0, 1), "Want 0 to 1;Want 0 to 2;"),
+    (Given::StaleGrant((0, 1), 3), "+Ack 0 to 1 epoch 3;"),
+    (Given::Tick, "+"),
+    (Given::Known((0, 1)), OVER),
+    (Given::Poke, "+answer 1;"),
+];
+
+/// A request that waits for a session waits no longer once that is over.
+#[test]
+fn who_waits_for_a_session_that_is_over_is_served(rt: HostRuntime) -> Result<(), Fail> {
+    let alloc = rt.alloc();
+    let left = expect_of(
+        &rt,
+        alloc,
+        setting(10, true),
+        &[counted(1)],
+        &SERVED_WITHOUT,
+    )?;
+    assert_eq!(&rt; left.len(), 2);
+    Ok(())
+}
+
 /// The session of node 1 that has ended here stays in the table, and so does the own one that has gone away.
 #[test]
 fn only_own_keys_that_ended_here_are_forgotten(rt: HostRuntime) -> Result<(), Fail> {
