@@ -65,10 +65,18 @@ fn move_to<M: Machine>(
     }
 }
 
+/// The node that takes the next session, with its place in the list.
+fn next_taker(route: &Route) -> Option<(usize, NodeNumber)> {
+    let at = route.next % route.to.len().max(1);
+    match route.to.get(at) {
+        Some(to) => Some((at, *to)),
+        None => None,
+    }
+}
+
 /// Hands one session over to the next node; whether it was.
 fn move_one<M: Machine>(machine: &M, route: &mut Route, key: Key) -> Result<bool, Fault> {
-    let at = route.next % route.to.len().max(1);
-    let Some(to) = route.to.get(at).copied() else {
+    let Some((at, to)) = next_taker(route) else {
         return Ok(false);
     };
     let is_moved = move_to(machine, route.address(machine), key, to)?;
@@ -79,6 +87,26 @@ fn move_one<M: Machine>(machine: &M, route: &mut Route, key: Key) -> Result<bool
     Ok(is_moved)
 }
 
+/// The session of a record of a snapshot, if it is active.
+fn active(entry: &Record) -> Option<Moved> {
+    match entry {
+        Record::State {
+            key,
+            state: KeyState::Active { session, .. },
+        } => Some((*key, session.last)),
+        _ => None,
+    }
+}
+
+/// The same, if it wasn't called back.
+fn movable(route: &Route, entry: &Record) -> Option<Moved> {
+    let (key, last) = active(entry)?;
+    if route.is_called_back(key, last) {
+        return None;
+    }
+    Some((key, last))
+}
+
 /// Hands over the session of a record of a snapshot, if it is active and wasn't called back.
 fn move_at<M: Machine>(
     machine: &M,
@@ -86,18 +114,11 @@ fn move_at<M: Machine>(
     fresh: &mut Vec<Moved>,
     entry: &Record,
 ) -> Result<(), Fault> {
-    let Record::State {
-        key,
-        state: KeyState::Active { session, .. },
-    } = entry
-    else {
+    let Some(moved) = movable(route, entry) else {
         return Ok(());
     };
-    if route.is_called_back(*key, session.last) {
-        return Ok(());
-    }
-    if move_one(machine, route, *key)? {
-        fresh.push((*key, session.last))?;
+    if move_one(machine, route, moved.0)? {
+        fresh.push(moved)?;
     }
     Ok(())
 }
@@ -229,12 +250,18 @@ fn empty<M: Machine>(machine: &M, route: &mut Route, journal: &str) -> Result<Re
     Err(Fault::NotDone)
 }
 
+/// Says how many sessions went to a node.
+fn say_count<M: Machine>(machine: &M, to: NodeNumber, count: u64) -> Result<(), Fault> {
+    match println!(machine; "node {}: {count} sessions", to.value) {
+        Ok(()) => Ok(()),
+        Err(_) => Err(Fault::Output),
+    }
+}
+
 /// Says how many sessions went where.
 fn say_moved<M: Machine>(machine: &M, route: &Route) -> Result<(), Fault> {
     for (to, count) in route.to.iter().zip(&route.counts) {
-        if println!(machine; "node {}: {count} sessions", to.value).is_err() {
-            return Err(Fault::Output);
-        }
+        say_count(machine, *to, *count)?;
     }
     Ok(())
 }
@@ -250,6 +277,13 @@ fn say_left<M: Machine>(machine: &M, left: Left) -> Fault {
     }
 }
 
+/// Halts the node at a port.
+fn halt_at<M: Machine>(machine: &M, port: u16) -> Result<(), Fault> {
+    let patience = PATIENCE;
+    halt(machine, Address { port, patience })?;
+    Ok(())
+}
+
 /// Ends a drain by what the node keeps: says what is left by that, or halts the node if nothing is, and if that was asked for.
 fn end<M: Machine>(machine: &M, port: u16, kept: &[Record], halts: bool) -> Result<(), Fault>
     ensures done { OnOk result (left_of kept.now ≡ (0, 0)) }
@@ -259,8 +293,7 @@ fn end<M: Machine>(machine: &M, port: u16, kept: &[Record], halts: bool) -> Resu
         return Err(say_left(machine, left));
     }
     if halts {
-        let patience = PATIENCE;
-        halt(machine, Address { port, patience })?;
+        halt_at(machine, port)?;
     }
     Ok(())
 }
@@ -276,14 +309,21 @@ fn emptied<M: Machine>(machine: &M, route: &mut Route, journal: &str) -> Result<
     }
 }
 
-/// Takes a node out of use, and warns if its keys get scarce.
-pub fn take_out<M: Machine>(machine: &M, drain: Drain<'_>) -> Result<(), Fault> {
-    let mut route = route_of(machine, drain)?;
-    match emptied(machine, &mut route, drain.journal) {
+/// Moves what is active at a node, warns if its keys get scarce, and ends the drain.
+fn take_out_by<M: Machine>(machine: &M, route: &mut Route, drain: Drain<'_>) -> Result<(), Fault> {
+    match emptied(machine, route, drain.journal) {
         Ok(found) => {
             route.keys.warn(machine, &found.kept);
             end(machine, route.port, &found.kept, drain.halts)
         }
+        Err(fault) => Err(fault),
+    }
+}
+
+/// Takes a node out of use, and warns if its keys get scarce.
+pub fn take_out<M: Machine>(machine: &M, drain: Drain<'_>) -> Result<(), Fault> {
+    match route_of(machine, drain) {
+        Ok(mut route) => take_out_by(machine, &mut route, drain),
         Err(fault) => Err(fault),
     }
 }

@@ -26,30 +26,39 @@ fn choice<'a>(alloc: Global, id: &'a str, help: &'a str) -> Arg<'a> {
         .help(help)
 }
 
-fn check<'a>(alloc: Global) -> Result<Command<'a>, AllocError> {
-    let journal = Arg::new(alloc, "journal")
-        .long("journal")
-        .num_args(2)
-        .value_names(&["JOURNAL", "NODE"])
-        .help("says whether JOURNAL can be that of the node with this number, by its records");
-    let program = Arg::new(alloc, "program")
-        .long("program")
-        .value_name("PROGRAM")
-        .help(
-            "a node's program, such as kegbramble-node: is asked whether it has all that CONFIG names",
-        );
-    let against = Arg::new(alloc, "against")
+fn against<'a>(alloc: Global) -> Arg<'a> {
+    Arg::new(alloc, "against")
         .long("against")
         .value_name("OLD")
         .help(
             "the descriptor that the nodes had until now: says which of their sessions CONFIG would lose",
-        );
+        )
+}
+
+fn asked<'a>(alloc: Global) -> Arg<'a> {
+    Arg::new(alloc, "program")
+        .long("program")
+        .value_name("PROGRAM")
+        .help(
+            "a node's program, such as kegbramble-node: is asked whether it has all that CONFIG names",
+        )
+}
+
+fn looked_through<'a>(alloc: Global) -> Arg<'a> {
+    Arg::new(alloc, "journal")
+        .long("journal")
+        .num_args(2)
+        .value_names(&["JOURNAL", "NODE"])
+        .help("says whether JOURNAL can be that of the node with this number, by its records")
+}
+
+fn check<'a>(alloc: Global) -> Result<Command<'a>, AllocError> {
     Command::new(alloc, "check")
         .about("says what a descriptor has, or where it is at fault and what to write there")
         .arg(word(alloc, "CONFIG", "the descriptor of the nodes"))?
-        .arg(against)?
-        .arg(program)?
-        .arg(journal)
+        .arg(against(alloc))?
+        .arg(asked(alloc))?
+        .arg(looked_through(alloc))
 }
 
 /// A command that lists something of a journal.

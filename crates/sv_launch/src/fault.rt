@@ -6,86 +6,92 @@ ghost use Rattle.sv_launch.specs.declared.fault.Fault.TheVariants.{Memory};
 
 use crate::stream::OnceFault;
 use std::alloc::{AllocError, AllocFailed};
+use std::error::Error;
+use std::fmt;
 use sv_config::ConfigFault;
 use sv_container::StartFault;
 use sv_host::{HostFault, PlaceFault};
-use thiserror::Error;
 
 /// Why the program ends before its work is done. Its text is its name, which the program prints.
-#[derive(Clone, Copy, Debug, PartialEq, Eq, Error)]
+#[derive(Clone, Copy, Debug, PartialEq, Eq)]
 pub enum Fault {
     /// Status 2: the words are none that the program takes.
-    #[error("Arguments")]
     Arguments,
     /// Status 3: the CONFIG can't be read, or is no UTF-8 text.
-    #[error("Unreadable")]
     Unreadable,
     /// Status 3: the descriptor is no document of TOML 1.1.
-    #[error("NotToml")]
     NotToml,
     /// Status 3: a table of the descriptor lacks a field that it must have.
-    #[error("MissingField")]
     MissingField,
     /// Status 3: a field of the descriptor is of another kind than it must be.
-    #[error("WrongKind")]
     WrongKind,
     /// Status 3: the descriptor has a key, or refers to a name, that nothing declares.
-    #[error("UnknownName")]
     UnknownName,
     /// Status 3: a pattern, path or name of the descriptor is badly spelled.
-    #[error("BadPattern")]
     BadPattern,
     /// Status 3: something stands twice in the descriptor that may stand once.
-    #[error("Duplicate")]
     Duplicate,
     /// Status 3: a count or a number of the descriptor is outside its limits.
-    #[error("LimitExceeded")]
     LimitExceeded,
     /// Status 3: the descriptor names an object that the program hasn't got.
-    #[error("MissingObject")]
     MissingObject,
     /// Status 3: an object was made that the descriptor doesn't name.
-    #[error("ExtraObject")]
     ExtraObject,
     /// Status 3: the descriptor gives no ports to the nodes of a cluster.
-    #[error("Ports")]
     Ports,
     /// Status 4: a file of the journal failed.
-    #[error("Device")]
     Device,
     /// Status 4: the journal is none of a node's, or its starts are spent.
-    #[error("Damaged")]
     Damaged,
     /// Status 4: the journal has no room for the start.
-    #[error("Full")]
     Full,
     /// Status 4: memory was refused while the journal was opened.
-    #[error("Memory")]
     JournalMemory,
     /// Status 5: the file of secrets can't be opened, or has ended.
-    #[error("Secrets")]
     Secrets,
     /// Status 5: the node's port can't be listened at.
-    #[error("Socket")]
     Socket,
     /// Status 5: the log can't be opened.
-    #[error("Log")]
     Log,
     /// Status 5: the figures can't be written.
-    #[error("Metrics")]
     Metrics,
     /// Status 5: standard input can't be read.
-    #[error("Input")]
     Input,
     /// Status 5: standard output can't be written.
-    #[error("Output")]
     Output,
     /// Status 5: memory was refused before the first request.
-    #[error("Memory")]
     Memory,
 }
 
 impl Fault {
+    /// The name that the program prints.
+    fn name(self) -> &'static str {
+        match self {
+            Fault::Arguments => "Arguments",
+            Fault::Unreadable => "Unreadable",
+            Fault::NotToml => "NotToml",
+            Fault::MissingField => "MissingField",
+            Fault::WrongKind => "WrongKind",
+            Fault::UnknownName => "UnknownName",
+            Fault::BadPattern => "BadPattern",
+            Fault::Duplicate => "Duplicate",
+            Fault::LimitExceeded => "LimitExceeded",
+            Fault::MissingObject => "MissingObject",
+            Fault::ExtraObject => "ExtraObject",
+            Fault::Ports => "Ports",
+            Fault::Device => "Device",
+            Fault::Damaged => "Damaged",
+            Fault::Full => "Full",
+            Fault::Secrets => "Secrets",
+            Fault::Socket => "Socket",
+            Fault::Log => "Log",
+            Fault::Metrics => "Metrics",
+            Fault::Input => "Input",
+            Fault::Output => "Output",
+            Fault::JournalMemory | Fault::Memory => "Memory",
+        }
+    }
+
     /// The exit status.
     pub fn status(self) -> u8
         ensures { result ≡ status_of self }
@@ -104,6 +110,14 @@ impl Fault {
         }
     }
 }
+
+impl fmt::Display for Fault {
+    fn fmt<W: fmt::Write>(&self, f: &mut fmt::Formatter<W>) -> fmt::Result {
+        f.write_str(self.name())
+    }
+}
+
+impl Error for Fault {}
 
 impl From<AllocError> for Fault {
     ghost from_gives = { λ _ fault. fault ≡ Memory };

@@ -27,7 +27,7 @@ pub struct Row {
 }
 
 /// All rows: with the heading they have room on a screen of 24 lines.
-pub const ROWS: [Row; 22] = [
+pub static ROWS: [Row; 22] = [
     Row {
         title: "written",
         name: "time_seconds",
