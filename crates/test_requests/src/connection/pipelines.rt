@@ -2,61 +2,116 @@
 
 use std::alloc::{AllocError, Global};
 use std::test::Fail;
-use sv_message::RequestReader;
+use sv_message::{RawRequest, RequestReader};
 
-/// 200 requests with chunked bodies of 1,000 bytes, whose first bytes are the request's number.
+/// Adds ten chunks of 99 bytes.
+fn add_chunks(stream: &mut Vec<u8>) -> Result<(), AllocError> {
+    for _ in 0..10 {
+        stream.extend_from_slice(b"63\r\n")?;
+        stream.extend_from_slice(&[b'x'; 99])?;
+        stream.extend_from_slice(b"\r\n")?;
+    }
+    Ok(())
+}
+
+/// Adds a request with a chunked body of 1,000 bytes, whose first bytes are its number.
+fn add_request(stream: &mut Vec<u8>, number: &str) -> Result<(), AllocError> {
+    stream.extend_from_slice(
+        b"POST /p HTTP/1.1\r\nHost: h\r\nTransfer-Encoding: chunked\r\n\r\na\r\n",
+    )?;
+    stream.extend_from_slice(number.as_bytes())?;
+    stream.extend_from_slice(b"\r\n")?;
+    add_chunks(stream)?;
+    stream.extend_from_slice(b"0\r\nA: b\r\n\r\n")
+}
+
+/// The number of a request, of ten digits.
+fn number_text(alloc: Global, number: u32) -> Result<String, AllocError> {
+    format!(in alloc; "{number:010}")
+}
+
+/// 200 requests.
 fn pipeline(alloc: Global) -> Result<Vec<u8>, AllocError> {
     let mut stream = Vec::new(alloc);
     for number in 0..200 {
-        stream.extend_from_slice(
-            b"POST /p HTTP/1.1\r\nHost: h\r\nTransfer-Encoding: chunked\r\n\r\n",
-        )?;
-        stream.extend_from_slice(format!(in alloc; "a\r\n{number:010}\r\n")?.as_bytes())?;
-        for _ in 0..10 {
-            stream.extend_from_slice(b"63\r\n")?;
-            stream.extend_from_slice(&[b'x'; 99])?;
-            stream.extend_from_slice(b"\r\n")?;
-        }
-        stream.extend_from_slice(b"0\r\nA: b\r\n\r\n")?;
+        add_request(&mut stream, &number_text(alloc, number)?)?;
     }
     Ok(stream)
 }
 
-/// Adds the numbers of the requests that are there, each behind a check that the body is as long as it was sent.
-fn tell_numbers(told: &mut String, reader: &mut RequestReader) -> Result<(), Fail> {
+/// The numbers of the 200.
+fn all_numbers(alloc: Global) -> Result<String, AllocError> {
+    let mut all = String::new(alloc);
+    for number in 0..200 {
+        all.push_str(&number_text(alloc, number)?)?;
+    }
+    Ok(all)
+}
+
+/// The number of a request whose body is as long as it was sent.
+fn number_of(raw: &RawRequest) -> &str {
+    if raw.body.len() != 1_000 {
+        return "another length";
+    }
+    str::from_utf8(&raw.body.as_slice()[..10]).unwrap_or("no digits")
+}
+
+/// Adds the number of the next request, if it is there.
+fn tell_next(told: &mut String, reader: &mut RequestReader) -> Result<bool, Fail> {
+    match reader.next() {
+        Ok(Some(raw)) => {
+            told.push_str(number_of(&raw))?;
+            Ok(true)
+        }
+        Ok(None) => Ok(false),
+        Err(fault) => Err(fault.into()),
+    }
+}
+
+/// Adds the numbers of the requests that are there behind a piece.
+fn tell_piece(told: &mut String, reader: &mut RequestReader, piece: &[u8]) -> Result<(), Fail> {
+    reader.feed(piece)?;
     for _ in 0..201 {
-        match reader.next()? {
-            Some(raw) if raw.body.len() == 1_000 => {
-                told.push_str(str::from_utf8(&raw.body.as_slice()[..10])?)?;
-            }
-            Some(_) => told.push_str("another length")?,
-            None => break,
+        if !tell_next(told, reader)? {
+            break;
         }
     }
     Ok(())
 }
 
-/// The numbers of the requests of a stream in pieces of a size.
-fn numbers(alloc: Global, stream: &[u8], size: usize) -> Result<String, Fail> {
+fn tell_all(
+    told: &mut String,
+    reader: &mut RequestReader,
+    stream: &[u8],
+    size: usize,
+) -> Result<(), Fail> {
+    for piece in stream.chunks(size.max(1)) {
+        tell_piece(told, reader, piece)?;
+    }
+    Ok(())
+}
+
+/// Whether a stream in pieces of a size has requests of just these numbers.
+fn has_numbers(alloc: Global, stream: &[u8], want: &str, size: usize) -> Result<bool, Fail> {
     let mut told = String::new(alloc);
     let mut reader = RequestReader::new(alloc);
-    for piece in stream.chunks(size.max(1)) {
-        reader.feed(piece)?;
-        tell_numbers(&mut told, &mut reader)?;
+    match tell_all(&mut told, &mut reader, stream, size) {
+        Ok(()) => Ok(told.as_str() == want),
+        Err(fault) => Err(fault),
     }
-    Ok(told)
 }
+
+static SIZES: [usize; 4] = [1, 7, 4_096, 1_048_576];
 
 #[test]
 fn two_hundred_chunked_bodies(rt: HostRuntime) -> Result<(), Fail> {
     let stream = pipeline(rt.alloc())?;
-    let mut want = String::new(rt.alloc());
-    for number in 0..200 {
-        want.push_str(&format!(in rt.alloc(); "{number:010}")?)?;
-    }
-    for size in [1, 7, 4_096, 1_048_576] {
-        let told = numbers(rt.alloc(), &stream, size)?;
-        assert_eq!(rt; told.as_str(), want.as_str(), "pieces of {size}");
+    let want = all_numbers(rt.alloc())?;
+    for size in &SIZES {
+        assert!(rt;
+            has_numbers(rt.alloc(), &stream, &want, *size)?,
+            "pieces of {size}"
+        );
     }
     Ok(())
 }

@@ -5,15 +5,29 @@ use std::alloc::{AllocError, Global};
 use std::test::Fail;
 use sv_target::{Target, TargetFault};
 
-/// The path of a target and its query behind a space, or the fault.
-fn shown(alloc: Global, answer: Result<Target, TargetFault>) -> Result<String, AllocError> {
+/// The path of a target and its query behind a space.
+fn target_text(alloc: Global, target: &Target) -> Result<String, AllocError> {
+    match &target.query {
+        Some(query) => format!(in alloc; "{} {}", target.path.as_str(), query.as_str()),
+        None => String::from_str(alloc, target.path.as_str()),
+    }
+}
+
+/// A target as a text, or the fault.
+fn shown(alloc: Global, answer: &Result<Target, TargetFault>) -> Result<String, AllocError> {
     match answer {
-        Ok(target) => match &target.query {
-            Some(query) => format!(in alloc; "{} {}", target.path.as_str(), query.as_str()),
-            None => format!(in alloc; "{}", target.path.as_str()),
-        },
+        Ok(target) => target_text(alloc, target),
         Err(fault) => format!(in alloc; "{fault:?}"),
     }
+}
+
+/// Whether a target or its fault has this text.
+fn is_shown(
+    alloc: Global,
+    answer: &Result<Target, TargetFault>,
+    want: &str,
+) -> Result<bool, AllocError> {
+    Ok(shown(alloc, answer)?.as_str() == want)
 }
 
 /// What the escape of one byte behind a slash has to give: a character of ASCII but NUL, the slash, the backslash and
@@ -26,21 +40,26 @@ fn unescaped(byte: u8) -> Option<char> {
     }
 }
 
+/// What the path of a slash and the escape of a byte has to be.
+fn path_of(alloc: Global, byte: u8) -> Result<String, AllocError> {
+    match unescaped(byte) {
+        Some(letter) => format!(in alloc; "/{letter}"),
+        None => String::from_str(alloc, "BadTarget"),
+    }
+}
+
+/// Whether the escape of a byte is read as it has to be, with small digits and with capitals.
+fn is_unescaped(alloc: Global, byte: u8) -> Result<bool, AllocError> {
+    let want = path_of(alloc, byte)?;
+    let small = Target::read_within(alloc, &format!(in alloc; "/%{byte:02x}")?);
+    let capital = Target::read_within(alloc, &format!(in alloc; "/%{byte:02X}")?);
+    Ok(is_shown(alloc, &small, &want)? && is_shown(alloc, &capital, &want)?)
+}
+
 #[test]
 fn every_escape_of_one_byte(rt: HostRuntime) -> Result<(), Fail> {
-    let alloc = rt.alloc();
     for byte in 0..=255 {
-        let want = match unescaped(byte) {
-            Some(letter) => format!(in alloc; "/{letter}")?,
-            None => String::from_str(alloc, "BadTarget")?,
-        };
-        for raw in [
-            format!(in alloc; "/%{byte:02x}")?,
-            format!(in alloc; "/%{byte:02X}")?,
-        ] {
-            let told = shown(alloc, Target::read_within(alloc, &raw))?;
-            assert_eq!(rt; told.as_str(), want.as_str(), "{raw}");
-        }
+        assert!(rt; is_unescaped(rt.alloc(), byte)?, "byte {byte}");
     }
     Ok(())
 }
@@ -57,32 +76,41 @@ fn between(alloc: Global, letter: char) -> Result<String, AllocError> {
     }
 }
 
+/// Whether a byte between two letters is read as it has to be.
+fn is_read_between(alloc: Global, byte: u8) -> Result<bool, AllocError> {
+    let letter = char::from(byte);
+    let raw = format!(in alloc; "/a{letter}b")?;
+    let want = between(alloc, letter)?;
+    is_shown(alloc, &Target::read(alloc, &Method::GET, &raw), &want)
+}
+
 #[test]
 fn every_byte_of_ascii(rt: HostRuntime) -> Result<(), Fail> {
-    let alloc = rt.alloc();
     for byte in 0..=127 {
-        let letter = char::from(byte);
-        let raw = format!(in alloc; "/a{letter}b")?;
-        let told = shown(alloc, Target::read(alloc, &Method::GET, &raw))?;
-        assert_eq!(rt;
-            told.as_str(),
-            between(alloc, letter)?.as_str(),
-            "byte {byte}"
-        );
+        assert!(rt; is_read_between(rt.alloc(), byte)?, "byte {byte}");
     }
     Ok(())
 }
 
-#[test]
-fn long_paths(rt: HostRuntime) -> Result<(), Fail> {
-    let mut text = String::from_str(rt.alloc(), "/")?;
-    for _ in 1..65_534 {
+/// A path of so many bytes.
+fn long_path(alloc: Global, length: usize) -> Result<String, AllocError> {
+    let mut text = String::from_str(alloc, "/")?;
+    for _ in 1..length {
         text.push('x')?;
     }
-    let target = Target::read_within(rt.alloc(), &text)?;
-    assert_eq!(rt; target.path.as_str(), text.as_str());
-    text.push('x')?;
-    let answer = Target::read_within(rt.alloc(), &text);
-    assert_eq!(rt; answer.err(), Some(TargetFault::BadTarget));
+    Ok(text)
+}
+
+/// Whether a path of so many bytes is read as it stands, or the fault.
+fn is_read(alloc: Global, length: usize) -> Result<bool, TargetFault> {
+    let text = long_path(alloc, length)?;
+    let target = Target::read_within(alloc, &text)?;
+    Ok(target.path.as_str() == text.as_str())
+}
+
+#[test]
+fn long_paths(rt: HostRuntime) -> Result<(), Fail> {
+    assert_eq!(rt; is_read(rt.alloc(), 65_534), Ok(true));
+    assert_eq!(rt; is_read(rt.alloc(), 65_535), Err(TargetFault::BadTarget));
     Ok(())
 }

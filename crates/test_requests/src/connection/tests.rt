@@ -11,11 +11,11 @@ mod streams;
 use echo::Echo;
 use http::StatusCode;
 use rows::{ANSWERS, REFUSALS, Row};
-use std::alloc::Global;
+use std::alloc::{AllocError, Global};
 use std::io::{Read, Write};
 use std::process::Abort;
 use std::test::Fail;
-use streams::{GULP, new_sink, slow_reader};
+use streams::{Drip, GULP, Sink, new_sink, slow_reader};
 use sv_connection::{Connection, Outcome, RequestFault, Served, refusal};
 use sv_message::fault::ReadFault;
 use sv_model::{Cause, Moment, Response, Secret, Sequence};
@@ -129,106 +129,191 @@ fn what_follows_a_close_is_not_read(rt: HostRuntime) -> Result<(), Fail> {
     Ok(())
 }
 
+/// How one call ends, and where it doesn't answer, the next one; what was done meanwhile.
+#[derive(Clone, Copy, Debug, PartialEq, Eq)]
+struct Ran {
+    first: Outcome,
+    /// How many outputs the first one hands out.
+    outputs: usize,
+    next: Option<Outcome>,
+    steps: u64,
+    reads: usize,
+    writes: usize,
+    /// So many bytes of the answer were written, and no others.
+    written: Option<usize>,
+}
+
+/// The answer that is wanted where nothing fails.
+const ANSWER: &str =
+    "HTTP/1.1 200 OK\r\nDate: Sun, 06 Nov 1994 08:49:37 GMT\r\nContent-Length: 2\r\n\r\n/a";
+
+/// So many calls of a [`Sink`] take the answer, without the flush.
+fn answer_calls() -> usize {
+    ANSWER.len().div_ceil(GULP)
+}
+
+/// How many bytes these are of the front of the answer.
+fn front_of_answer(held: &[u8]) -> Option<usize> {
+    if ANSWER.as_bytes().starts_with(held) {
+        Some(held.len())
+    } else {
+        None
+    }
+}
+
+/// How a call ends, and how many outputs it hands out.
+fn ended(
+    connection: &mut Connection,
+    reader: &mut Drip<'_>,
+    writer: &mut Sink,
+    site: &mut Echo,
+    token: u64,
+) -> (Outcome, usize) {
+    let served = serve(connection, reader, writer, site, token);
+    (served.outcome, served.outputs.len())
+}
+
+/// The call after one that didn't answer.
+fn ended_next(
+    connection: &mut Connection,
+    reader: &mut Drip<'_>,
+    writer: &mut Sink,
+    site: &mut Echo,
+    first: Outcome,
+) -> Option<Outcome> {
+    if first == Outcome::Answered {
+        return None;
+    }
+    Some(ended(connection, reader, writer, site, 2).0)
+}
+
+/// Requests that are read byte by byte, with a read and a write that fail.
+fn run(alloc: Global, sent: &[u8], read_fails: usize, write_fails: usize) -> Ran {
+    let mut connection = Connection::new(alloc, false);
+    let mut reader = slow_reader(sent, read_fails);
+    let mut writer = new_sink(alloc, write_fails);
+    let mut site = Echo::new(alloc);
+    let (first, outputs) = ended(&mut connection, &mut reader, &mut writer, &mut site, 1);
+    let next = ended_next(&mut connection, &mut reader, &mut writer, &mut site, first);
+    Ran {
+        first,
+        outputs,
+        next,
+        steps: site.steps,
+        reads: reader.calls,
+        writes: writer.calls,
+        written: front_of_answer(&writer.held),
+    }
+}
+
+const REQUEST: &[u8] = b"GET /a HTTP/1.1\r\nHost: h\r\n\r\n";
+
+/// What comes where nothing fails.
+fn answered() -> Ran {
+    Ran {
+        first: Outcome::Answered,
+        outputs: 1,
+        next: None,
+        steps: 1,
+        reads: REQUEST.len(),
+        writes: answer_calls() + 1,
+        written: Some(ANSWER.len()),
+    }
+}
+
+/// What comes where a read fails.
+fn unread(fails_at: usize) -> Ran {
+    Ran {
+        first: Outcome::ReadFailed,
+        outputs: 0,
+        next: Some(Outcome::Closed),
+        steps: 0,
+        reads: fails_at,
+        writes: 0,
+        written: Some(0),
+    }
+}
+
+/// What comes where a write fails, or the flush: before it each has taken its piece of the answer.
+fn unwritten(fails_at: usize) -> Ran {
+    let pieces = fails_at.saturating_sub(1).saturating_mul(GULP);
+    Ran {
+        first: Outcome::WriteFailed,
+        next: Some(Outcome::Closed),
+        writes: fails_at,
+        written: Some(ANSWER.len().min(pieces)),
+        ..answered()
+    }
+}
+
 /// Each read of a request fails in turn; with none failing the request is answered.
 #[test]
 fn a_reader_that_fails(rt: HostRuntime) -> Result<(), Fail> {
-    let text = b"GET /a HTTP/1.1\r\nHost: h\r\n\r\n";
-    for fails_at in 1..=text.len() + 1 {
-        let mut connection = Connection::new(rt.alloc(), false);
-        let mut reader = slow_reader(text, fails_at);
-        let mut writer = new_sink(rt.alloc(), 0);
-        let mut site = Echo::new(rt.alloc());
-        let served = serve(&mut connection, &mut reader, &mut writer, &mut site, 1);
-        if fails_at > text.len() {
-            assert_eq!(rt; served.outcome, Outcome::Answered);
-            assert_eq!(rt; reader.calls, text.len());
-            assert_eq!(rt; site.steps, 1);
-        } else {
-            assert_eq!(rt; served.outcome, Outcome::ReadFailed, "at read {fails_at}");
-            let next = serve(&mut connection, &mut reader, &mut writer, &mut site, 2);
-            assert_eq!(rt; next.outcome, Outcome::Closed, "behind read {fails_at}");
-            assert_eq!(rt; reader.calls, fails_at);
-            assert_eq!(rt; site.steps, 0);
-            assert_eq!(rt; writer.calls, 0, "writes behind read {fails_at}");
-        }
+    for fails_at in 1..=REQUEST.len() {
+        assert_eq!(rt; run(rt.alloc(), REQUEST, fails_at, 0), unread(fails_at));
     }
+    assert_eq!(rt; run(rt.alloc(), REQUEST, REQUEST.len() + 1, 0), answered());
     Ok(())
 }
 
-/// Each write of an answer fails in turn, and the flush; what was written before is a piece of the answer.
+/// Each write of an answer fails in turn, and the flush; what was written before is a piece of the answer. A request that follows
+/// isn't read.
 #[test]
 fn a_writer_that_fails(rt: HostRuntime) -> Result<(), Fail> {
-    let text =
-        "HTTP/1.1 200 OK\r\nDate: Sun, 06 Nov 1994 08:49:37 GMT\r\nContent-Length: 2\r\n\r\n/a".as_bytes();
-    let writes = text.len().div_ceil(GULP);
-    for fails_at in 1..=writes + 2 {
-        let mut connection = Connection::new(rt.alloc(), false);
-        let mut reader: &[u8] =
-            b"GET /a HTTP/1.1\r\nHost: h\r\n\r\nGET /b HTTP/1.1\r\nHost: h\r\n\r\n";
-        let mut writer = new_sink(rt.alloc(), fails_at);
-        let mut site = Echo::new(rt.alloc());
-        let served = serve(&mut connection, &mut reader, &mut writer, &mut site, 1);
-        assert_eq!(rt; site.steps, 1);
-        assert_eq!(rt; served.outputs.len(), 1, "outputs at write {fails_at}");
-        if fails_at > writes + 1 {
-            assert_eq!(rt; served.outcome, Outcome::Answered);
-            assert_eq!(rt; writer.calls, writes + 1);
-            assert_eq!(rt; writer.held.as_slice(), text);
-        } else {
-            assert_eq!(rt; served.outcome, Outcome::WriteFailed, "at write {fails_at}");
-            let next = serve(&mut connection, &mut reader, &mut writer, &mut site, 2);
-            assert_eq!(rt; next.outcome, Outcome::Closed, "behind write {fails_at}");
-            assert_eq!(rt; site.steps, 1);
-            assert_eq!(rt; writer.calls, fails_at);
-            let whole = text.len().min((fails_at - 1) * GULP);
-            assert_eq!(rt; writer.held.as_slice(), &text[..whole]);
-        }
+    let sent = b"GET /a HTTP/1.1\r\nHost: h\r\n\r\nGET /b HTTP/1.1\r\nHost: h\r\n\r\n";
+    for fails_at in 1..=answer_calls() + 1 {
+        assert_eq!(rt; run(rt.alloc(), sent, 0, fails_at), unwritten(fails_at));
     }
+    assert_eq!(rt; run(rt.alloc(), sent, 0, answer_calls() + 2), answered());
     Ok(())
 }
 
 const TOO_LONG: &str =
     "HTTP/1.1 431 Request Header Fields Too Large\r\nDate: Sun, 06 Nov 1994 08:49:37 GMT\r\ncontent-type: text/plain\r\nContent-Length: 36\r\nConnection: close\r\n\r\n431 Request Header Fields Too Large\n";
 
+/// How a call ends whose reader begins again at a place behind its last byte: after how many reads, how many steps, and whether just
+/// this is written.
+fn run_endless(
+    alloc: Global,
+    sent: &[u8],
+    again_at: usize,
+    written: &str,
+) -> (Outcome, usize, u64, bool) {
+    let mut connection = Connection::new(alloc, false);
+    let mut reader = slow_reader(sent, 0);
+    reader.again_at = Some(again_at);
+    let mut writer = Vec::new(alloc);
+    let mut site = Echo::new(alloc);
+    let served = serve(&mut connection, &mut reader, &mut writer, &mut site, 1);
+    let is_written = writer.as_slice() == written.as_bytes();
+    (served.outcome, reader.calls, site.steps, is_written)
+}
+
 /// A reader that never ends a head, a byte a read: 8,192 of them are too long for one.
 #[test]
 fn a_reader_that_never_ends_a_head(rt: HostRuntime) -> Result<(), Fail> {
-    let mut connection = Connection::new(rt.alloc(), false);
-    let mut reader = slow_reader(b"a", 0);
-    reader.again_at = Some(0);
-    let mut writer = Vec::new(rt.alloc());
-    let mut site = Echo::new(rt.alloc());
-    let served = serve(&mut connection, &mut reader, &mut writer, &mut site, 1);
     let too_long = Outcome::Refused(RequestFault::Read(ReadFault::HeadTooLong));
-    assert_eq!(rt; served.outcome, too_long);
-    assert_eq!(rt; reader.calls, 8_192);
-    assert_eq!(rt; site.steps, 0);
-    assert_eq!(rt; writer.as_slice(), TOO_LONG.as_bytes());
+    assert_eq!(rt;
+        run_endless(rt.alloc(), b"a", 0, TOO_LONG),
+        (too_long, 8_192, 0, true)
+    );
     Ok(())
 }
 
 /// The head of a body in chunks, of 57 bytes, and a chunk of one byte behind a line of 67.
-const CHUNKS: &[u8] =
+static CHUNKS: &[u8] =
     b"POST /a HTTP/1.1\r\nHost: h\r\nTransfer-Encoding: chunked\r\n\r\n1;aaaaaaaaaaaaaaaaaaaaaaaaaaaaaaaaaaaaaaaaaaaaaaaaaaaaaaaaaaaaaaa\r\nx\r\n";
 
 /// A reader that never ends a body, a byte a read: 65,536 chunks of 70 bytes would be 4,587,520 of them, and the call ends at
 /// 1,048,576.
 #[test]
 fn a_reader_that_never_ends_a_body(rt: HostRuntime) -> Result<(), Fail> {
-    let mut connection = Connection::new(rt.alloc(), false);
-    let mut reader = slow_reader(CHUNKS, 0);
-    reader.again_at = Some(57);
-    let mut writer = Vec::new(rt.alloc());
-    let mut site = Echo::new(rt.alloc());
-    let served = serve(&mut connection, &mut reader, &mut writer, &mut site, 1);
-    assert_eq!(rt; served.outcome, Outcome::ReadFailed);
-    assert_eq!(rt; reader.calls, 1_048_576);
-    assert_eq!(rt; site.steps, 0);
-    assert_eq!(rt; writer.len(), 0);
+    let ran = run_endless(rt.alloc(), CHUNKS, 57, "");
+    assert_eq!(rt; ran, (Outcome::ReadFailed, 1_048_576, 0, true));
     Ok(())
 }
 
-const CAUSES: [(Cause, &str); 7] = [
+static CAUSES: [(Cause, &str); 7] = [
     (Cause::ParkFull, "503 ParkFull\n"),
     (Cause::Deadline, "503 Deadline\n"),
     (Cause::TableFull, "503 TableFull\n"),
@@ -238,21 +323,43 @@ const CAUSES: [(Cause, &str); 7] = [
     (Cause::Memory, "503 Memory\n"),
 ];
 
+/// The fields of a refusal are its type alone.
+fn has_its_type(response: &Response) -> bool {
+    match response.fields.as_slice() {
+        [field] => {
+            field.name.as_str() == "content-type"
+                && field.value.as_bytes() == b"text/plain".as_slice()
+        }
+        _ => false,
+    }
+}
+
+/// A refusal by a cause has this body, and is for a HEAD and closes as it was asked for.
+fn is_refusal(
+    alloc: Global,
+    row: &(Cause, &str),
+    head_only: bool,
+    close: bool,
+) -> Result<bool, AllocError> {
+    let response = refusal(alloc, row.0, head_only, close)?;
+    Ok(
+        response.status == StatusCode::SERVICE_UNAVAILABLE
+            && response.body.as_slice() == row.1.as_bytes()
+            && has_its_type(&response)
+            && response.head_only == head_only
+            && response.close == close,
+    )
+}
+
 #[test]
 fn refusals(rt: HostRuntime) -> Result<(), Fail> {
-    for (cause, body) in CAUSES {
-        for (head_only, close) in [(false, true), (true, false)] {
-            let response = refusal(rt.alloc(), cause, head_only, close)?;
-            assert_eq!(rt; response.status, StatusCode::SERVICE_UNAVAILABLE);
-            assert_eq!(rt; response.body.as_slice(), body.as_bytes());
-            assert_eq!(rt; response.fields.len(), 1);
-            for field in response.fields.as_slice() {
-                assert_eq!(rt; field.name.as_str(), "content-type");
-                assert_eq!(rt; field.value.as_bytes(), b"text/plain".as_slice());
-            }
-            assert_eq!(rt; response.head_only, head_only);
-            assert_eq!(rt; response.close, close);
-        }
+    for row in &CAUSES {
+        assert!(rt; is_refusal(rt.alloc(), row, false, true)?, "{}", row.1);
+        assert!(rt;
+            is_refusal(rt.alloc(), row, true, false)?,
+            "{} to a HEAD",
+            row.1
+        );
     }
     Ok(())
 }

@@ -29,35 +29,79 @@ impl Echo {
 
     /// What is put out at a path.
     fn outputs(&self, token: u64, request: &Request) -> Result<Vec<Output>, StepFault> {
-        let mut outputs = Vec::new(self.alloc);
         match request.path.as_str() {
-            "/full" => return Err(StepFault::Full),
-            "/memory" => return Err(StepFault::Memory),
-            "/device" => return Err(StepFault::Device),
-            "/failed" => return Err(StepFault::Failed),
-            "/park" => outputs.push(Output::Moved)?,
-            "/refuse" => outputs.push(Output::Refuse {
-                token,
-                cause: Cause::TableFull,
-            })?,
-            "/other" => {
-                let other = token.wrapping_add(1);
-                outputs.push(Output::Refuse {
-                    token: other,
-                    cause: Cause::Deadline,
-                })?;
-                outputs.push(answer_to(self.alloc, other, request, b"another's")?)?;
-                outputs.push(answer_to(self.alloc, token, request, b"its own")?)?;
-                outputs.push(answer_to(self.alloc, token, request, b"again")?)?;
-            }
-            "/params" => {
-                let text = params_of(self.alloc, request)?;
-                outputs.push(answer_to(self.alloc, token, request, text.as_slice())?)?;
-            }
-            path => outputs.push(answer_to(self.alloc, token, request, path.as_bytes())?)?,
+            "/full" => Err(StepFault::Full),
+            "/memory" => Err(StepFault::Memory),
+            "/device" => Err(StepFault::Device),
+            "/failed" => Err(StepFault::Failed),
+            "/other" => Ok(self.anothers(token, request)?),
+            "/params" => Ok(self.params(token, request)?),
+            "/park" => Ok(one(self.alloc, Output::Moved)?),
+            "/refuse" => Ok(one(self.alloc, refused(token, Cause::TableFull))?),
+            path => Ok(self.answers(token, request, path.as_bytes())?),
         }
-        Ok(outputs)
     }
+
+    /// An answer.
+    fn answers(
+        &self,
+        token: u64,
+        request: &Request,
+        text: &[u8],
+    ) -> Result<Vec<Output>, AllocError> {
+        one(self.alloc, answer_to(self.alloc, token, request, text)?)
+    }
+
+    /// The parameters as an answer.
+    fn params(&self, token: u64, request: &Request) -> Result<Vec<Output>, AllocError> {
+        let text = params_of(self.alloc, request)?;
+        self.answers(token, request, text.as_slice())
+    }
+
+    /// One more answer.
+    fn add(
+        &self,
+        outputs: &mut Vec<Output>,
+        token: u64,
+        request: &Request,
+        text: &[u8],
+    ) -> Result<(), AllocError> {
+        let answer = answer_to(self.alloc, token, request, text)?;
+        Ok(outputs.push(answer)?)
+    }
+
+    /// A refusal and an answer to another, and two to the one who asked.
+    fn add_anothers(
+        &self,
+        outputs: &mut Vec<Output>,
+        token: u64,
+        request: &Request,
+    ) -> Result<(), AllocError> {
+        let other = token.wrapping_add(1);
+        outputs.push(refused(other, Cause::Deadline))?;
+        self.add(outputs, other, request, b"another's")?;
+        self.add(outputs, token, request, b"its own")?;
+        self.add(outputs, token, request, b"again")
+    }
+
+    fn anothers(&self, token: u64, request: &Request) -> Result<Vec<Output>, AllocError> {
+        let mut outputs = Vec::new(self.alloc);
+        match self.add_anothers(&mut outputs, token, request) {
+            Ok(()) => Ok(outputs),
+            Err(fault) => Err(fault),
+        }
+    }
+}
+
+/// One output.
+fn one(alloc: Global, output: Output) -> Result<Vec<Output>, AllocError> {
+    let mut outputs = Vec::new(alloc);
+    outputs.push(output)?;
+    Ok(outputs)
+}
+
+fn refused(token: u64, cause: Cause) -> Output {
+    Output::Refuse { token, cause }
 }
 
 /// The parameters of a request, a line each.
