@@ -52,26 +52,52 @@ fn serve<R: Read, W: Write>(
     connection.serve_next(reader, writer, site, AT, token)
 }
 
+/// The token of the first call that ends otherwise than the row says, or hands out another number of outputs.
+fn first_other<R: Read>(
+    row: &Row,
+    connection: &mut Connection,
+    reader: &mut R,
+    writer: &mut Vec<u8>,
+    site: &mut Echo,
+) -> Option<u64> {
+    let mut token: u64 = 40;
+    for (outcome, outputs) in &row.calls {
+        token = token.wrapping_add(1);
+        let served = serve(connection, reader, writer, site, token);
+        if served.outcome != *outcome || served.outputs.len() != *outputs {
+            return Some(token);
+        }
+    }
+    None
+}
+
+/// The same, and how many steps were taken.
+fn row_ran<R: Read>(
+    alloc: Global,
+    row: &Row,
+    reader: &mut R,
+    writer: &mut Vec<u8>,
+) -> (Option<u64>, u64) {
+    let mut connection = Connection::new(alloc, row.single);
+    let mut site = Echo::new(alloc);
+    let other = first_other(row, &mut connection, reader, writer, &mut site);
+    (other, site.steps)
+}
+
 fn expect_row<R: Read>(
     rt: &(impl Abort + AllocGlobal),
     row: &Row,
     reader: &mut R,
 ) -> Result<(), Fail> {
-    let alloc = rt.alloc();
-    let name = row.name;
-    let mut connection = Connection::new(alloc, row.single);
-    let mut writer = Vec::new(alloc);
-    let mut site = Echo::new(alloc);
-    let mut token: u64 = 40;
-    for (outcome, outputs) in row.calls {
-        token = token.wrapping_add(1);
-        let served = serve(&mut connection, reader, &mut writer, &mut site, token);
-        assert_eq!(rt; served.outcome, outcome, "{name}, token {token}");
-        assert_eq!(rt; served.outputs.len(), outputs, "{name}, token {token}");
-    }
-    assert_eq!(rt; site.steps, row.steps, "steps of {name}");
-    let text = str::from_utf8(&writer).ok().ok_or("the text is no UTF-8")?;
-    assert_eq!(rt; text, row.written, "text of {name}");
+    let mut writer = Vec::new(rt.alloc());
+    let ran = row_ran(rt.alloc(), row, reader, &mut writer);
+    assert_eq!(rt; ran, (None, row.steps), "{}", row.name);
+    assert_eq!(rt;
+        str::from_utf8(&writer).ok(),
+        Some(row.written),
+        "text of {}",
+        row.name
+    );
     Ok(())
 }
 
@@ -95,37 +121,42 @@ fn refused_requests(rt: HostRuntime) -> Result<(), Fail> {
     expect_rows(&rt, &REFUSALS)
 }
 
+/// How a call ends, and the token, the time and the close that the site is asked with.
+fn asked(alloc: Global, single: bool, token: u64) -> (Outcome, u64, u64, bool) {
+    let mut connection = Connection::new(alloc, single);
+    let mut reader: &[u8] = REQUEST;
+    let mut writer = Vec::new(alloc);
+    let mut site = Echo::new(alloc);
+    let served = serve(&mut connection, &mut reader, &mut writer, &mut site, token);
+    (served.outcome, site.token, site.now, site.close)
+}
+
 #[test]
 fn the_site_is_asked_as_the_call_says(rt: HostRuntime) -> Result<(), Fail> {
-    let text = b"GET /a HTTP/1.1\r\nHost: h\r\n\r\n";
-    for (single, token) in [(false, 0), (true, 18_446_744_073_709_551_615)] {
-        let mut connection = Connection::new(rt.alloc(), single);
-        let mut reader: &[u8] = text;
-        let mut writer = Vec::new(rt.alloc());
-        let mut site = Echo::new(rt.alloc());
-        let served = serve(&mut connection, &mut reader, &mut writer, &mut site, token);
-        assert_eq!(rt; served.outcome, Outcome::Answered);
-        assert_eq!(rt; site.token, token);
-        assert_eq!(rt; site.now, AT.now);
-        assert_eq!(rt; site.close, single);
-    }
+    let (answered, now, last) = (Outcome::Answered, AT.now, u64::MAX);
+    assert_eq!(rt; asked(rt.alloc(), false, 0), (answered, 0, now, false));
+    assert_eq!(rt; asked(rt.alloc(), true, last), (answered, last, now, true));
     Ok(())
+}
+
+/// How two calls of a connection end that closes after the first, with the reads up to each; and how many bytes a read asks for.
+fn closed(alloc: Global) -> ((Outcome, usize), (Outcome, usize), usize) {
+    let mut connection = Connection::new(alloc, true);
+    let mut reader = slow_reader(b"GET /a HTTP/1.1\r\nHost: h\r\n\r\nGET /b", 0);
+    let mut writer = new_sink(alloc, 0);
+    let mut site = Echo::new(alloc);
+    let first = ended(&mut connection, &mut reader, &mut writer, &mut site, 1).0;
+    let reads = reader.calls;
+    let next = ended(&mut connection, &mut reader, &mut writer, &mut site, 1).0;
+    ((first, reads), (next, reader.calls), reader.asked)
 }
 
 /// A closed connection reads nothing more.
 #[test]
 fn what_follows_a_close_is_not_read(rt: HostRuntime) -> Result<(), Fail> {
-    let mut connection = Connection::new(rt.alloc(), true);
-    let text = b"GET /a HTTP/1.1\r\nHost: h\r\n\r\n";
-    let mut reader = slow_reader(b"GET /a HTTP/1.1\r\nHost: h\r\n\r\nGET /b", 0);
-    let mut writer = Vec::new(rt.alloc());
-    let mut site = Echo::new(rt.alloc());
-    for outcome in [Outcome::Answered, Outcome::Closed] {
-        let served = serve(&mut connection, &mut reader, &mut writer, &mut site, 1);
-        assert_eq!(rt; served.outcome, outcome);
-        assert_eq!(rt; reader.calls, text.len(), "reads");
-    }
-    assert_eq!(rt; reader.asked, 4_096, "bytes that a read asks for");
+    let reads = REQUEST.len();
+    let want = ((Outcome::Answered, reads), (Outcome::Closed, reads), 4_096);
+    assert_eq!(rt; closed(rt.alloc()), want);
     Ok(())
 }
 

@@ -165,12 +165,13 @@ static TICKS: [Ticked; 4] = [
     },
 ];
 
-/// How many outputs a tick has.
-fn outputs_of_tick<S: Site>(site: &mut S, after: u64) -> Result<usize, Fail>
-    requires { S.site_valid site.old }
+/// How many outputs a step has.
+fn put_out<S: Site>(site: &mut S, now: u64, input: Input) -> Result<usize, Fail>
+    requires valid { S.site_valid site.old }
+    requires input { IsInput input }
     ensures { S.site_valid site.new }
 {
-    let outputs = step_at(site, AT.now.saturating_add(after), Input::Tick)?;
+    let outputs = step_at(site, now, input)?;
     Ok(outputs.len())
 }
 
@@ -200,7 +201,8 @@ fn a_node_alone_ends_what_has_expired(rt: HostRuntime) -> Result<(), Fail> {
         ask_once(&mut site, alloc, 7)?;
     }
     for tick in &TICKS {
-        assert_eq!(rt; outputs_of_tick(&mut site, tick.after)?, 0);
+        let now = AT.now.saturating_add(tick.after);
+        assert_eq!(rt; put_out(&mut site, now, Input::Tick)?, 0);
         assert!(rt; is_refused(&mut site, FIRST.0, tick.first)?, "the first");
         assert!(rt; is_refused(&mut site, SECOND, tick.second)?, "the second");
         assert_eq!(rt; site.engine.told, tick.told);
@@ -219,10 +221,9 @@ fn a_node_alone_has_no_peers(rt: HostRuntime) -> Result<(), Fail> {
         boot: 1,
         want: 0,
     };
-    assert_eq!(rt; step_at(&mut site, AT.now, Input::Poke)?.len(), 0);
-    assert_eq!(rt; step_at(&mut site, AT.now, Input::Tick)?.len(), 0);
-    assert_eq!(rt; step_at(&mut site, AT.now, Input::Packet(no))?.len(), 0);
-    let outputs = move_once(&mut site, FIRST.0)?;
-    assert!(rt; is_refusal(outputs.as_slice(), MoveRefusal::UnknownKey));
+    assert_eq!(rt; put_out(&mut site, AT.now, Input::Poke)?, 0);
+    assert_eq!(rt; put_out(&mut site, AT.now, Input::Tick)?, 0);
+    assert_eq!(rt; put_out(&mut site, AT.now, Input::Packet(no))?, 0);
+    assert!(rt; is_refused(&mut site, FIRST.0, MoveRefusal::UnknownKey)?);
     Ok(())
 }

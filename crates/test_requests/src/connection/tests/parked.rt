@@ -5,12 +5,15 @@
 use super::AT;
 use super::echo::Echo;
 use super::streams::new_sink;
+use std::alloc::{AllocError, Global};
 use std::test::Fail;
 use sv_connection::{Connection, Outcome, refusal};
-use sv_model::Cause;
+use sv_model::{Cause, Response};
 
 /// A method, whether its answer leaves out its body, and the text of that answer.
-const ROWS: [(&str, bool, &str); 2] = [
+type Row = (&'static str, bool, &'static str);
+
+static ROWS: [Row; 2] = [
     (
         "GET",
         false,
@@ -23,46 +26,92 @@ const ROWS: [(&str, bool, &str); 2] = [
     ),
 ];
 
+/// A request that waits, and its answer.
+#[derive(Clone, Copy, Debug, PartialEq, Eq)]
+struct Waited {
+    waits_before: bool,
+    first: Outcome,
+    waits: bool,
+    /// So many bytes are written before the answer is there.
+    early: usize,
+    late: Outcome,
+    waits_after: bool,
+    /// Just the text of the answer is written.
+    is_written: bool,
+}
+
+fn wait(alloc: Global, sent: &str, response: &Response, text: &str) -> Waited {
+    let mut reader = sent.as_bytes();
+    let mut writer = Vec::new(alloc);
+    let mut site = Echo::new(alloc);
+    let mut connection = Connection::new(alloc, true);
+    let waits_before = connection.waiting();
+    let served = connection.serve_next(&mut reader, &mut writer, &mut site, AT, 9);
+    let waits = connection.waiting();
+    let early = writer.len();
+    let late = connection.answer(&mut writer, response, AT.now);
+    Waited {
+        waits_before,
+        first: served.outcome,
+        waits,
+        early,
+        late,
+        waits_after: connection.waiting(),
+        is_written: writer.as_slice() == text.as_bytes(),
+    }
+}
+
+fn waited_by(alloc: Global, row: &Row) -> Result<Waited, AllocError> {
+    let (method, head_only, text) = *row;
+    let sent = format!(in alloc; "{method} /park HTTP/1.1\r\nHost: h\r\n\r\n")?;
+    let response = refusal(alloc, Cause::Deadline, head_only, true)?;
+    Ok(wait(alloc, &sent, &response, text))
+}
+
 /// Nothing is written until the answer is there, and that is all that is written.
 #[test]
 fn a_request_waits_for_its_answer(rt: HostRuntime) -> Result<(), Fail> {
-    let alloc = rt.alloc();
-    for (method, head_only, text) in ROWS {
-        let sent = format!(in alloc; "{method} /park HTTP/1.1\r\nHost: h\r\n\r\n")?;
-        let mut reader = sent.as_bytes();
-        let mut writer = Vec::new(alloc);
-        let mut site = Echo::new(alloc);
-        let mut connection = Connection::new(alloc, true);
-        assert!(rt; !connection.waiting(), "before {method}");
-        let served = connection.serve_next(&mut reader, &mut writer, &mut site, AT, 9);
-        assert_eq!(rt; served.outcome, Outcome::Parked { head_only });
-        assert!(rt; connection.waiting(), "{method}");
-        assert_eq!(rt; writer.len(), 0, "{method}");
-        let response = refusal(alloc, Cause::Deadline, head_only, true)?;
-        let outcome = connection.answer(&mut writer, &response, AT.now);
-        assert_eq!(rt; outcome, Outcome::Answered);
-        assert!(rt; !connection.waiting(), "behind {method}");
-        assert_eq!(rt; writer.as_slice(), text.as_bytes());
+    for row in &ROWS {
+        let want = Waited {
+            waits_before: false,
+            first: Outcome::Parked { head_only: row.1 },
+            waits: true,
+            early: 0,
+            late: Outcome::Answered,
+            waits_after: false,
+            is_written: true,
+        };
+        assert_eq!(rt; waited_by(rt.alloc(), row)?, want, "{}", row.0);
     }
     Ok(())
 }
 
-/// An answer that can't be written closes the connection, which waits no longer.
-#[test]
-fn a_late_answer_that_is_not_written(rt: HostRuntime) -> Result<(), Fail> {
-    let alloc = rt.alloc();
+/// A request that waits, its answer, whose first write fails, and the call after it; and how many steps were taken.
+fn fail_late(alloc: Global, response: &Response) -> ([Outcome; 3], u64) {
     let mut reader: &[u8] =
         b"GET /park HTTP/1.1\r\nHost: h\r\n\r\nGET /a HTTP/1.1\r\nHost: h\r\n\r\n";
     let mut writer = new_sink(alloc, 1);
     let mut site = Echo::new(alloc);
     let mut connection = Connection::new(alloc, false);
-    let served = connection.serve_next(&mut reader, &mut writer, &mut site, AT, 9);
-    assert_eq!(rt; served.outcome, Outcome::Parked { head_only: false });
-    let response = refusal(alloc, Cause::Deadline, false, false)?;
-    let outcome = connection.answer(&mut writer, &response, AT.now);
-    assert_eq!(rt; outcome, Outcome::WriteFailed);
-    let served = connection.serve_next(&mut reader, &mut writer, &mut site, AT, 10);
-    assert_eq!(rt; served.outcome, Outcome::Closed);
-    assert_eq!(rt; site.steps, 1);
+    let first = connection
+        .serve_next(&mut reader, &mut writer, &mut site, AT, 9)
+        .outcome;
+    let late = connection.answer(&mut writer, response, AT.now);
+    let next = connection
+        .serve_next(&mut reader, &mut writer, &mut site, AT, 10)
+        .outcome;
+    ([first, late, next], site.steps)
+}
+
+/// An answer that can't be written closes the connection, which waits no longer.
+#[test]
+fn a_late_answer_that_is_not_written(rt: HostRuntime) -> Result<(), Fail> {
+    let response = refusal(rt.alloc(), Cause::Deadline, false, false)?;
+    let want = [
+        Outcome::Parked { head_only: false },
+        Outcome::WriteFailed,
+        Outcome::Closed,
+    ];
+    assert_eq!(rt; fail_late(rt.alloc(), &response), (want, 1));
     Ok(())
 }

@@ -5,10 +5,9 @@
 use super::AT;
 use http::StatusCode;
 use std::alloc::Global;
-use std::process::Abort;
 use std::test::Fail;
-use sv_connection::{Connection, Received};
-use sv_model::{Response, Sequence, is_head};
+use sv_connection::{Connection, Outcome, Received};
+use sv_model::{Request, Response, Sequence, is_head};
 
 /// A request with a body.
 const FIRST: &str = "POST /a HTTP/1.1\r\nHost: h\r\nContent-Length: 3\r\n\r\nxyz";
@@ -56,31 +55,46 @@ impl Caller {
         }
     }
 
-    /// Tells what was given; a request is answered with no body, and the page of a fault is written. Whether more can be there.
+    /// Tells of a request, and answers it with no body.
+    fn tell_request(&mut self, request: &Request) -> Result<(), Fail> {
+        let head_only = is_head(&request.method);
+        let close = request.close;
+        let path = request.path.as_str();
+        let text = format!(in self.alloc; "{path} {head_only} {close};")?;
+        self.told.push_str(&text)?;
+        self.answer(head_only, close);
+        Ok(())
+    }
+
+    fn answer(&mut self, head_only: bool, close: bool) {
+        let response = Response {
+            status: StatusCode::OK,
+            fields: Sequence::new(self.alloc),
+            body: Sequence::new(self.alloc),
+            head_only,
+            close,
+        };
+        let _ = self.connection.answer(&mut self.written, &response, AT.now);
+    }
+
+    fn tell_refusal(&mut self, outcome: Outcome, head_only: bool) -> Result<(), Fail> {
+        let text = format!(in self.alloc; "{outcome:?} {head_only};")?;
+        Ok(self.told.push_str(&text)?)
+    }
+
+    /// Tells what was given; a request is answered, and the page of a fault is written. Whether more can be there.
     fn tell(&mut self, received: Received) -> Result<bool, Fail> {
         match received {
             Received::Request(request) => {
-                let head_only = is_head(&request.method);
-                let close = request.close;
-                let path = request.path.as_str();
-                self.told
-                    .push_str(&format!(in self.alloc; "{path} {head_only} {close};")?)?;
-                let response = Response {
-                    status: StatusCode::OK,
-                    fields: Sequence::new(self.alloc),
-                    body: Sequence::new(self.alloc),
-                    head_only,
-                    close,
-                };
-                let _ = self.connection.answer(&mut self.written, &response, AT.now);
+                self.tell_request(&request)?;
                 Ok(true)
             }
             Received::Refused { fault, head_only } => {
+                let now = AT.now;
                 let outcome = self
                     .connection
-                    .refuse(&mut self.written, fault, head_only, AT.now);
-                self.told
-                    .push_str(&format!(in self.alloc; "{outcome:?} {head_only};")?)?;
+                    .refuse(&mut self.written, fault, head_only, now);
+                self.tell_refusal(outcome, head_only)?;
                 Ok(false)
             }
             Received::More => {
@@ -130,26 +144,41 @@ impl Caller {
     }
 }
 
-/// What is told of two pieces and the end, by how much of the stream has come with the first.
-fn expect_cut(
-    rt: &(impl Abort + AllocGlobal),
-    stream: &[u8],
-    cut: usize,
-    told: &str,
-    written: &str,
-) -> Result<(), Fail> {
-    let mut caller = Caller::new(rt.alloc());
+/// Two pieces and the end, by how much of the stream comes with the first.
+fn tell_cut(caller: &mut Caller, stream: &[u8], cut: usize) -> Result<(), Fail> {
     caller.receive(stream.get(..cut).ok_or("cut behind the end")?)?;
     caller.told.push('|')?;
     caller.receive(stream.get(cut..).ok_or("cut behind the end")?)?;
     caller.told.push('|')?;
-    caller.end()?;
-    assert_eq!(rt; caller.told.as_str(), told, "cut at {cut}");
-    let text = str::from_utf8(&caller.written)
-        .ok()
-        .ok_or("the text is no UTF-8")?;
-    assert_eq!(rt; text, written, "cut at {cut}");
-    Ok(())
+    caller.end()
+}
+
+/// Whether this is told of a stream that is cut there, and this written.
+fn is_told(
+    alloc: Global,
+    stream: &str,
+    cut: usize,
+    told: &str,
+    written: &str,
+) -> Result<bool, Fail> {
+    let mut caller = Caller::new(alloc);
+    match tell_cut(&mut caller, stream.as_bytes(), cut) {
+        Ok(()) => Ok(
+            caller.told.as_str() == told && caller.written.as_slice() == written.as_bytes(),
+        ),
+        Err(fault) => Err(fault),
+    }
+}
+
+/// What two requests are told as, by where their stream is cut.
+fn told_of_two(cut: usize, end: usize) -> &'static str {
+    if cut < FIRST.len() {
+        "more;|/a false false;/b true true;closed;|closed;"
+    } else if cut < end {
+        "/a false false;more;|/b true true;closed;|closed;"
+    } else {
+        "/a false false;/b true true;closed;|closed;|closed;"
+    }
 }
 
 /// Two requests come, however the stream is cut: one is given once it is whole, and all else is kept.
@@ -161,16 +190,24 @@ fn two_requests_cut_anywhere(rt: HostRuntime) -> Result<(), Fail> {
         "HTTP/1.1 200 OK\r\nDate: Sun, 06 Nov 1994 08:49:37 GMT\r\nContent-Length: 0\r\nConnection: close\r\n\r\n";
     let written = format!(in alloc; "{ANSWERED}{closing}")?;
     for cut in 0..=stream.len() {
-        let told = if cut < FIRST.len() {
-            "more;|/a false false;/b true true;closed;|closed;"
-        } else if cut < stream.len() {
-            "/a false false;more;|/b true true;closed;|closed;"
-        } else {
-            "/a false false;/b true true;closed;|closed;|closed;"
-        };
-        expect_cut(&rt, stream.as_bytes(), cut, told, written.as_str())?;
+        let told = told_of_two(cut, stream.len());
+        assert!(rt;
+            is_told(alloc, &stream, cut, told, &written)?,
+            "cut at {cut}"
+        );
     }
     Ok(())
+}
+
+/// What a request and a fault are told as, by where their stream is cut.
+fn told_of_fault(cut: usize, end: usize) -> &'static str {
+    if cut < FIRST.len() {
+        "more;|/a false false;Refused(Read(BadHost)) false;|closed;"
+    } else if cut < end {
+        "/a false false;more;|Refused(Read(BadHost)) false;|closed;"
+    } else {
+        "/a false false;Refused(Read(BadHost)) false;|closed;|closed;"
+    }
 }
 
 /// The request before a fault is given, and the fault once it stands there.
@@ -180,16 +217,41 @@ fn a_fault_in_the_second_cut_anywhere(rt: HostRuntime) -> Result<(), Fail> {
     let stream = format!(in alloc; "{FIRST}{FAULTY}")?;
     let written = format!(in alloc; "{ANSWERED}{PAGE}")?;
     for cut in 0..=stream.len() {
-        let told = if cut < FIRST.len() {
-            "more;|/a false false;Refused(Read(BadHost)) false;|closed;"
-        } else if cut < stream.len() {
-            "/a false false;more;|Refused(Read(BadHost)) false;|closed;"
-        } else {
-            "/a false false;Refused(Read(BadHost)) false;|closed;|closed;"
-        };
-        expect_cut(&rt, stream.as_bytes(), cut, told, written.as_str())?;
+        let told = told_of_fault(cut, stream.len());
+        assert!(rt;
+            is_told(alloc, &stream, cut, told, &written)?,
+            "cut at {cut}"
+        );
     }
     Ok(())
+}
+
+/// Some bytes, and the end.
+fn tell_end(caller: &mut Caller, sent: &[u8]) -> Result<(), Fail> {
+    caller.receive(sent)?;
+    caller.end()
+}
+
+/// Whether the input that ends behind these bytes is told so, and no more than this is written; and whether it closes.
+fn ends_so(alloc: Global, sent: &[u8], told: &str, written: &str) -> Result<bool, Fail> {
+    let mut caller = Caller::new(alloc);
+    match tell_end(&mut caller, sent) {
+        Ok(()) => Ok(
+            caller.told.as_str() == told
+                && caller.written.as_slice() == written.as_bytes()
+                && caller.connection.closed(),
+        ),
+        Err(fault) => Err(fault),
+    }
+}
+
+/// Whether the input that ends inside the first of two requests, or the second, is told so.
+fn ends_inside(alloc: Global, sent: &[u8]) -> Result<bool, Fail> {
+    if sent.len() < FIRST.len() {
+        ends_so(alloc, sent, "more;closed;", "")
+    } else {
+        ends_so(alloc, sent, "/a false false;more;closed;", ANSWERED)
+    }
 }
 
 /// The input ends inside a request: nothing is written for it, and the connection closes.
@@ -198,55 +260,62 @@ fn the_input_ends_inside_a_request(rt: HostRuntime) -> Result<(), Fail> {
     let alloc = rt.alloc();
     let stream = format!(in alloc; "{FIRST}{LAST}")?;
     for len in 0..stream.len() {
-        let mut caller = Caller::new(alloc);
-        caller.receive(&stream.as_bytes()[..len])?;
-        caller.end()?;
-        let (told, written) = if len < FIRST.len() {
-            ("more;closed;", "")
-        } else {
-            ("/a false false;more;closed;", ANSWERED)
-        };
-        assert_eq!(rt; caller.told.as_str(), told, "of {len} bytes");
-        assert_eq!(rt;
-            caller.written.as_slice(),
-            written.as_bytes(),
+        assert!(rt;
+            ends_inside(alloc, &stream.as_bytes()[..len])?,
             "of {len} bytes"
         );
-        assert!(rt; caller.connection.closed(), "of {len} bytes");
     }
     Ok(())
+}
+
+/// All of a stream at once, and the end.
+fn tell_whole(caller: &mut Caller, stream: &str) -> Result<(), Fail> {
+    let _ = caller.receive_once(stream.as_bytes())?;
+    caller.end()
 }
 
 /// What stands there whole is given, though nothing more comes.
 #[test]
 fn the_input_ends_behind_two_requests(rt: HostRuntime) -> Result<(), Fail> {
-    let alloc = rt.alloc();
-    let mut caller = Caller::new(alloc);
-    let stream = format!(in alloc; "{FIRST}{LAST}")?;
-    let _ = caller.receive_once(stream.as_bytes())?;
-    caller.end()?;
-    assert_eq!(rt; caller.told.as_str(), "/a false false;/b true true;closed;");
+    let stream = format!(in rt.alloc(); "{FIRST}{LAST}")?;
+    let mut caller = Caller::new(rt.alloc());
+    match tell_whole(&mut caller, &stream) {
+        Ok(()) => assert_eq!(rt; caller.told.as_str(), "/a false false;/b true true;closed;"),
+        Err(fault) => return Err(fault),
+    }
     Ok(())
+}
+
+static FAULTY_TARGETS: [(&str, &str); 2] = [
+    (
+        "CONNECT h:1 HTTP/1.1\r\nHost: h\r\n\r\nGET",
+        "Refused(Target(Connect)) false;closed;",
+    ),
+    (
+        "HEAD b HTTP/1.1\r\nHost: h\r\n\r\nGET",
+        "Refused(Target(BadTarget)) true;closed;",
+    ),
+];
+
+/// Two pieces, the second of which is the rest of a request.
+fn tell_two(caller: &mut Caller, sent: &str) -> Result<(), Fail> {
+    caller.receive(sent.as_bytes())?;
+    caller.receive(b" / HTTP/1.1\r\nHost: h\r\n\r\n")
+}
+
+fn is_refused(alloc: Global, sent: &str, told: &str) -> Result<bool, Fail> {
+    let mut caller = Caller::new(alloc);
+    match tell_two(&mut caller, sent) {
+        Ok(()) => Ok(caller.told.as_str() == told),
+        Err(fault) => Err(fault),
+    }
 }
 
 /// A fault of the method and the target is met once the request is whole, and nothing is read behind it.
 #[test]
 fn a_faulty_target(rt: HostRuntime) -> Result<(), Fail> {
-    let rows = [
-        (
-            "CONNECT h:1 HTTP/1.1\r\nHost: h\r\n\r\nGET",
-            "Refused(Target(Connect)) false;closed;",
-        ),
-        (
-            "HEAD b HTTP/1.1\r\nHost: h\r\n\r\nGET",
-            "Refused(Target(BadTarget)) true;closed;",
-        ),
-    ];
-    for (sent, told) in rows {
-        let mut caller = Caller::new(rt.alloc());
-        caller.receive(sent.as_bytes())?;
-        caller.receive(b" / HTTP/1.1\r\nHost: h\r\n\r\n")?;
-        assert_eq!(rt; caller.told.as_str(), told, "{sent}");
+    for (sent, told) in &FAULTY_TARGETS {
+        assert!(rt; is_refused(rt.alloc(), sent, told)?, "{sent}");
     }
     Ok(())
 }
