@@ -2,6 +2,7 @@
 
 use crate::files::own_path;
 use crate::town::{HALT, Town, live};
+use std::alloc::{AllocError, Global};
 use std::fs;
 use std::net::TcpStream;
 use std::test::Fail;
@@ -12,10 +13,10 @@ use sv_net::Persistence;
 
 /// Two clients make a session each, one more names the first of them, and the last one waits for a session of the other node. A node
 /// writes its figures when it starts, and then only every five seconds.
-const ASKED: [[u8; 2]; 4] = [[0, 9], [0, 9], [0, 1], [1, 1]];
+static ASKED: [[u8; 2]; 4] = [[0, 9], [0, 9], [0, 1], [1, 1]];
 
 /// What the figures say of that.
-const WANTED: [&str; 5] = [
+static WANTED: [&str; 5] = [
     "kegbramble_sessions{node=\"0\",state=\"active\"} 2",
     "kegbramble_sessions{node=\"0\",state=\"sent\"} 0",
     "kegbramble_known_keys{node=\"0\"} 2",
@@ -35,8 +36,8 @@ fn figures_in(rt: &HostRuntime, path: &str) -> Result<Report, Fail> {
 /// All who ask, and one who has the node stop.
 fn callers(rt: &HostRuntime, town: &Town) -> Result<Vec<TcpStream>, Fail> {
     let mut callers = Vec::new(rt.alloc());
-    for named in ASKED {
-        callers.push(town.ask(rt, named)?)?;
+    for named in &ASKED {
+        callers.push(town.ask(rt, *named)?)?;
     }
     callers.push(town.call(rt, HALT)?)?;
     Ok(callers)
@@ -53,19 +54,32 @@ fn served(rt: &HostRuntime, path: &str) -> Result<usize, Fail> {
     Ok(a.bytes().len())
 }
 
+/// The length of the journal, and the figures of the end.
+fn figures_of(rt: &HostRuntime, path: &str) -> Result<(usize, String), Fail> {
+    let bytes = served(rt, path)?;
+    let text = fs::read_to_string(rt, path)?;
+    fs::remove_file(rt, path)?;
+    Ok((bytes, text))
+}
+
+/// The text has this line.
+fn has_line(text: &str, wanted: &str) -> bool {
+    text.lines().any(|line| line == wanted)
+}
+
+/// Whether a text has the line of a journal of this length.
+fn has_journal(alloc: Global, text: &str, bytes: usize) -> Result<bool, AllocError> {
+    let wanted = format!(in alloc; "kegbramble_journal_bytes{{node=\"0\"}} {bytes}")?;
+    Ok(has_line(text, &wanted))
+}
+
 #[test]
 fn figures_are_of_the_end(rt: HostRuntime) -> Result<(), Fail> {
     let path = own_path(&rt, "figures")?;
-    let bytes = served(&rt, path.as_str())?;
-    let text = fs::read_to_string(&rt, &path)?;
-    fs::remove_file(&rt, &path)?;
-    for wanted in WANTED {
-        assert!(rt;
-            text.as_str().lines().any(|line| line == wanted),
-            "{wanted}"
-        );
+    let (bytes, text) = figures_of(&rt, &path)?;
+    for wanted in &WANTED {
+        assert!(rt; has_line(&text, wanted), "{wanted}");
     }
-    let journal = format!(in rt.alloc(); "kegbramble_journal_bytes{{node=\"0\"}} {bytes}")?;
-    assert!(rt; text.as_str().lines().any(|line| line == journal.as_str()));
+    assert!(rt; has_journal(rt.alloc(), &text, bytes)?, "{bytes}");
     Ok(())
 }

@@ -1,6 +1,7 @@
 //! Descriptors that nothing is served by.
 
 use super::written;
+use std::alloc::{AllocError, Global};
 use std::test::Fail;
 use sv_launch::{Application, Applications, Fault};
 use sv_showcase::showcase;
@@ -70,30 +71,42 @@ static ROWS: [Row; 12] = [
     ),
 ];
 
+/// The fault has this name, and ends a program with this status.
+fn is_named(alloc: Global, fault: Fault, name: &str, status: u8) -> Result<bool, AllocError> {
+    let text = format!(in alloc; "{fault}")?;
+    Ok(text.as_str() == name && fault.status() == status)
+}
+
 #[test]
 fn descriptors(rt: HostRuntime) -> Result<(), Fail> {
     let alloc = rt.alloc();
     for Row(descriptor, fault, name, status) in &ROWS {
-        assert!(rt;
-            written(alloc, descriptor, "").err() == Some(*fault),
-            "{name}: {descriptor}"
-        );
-        assert_eq!(rt; fault.status(), *status, "{name}");
-        let text = format!(in alloc; "{fault}")?;
-        assert_eq!(rt; text.as_str(), *name);
+        let found = written(alloc, descriptor, "").err();
+        assert!(rt; found == Some(*fault), "{name}: {descriptor}");
+        assert!(rt; is_named(alloc, *fault, name, *status)?, "{name}");
     }
     Ok(())
+}
+
+const DESCRIPTOR: &str = "[[context]]\npath = \"\"\n";
+
+/// A new application has none built in.
+fn has_none(alloc: Global) -> bool {
+    Application::new(alloc).built_in().is_none()
+}
+
+/// An application that is given a descriptor has it built in.
+fn has_its_own(alloc: Global) -> bool {
+    let bare = Application::new(alloc).descriptor(DESCRIPTOR);
+    bare.built_in() == Some(DESCRIPTOR)
 }
 
 /// A program has a descriptor built in where it is given one, and another in the place of its own.
 #[test]
 fn a_descriptor_is_built_in(rt: HostRuntime) -> Result<(), Fail> {
-    let alloc = rt.alloc();
-    let descriptor = "[[context]]\npath = \"\"\n";
-    let bare = Application::new(alloc);
-    assert_eq!(rt; bare.built_in(), None);
-    assert_eq!(rt; bare.descriptor(descriptor).built_in(), Some(descriptor));
-    let samples = showcase(alloc).descriptor(descriptor);
-    assert_eq!(rt; samples.built_in(), Some(descriptor));
+    let samples = showcase(rt.alloc()).descriptor(DESCRIPTOR);
+    assert_eq!(rt; samples.built_in(), Some(DESCRIPTOR));
+    assert!(rt; has_its_own(rt.alloc()));
+    assert!(rt; has_none(rt.alloc()));
     Ok(())
 }

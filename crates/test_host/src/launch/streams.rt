@@ -57,19 +57,34 @@ fn served<R: Read, W: Write>(alloc: Global, reader: &mut R, writer: &mut W) -> R
     serve(alloc, deployment, reader, writer)
 }
 
+/// How a stream ends, and whether just this was written for it.
+fn ended<R: Read>(alloc: Global, reader: &mut R, want: &str) -> (Result<(), Fault>, bool) {
+    let mut writer = Vec::new(alloc);
+    let ended = served(alloc, reader, &mut writer);
+    (ended, writer.as_slice() == want.as_bytes())
+}
+
 #[test]
-fn streams(rt: HostRuntime) -> Result<(), Fail> {
+fn a_reader_that_gives_little(rt: HostRuntime) -> Result<(), Fail> {
     let alloc = rt.alloc();
     let two = format!(in alloc; "{REQUEST}{REQUEST}")?;
     let answers = format!(in alloc; "{HELLO}{HELLO}")?;
-    let mut writer = Vec::new(alloc);
-    served(alloc, &mut Dribbling(two.as_bytes()), &mut writer)?;
-    assert_eq!(rt; writer.as_slice(), answers.as_bytes());
-    let mut writer = Vec::new(alloc);
-    let ended = served(alloc, &mut Failing(REQUEST.as_bytes()), &mut writer);
-    assert_eq!(rt; ended, Err(Fault::Input));
-    assert_eq!(rt; writer.as_slice(), HELLO.as_bytes());
-    let ended = served(alloc, &mut REQUEST.as_bytes(), &mut Shut);
+    let mut reader = Dribbling(two.as_bytes());
+    assert_eq!(rt; ended(alloc, &mut reader, &answers), (Ok(()), true));
+    Ok(())
+}
+
+#[test]
+fn a_reader_that_fails(rt: HostRuntime) -> Result<(), Fail> {
+    let mut reader = Failing(REQUEST.as_bytes());
+    let ended = ended(rt.alloc(), &mut reader, HELLO);
+    assert_eq!(rt; ended, (Err(Fault::Input), true));
+    Ok(())
+}
+
+#[test]
+fn a_writer_that_fails(rt: HostRuntime) -> Result<(), Fail> {
+    let ended = served(rt.alloc(), &mut REQUEST.as_bytes(), &mut Shut);
     assert_eq!(rt; ended, Err(Fault::Output));
     Ok(())
 }

@@ -69,15 +69,35 @@ static SINGLE: [(&str, Result<Words<'static>, Arguments>); 6] = [
     ("--once", Err(Arguments)),
 ];
 
+/// Whether words ask for this.
+fn ask_for(list: &[String], meant: Result<Words<'static>, Arguments>) -> bool {
+    read_words(list) == meant
+}
+
+/// One word more behind them.
+fn add_word(alloc: Global, list: &mut Vec<String>, word: &str) -> Result<(), Fail> {
+    let word = String::from_str(alloc, word)?;
+    Ok(list.push(word)?)
+}
+
+/// Whether a word asks for this, and with another one behind it for nothing.
+fn asks_alone(
+    alloc: Global,
+    list: &mut Vec<String>,
+    word: &str,
+    meant: Result<Words<'static>, Arguments>,
+) -> Result<bool, Fail> {
+    add_word(alloc, list, word)?;
+    let is_so = ask_for(list, meant);
+    add_word(alloc, list, "-")?;
+    Ok(is_so && ask_for(list, Err(Arguments)))
+}
+
 #[test]
 fn one_word(rt: HostRuntime) -> Result<(), Fail> {
     for (word, meant) in &SINGLE {
         let mut list = Vec::new(rt.alloc());
-        list.push(String::from_str(rt.alloc(), *word)?)?;
-        assert!(rt; read_words(list.as_slice()) == *meant, "{word}");
-        // With another word behind it asks for nothing.
-        list.push(String::from_str(rt.alloc(), "-")?)?;
-        assert!(rt; read_words(list.as_slice()) == Err(Arguments));
+        assert!(rt; asks_alone(rt.alloc(), &mut list, word, *meant)?, "{word}");
     }
     Ok(())
 }
@@ -100,14 +120,28 @@ static FRONTS: [(&str, Result<Words<'static>, Arguments>); 2] = [
     ("--once", Err(Arguments)),
 ];
 
+/// Whether a word in front of them has words ask for this, and with one more behind them for nothing.
+fn asks_in_front(
+    alloc: Global,
+    list: &mut Vec<String>,
+    front: &str,
+    meant: Result<Words<'static>, Arguments>,
+) -> Result<bool, Fail> {
+    let front = String::from_str(alloc, front)?;
+    list.insert(0, front)?;
+    let is_so = ask_for(list, meant);
+    add_word(alloc, list, "8")?;
+    Ok(is_so && ask_for(list, Err(Arguments)))
+}
+
 #[test]
 fn a_word_in_front(rt: HostRuntime) -> Result<(), Fail> {
     for (front, meant) in &FRONTS {
         let mut list = owned(rt.alloc(), ["c", "j", "7"])?;
-        list.insert(0, String::from_str(rt.alloc(), *front)?)?;
-        assert!(rt; read_words(list.as_slice()) == *meant, "{front}");
-        list.push(String::from_str(rt.alloc(), "8")?)?;
-        assert!(rt; read_words(list.as_slice()) == Err(Arguments));
+        assert!(rt;
+            asks_in_front(rt.alloc(), &mut list, front, *meant)?,
+            "{front}"
+        );
     }
     Ok(())
 }
