@@ -6,7 +6,7 @@ use crate::{given, shown};
 use std::alloc::{AllocError, Global};
 use sv_connection::{Connection, Outcome, RequestFault, Solo, refusal};
 use sv_message::fault::ReadFault;
-use sv_model::{Cause, Input, Moment, Site, StepFault};
+use sv_model::{Cause, Input, Moment, Response, Site, StepFault};
 use test_engine::{Counter, output_text, request};
 
 type Shown = Result<String, Unshown>;
@@ -75,18 +75,32 @@ pub fn serve_next(alloc: Global, refusals: &mut Refusals) -> Shown {
     told(alloc, outcome, &written)
 }
 
-pub fn answer(alloc: Global, refusals: &mut Refusals) -> Shown {
-    let response = given::response(alloc)?;
-    let mut connection = Connection::new(alloc, false);
-    let mut writer = Vec::with_capacity(alloc, 1_000)?;
-    let outcome = connection.answer(&mut writer, &response, given::NOW);
-    if !is_refusal(outcome, &writer) {
-        return told(alloc, outcome, &writer);
-    }
-    refusals.add();
+/// A response on a connection of its own: its outcome; what is written takes the place of what was.
+fn answer_once(alloc: Global, response: &Response, writer: &mut Vec<u8>) -> Outcome {
     let mut connection = Connection::new(alloc, false);
     writer.clear();
-    let outcome = connection.answer(&mut writer, &response, given::NOW);
+    connection.answer(writer, response, given::NOW)
+}
+
+/// The same, once more where memory is refused to it.
+fn answer_by(
+    alloc: Global,
+    refusals: &mut Refusals,
+    response: &Response,
+    writer: &mut Vec<u8>,
+) -> Outcome {
+    let outcome = answer_once(alloc, response, writer);
+    if !is_refusal(outcome, writer) {
+        return outcome;
+    }
+    refusals.add();
+    answer_once(alloc, response, writer)
+}
+
+pub fn answer(alloc: Global, refusals: &mut Refusals) -> Shown {
+    let response = given::response(alloc)?;
+    let mut writer = Vec::with_capacity(alloc, 1_000)?;
+    let outcome = answer_by(alloc, refusals, &response, &mut writer);
     told(alloc, outcome, &writer)
 }
 

@@ -107,10 +107,14 @@ pub fn start(alloc: Global, refusals: &mut Refusals) -> Shown {
     done(format!(in alloc; "{stopped:?}"))
 }
 
-fn outcome_text(alloc: Global, outcome: Outcome) -> Result<String, AllocError> {
-    let (response, _, _, events) = outcome.into_parts();
-    let text = shown::response(alloc, &response)?;
-    format!(in alloc; "{} {text}{}", response.status.as_u16(), events.len())
+fn outcome_text(alloc: Global, outcome: &Outcome) -> Result<String, AllocError> {
+    let response = &outcome.response;
+    let text = shown::response(alloc, response)?;
+    format!(in alloc;
+        "{} {text}{}",
+        response.status.as_u16(),
+        outcome.events.len()
+    )
 }
 
 /// Serves a request with its session.
@@ -139,5 +143,5 @@ fn serve_twice(alloc: Global, refusals: &mut Refusals, shop: &mut Shop) -> Resul
 pub fn serve_again(alloc: Global, refusals: &mut Refusals) -> Shown {
     let mut shop = started(alloc, refusals)?;
     let outcome = serve_twice(alloc, refusals, &mut shop)?;
-    done(outcome_text(alloc, outcome))
+    done(outcome_text(alloc, &outcome))
 }

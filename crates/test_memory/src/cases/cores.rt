@@ -44,7 +44,7 @@ enum Step {
     Late,
 }
 
-const STEPS: [Step; 11] = [
+static STEPS: [Step; 11] = [
     Step::Make,
     Step::Want,
     Step::Ack,
@@ -157,14 +157,37 @@ fn core_of(alloc: Global, records: &[Record]) -> Result<Core<Counter>, Unshown> 
     }
 }
 
+/// Takes one step, and adds what it puts out.
+fn add_step(
+    alloc: Global,
+    refusals: &mut Refusals,
+    core: &mut Core<Counter>,
+    line: &mut String,
+    one: Step,
+) -> Result<(), AllocError> {
+    let outputs = step_again(alloc, refusals, core, one)?;
+    add_outputs(alloc, line, &outputs)
+}
+
+fn add_steps(
+    alloc: Global,
+    refusals: &mut Refusals,
+    core: &mut Core<Counter>,
+    line: &mut String,
+) -> Result<(), AllocError> {
+    for one in &STEPS {
+        add_step(alloc, refusals, core, line, *one)?;
+    }
+    Ok(())
+}
+
 pub fn decide(alloc: Global, refusals: &mut Refusals) -> Shown {
     let mut core = core_of(alloc, &[Record::Forgets { home: 0, boot: 1 }])?;
     let mut line = String::new(alloc);
-    for one in STEPS {
-        let outputs = step_again(alloc, refusals, &mut core, one)?;
-        add_outputs(alloc, &mut line, &outputs)?;
+    match add_steps(alloc, refusals, &mut core, &mut line) {
+        Ok(()) => Ok(line),
+        Err(AllocError) => Err(Unshown::Memory),
     }
-    Ok(line)
 }
 
 fn start(core: &mut Core<Counter>) -> Result<(), AllocError> {
@@ -237,35 +260,60 @@ fn apply(alloc: Global, core: &mut Core<Counter>, number: u8) -> Result<(), Appl
     core.apply(state_of(alloc, number)?)
 }
 
+/// Applies a record, once more where memory is refused.
+fn apply_twice(
+    alloc: Global,
+    refusals: &mut Refusals,
+    core: &mut Core<Counter>,
+    number: u8,
+) -> Result<(), Unshown> {
+    match apply(alloc, core, number) {
+        Ok(()) => return Ok(()),
+        Err(ApplyFault::BadRecord) => return Err(Unshown::Other),
+        Err(ApplyFault::Memory) => refusals.add(),
+    }
+    match apply(alloc, core, number) {
+        Ok(()) => Ok(()),
+        Err(_) => Err(Unshown::Other),
+    }
+}
+
 pub fn apply_again(alloc: Global, refusals: &mut Refusals) -> Shown {
     let mut core = core_of(alloc, &[Record::Counters { boot: 1, next: 1 }])?;
-    for number in [1, 2] {
-        match apply(alloc, &mut core, number) {
-            Ok(()) => {}
-            Err(ApplyFault::BadRecord) => return Err(Unshown::Other),
-            Err(ApplyFault::Memory) => {
-                refusals.add();
-                if apply(alloc, &mut core, number).is_err() {
-                    return Err(Unshown::Other);
-                }
-            }
-        }
+    for number in 1..3 {
+        apply_twice(alloc, refusals, &mut core, number)?;
     }
     done(known(alloc, &core))
 }
 
+/// A snapshot of a core, taken once more where memory is refused.
+fn snapshot_of(refusals: &mut Refusals, core: &Core<Counter>) -> Result<Vec<Record>, Unshown> {
+    if let Ok(snapshot) = core.snapshot() {
+        return Ok(snapshot);
+    }
+    refusals.add();
+    match core.snapshot() {
+        Ok(snapshot) => Ok(snapshot),
+        Err(_) => Err(Unshown::Other),
+    }
+}
+
+/// What a core of these records knows of both keys.
+fn known_of(alloc: Global, records: &[Record]) -> Shown {
+    let core = core_of(alloc, records)?;
+    done(known(alloc, &core))
+}
+
+/// The snapshot of a core of the records above.
+fn snapshot_again(alloc: Global, refusals: &mut Refusals) -> Result<Vec<Record>, Unshown> {
+    let records = records(alloc)?;
+    match core_of(alloc, &records) {
+        Ok(core) => snapshot_of(refusals, &core),
+        Err(why) => Err(why),
+    }
+}
+
 pub fn snapshot(alloc: Global, refusals: &mut Refusals) -> Shown {
-    let core = core_of(alloc, &records(alloc)?)?;
-    let snapshot = match core.snapshot() {
-        Ok(snapshot) => snapshot,
-        Err(_) => {
-            refusals.add();
-            match core.snapshot() {
-                Ok(snapshot) => snapshot,
-                Err(_) => return Err(Unshown::Other),
-            }
-        }
-    };
-    let again = core_of(alloc, &snapshot)?;
-    done(known(alloc, &again))
+    let snapshot = snapshot_again(alloc, refusals)?;
+    known_of(alloc, &snapshot)
 }

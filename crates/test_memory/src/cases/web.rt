@@ -15,7 +15,7 @@ use sv_target::{Target, cookies, params};
 type Shown = Result<String, Unshown>;
 
 /// A request with a body in chunks and a trailer, and one with a body of declared length; each is cut inside.
-const PIECES: [&str; 4] = [
+static PIECES: [&str; 4] = [
     "POST /c HTTP/1.1\r\nHost: h\r\nX-Own: a value\r\nTransfer-Encoding: chunked\r\n\r\n4\r\nghi",
     "j\r\n3\r\nklm\r\n0\r\nA: b\r\n\r\n",
     "POST /b HTTP/1.1\r\nHost: h\r\nContent-Length: 6\r\n\r\nabc",
@@ -41,14 +41,35 @@ fn read_on(
     again!(refusals, reader.next())
 }
 
+/// Reads another piece, and adds the body of what is whole then.
+fn read_piece(
+    refusals: &mut Refusals,
+    reader: &mut RequestReader,
+    line: &mut String,
+    piece: &str,
+) -> Result<(), Unshown> {
+    let raw = read_on(refusals, reader, piece)?;
+    Ok(add_body(line, &raw)?)
+}
+
+fn read_all(
+    refusals: &mut Refusals,
+    reader: &mut RequestReader,
+    line: &mut String,
+) -> Result<(), Unshown> {
+    for piece in &PIECES {
+        read_piece(refusals, reader, line, piece)?;
+    }
+    Ok(())
+}
+
 pub fn reader(alloc: Global, refusals: &mut Refusals) -> Shown {
     let mut reader = RequestReader::new(alloc);
     let mut line = String::new(alloc);
-    for piece in PIECES {
-        let raw = read_on(refusals, &mut reader, piece)?;
-        add_body(&mut line, &raw)?;
+    match read_all(refusals, &mut reader, &mut line) {
+        Ok(()) => Ok(line),
+        Err(why) => Err(why),
     }
-    Ok(line)
 }
 
 pub fn response(alloc: Global, refusals: &mut Refusals) -> Shown {

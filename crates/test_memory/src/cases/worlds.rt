@@ -82,16 +82,21 @@ fn event(alloc: Global, act: Act) -> Result<WorldEvent, AllocError> {
     }
 }
 
-pub fn event_copy(alloc: Global, refusals: &mut Refusals) -> Shown {
-    let event = torn(alloc)?;
-    let copy = again!(refusals, event.copy(alloc))?;
-    match &copy {
+/// The body of a request whose step was torn.
+fn torn_body(alloc: Global, event: &WorldEvent) -> Shown {
+    match event {
         WorldEvent::Torn {
             input: Input::Ask { request, .. },
             ..
         } => done(format!(in alloc; "{:?}", request.body.as_slice())),
         _ => Err(Unshown::Other),
     }
+}
+
+pub fn event_copy(alloc: Global, refusals: &mut Refusals) -> Shown {
+    let event = torn(alloc)?;
+    let copy = again!(refusals, event.copy(alloc))?;
+    torn_body(alloc, &copy)
 }
 
 fn engines(alloc: Global) -> Result<Vec<Counter>, AllocError>
