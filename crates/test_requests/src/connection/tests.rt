@@ -178,10 +178,8 @@ struct Ran {
 const ANSWER: &str =
     "HTTP/1.1 200 OK\r\nDate: Sun, 06 Nov 1994 08:49:37 GMT\r\nContent-Length: 2\r\n\r\n/a";
 
-/// So many calls of a [`Sink`] take the answer, without the flush.
-fn answer_calls() -> usize {
-    ANSWER.len().div_ceil(GULP)
-}
+/// So many calls of a [`Sink`] take the answer's 77 bytes, and one more is the flush.
+const WRITES: usize = 11;
 
 /// How many bytes these are of the front of the answer.
 fn front_of_answer(held: &[u8]) -> Option<usize> {
@@ -247,7 +245,7 @@ fn answered() -> Ran {
         next: None,
         steps: 1,
         reads: REQUEST.len(),
-        writes: answer_calls() + 1,
+        writes: WRITES + 1,
         written: Some(ANSWER.len()),
     }
 }
@@ -292,10 +290,10 @@ fn a_reader_that_fails(rt: HostRuntime) -> Result<(), Fail> {
 #[test]
 fn a_writer_that_fails(rt: HostRuntime) -> Result<(), Fail> {
     let sent = b"GET /a HTTP/1.1\r\nHost: h\r\n\r\nGET /b HTTP/1.1\r\nHost: h\r\n\r\n";
-    for fails_at in 1..=answer_calls() + 1 {
+    for fails_at in 1..=WRITES + 1 {
         assert_eq!(rt; run(rt.alloc(), sent, 0, fails_at), unwritten(fails_at));
     }
-    assert_eq!(rt; run(rt.alloc(), sent, 0, answer_calls() + 2), answered());
+    assert_eq!(rt; run(rt.alloc(), sent, 0, WRITES + 2), answered());
     Ok(())
 }
 

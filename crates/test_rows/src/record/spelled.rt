@@ -1,5 +1,7 @@
 //! Records and packets: what bytes say, and that a copy of it is spelled so.
 
+ghost use Rattle.sv_model.specs.Ranges.{IsPacket, IsRecord};
+
 use crate::digits::bytes_of_digits;
 use crate::fault::RowFault;
 use crate::record::shown::{packet_text, record_text};
@@ -10,7 +12,9 @@ use sv_model::{Packet, Record};
 use sv_record::{RecordFault, read_packet, read_record, write_packet, write_record};
 
 /// The spelling of a copy of a record.
-fn copied_record(alloc: Global, record: &Record) -> Result<Vec<u8>, RecordFault> {
+fn copied_record(alloc: Global, record: &Record) -> Result<Vec<u8>, RecordFault>
+    requires { IsRecord record.now }
+{
     let copy = record.copy(alloc)?;
     let mut spelled = Vec::new(alloc);
     write_record(&copy, &mut spelled)?;
@@ -18,7 +22,9 @@ fn copied_record(alloc: Global, record: &Record) -> Result<Vec<u8>, RecordFault>
 }
 
 /// The spelling of a copy of a packet.
-fn copied_packet(alloc: Global, packet: &Packet) -> Result<Vec<u8>, RecordFault> {
+fn copied_packet(alloc: Global, packet: &Packet) -> Result<Vec<u8>, RecordFault>
+    requires { IsPacket packet.now }
+{
     let copy = packet.copy(alloc)?;
     let mut spelled = Vec::new(alloc);
     write_packet(&copy, &mut spelled)?;
