@@ -37,3 +37,11 @@ IsEnding server group stop = IsTold server stop ⊎ (LacksNumbers group stop ⊎
 pub record HasFailed {E D : Type 0} (node : Node E D) (stop : Stop) : Type 0 where
   pub down : (journal_of node).live ≡ false
   pub stop_is : stop ≡ Fault host.Device
+
+-- its disk has failed at a step
+abbrev pub IsLost : Stop → Type 0
+IsLost stop = stop ≡ Fault host.Device
+
+-- why what a node is told by itself is the last of it
+abbrev pub IsSpent : Server → Stop → Type 0
+IsSpent server stop = LacksSecrets (last_of server.secrets) stop ⊎ IsLost stop

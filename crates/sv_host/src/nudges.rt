@@ -1,10 +1,12 @@
 //! What a node is told by itself: that time has passed, and that requests that wait may be served.
 
-ghost use Rattle.std.specs.Prelude.{ℕ};
+ghost use Rattle.std.specs.Prelude.{ℕ, IfErr};
 ghost use Rattle.sv_model.specs.Ranges.{IsInput};
 ghost use Rattle.sv_node.specs.History.{IsAbove};
 ghost use Rattle.sv_host.specs.Group.{IsRising};
+ghost use Rattle.sv_host.specs.Secrets.{last_of};
 ghost use Rattle.sv_host.specs.Serving.{IsServing, HasServed, HasGathered};
+ghost use Rattle.sv_host.specs.Stops.{IsSpent, LacksSecrets};
 
 use crate::expiry::Expiry;
 use crate::fault::Stop;
@@ -79,7 +81,8 @@ fn add_nudge<M: Machine>(
     packets: Packets,
 ) -> Result<(), Stop>
     requires { IsRising group.old }
-    ensures { HasGathered group.old group.new }
+    ensures gathered { HasGathered group.old group.new }
+    ensures stops { IfErr result (LacksSecrets (last_of server.new.secrets)) }
 {
     let moment = server.moment(machine)?;
     let _added = group.add(moment, nudge.input(), Asker::Nobody, packets);
@@ -93,7 +96,8 @@ fn add_nudges<M: Machine>(
     nudges: Nudges,
 ) -> Result<(), Stop>
     requires { IsRising group.old }
-    ensures { HasGathered group.old group.new }
+    ensures gathered { HasGathered group.old group.new }
+    ensures stops { IfErr result (LacksSecrets (last_of server.new.secrets)) }
 {
     for _ in 0..nudges.count {
         add_nudge(machine, server, group, nudges.nudge, nudges.packets)?;
@@ -110,7 +114,8 @@ fn tell<M: Machine, E: Engine, D: Disk>(
     nudges: Nudges,
 ) -> Result<Taken, Stop>
     requires { IsServing E.valid D.tells D.seen D.may_leave node.old group.old }
-    ensures { HasServed E.meaning E.heard E.valid D.tells D.seen D.may_leave node.old group.old node.new group.new result }
+    ensures served { HasServed E.meaning E.heard E.valid D.tells D.seen D.may_leave node.old group.old node.new group.new result }
+    ensures stops { IfErr result (IsSpent server.new) }
 {
     match add_nudges(machine, server, group, nudges) {
         Ok(()) => server.step(machine, node, group),
@@ -127,7 +132,8 @@ pub fn settle<M: Machine, E: Engine, D: Disk>(
     group: &mut Group,
 ) -> Result<(), Stop>
     requires { IsServing E.valid D.tells D.seen D.may_leave node.old group.old }
-    ensures { HasServed E.meaning E.heard E.valid D.tells D.seen D.may_leave node.old group.old node.new group.new result }
+    ensures served { HasServed E.meaning E.heard E.valid D.tells D.seen D.may_leave node.old group.old node.new group.new result }
+    ensures stops { IfErr result (IsSpent server.new) }
 {
     if !server.parked.may_wait() {
         return Ok(());
@@ -156,7 +162,8 @@ fn tick_all<M: Machine, E: Engine, D: Disk>(
     ticks: Nudges,
 ) -> Result<bool, Stop>
     requires { IsServing E.valid D.tells D.seen D.may_leave node.old group.old }
-    ensures { HasServed E.meaning E.heard E.valid D.tells D.seen D.may_leave node.old group.old node.new group.new result }
+    ensures served { HasServed E.meaning E.heard E.valid D.tells D.seen D.may_leave node.old group.old node.new group.new result }
+    ensures stops { IfErr result (IsSpent server.new) }
 {
     let before = node.journal_len();
     match tell(machine, server, node, group, ticks) {
@@ -173,7 +180,8 @@ pub fn tick<M: Machine, E: Engine, D: Disk>(
     group: &mut Group,
 ) -> Result<(), Stop>
     requires { IsServing E.valid D.tells D.seen D.may_leave node.old group.old }
-    ensures { HasServed E.meaning E.heard E.valid D.tells D.seen D.may_leave node.old group.old node.new group.new result }
+    ensures served { HasServed E.meaning E.heard E.valid D.tells D.seen D.may_leave node.old group.old node.new group.new result }
+    ensures stops { IfErr result (IsSpent server.new) }
 {
     let now = server.second(machine);
     if now <= server.ticked {
@@ -197,7 +205,8 @@ fn end_some<M: Machine, E: Engine, D: Disk>(
     group: &mut Group,
 ) -> Result<(), Stop>
     requires { IsServing E.valid D.tells D.seen D.may_leave node.old group.old }
-    ensures { HasServed E.meaning E.heard E.valid D.tells D.seen D.may_leave node.old group.old node.new group.new result }
+    ensures served { HasServed E.meaning E.heard E.valid D.tells D.seen D.may_leave node.old group.old node.new group.new result }
+    ensures stops { IfErr result (IsSpent server.new) }
 {
     match tick_all(machine, server, node, group, MORE_TICKS) {
         Ok(has_ended) => {
@@ -216,7 +225,8 @@ pub fn expire<M: Machine, E: Engine, D: Disk>(
     group: &mut Group,
 ) -> Result<(), Stop>
     requires { IsServing E.valid D.tells D.seen D.may_leave node.old group.old }
-    ensures { HasServed E.meaning E.heard E.valid D.tells D.seen D.may_leave node.old group.old node.new group.new result }
+    ensures served { HasServed E.meaning E.heard E.valid D.tells D.seen D.may_leave node.old group.old node.new group.new result }
+    ensures stops { IfErr result (IsSpent server.new) }
 {
     let begun = steady(machine);
     for _ in 0..ENDING {

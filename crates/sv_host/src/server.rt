@@ -1,8 +1,9 @@
 //! What a running node keeps beside its journal: its clients, its peers, its secrets, and the time.
 
-ghost use Rattle.std.specs.Prelude.{◌≡◌, ◌≤◌, IfOk};
+ghost use Rattle.std.specs.Prelude.{◌≡◌, ◌≤◌, IfErr, IfOk};
 ghost use Rattle.sv_host.specs.Secrets.{last_of, secret_in, Draws};
 ghost use Rattle.sv_host.specs.Serving.{IsServing, HasServed};
+ghost use Rattle.sv_host.specs.Stops.{IsLost};
 ghost use Rattle.sv_host.specs.Time.{seconds_of};
 
 use crate::expiry::Expiry;
@@ -201,7 +202,8 @@ impl Server {
         group: &mut Group,
     ) -> Result<Taken, Stop>
         requires { IsServing E.valid D.tells D.seen D.may_leave node.old group.old }
-        ensures { HasServed E.meaning E.heard E.valid D.tells D.seen D.may_leave node.old group.old node.new group.new result }
+        ensures served { HasServed E.meaning E.heard E.valid D.tells D.seen D.may_leave node.old group.old node.new group.new result }
+        ensures stops { IfErr result IsLost }
     {
         let (inputs, ways) = group.take();
         let write = self.begin_write(machine, node.journal_len());

@@ -2,7 +2,7 @@ use Rattle.sv_host.proofs.ServingLemmas.{serves_on, served_then}
 use Rattle.sv_host.proofs.event_loop.keep_time.Goals as goal
 
 pub expire-requires : goal.expire-requires
-expire-requires g c = serves_on c.in_ok-tick.was c.tick.ensures
+expire-requires g c = serves_on c.in_ok-tick.was c.tick.ensures.served
 
 pub returns : goal.returns
-returns g c = served_then c.in_ok-tick.was c.tick.ensures c.expire.ensures
+returns g c = served_then c.in_ok-tick.was c.tick.ensures.served c.expire.ensures.served

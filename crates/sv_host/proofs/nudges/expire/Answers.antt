@@ -8,8 +8,8 @@ loop-init g c = served_none _ c.requires
 pub end_some-requires : goal.end_some-requires
 end_some-requires g c = serves_on refl c.loop.invariant
 
-pub returns-in_err-end_some : goal.returns-in_err-end_some
-returns-in_err-end_some g c = served_then refl c.loop.invariant (served_out _ c.in_err-end_some.was c.from_residual.ensures.0 c.end_some.ensures)
+pub returns-in_err-end_some-clause-served : goal.returns-in_err-end_some-clause-served
+returns-in_err-end_some-clause-served g c = served_then refl c.loop.invariant (served_out _ c.in_err-end_some.was c.from_residual.ensures.0 c.end_some.ensures.served)
 
 pub loop-preserved : goal.loop-preserved
-loop-preserved g c = served_then refl c.loop.invariant (served_well _ c.in_ok-end_some.was c.end_some.ensures)
+loop-preserved g c = served_then refl c.loop.invariant (served_well _ c.in_ok-end_some.was c.end_some.ensures.served)

@@ -18,8 +18,8 @@ hand_out-requires g c =
     c.take-inputs.result.0.items c.step_all-answers.result c.requires.valid.setting c.requires.valid.ranged
     (subst (λ (xs : List (Moment × Input)). AllByRecursion (λ i. IsInput i.1) xs) (sym c.take-inputs.ensures.inputs) c.requires.rising.within) c.step_all-answers.ensures.group.ends
 
-pub returns : goal.returns
-returns g c =
+pub returns-clause-served : goal.returns-clause-served
+returns-clause-served g c =
     let e = g.E.Engine in
     let d = g.D.Disk in
     let t = c.take-inputs.ensures in
