@@ -82,7 +82,7 @@ fn move_one<M: Machine>(machine: &M, route: &mut Route, key: Key) -> Result<bool
     let is_moved = move_to(machine, route.address(machine), key, to)?;
     if is_moved {
         route.count(at);
-        route.next = at + 1;
+        route.next = at.saturating_add(1);
     }
     Ok(is_moved)
 }
