@@ -12,10 +12,10 @@ use sv_model::{Packet, Record};
 use sv_record::{RecordFault, read_packet, read_record, write_packet, write_record};
 
 /// The spelling of a copy of a record.
-fn copied_record(alloc: Global, record: &Record) -> Result<Vec<u8>, RecordFault>
-    requires { IsRecord record.now }
+fn copied_record(alloc: Global, entry: &Record) -> Result<Vec<u8>, RecordFault>
+    requires { IsRecord entry.now }
 {
-    let copy = record.copy(alloc)?;
+    let copy = entry.copy(alloc)?;
     let mut spelled = Vec::new(alloc);
     write_record(&copy, &mut spelled)?;
     Ok(spelled)
