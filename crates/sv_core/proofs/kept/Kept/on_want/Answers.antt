@@ -1,0 +1,5 @@
+use Rattle.std.proofs.Common.{rules}
+use Rattle.sv_core.proofs.kept.Kept.on_want.Goals as goal
+
+pub returns-else-epoch : goal.returns-else-epoch
+returns-else-epoch c = search rules

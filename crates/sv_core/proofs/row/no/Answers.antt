@@ -1,0 +1,5 @@
+use Rattle.std.proofs.Common.{rules}
+use Rattle.sv_core.proofs.row.no.Goals as goal
+
+pub returns-clause-decision : goal.returns-clause-decision
+returns-clause-decision g c = search rules

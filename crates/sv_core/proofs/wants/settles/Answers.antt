@@ -1,0 +1,5 @@
+use Rattle.std.proofs.Common.{rules}
+use Rattle.sv_core.proofs.wants.settles.Goals as goal
+
+pub returns-in-Taken : goal.returns-in-Taken
+returns-in-Taken c = search rules
