@@ -1,0 +1,29 @@
+use Rattle.std.proofs.Common.{◌≡◌, ℕ, ◌+◌, ◌<◌, List, [], ◌∷◌, ◌++◌, length, get_or, take, arith, sym, ap, ◌∙◌}
+use Rattle.std.proofs.lemmas.List.{append_assoc, take_more, take_all}
+use Rattle.sv_model.specs.declared.node.Setting.{Setting}
+use Rattle.sv_model.specs.declared.node.Parked.{Parked}
+use Rattle.sv_model.specs.declared.output.Output.{Output}
+use Rattle.sv_model.specs.NodeState.{Durable}
+use Rattle.sv_core.specs.Kept.{node_of}
+use Rattle.sv_core.specs.Time.{wants_of}
+use Rattle.sv_core.proofs.TimeLemmas.{wants_of_more}
+use Rattle.sv_core.proofs.kept.Kept.add_wants_again.Goals as goal
+
+-- the wants of one request more
+step : (set : Setting) (d : Durable) (now : ℕ) (ps qs : List Parked) (i : ℕ) (p : Parked) (before outs new : List Output) → qs ≡ ps → i < length qs → p ≡ get_or qs i p
+    → outs ≡ before ++ wants_of set d now (take i ps) → new ≡ outs ++ wants_of set d now (p ∷ []) → new ≡ before ++ wants_of set d now (take (i + 1) ps)
+step set d now ps qs i p before outs new same is read so more =
+    more ∙ ap (λ l. l ++ wants_of set d now (p ∷ [])) so ∙ append_assoc before (wants_of set d now (take i ps)) (wants_of set d now (p ∷ []))
+    ∙ ap (λ l. before ++ l) (sym (wants_of_more set d now (take i ps) p)
+    ∙ ap (λ l. wants_of set d now l) (sym (ap (λ l. take (i + 1) l) (sym same) ∙ take_more qs i p is ∙ (λ j. take i (same j) ++ sym read j ∷ []))))
+
+pub loop-parked-preserved : goal.loop-parked-preserved
+loop-parked-preserved c =
+    let k = c.args.self.now in
+    step k.setting (node_of k).durable c.args.now k.parked.items c.deref-parked-items.result.now c.loop-parked.parked-index c.parked-item.result c.args.outputs.now.items c.loop-parked.outputs.items _
+    c.deref-parked-items.ensures.value c.loop-parked-test.true c.parked-item.is c.loop-parked.invariant c.in_ok-add_wants_of.ensures
+
+pub returns : goal.returns
+returns c =
+    let k = c.args.self.now in
+    c.loop-parked.invariant ∙ ap (λ l. c.args.outputs.now.items ++ wants_of k.setting (node_of k).durable c.args.now l) (take_all c.loop-parked.parked-index k.parked.items (omega (arith, ap length c.deref-parked-items.ensures.value)))
