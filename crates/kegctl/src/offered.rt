@@ -10,213 +10,246 @@ const NAME: &str = "kegctl";
 /// So many nodes may be in a cluster.
 const NODES: usize = 8;
 
-/// A word that has to be there.
-fn word<'a>(alloc: Global, id: &'a str, help: &'a str) -> Arg<'a> {
-    Arg::new(alloc, id)
-        .required(true)
-        .action(ArgAction::Set)
-        .help(help)
+/// How a word of the command line is given.
+#[derive(Clone, Copy)]
+enum Form {
+    /// It has to be there.
+    Needed,
+    /// One for each node, one at least.
+    ForEachNode,
+    /// A choice that may be there.
+    Choice,
+    /// A choice with a value, which the help calls as the choice.
+    Value,
+    /// A choice with a value, which the help calls so.
+    Named(&'static str),
+    /// A choice with two values.
+    Two(&'static [&'static str]),
 }
 
-/// A choice that may be there.
-fn choice<'a>(alloc: Global, id: &'a str, help: &'a str) -> Arg<'a> {
-    Arg::new(alloc, id)
-        .long(id)
-        .action(ArgAction::SetTrue)
-        .help(help)
+/// A word of the command line, and what its help says.
+struct Word {
+    id: &'static str,
+    form: Form,
+    help: &'static str,
 }
 
-fn against<'a>(alloc: Global) -> Arg<'a> {
-    Arg::new(alloc, "against")
-        .long("against")
-        .value_name("OLD")
-        .help(
-            "the descriptor that the nodes had until now: says which of their sessions CONFIG would lose",
-        )
+/// A command, what its help says of it, and its words.
+struct Offer {
+    name: &'static str,
+    about: &'static str,
+    words: &'static [Word],
 }
 
-fn asked<'a>(alloc: Global) -> Arg<'a> {
-    Arg::new(alloc, "program")
-        .long("program")
-        .value_name("PROGRAM")
-        .help(
-            "a node's program, such as kegbramble-node: is asked whether it has all that CONFIG names",
-        )
-}
+/// The descriptor of a cluster's nodes.
+const CONFIG: Word = Word {
+    id: "CONFIG",
+    form: Form::Needed,
+    help: "the descriptor of the nodes",
+};
 
-fn looked_through<'a>(alloc: Global) -> Arg<'a> {
-    Arg::new(alloc, "journal")
-        .long("journal")
-        .num_args(2)
-        .value_names(&["JOURNAL", "NODE"])
-        .help("says whether JOURNAL can be that of the node with this number, by its records")
-}
+/// The port of a node.
+const PORT: Word = Word {
+    id: "PORT",
+    form: Form::Needed,
+    help: "the node's port",
+};
 
-fn check<'a>(alloc: Global) -> Result<Command<'a>, AllocError> {
-    Command::new(alloc, "check")
-        .about("says what a descriptor has, or where it is at fault and what to write there")
-        .arg(word(alloc, "CONFIG", "the descriptor of the nodes"))?
-        .arg(against(alloc))?
-        .arg(asked(alloc))?
-        .arg(looked_through(alloc))
-}
+/// The journal that is listed.
+const LISTED: Word = Word {
+    id: "JOURNAL",
+    form: Form::Needed,
+    help: "the first file of the journal; the other has .b behind its name",
+};
 
-/// A command that lists something of a journal.
-fn listing<'a>(alloc: Global, name: &'a str, about: &'a str) -> Result<Command<'a>, AllocError> {
-    let keys = Arg::new(alloc, "keys")
-        .long("keys")
-        .value_name("CONFIG")
-        .help(
-            "the node's descriptor: a last line says how many of its keys are known, by what has become of their sessions, and how many are left",
-        );
-    let journal = word(
-        alloc,
-        "JOURNAL",
-        "the first file of the journal; the other has .b behind its name",
-    );
-    Command::new(alloc, name)
-        .about(about)
-        .arg(journal)?
-        .arg(keys)
-}
+/// Whether the keys are counted.
+const KEYS: Word = Word {
+    id: "keys",
+    form: Form::Named("CONFIG"),
+    help: "the node's descriptor: a last line says how many of its keys are known, by what has become of their sessions, and how many are left",
+};
 
-fn sessions<'a>(alloc: Global) -> Result<Command<'a>, AllocError> {
-    let sessions = listing(
-        alloc,
-        "sessions",
-        "lists the sessions that a node keeps, by its journal, which is only read",
-    )?;
-    sessions
-        .arg(choice(
-            alloc,
-            "values",
-            "shows values of attributes, which may be secrets",
-        ))?
-        .arg(choice(alloc, "json", "a line of JSON for each session"))
-}
+/// The commands, in the order of the help.
+const OFFERS: [Offer; 10] = [
+    Offer {
+        name: "check",
+        about: "says what a descriptor has, or where it is at fault and what to write there",
+        words: &[
+            CONFIG,
+            Word {
+                id: "against",
+                form: Form::Named("OLD"),
+                help: "the descriptor that the nodes had until now: says which of their sessions CONFIG would lose",
+            },
+            Word {
+                id: "program",
+                form: Form::Named("PROGRAM"),
+                help: "a node's program, such as kegbramble-node: is asked whether it has all that CONFIG names",
+            },
+            Word {
+                id: "journal",
+                form: Form::Two(&["JOURNAL", "NODE"]),
+                help: "says whether JOURNAL can be that of the node with this number, by its records",
+            },
+        ],
+    },
+    Offer {
+        name: "sessions",
+        about: "lists the sessions that a node keeps, by its journal, which is only read",
+        words: &[
+            LISTED,
+            KEYS,
+            Word {
+                id: "values",
+                form: Form::Choice,
+                help: "shows values of attributes, which may be secrets",
+            },
+            Word {
+                id: "json",
+                form: Form::Choice,
+                help: "a line of JSON for each session",
+            },
+        ],
+    },
+    Offer {
+        name: "records",
+        about: "lists the records of a journal, the oldest first; behind a compaction from its snapshot on",
+        words: &[LISTED, KEYS],
+    },
+    Offer {
+        name: "move",
+        about: "has a node hand a session over to another",
+        words: &[
+            Word {
+                id: "PORT",
+                form: Form::Needed,
+                help: "the port of the node that has the session",
+            },
+            Word {
+                id: "SESSION",
+                form: Form::Needed,
+                help: "the value of the session's cookie, or its HOME.SERIAL",
+            },
+            Word {
+                id: "TO",
+                form: Form::Needed,
+                help: "the number of the node that takes it",
+            },
+        ],
+    },
+    Offer {
+        name: "tick",
+        about: "has a node do what is due",
+        words: &[PORT],
+    },
+    Offer {
+        name: "halt",
+        about: "halts a node at once",
+        words: &[PORT],
+    },
+    Offer {
+        name: "status",
+        about: "says which nodes of a cluster answer, and how long each takes",
+        words: &[CONFIG],
+    },
+    Offer {
+        name: "watch",
+        about: "shows figures of nodes as a table, which is drawn anew each second; what moves is bold",
+        words: &[
+            CONFIG,
+            Word {
+                id: "count",
+                form: Form::Named("N"),
+                help: "so many tables are shown, a second apart; else they are drawn anew without end on a terminal, and once elsewhere",
+            },
+            Word {
+                id: "METRICS",
+                form: Form::ForEachNode,
+                help: "the files that nodes write by --metrics, a column of the table each",
+            },
+        ],
+    },
+    Offer {
+        name: "stop",
+        about: "halts all nodes of a cluster at once; their sessions stay in their journals",
+        words: &[CONFIG],
+    },
+    Offer {
+        name: "drain",
+        about: "takes a node out of use: moves its sessions to the others, and waits until they have them",
+        words: &[
+            CONFIG,
+            Word {
+                id: "NODE",
+                form: Form::Needed,
+                help: "the number of the node",
+            },
+            Word {
+                id: "JOURNAL",
+                form: Form::Needed,
+                help: "the first file of its journal",
+            },
+            Word {
+                id: "seconds",
+                form: Form::Value,
+                help: "so long it takes at most, 10 if it isn't said; then it says what is left, and ends with status 6",
+            },
+            Word {
+                id: "to",
+                form: Form::Value,
+                help: "the nodes that take its sessions in turn, numbers with commas between; else all others",
+            },
+            Word {
+                id: "halt",
+                form: Form::Choice,
+                help: "halts the node once it has none left",
+            },
+        ],
+    },
+];
 
-fn records<'a>(alloc: Global) -> Result<Command<'a>, AllocError> {
-    listing(
-        alloc,
-        "records",
-        "lists the records of a journal, the oldest first; behind a compaction from its snapshot on",
-    )
-}
-
-fn to_move<'a>(alloc: Global) -> Result<Command<'a>, AllocError> {
-    Command::new(alloc, "move")
-        .about("has a node hand a session over to another")
-        .arg(word(alloc, "PORT", "the port of the node that has the session"))?
-        .arg(word(
-            alloc,
-            "SESSION",
-            "the value of the session's cookie, or its HOME.SERIAL",
-        ))?
-        .arg(word(alloc, "TO", "the number of the node that takes it"))
-}
-
-/// A command that needs the node's port alone.
-fn at_port<'a>(alloc: Global, name: &'a str, about: &'a str) -> Result<Command<'a>, AllocError> {
-    Command::new(alloc, name)
-        .about(about)
-        .arg(word(alloc, "PORT", "the node's port"))
-}
-
-fn status<'a>(alloc: Global) -> Result<Command<'a>, AllocError> {
-    Command::new(alloc, "status")
-        .about("says which nodes of a cluster answer, and how long each takes")
-        .arg(word(alloc, "CONFIG", "the descriptor of the nodes"))
-}
-
-fn stop<'a>(alloc: Global) -> Result<Command<'a>, AllocError> {
-    Command::new(alloc, "stop")
-        .about("halts all nodes of a cluster at once; their sessions stay in their journals")
-        .arg(word(alloc, "CONFIG", "the descriptor of the nodes"))
-}
-
-/// The words that a drain has to have.
-fn drained<'a>(alloc: Global) -> Result<Command<'a>, AllocError> {
-    Command::new(alloc, "drain")
-        .about(
-            "takes a node out of use: moves its sessions to the others, and waits until they have them",
-        )
-        .arg(word(alloc, "CONFIG", "the descriptor of the nodes"))?
-        .arg(word(alloc, "NODE", "the number of the node"))?
-        .arg(word(alloc, "JOURNAL", "the first file of its journal"))
-}
-
-/// The same, and how long it may take.
-fn timed<'a>(alloc: Global) -> Result<Command<'a>, AllocError> {
-    let seconds = Arg::new(alloc, "seconds").long("seconds").help(
-        "so long it takes at most, 10 if it isn't said; then it says what is left, and ends with status 6",
-    );
-    drained(alloc)?.arg(seconds)
-}
-
-fn take_out<'a>(alloc: Global) -> Result<Command<'a>, AllocError> {
-    let to = Arg::new(alloc, "to").long("to").help(
-        "the nodes that take its sessions in turn, numbers with commas between; else all others",
-    );
-    timed(alloc)?.arg(to)?.arg(choice(alloc, "halt", "halts the node once it has none left"))
-}
-
-/// How often the figures are shown.
-fn counted<'a>(alloc: Global) -> Result<Command<'a>, AllocError> {
-    let count = Arg::new(alloc, "count").long("count").value_name("N").help(
-        "so many tables are shown, a second apart; else they are drawn anew without end on a terminal, and once elsewhere",
-    );
-    Command::new(alloc, "watch")
-        .about(
-            "shows figures of nodes as a table, which is drawn anew each second; what moves is bold",
-        )
-        .arg(word(alloc, "CONFIG", "the descriptor of the nodes"))?
-        .arg(count)
-}
-
-fn watch<'a>(alloc: Global) -> Result<Command<'a>, AllocError> {
-    let files = word(
-        alloc,
-        "METRICS",
-        "the files that nodes write by --metrics, a column of the table each",
-    );
-    counted(alloc)?.arg(files.action(ArgAction::Append).num_args(1..=NODES))
-}
-
-/// One command more.
-fn with<'a>(
-    program: Command<'a>,
-    command: Result<Command<'a>, AllocError>,
-) -> Result<Command<'a>, AllocError> {
-    match command {
-        Ok(command) => program.subcommand(command),
-        Err(refused) => Err(refused),
+/// A word as `clap` has it.
+fn arg<'a>(alloc: Global, word: &Word) -> Arg<'a> {
+    let arg = Arg::new(alloc, word.id).help(word.help);
+    match word.form {
+        Form::Needed => arg.required(true).action(ArgAction::Set),
+        Form::ForEachNode => arg
+            .required(true)
+            .action(ArgAction::Append)
+            .num_args(1..=NODES),
+        Form::Choice => arg.long(word.id).action(ArgAction::SetTrue),
+        Form::Value => arg.long(word.id),
+        Form::Named(name) => arg.long(word.id).value_name(name),
+        Form::Two(names) => arg.long(word.id).num_args(2).value_names(names),
     }
 }
 
-/// The commands on files.
-fn on_files<'a>(alloc: Global) -> Result<Command<'a>, AllocError> {
-    let program = Command::new(alloc, NAME)
-        .bin_name(NAME)?
-        .about("what an operator of nodes has in hand")
-        .version(version())
-        .subcommand_required(true)
-        .arg_required_else_help(true);
-    let program = with(program, check(alloc))?;
-    let program = with(program, sessions(alloc))?;
-    with(program, records(alloc))
+/// A command as `clap` has it.
+fn command<'a>(alloc: Global, offer: &Offer) -> Result<Command<'a>, AllocError> {
+    let mut command = Command::new(alloc, offer.name).about(offer.about);
+    for word in offer.words {
+        command = command.arg(arg(alloc, word))?;
+    }
+    Ok(command)
 }
 
-/// And those on running nodes.
-fn on_nodes<'a>(alloc: Global) -> Result<Command<'a>, AllocError> {
-    let program = with(on_files(alloc)?, to_move(alloc))?;
-    let program = with(program, at_port(alloc, "tick", "has a node do what is due"))?;
-    with(program, at_port(alloc, "halt", "halts a node at once"))
+/// The program without its commands.
+fn bare<'a>(alloc: Global) -> Result<Command<'a>, AllocError> {
+    let program = Command::new(alloc, NAME).bin_name(NAME)?;
+    Ok(
+        program
+            .about("what an operator of nodes has in hand")
+            .version(version())
+            .subcommand_required(true)
+            .arg_required_else_help(true),
+    )
 }
 
 /// The program with all its commands.
 pub fn program<'a>(alloc: Global) -> Result<Command<'a>, AllocError> {
-    let program = with(on_nodes(alloc)?, status(alloc))?;
-    let program = with(program, watch(alloc))?;
-    let program = with(program, stop(alloc))?;
-    with(program, take_out(alloc))
+    let mut program = bare(alloc)?;
+    for offer in &OFFERS {
+        program = program.subcommand(command(alloc, offer)?)?;
+    }
+    Ok(program)
 }
