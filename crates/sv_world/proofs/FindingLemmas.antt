@@ -16,8 +16,8 @@ use Rattle.sv_core.specs.declared.node.Core.{Core}
 use Rattle.sv_world.specs.declared.line.Line.{Line}
 use Rattle.sv_world.specs.declared.rules.Rules.{Rules}
 use Rattle.sv_world.specs.declared.seat.Seat.{Seat}
-use Rattle.sv_world.specs.Faults.{step_fault, call_fault, start_fault, stop_fault}
-use Rattle.sv_world.specs.Finding.{boot_by, boot_in, started_by, start_in, stop_by, number_in, token_by, step_by, delivery_by}
+use Rattle.sv_world.specs.Faults.{step_fault, call_fault, stop_fault}
+use Rattle.sv_world.specs.Finding.{boot_by, boot_in, stop_by, number_in, token_by, step_by, delivery_by}
 use Rattle.sv_world.specs.Seat.{boot_of, durable_of, place_by}
 use Rattle.sv_world.specs.Sent.{may_come}
 use Rattle.sv_world.specs.World.{items, is_unused, is_there, setting_of}
@@ -36,14 +36,6 @@ module _ {E : Type 0} where
       → step_by trace n sent number (boot_in o) ≡ step_fault (is_some o) (place_in o).up sent (is_unused (asked_of (items trace)) (token_by n (place_in o).node.durable.boot number))
   seat_steps None trace n sent number = refl
   seat_steps (Some s) trace n sent number = core_steps s.core (durable_of s) trace n sent number
-
-  core_starts : (o : Option (Core E)) (d : Durable) → started_by (boot_of (place_by o d)) ≡ start_fault true (place_by o d).up
-  core_starts None d = refl
-  core_starts (Some c) d = refl
-
-  seat_starts : (o : Option (Seat E)) → start_in o ≡ start_fault (is_some o) (place_in o).up
-  seat_starts None = refl
-  seat_starts (Some s) = core_starts s.core (durable_of s)
 
   core_stops : (o : Option (Core E)) (d : Durable) → stop_by (boot_by (boot_of (place_by o d))) ≡ stop_fault true (place_by o d).up
   core_stops None d = refl
@@ -73,9 +65,6 @@ module _ {E : Type 0} (seats : List (Seat E)) (packets : List Packet) (trace : L
       → delivery_by seats packets trace o ≡ call_fault (cluster_by seats rules) (state_by seats packets trace) (option_map (λ p. record { node = addressee p; moment = moment; input = Comes p }) o)
   delivers None moment = refl
   delivers (Some p) moment = steps (addressee p) moment (Comes p)
-
-  pub starts : (n : ℕ) → start_in (slice_get seats n) ≡ start_fault (is_there (cluster_by seats rules) n) (places_by seats n).up
-  starts n = seat_starts (slice_get seats n) ∙ ap (λ b. start_fault b (places_by seats n).up) (there seats n)
 
   pub stops : (n : ℕ) → stop_by (boot_in (slice_get seats n)) ≡ stop_fault (is_there (cluster_by seats rules) n) (places_by seats n).up
   stops n = seat_stops (slice_get seats n) ∙ ap (λ b. stop_fault b (places_by seats n).up) (there seats n)
