@@ -18,6 +18,7 @@ pub mod Records
 pub mod Answered
 pub mod Example
 pub mod FaultLemmas
+pub mod FindingLemmas
 pub mod TracedLemmas
 pub mod NodeLemmas
 pub mod OrderLemmas
