@@ -1,4 +1,3 @@
-pub mod Hello
 pub mod Count
 pub mod Snoop
 pub mod Login
