@@ -20,6 +20,11 @@ opened line = after_first is_open line
 abbrev pub closed : List ℕ → List ℕ
 closed line = after_first is_close (opened line)
 
+-- a blank comes first
+pub record StartsWithBlank (text : List ℕ) : Type 0 where
+  pub spaced : position_or_len is_blank text < length text
+  pub at_once : before_first is_blank text ≡ []
+
 -- NAME{LABELS} VALUE: the name ends at the first brace that opens, the labels at the first one after it that closes, and a blank stands
 -- right behind that, before the value
 pub record IsFigure (line name labels value : List ℕ) : Type 0 where
@@ -27,6 +32,5 @@ pub record IsFigure (line name labels value : List ℕ) : Type 0 where
   pub named : name ≡ before_first is_open line
   pub closes : position_or_len is_close (opened line) < length (opened line)
   pub labelled : labels ≡ before_first is_close (opened line)
-  pub spaced : position_or_len is_blank (closed line) < length (closed line)
-  pub at_once : before_first is_blank (closed line) ≡ []
+  pub spaced : StartsWithBlank (closed line)
   pub valued : value ≡ after_first is_blank (closed line)

@@ -1,7 +1,8 @@
 //! A line that has a figure.
 
 ghost use Rattle.std.specs.Prelude.{◌≡◌, ℕ, List, IfSome, IsSome};
-ghost use Rattle.sv_watch.specs.Exposition.{IsFigure};
+ghost use Rattle.std.specs.List.{after_first};
+ghost use Rattle.sv_watch.specs.Exposition.{IsFigure, StartsWithBlank, is_blank};
 
 /// A line that has a figure, in its parts.
 #[derive(Clone, Copy, Debug, PartialEq, Eq)]
@@ -14,6 +15,15 @@ pub struct Figure<'a> {
     pub value: &'a str,
 }
 
+/// What stands behind the blank that a text begins with.
+fn behind_blank(text: &str) -> Option<&str>
+    ensures some { IfSome result (λ rest. StartsWithBlank text.now × (rest.now ≡ after_first is_blank text.now)) }
+    ensures each { StartsWithBlank text.now → IsSome result }
+{
+    let (between, rest) = text.split_once(' ')?;
+    if between.is_empty() { Some(rest) } else { None }
+}
+
 /// The parts of a line `NAME{LABELS} VALUE`; none of any other line.
 pub fn figure_of(line: &str) -> Option<Figure<'_>>
     ensures parts { IfSome result (λ figure. IsFigure line.now figure.name.now figure.labels.now figure.value.now) }
@@ -21,14 +31,10 @@ pub fn figure_of(line: &str) -> Option<Figure<'_>>
 {
     let (name, rest) = line.split_once('{')?;
     let (labels, rest) = rest.split_once('}')?;
-    let (between, value) = rest.split_once(' ')?;
-    if between.is_empty() {
-        Some(Figure {
-            name,
-            labels,
-            value,
-        })
-    } else {
-        None
-    }
+    let value = behind_blank(rest)?;
+    Some(Figure {
+        name,
+        labels,
+        value,
+    })
 }
