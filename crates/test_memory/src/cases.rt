@@ -17,7 +17,12 @@ mod web;
 mod worlds;
 
 use crate::again::{Refusals, Unshown};
+use copies::copied;
 use std::alloc::Global;
+use sv_model::{
+    Attributes, Change, Commit, Event, Field, Input, KeyState, Output, Packet, Record, Request,
+    Response, Sequence, Session, Text, Told,
+};
 
 /// All of them, in the order of the floors.
 pub const NAMES: [&str; 94] = [
@@ -195,51 +200,24 @@ fn of_container(alloc: Global, refusals: &mut Refusals, name: &str) -> Shown {
     }
 }
 
-fn of_dispatching(alloc: Global, refusals: &mut Refusals, name: &str) -> Shown {
-    match name {
-        "includer" => samples::includer(alloc, refusals),
-        "forwarder" => samples::forwarder(alloc, refusals),
-        "faulty" => samples::faulty(alloc, refusals),
-        "stamp" => samples::stamp(alloc, refusals),
-        "gate" => samples::gate(alloc, refusals),
-        _ => of_container(alloc, refusals, name),
-    }
-}
-
 fn of_samples(alloc: Global, refusals: &mut Refusals, name: &str) -> Shown {
     match name {
-        "hello" => samples::hello(alloc, refusals),
-        "count" => samples::count(alloc, refusals),
-        "snoop" => samples::snoop(alloc, refusals),
-        "login" => samples::login(alloc, refusals),
-        "renew" => samples::renew(alloc, refusals),
-        _ => of_dispatching(alloc, refusals, name),
-    }
-}
-
-fn of_reply(alloc: Global, refusals: &mut Refusals, name: &str) -> Shown {
-    match name {
-        "reply-header" => session::header(alloc, refusals),
-        "reply-header-again" => session::header_again(alloc, refusals),
-        "reply-set" => session::field(alloc, refusals),
-        "reply-write" => session::write(alloc, refusals),
-        "request-attributes-insert" => session::attribute(alloc, refusals),
-        "request-attributes-copy" => session::attributes(alloc, refusals),
-        _ => of_samples(alloc, refusals, name),
+        "hello" | "count" | "snoop" | "login" | "renew" => samples::tried(alloc, refusals, name),
+        "includer" | "forwarder" | "faulty" | "stamp" | "gate" => {
+            samples::tried(alloc, refusals, name)
+        }
+        _ => of_container(alloc, refusals, name),
     }
 }
 
 fn of_session(alloc: Global, refusals: &mut Refusals, name: &str) -> Shown {
     match name {
-        "edit-set" => session::set(alloc, refusals),
-        "edit-set-again" => session::set_again(alloc, refusals),
-        "edit-set-none" => session::set_none(alloc, refusals),
-        "edit-remove" => session::remove(alloc, refusals),
         "edit-names" => session::names(alloc, refusals),
-        "edit-invalidate" => session::invalidate(alloc, refusals),
-        "edit-create" => session::create(alloc, refusals),
-        "edit-change-id" => session::change_id(alloc, refusals),
-        _ => of_reply(alloc, refusals, name),
+        "request-attributes-insert" => session::attribute(alloc, refusals),
+        "request-attributes-copy" => session::attributes(alloc, refusals),
+        _ if name.starts_with("edit-") => session::edited(alloc, refusals, name),
+        _ if name.starts_with("reply-") => session::called(alloc, refusals, name),
+        _ => of_samples(alloc, refusals, name),
     }
 }
 
@@ -288,8 +266,8 @@ fn of_model(alloc: Global, refusals: &mut Refusals, name: &str) -> Shown {
     match name {
         "sequence-push" => model::push(alloc, refusals),
         "sequence-extend" => model::extend(alloc, refusals),
-        "attributes-insert" => model::inserted(alloc, refusals),
-        "attributes-insert-again" => model::inserted_again(alloc, refusals),
+        "attributes-insert" => model::inserted(alloc, refusals, "age", b"17"),
+        "attributes-insert-again" => model::inserted(alloc, refusals, "user", b"bob"),
         "attributes-names" => model::names(alloc, refusals),
         "attributes-push" => model::pushed(alloc, refusals),
         "plain-body" => model::body(alloc, refusals),
@@ -300,22 +278,22 @@ fn of_model(alloc: Global, refusals: &mut Refusals, name: &str) -> Shown {
 
 fn of_step_copy(alloc: Global, refusals: &mut Refusals, name: &str) -> Shown {
     match name {
-        "told-copy" => copies::told(alloc, refusals),
-        "commit-copy" => copies::commit(alloc, refusals),
-        "input-copy" => copies::input(alloc, refusals),
+        "told-copy" => copied::<Told>(alloc, refusals),
+        "commit-copy" => copied::<Commit>(alloc, refusals),
+        "input-copy" => copied::<Input>(alloc, refusals),
         "input-packet-copy" => copies::packet_in(alloc, refusals),
-        "output-copy" => copies::output(alloc, refusals),
+        "output-copy" => copied::<Output>(alloc, refusals),
         _ => of_model(alloc, refusals, name),
     }
 }
 
 fn of_node_copy(alloc: Global, refusals: &mut Refusals, name: &str) -> Shown {
     match name {
-        "key-state-copy" => copies::state(alloc, refusals),
-        "change-copy" => copies::change(alloc, refusals),
-        "record-copy" => copies::record(alloc, refusals),
-        "packet-copy" => copies::packet(alloc, refusals),
-        "event-copy" => copies::event(alloc, refusals),
+        "key-state-copy" => copied::<KeyState>(alloc, refusals),
+        "change-copy" => copied::<Change>(alloc, refusals),
+        "record-copy" => copied::<Record>(alloc, refusals),
+        "packet-copy" => copied::<Packet>(alloc, refusals),
+        "event-copy" => copied::<Event>(alloc, refusals),
         _ => of_step_copy(alloc, refusals, name),
     }
 }
@@ -323,13 +301,13 @@ fn of_node_copy(alloc: Global, refusals: &mut Refusals, name: &str) -> Shown {
 /// What a case shows in the end.
 pub fn shown(alloc: Global, refusals: &mut Refusals, name: &str) -> Shown {
     match name {
-        "text-copy" => copies::text(alloc, refusals),
-        "bytes-copy" => copies::bytes(alloc, refusals),
-        "field-copy" => copies::field(alloc, refusals),
-        "request-copy" => copies::request(alloc, refusals),
-        "response-copy" => copies::response(alloc, refusals),
-        "attributes-copy" => copies::attributes(alloc, refusals),
-        "session-copy" => copies::session(alloc, refusals),
+        "text-copy" => copied::<Text>(alloc, refusals),
+        "bytes-copy" => copied::<Sequence<u8>>(alloc, refusals),
+        "field-copy" => copied::<Field>(alloc, refusals),
+        "request-copy" => copied::<Request>(alloc, refusals),
+        "response-copy" => copied::<Response>(alloc, refusals),
+        "attributes-copy" => copied::<Attributes>(alloc, refusals),
+        "session-copy" => copied::<Session>(alloc, refusals),
         _ => of_node_copy(alloc, refusals, name),
     }
 }

@@ -13,6 +13,13 @@ impl<T: Drop> Own<T> {
     {
         Own { value }
     }
+
+    pub fn into_value(self) -> T
+        ensures { result ≡ self.value }
+    {
+        let Own { value } = self;
+        value
+    }
 }
 
 impl<T: Drop> Drop for Own<T> {

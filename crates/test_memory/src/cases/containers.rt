@@ -7,10 +7,10 @@ use crate::again::{Refusals, Unshown, done};
 use crate::{given, shown};
 use std::alloc::{AllocError, Global};
 use sv_config::Deployment;
-use sv_container::{Container, Named, StartFault};
+use sv_container::{Container, Named, NotStarted, StartFault};
 use sv_model::{Engine, Key, Outcome, Request, Secret};
 use sv_samples::{Faulty, Stamp, Tally};
-use sv_servlet::{Filter, GenericFilter, GenericServlet, Servlet};
+use sv_servlet::{Filter, GenericFilter, GenericServlet, Listener, Servlet};
 use sv_web::Web;
 
 type Shown = Result<String, Unshown>;
@@ -69,6 +69,12 @@ fn listeners(alloc: Global) -> Result<Vec<Named<Tally>>, AllocError> {
     Ok(all)
 }
 
+/// Whether what comes back of a start was refused memory, with all its objects.
+fn is_refused<S: Servlet, F: Filter, L: Listener>(back: NotStarted<S, F, L>) -> bool {
+    let count = back.servlets.len() + back.filters.len() + back.listeners.len();
+    back.fault == StartFault::Memory && count == 3
+}
+
 /// Starts the container; where memory is refused to the start, its objects come back.
 fn try_start(alloc: Global) -> Result<Option<Shop>, Unshown>
     ensures { IfOk result (λ found. IfSome found (λ c. ⟦<Shop as Engine>⟧.valid c)) }
@@ -77,14 +83,13 @@ fn try_start(alloc: Global) -> Result<Option<Shop>, Unshown>
     let filters = filters(alloc)?;
     let listeners = listeners(alloc)?;
     let deployment = done(Deployment::from_toml(alloc, DESCRIPTOR))?;
-    let back = match Container::start(alloc, deployment, servlets, filters, listeners) {
-        Ok(container) => return Ok(Some(container)),
-        Err(back) => back,
-    };
-    let count = back.servlets.len() + back.filters.len() + back.listeners.len();
-    match back.fault {
-        StartFault::Memory if count == 3 => Ok(None),
-        _ => Err(Unshown::Other),
+    match Container::start(alloc, deployment, servlets, filters, listeners) {
+        Ok(container) => Ok(Some(container)),
+        Err(back) => if is_refused(back) {
+            Ok(None)
+        } else {
+            Err(Unshown::Other)
+        },
     }
 }
 

@@ -12,18 +12,32 @@ type Shown = Result<String, Unshown>;
 
 /// A value that is copied, and shown: enough to tell it from any that a copy could be by mistake.
 pub trait Copying: Drop {
+    /// The value.
+    fn made(alloc: Global) -> Result<Self, AllocError>;
+
     fn copied(&self, alloc: Global) -> Result<Self, AllocError>;
 
     fn shown(&self, alloc: Global) -> Shown;
 }
 
-/// A copy, made once more where memory is refused to it.
-pub fn copied<T: Copying>(alloc: Global, refusals: &mut Refusals, value: T) -> Shown {
-    let copy = again!(refusals, value.copied(alloc))?;
-    copy.shown(alloc)
+/// A copy of a value, made once more where memory is refused to it.
+fn copied_of<T: Copying>(alloc: Global, refusals: &mut Refusals, value: &T) -> Shown {
+    match again!(refusals, value.copied(alloc)) {
+        Ok(copy) => copy.shown(alloc),
+        Err(why) => Err(why),
+    }
+}
+
+/// A copy of the value of this type.
+pub fn copied<T: Copying>(alloc: Global, refusals: &mut Refusals) -> Shown {
+    copied_of(alloc, refusals, &T::made(alloc)?)
 }
 
 impl Copying for Text {
+    fn made(alloc: Global) -> Result<Self, AllocError> {
+        given::text(alloc, "a text")
+    }
+
     fn copied(&self, alloc: Global) -> Result<Self, AllocError> {
         self.copy(alloc)
     }
@@ -33,11 +47,11 @@ impl Copying for Text {
     }
 }
 
-pub fn text(alloc: Global, refusals: &mut Refusals) -> Shown {
-    copied(alloc, refusals, given::text(alloc, "a text")?)
-}
-
 impl Copying for Sequence<u8> {
+    fn made(alloc: Global) -> Result<Self, AllocError> {
+        given::bytes(alloc, b"bytes")
+    }
+
     fn copied(&self, alloc: Global) -> Result<Self, AllocError> {
         self.copy(alloc)
     }
@@ -47,11 +61,11 @@ impl Copying for Sequence<u8> {
     }
 }
 
-pub fn bytes(alloc: Global, refusals: &mut Refusals) -> Shown {
-    copied(alloc, refusals, given::bytes(alloc, b"bytes")?)
-}
-
 impl Copying for Field {
+    fn made(alloc: Global) -> Result<Self, AllocError> {
+        given::field(alloc)
+    }
+
     fn copied(&self, alloc: Global) -> Result<Self, AllocError> {
         self.copy(alloc)
     }
@@ -62,12 +76,11 @@ impl Copying for Field {
     }
 }
 
-/// A copy of a field shares its bytes, so it takes no memory.
-pub fn field(alloc: Global, refusals: &mut Refusals) -> Shown {
-    copied(alloc, refusals, given::field(alloc)?)
-}
-
 impl Copying for Request {
+    fn made(alloc: Global) -> Result<Self, AllocError> {
+        given::request(alloc, "/a")
+    }
+
     fn copied(&self, alloc: Global) -> Result<Self, AllocError> {
         self.copy(alloc)
     }
@@ -77,11 +90,11 @@ impl Copying for Request {
     }
 }
 
-pub fn request(alloc: Global, refusals: &mut Refusals) -> Shown {
-    copied(alloc, refusals, given::request(alloc, "/a")?)
-}
-
 impl Copying for Response {
+    fn made(alloc: Global) -> Result<Self, AllocError> {
+        given::response(alloc)
+    }
+
     fn copied(&self, alloc: Global) -> Result<Self, AllocError> {
         self.copy(alloc)
     }
@@ -91,11 +104,11 @@ impl Copying for Response {
     }
 }
 
-pub fn response(alloc: Global, refusals: &mut Refusals) -> Shown {
-    copied(alloc, refusals, given::response(alloc)?)
-}
-
 impl Copying for Attributes {
+    fn made(alloc: Global) -> Result<Self, AllocError> {
+        given::attributes(alloc)
+    }
+
     fn copied(&self, alloc: Global) -> Result<Self, AllocError> {
         self.copy(alloc)
     }
@@ -105,11 +118,11 @@ impl Copying for Attributes {
     }
 }
 
-pub fn attributes(alloc: Global, refusals: &mut Refusals) -> Shown {
-    copied(alloc, refusals, given::attributes(alloc)?)
-}
-
 impl Copying for Session {
+    fn made(alloc: Global) -> Result<Self, AllocError> {
+        given::session(alloc)
+    }
+
     fn copied(&self, alloc: Global) -> Result<Self, AllocError> {
         self.copy(alloc)
     }
@@ -117,10 +130,6 @@ impl Copying for Session {
     fn shown(&self, alloc: Global) -> Shown {
         done(shown::session(alloc, self))
     }
-}
-
-pub fn session(alloc: Global, refusals: &mut Refusals) -> Shown {
-    copied(alloc, refusals, given::session(alloc)?)
 }
 
 /// What is handed on in a value of one of several kinds.
@@ -132,6 +141,10 @@ fn session_in(alloc: Global, session: Option<&Session>) -> Shown {
 }
 
 impl Copying for KeyState {
+    fn made(alloc: Global) -> Result<Self, AllocError> {
+        sent_state(alloc)
+    }
+
     fn copied(&self, alloc: Global) -> Result<Self, AllocError> {
         self.copy(alloc)
     }
@@ -153,11 +166,11 @@ fn sent_state(alloc: Global) -> Result<KeyState, AllocError> {
     })
 }
 
-pub fn state(alloc: Global, refusals: &mut Refusals) -> Shown {
-    copied(alloc, refusals, sent_state(alloc)?)
-}
-
 impl Copying for Change {
+    fn made(alloc: Global) -> Result<Self, AllocError> {
+        alive(alloc)
+    }
+
     fn copied(&self, alloc: Global) -> Result<Self, AllocError> {
         self.copy(alloc)
     }
@@ -178,11 +191,11 @@ fn alive(alloc: Global) -> Result<Change, AllocError> {
     })
 }
 
-pub fn change(alloc: Global, refusals: &mut Refusals) -> Shown {
-    copied(alloc, refusals, alive(alloc)?)
-}
-
 impl Copying for Record {
+    fn made(alloc: Global) -> Result<Self, AllocError> {
+        sent(alloc)
+    }
+
     fn copied(&self, alloc: Global) -> Result<Self, AllocError> {
         self.copy(alloc)
     }
@@ -205,11 +218,11 @@ fn sent(alloc: Global) -> Result<Record, AllocError> {
     })
 }
 
-pub fn record(alloc: Global, refusals: &mut Refusals) -> Shown {
-    copied(alloc, refusals, sent(alloc)?)
-}
-
 impl Copying for Packet {
+    fn made(alloc: Global) -> Result<Self, AllocError> {
+        grant(alloc)
+    }
+
     fn copied(&self, alloc: Global) -> Result<Self, AllocError> {
         self.copy(alloc)
     }
@@ -233,10 +246,6 @@ fn grant(alloc: Global) -> Result<Packet, AllocError> {
     })
 }
 
-pub fn packet(alloc: Global, refusals: &mut Refusals) -> Shown {
-    copied(alloc, refusals, grant(alloc)?)
-}
-
 /// An attribute was given another value.
 fn replaced(alloc: Global) -> Result<Event, AllocError> {
     let name = given::text(alloc, "user")?;
@@ -249,6 +258,10 @@ fn replaced(alloc: Global) -> Result<Event, AllocError> {
 }
 
 impl Copying for Event {
+    fn made(alloc: Global) -> Result<Self, AllocError> {
+        replaced(alloc)
+    }
+
     fn copied(&self, alloc: Global) -> Result<Self, AllocError> {
         self.copy(alloc)
     }
@@ -261,11 +274,11 @@ impl Copying for Event {
     }
 }
 
-pub fn event(alloc: Global, refusals: &mut Refusals) -> Shown {
-    copied(alloc, refusals, replaced(alloc)?)
-}
-
 impl Copying for Told {
+    fn made(alloc: Global) -> Result<Self, AllocError> {
+        replaced_in(alloc, 3)
+    }
+
     fn copied(&self, alloc: Global) -> Result<Self, AllocError> {
         self.copy(alloc)
     }
@@ -278,10 +291,6 @@ impl Copying for Told {
 fn replaced_in(alloc: Global, context: u8) -> Result<Told, AllocError> {
     let event = replaced(alloc)?;
     Ok(Told { context, event })
-}
-
-pub fn told(alloc: Global, refusals: &mut Refusals) -> Shown {
-    copied(alloc, refusals, replaced_in(alloc, 3)?)
 }
 
 /// The number of a request that was served.
@@ -302,6 +311,10 @@ fn served(alloc: Global) -> Result<Commit, AllocError> {
 }
 
 impl Copying for Commit {
+    fn made(alloc: Global) -> Result<Self, AllocError> {
+        served(alloc)
+    }
+
     fn copied(&self, alloc: Global) -> Result<Self, AllocError> {
         self.copy(alloc)
     }
@@ -312,10 +325,6 @@ impl Copying for Commit {
             _ => Err(Unshown::Other),
         }
     }
-}
-
-pub fn commit(alloc: Global, refusals: &mut Refusals) -> Shown {
-    copied(alloc, refusals, served(alloc)?)
 }
 
 fn asked(alloc: Global) -> Result<Input, AllocError> {
@@ -330,6 +339,10 @@ fn come(alloc: Global) -> Result<Input, AllocError> {
 }
 
 impl Copying for Input {
+    fn made(alloc: Global) -> Result<Self, AllocError> {
+        asked(alloc)
+    }
+
     fn copied(&self, alloc: Global) -> Result<Self, AllocError> {
         self.copy(alloc)
     }
@@ -343,14 +356,6 @@ impl Copying for Input {
     }
 }
 
-pub fn input(alloc: Global, refusals: &mut Refusals) -> Shown {
-    copied(alloc, refusals, asked(alloc)?)
-}
-
-pub fn packet_in(alloc: Global, refusals: &mut Refusals) -> Shown {
-    copied(alloc, refusals, come(alloc)?)
-}
-
 fn answered(alloc: Global) -> Result<Output, AllocError> {
     Ok(Output::Answer {
         token: 1,
@@ -359,6 +364,10 @@ fn answered(alloc: Global) -> Result<Output, AllocError> {
 }
 
 impl Copying for Output {
+    fn made(alloc: Global) -> Result<Self, AllocError> {
+        answered(alloc)
+    }
+
     fn copied(&self, alloc: Global) -> Result<Self, AllocError> {
         self.copy(alloc)
     }
@@ -371,6 +380,7 @@ impl Copying for Output {
     }
 }
 
-pub fn output(alloc: Global, refusals: &mut Refusals) -> Shown {
-    copied(alloc, refusals, answered(alloc)?)
+/// A copy of a packet that has come.
+pub fn packet_in(alloc: Global, refusals: &mut Refusals) -> Shown {
+    copied_of(alloc, refusals, &come(alloc)?)
 }

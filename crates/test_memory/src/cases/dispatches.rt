@@ -207,12 +207,24 @@ fn reply_of<S: Servlet, F: Filter>(stage: Stage<S, F>) -> Reply {
     stage.reply
 }
 
+/// A request on a stage: how it ended, and the reply.
+fn tried<S: Servlet, F: Filter>(alloc: Global, refusals: &mut Refusals, stage: Stage<S, F>) -> Shown
+    requires { IsSound (table_of S.serves S.servlet_phase F.filtering F.filter_phase stage) }
+{
+    let mut stage = stage;
+    match dispatch_again(alloc, refusals, &mut stage) {
+        Ok(ended) => done(shown(alloc, ended, reply_of(stage))),
+        Err(AllocError) => Err(Unshown::Memory),
+    }
+}
+
 /// The calls grow by the chains of filters, by those that have passed, by the text that is written, by the dispatch that waits for
 /// the one that it includes, and by the latter's path, parameters and attributes.
 pub fn dispatched(alloc: Global, refusals: &mut Refusals) -> Shown {
-    let servlet = ready(GenericServlet::new(Web::new(alloc, Includer)))?;
     let filter = ready_filter(Stamp::new(alloc, "stamp-b")?)?;
-    let mut stage = stage(alloc, servlet, filter)?;
-    let ended = dispatch_again(alloc, refusals, &mut stage)?;
-    done(shown(alloc, ended, reply_of(stage)))
+    let servlet = ready(GenericServlet::new(Web::new(alloc, Includer)))?;
+    match stage(alloc, servlet, filter) {
+        Ok(stage) => tried(alloc, refusals, stage),
+        Err(why) => Err(why),
+    }
 }

@@ -22,15 +22,10 @@ pub fn extend(alloc: Global, refusals: &mut Refusals) -> Shown {
     done(format!(in alloc; "{:?}", items.as_slice()))
 }
 
-pub fn inserted(alloc: Global, refusals: &mut Refusals) -> Shown {
+/// Puts a value at a name, beside one attribute.
+pub fn inserted(alloc: Global, refusals: &mut Refusals, name: &str, value: &[u8]) -> Shown {
     let mut attributes = given::attributes(alloc)?;
-    again!(refusals, given::put(alloc, &mut attributes, "age", b"17"))?;
-    done(shown::attributes(alloc, &attributes))
-}
-
-pub fn inserted_again(alloc: Global, refusals: &mut Refusals) -> Shown {
-    let mut attributes = given::attributes(alloc)?;
-    again!(refusals, given::put(alloc, &mut attributes, "user", b"bob"))?;
+    again!(refusals, given::put(alloc, &mut attributes, name, value))?;
     done(shown::attributes(alloc, &attributes))
 }
 

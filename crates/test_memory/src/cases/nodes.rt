@@ -5,15 +5,18 @@ ghost use Rattle.std.specs.Prelude.{IfOk};
 
 use crate::again::{Refusals, Unshown, done};
 use crate::given;
+use crate::own::Own;
 use std::alloc::{AllocError, Global};
-use sv_journal::MemoryDisk;
+use sv_journal::{JournalFault, MemoryDisk};
 use sv_model::{Input, Moment, Output, Setting, Site, StepFault};
 use sv_node::{Node, OpenFault};
 use test_engine::{Counter, request};
 
 type Shown = Result<String, Unshown>;
 
-type Running = Node<Counter, MemoryDisk>;
+type Counting = Node<Counter, MemoryDisk>;
+
+type Running = Own<Counting>;
 
 const MOMENT: Moment = Moment {
     now: given::NOW,
@@ -35,14 +38,14 @@ fn opened(
     a: MemoryDisk,
     b: MemoryDisk,
 ) -> Result<Running, Unshown>
-    ensures { IfOk result (λ n. ⟦<Node<Counter, MemoryDisk> as Site>⟧.site_valid n) }
+    ensures { IfOk result (λ n. ⟦<Node<Counter, MemoryDisk> as Site>⟧.site_valid n.value) }
 {
     let engine = Counter {
         alloc,
         secret: given::SECRET,
     };
     let refused = match Node::open(alloc, engine, a, b, SETTING) {
-        Ok(node) => return Ok(node),
+        Ok(node) => return Ok(Own::new(node)),
         Err(refused) => refused,
     };
     if !matches!(refused.fault, OpenFault::Memory | OpenFault::Device) {
@@ -50,13 +53,13 @@ fn opened(
     }
     refusals.add();
     match Node::open(alloc, refused.engine, refused.a, refused.b, SETTING) {
-        Ok(node) => Ok(node),
+        Ok(node) => Ok(Own::new(node)),
         Err(_) => Err(Unshown::Other),
     }
 }
 
 fn new(alloc: Global, refusals: &mut Refusals) -> Result<Running, Unshown>
-    ensures { IfOk result (λ n. ⟦<Node<Counter, MemoryDisk> as Site>⟧.site_valid n) }
+    ensures { IfOk result (λ n. ⟦<Node<Counter, MemoryDisk> as Site>⟧.site_valid n.value) }
 {
     opened(
         alloc,
@@ -67,16 +70,16 @@ fn new(alloc: Global, refusals: &mut Refusals) -> Result<Running, Unshown>
 }
 
 fn reopened(alloc: Global, refusals: &mut Refusals, node: Running) -> Result<Running, Unshown>
-    ensures { IfOk result (λ n. ⟦<Node<Counter, MemoryDisk> as Site>⟧.site_valid n) }
+    ensures { IfOk result (λ n. ⟦<Node<Counter, MemoryDisk> as Site>⟧.site_valid n.value) }
 {
-    let (_, a, b) = node.stop();
+    let (_, a, b) = node.into_value().stop();
     opened(alloc, refusals, a, b)
 }
 
 pub fn open(alloc: Global, refusals: &mut Refusals) -> Shown {
     let node = new(alloc, refusals)?;
     let node = reopened(alloc, refusals, node)?;
-    done(format!(in alloc; "{}", node.journal_len()))
+    done(format!(in alloc; "{}", node.value.journal_len()))
 }
 
 /// The digit of the one answer that was put out.
@@ -91,7 +94,7 @@ fn digit(outputs: &[Output]) -> char {
 }
 
 /// The session that was made first is counted once more; the digit of its count, or why not.
-fn count(alloc: Global, node: &mut Running, token: u64) -> Result<char, StepFault>
+fn count(alloc: Global, node: &mut Counting, token: u64) -> Result<char, StepFault>
     requires { ⟦<Node<Counter, MemoryDisk> as Site>⟧.site_valid node.old }
     ensures { ⟦<Node<Counter, MemoryDisk> as Site>⟧.site_valid node.new }
 {
@@ -109,7 +112,7 @@ fn count(alloc: Global, node: &mut Running, token: u64) -> Result<char, StepFaul
 fn count_again(
     alloc: Global,
     refusals: &mut Refusals,
-    node: &mut Running,
+    node: &mut Counting,
     token: u64,
 ) -> Result<char, Unshown>
     requires { ⟦<Node<Counter, MemoryDisk> as Site>⟧.site_valid node.old }
@@ -132,14 +135,14 @@ fn count_again(
 
 /// A node whose disk has failed is Failed, and opened anew it counts on from before the step or from behind it.
 fn mended(alloc: Global, refusals: &mut Refusals, node: Running) -> Result<char, Unshown>
-    requires { ⟦<Node<Counter, MemoryDisk> as Site>⟧.site_valid node }
+    requires { ⟦<Node<Counter, MemoryDisk> as Site>⟧.site_valid node.value }
 {
     let mut node = node;
-    if count(alloc, &mut node, 8) != Err(StepFault::Failed) {
+    if count(alloc, &mut node.value, 8) != Err(StepFault::Failed) {
         return Err(Unshown::Other);
     }
     let mut node = reopened(alloc, refusals, node)?;
-    match count(alloc, &mut node, 9) {
+    match count(alloc, &mut node.value, 9) {
         Ok('1' | '2') => Ok('1'),
         _ => Err(Unshown::Other),
     }
@@ -147,43 +150,72 @@ fn mended(alloc: Global, refusals: &mut Refusals, node: Running) -> Result<char,
 
 pub fn step(alloc: Global, refusals: &mut Refusals) -> Shown {
     let mut node = new(alloc, refusals)?;
-    let found = match count_again(alloc, refusals, &mut node, 1)? {
+    let found = match count_again(alloc, refusals, &mut node.value, 1)? {
         'D' => mended(alloc, refusals, node)?,
         digit => digit,
     };
     done(format!(in alloc; "{found}"))
 }
 
-/// A compaction, whose refused memory changes nothing; one whose disk has failed is over with the node opened anew.
-fn compacted(alloc: Global, refusals: &mut Refusals, node: Running) -> Result<Running, Unshown>
-    requires { ⟦<Node<Counter, MemoryDisk> as Site>⟧.site_valid node }
-    ensures { IfOk result (λ n. ⟦<Node<Counter, MemoryDisk> as Site>⟧.site_valid n) }
+/// The node behind a compaction that was refused: with its memory, or opened anew where its disk has failed.
+fn compacted_again(
+    alloc: Global,
+    refusals: &mut Refusals,
+    node: Running,
+    fault: JournalFault,
+) -> Result<Running, Unshown>
+    requires { ⟦<Node<Counter, MemoryDisk> as Site>⟧.site_valid node.value }
+    ensures { IfOk result (λ n. ⟦<Node<Counter, MemoryDisk> as Site>⟧.site_valid n.value) }
 {
     let mut node = node;
-    let fault = match node.compact() {
-        Ok(()) => return Ok(node),
-        Err(fault) => fault,
-    };
     refusals.add();
     match fault {
-        sv_journal::JournalFault::Memory => match node.compact() {
+        JournalFault::Memory => match node.value.compact() {
             Ok(()) => Ok(node),
             Err(_) => Err(Unshown::Other),
         },
-        sv_journal::JournalFault::Device => reopened(alloc, refusals, node),
+        JournalFault::Device => reopened(alloc, refusals, node),
         _ => Err(Unshown::Other),
     }
 }
 
-pub fn compact(alloc: Global, refusals: &mut Refusals) -> Shown {
-    let mut node = new(alloc, refusals)?;
-    if count(alloc, &mut node, 1) != Ok('1') {
-        return Err(Unshown::Memory);
+/// A compaction, whose refused memory changes nothing; one whose disk has failed is over with the node opened anew.
+fn compacted(alloc: Global, refusals: &mut Refusals, node: Running) -> Result<Running, Unshown>
+    requires { ⟦<Node<Counter, MemoryDisk> as Site>⟧.site_valid node.value }
+    ensures { IfOk result (λ n. ⟦<Node<Counter, MemoryDisk> as Site>⟧.site_valid n.value) }
+{
+    let mut node = node;
+    match node.value.compact() {
+        Ok(()) => Ok(node),
+        Err(fault) => compacted_again(alloc, refusals, node, fault),
     }
+}
+
+/// The session that was made first is counted once more, and has to be.
+fn counted(alloc: Global, node: &mut Counting, token: u64) -> Result<char, Unshown>
+    requires { ⟦<Node<Counter, MemoryDisk> as Site>⟧.site_valid node.old }
+    ensures { ⟦<Node<Counter, MemoryDisk> as Site>⟧.site_valid node.new }
+{
+    match count(alloc, node, token) {
+        Ok(digit) => Ok(digit),
+        Err(_) => Err(Unshown::Memory),
+    }
+}
+
+/// A node that has counted once.
+fn begun(alloc: Global, refusals: &mut Refusals) -> Result<Running, Unshown>
+    ensures { IfOk result (λ n. ⟦<Node<Counter, MemoryDisk> as Site>⟧.site_valid n.value) }
+{
+    let mut node = new(alloc, refusals)?;
+    match counted(alloc, &mut node.value, 1) {
+        Ok('1') => Ok(node),
+        _ => Err(Unshown::Memory),
+    }
+}
+
+pub fn compact(alloc: Global, refusals: &mut Refusals) -> Shown {
+    let node = begun(alloc, refusals)?;
     let mut node = compacted(alloc, refusals, node)?;
-    let found = match count(alloc, &mut node, 2) {
-        Ok(digit) => digit,
-        Err(_) => return Err(Unshown::Memory),
-    };
+    let found = counted(alloc, &mut node.value, 2)?;
     done(format!(in alloc; "{found}"))
 }

@@ -84,39 +84,26 @@ fn served<S: HttpServlet>(alloc: Global, refusals: &mut Refusals, sample: S) -> 
     Ok(first)
 }
 
-pub fn hello(alloc: Global, refusals: &mut Refusals) -> Shown {
-    served(alloc, refusals, Hello)
+/// A filter comes before a servlet and behind it.
+fn around<F: Filter>(
+    filter: &mut F,
+    call: &Call<'_>,
+    edit: &mut SessionEdit,
+    reply: &mut Reply,
+) -> Result<(), AllocError>
+    requires { F.filter_phase filter.old ≡ Ready }
+    ensures { F.filter_phase filter.new ≡ Ready }
+{
+    filter.before(call, edit, reply)?;
+    filter.after(call, edit, reply)
 }
 
-pub fn count(alloc: Global, refusals: &mut Refusals) -> Shown {
-    served(alloc, refusals, Count)
+/// The reply's body.
+fn body_text(alloc: Global, reply: Reply) -> Result<String, AllocError> {
+    format!(in alloc; "{:?}", reply.finish().body.as_slice())
 }
 
-pub fn snoop(alloc: Global, refusals: &mut Refusals) -> Shown {
-    served(alloc, refusals, Snoop)
-}
-
-pub fn login(alloc: Global, refusals: &mut Refusals) -> Shown {
-    served(alloc, refusals, Login)
-}
-
-pub fn renew(alloc: Global, refusals: &mut Refusals) -> Shown {
-    served(alloc, refusals, Renew)
-}
-
-pub fn includer(alloc: Global, refusals: &mut Refusals) -> Shown {
-    served(alloc, refusals, Includer)
-}
-
-pub fn forwarder(alloc: Global, refusals: &mut Refusals) -> Shown {
-    served(alloc, refusals, Forwarder)
-}
-
-pub fn faulty(alloc: Global, refusals: &mut Refusals) -> Shown {
-    served(alloc, refusals, Faulty)
-}
-
-/// A filter comes before a servlet and behind it; the reply's body.
+/// The same with a reply of its own, whose body it is.
 fn filter<F: Filter>(
     alloc: Global,
     filter: &mut F,
@@ -129,10 +116,15 @@ fn filter<F: Filter>(
     let mut edit = SessionEdit::begin(alloc, None, 0, 600, given::NOW, fresh);
     let mut reply = Reply::new(alloc);
     let method = Method::GET;
-    let call = call(&method, &[], attributes);
-    filter.before(&call, &mut edit, &mut reply)?;
-    filter.after(&call, &mut edit, &mut reply)?;
-    format!(in alloc; "{:?}", reply.finish().body.as_slice())
+    match around(
+        filter,
+        &call(&method, &[], attributes),
+        &mut edit,
+        &mut reply,
+    ) {
+        Ok(()) => body_text(alloc, reply),
+        Err(AllocError) => Err(AllocError),
+    }
 }
 
 fn filtered<F: Filter>(alloc: Global, refusals: &mut Refusals, mut object: F) -> Shown
@@ -151,7 +143,7 @@ fn filtered<F: Filter>(alloc: Global, refusals: &mut Refusals, mut object: F) ->
     }
 }
 
-pub fn stamp(alloc: Global, refusals: &mut Refusals) -> Shown {
+fn stamp(alloc: Global, refusals: &mut Refusals) -> Shown {
     if let Ok(stamp) = Stamp::new(alloc, "stamp-b") {
         return filtered(alloc, refusals, stamp);
     }
@@ -159,6 +151,24 @@ pub fn stamp(alloc: Global, refusals: &mut Refusals) -> Shown {
     filtered(alloc, refusals, Stamp::new(alloc, "stamp-b")?)
 }
 
-pub fn gate(alloc: Global, refusals: &mut Refusals) -> Shown {
-    filtered(alloc, refusals, Gate::new(alloc))
+fn of_dispatching(alloc: Global, refusals: &mut Refusals, name: &str) -> Shown {
+    match name {
+        "includer" => served(alloc, refusals, Includer),
+        "forwarder" => served(alloc, refusals, Forwarder),
+        "faulty" => served(alloc, refusals, Faulty),
+        "stamp" => stamp(alloc, refusals),
+        _ => filtered(alloc, refusals, Gate::new(alloc)),
+    }
+}
+
+/// The case of a sample.
+pub fn tried(alloc: Global, refusals: &mut Refusals, name: &str) -> Shown {
+    match name {
+        "hello" => served(alloc, refusals, Hello),
+        "count" => served(alloc, refusals, Count),
+        "snoop" => served(alloc, refusals, Snoop),
+        "login" => served(alloc, refusals, Login),
+        "renew" => served(alloc, refusals, Renew),
+        _ => of_dispatching(alloc, refusals, name),
+    }
 }

@@ -4,8 +4,8 @@ use crate::again::{Refusals, Unshown, again, done};
 use crate::{given, shown};
 use std::alloc::{AllocError, Global};
 use sv_model::{Birth, Fate, Key, Secret};
-use sv_servlet::{Replied, Reply, RequestAttributes};
-use sv_session::SessionEdit;
+use sv_servlet::{Replied, Reply, ReplyFault, RequestAttributes};
+use sv_session::{Edited, SessionEdit, SessionFault};
 
 type Shown = Result<String, Unshown>;
 
@@ -36,8 +36,7 @@ fn made(alloc: Global, birth: &Birth) -> Result<String, AllocError> {
 }
 
 /// What has become of both sessions, and how many events there are.
-fn finished(alloc: Global, edit: SessionEdit) -> Result<String, AllocError> {
-    let edited = edit.finish();
+fn edited_text(alloc: Global, edited: &Edited) -> Result<String, AllocError> {
     let handed = handed(alloc, &edited.fate)?;
     let made = made(alloc, &edited.birth)?;
     format!(in alloc;
@@ -47,52 +46,44 @@ fn finished(alloc: Global, edit: SessionEdit) -> Result<String, AllocError> {
     )
 }
 
-pub fn set(alloc: Global, refusals: &mut Refusals) -> Shown {
-    let mut edit = edit(alloc)?;
-    again!(refusals, edit.set("age", Some(b"17")))?;
-    done(finished(alloc, edit))
+fn finished(alloc: Global, edit: SessionEdit) -> Result<String, AllocError> {
+    edited_text(alloc, &edit.finish())
 }
 
-pub fn set_again(alloc: Global, refusals: &mut Refusals) -> Shown {
-    let mut edit = edit(alloc)?;
-    again!(refusals, edit.set("user", Some(b"bob")))?;
-    done(finished(alloc, edit))
+/// The edit of a case: of a session with one attribute, or of none where one is to be made.
+fn begun(alloc: Global, name: &str) -> Result<SessionEdit, AllocError> {
+    match name {
+        "edit-create" => Ok(SessionEdit::begin(alloc, None, 0, 600, given::NOW, FRESH)),
+        _ => edit(alloc),
+    }
 }
 
-pub fn set_none(alloc: Global, refusals: &mut Refusals) -> Shown {
-    let mut edit = edit(alloc)?;
-    again!(refusals, edit.set("user", None))?;
-    done(finished(alloc, edit))
+/// The call of a case.
+fn call(edit: &mut SessionEdit, name: &str) -> Result<(), SessionFault> {
+    match name {
+        "edit-set" => edit.set("age", Some(b"17")),
+        "edit-set-again" => edit.set("user", Some(b"bob")),
+        "edit-set-none" => edit.set("user", None),
+        "edit-remove" => edit.remove("user"),
+        "edit-invalidate" => edit.invalidate(),
+        "edit-create" => edit.create().and(Ok(())),
+        _ => edit.change_id(),
+    }
 }
 
-pub fn remove(alloc: Global, refusals: &mut Refusals) -> Shown {
-    let mut edit = edit(alloc)?;
-    again!(refusals, edit.remove("user"))?;
-    done(finished(alloc, edit))
+/// A call of an edit that leaves something.
+pub fn edited(alloc: Global, refusals: &mut Refusals, name: &str) -> Shown {
+    let mut edit = begun(alloc, name)?;
+    match again!(refusals, call(&mut edit, name)) {
+        Ok(()) => done(finished(alloc, edit)),
+        Err(why) => Err(why),
+    }
 }
 
 pub fn names(alloc: Global, refusals: &mut Refusals) -> Shown {
     let edit = edit(alloc)?;
     let names = again!(refusals, edit.names())?;
     done(format!(in alloc; "{}", names.len()))
-}
-
-pub fn invalidate(alloc: Global, refusals: &mut Refusals) -> Shown {
-    let mut edit = edit(alloc)?;
-    again!(refusals, edit.invalidate())?;
-    done(finished(alloc, edit))
-}
-
-pub fn create(alloc: Global, refusals: &mut Refusals) -> Shown {
-    let mut edit = SessionEdit::begin(alloc, None, 0, 600, given::NOW, FRESH);
-    again!(refusals, edit.create())?;
-    done(finished(alloc, edit))
-}
-
-pub fn change_id(alloc: Global, refusals: &mut Refusals) -> Shown {
-    let mut edit = edit(alloc)?;
-    again!(refusals, edit.change_id())?;
-    done(finished(alloc, edit))
 }
 
 fn replied(alloc: Global, reply: Reply) -> Result<String, AllocError> {
@@ -113,36 +104,23 @@ fn reply(alloc: Global) -> Result<Reply, Unshown> {
     Ok(reply)
 }
 
-pub fn header(alloc: Global, refusals: &mut Refusals) -> Shown {
-    let mut reply = reply(alloc)?;
-    again!(refusals, reply.header("x-own-name-of-a-field", "a value"))?;
-    done(replied(alloc, reply))
+/// The call of a case.
+fn call_reply(alloc: Global, reply: &mut Reply, name: &str) -> Result<(), ReplyFault> {
+    match name {
+        "reply-header" => reply.header("x-own-name-of-a-field", "a value"),
+        "reply-header-again" => reply.header("X-A", "another value"),
+        "reply-set" => reply.set(given::field(alloc)?),
+        _ => reply.write(b"more of the body than there is room for"),
+    }
 }
 
-pub fn header_again(alloc: Global, refusals: &mut Refusals) -> Shown {
+/// A call of a reply with a field and a body.
+pub fn called(alloc: Global, refusals: &mut Refusals, name: &str) -> Shown {
     let mut reply = reply(alloc)?;
-    again!(refusals, reply.header("X-A", "another value"))?;
-    done(replied(alloc, reply))
-}
-
-/// Sets a field that is made anew.
-fn set_field(alloc: Global, reply: &mut Reply) -> Result<(), sv_servlet::ReplyFault> {
-    reply.set(given::field(alloc)?)
-}
-
-pub fn field(alloc: Global, refusals: &mut Refusals) -> Shown {
-    let mut reply = reply(alloc)?;
-    again!(refusals, set_field(alloc, &mut reply))?;
-    done(replied(alloc, reply))
-}
-
-pub fn write(alloc: Global, refusals: &mut Refusals) -> Shown {
-    let mut reply = reply(alloc)?;
-    again!(
-        refusals,
-        reply.write(b"more of the body than there is room for")
-    )?;
-    done(replied(alloc, reply))
+    match again!(refusals, call_reply(alloc, &mut reply, name)) {
+        Ok(()) => done(replied(alloc, reply)),
+        Err(why) => Err(why),
+    }
 }
 
 fn listed(alloc: Global, attributes: &RequestAttributes) -> Result<String, AllocError> {

@@ -174,13 +174,21 @@ fn add_filter(
     Ok(())
 }
 
-pub fn filters(alloc: Global, refusals: &mut Refusals) -> Shown {
+/// Two filters, each on all paths.
+fn two_filters(alloc: Global) -> Result<Vec<FilterMapping>, Unshown> {
     let mut all = Vec::new(alloc);
     done(add_filter(alloc, &mut all, 1))?;
     done(add_filter(alloc, &mut all, 0))?;
-    let filters = again!(
+    Ok(all)
+}
+
+pub fn filters(alloc: Global, refusals: &mut Refusals) -> Shown {
+    let all = two_filters(alloc)?;
+    match again!(
         refusals,
         filters_for(alloc, &all, "/a", None, Dispatcher::Request)
-    )?;
-    done(format!(in alloc; "{:?}", filters.as_slice()))
+    ) {
+        Ok(filters) => done(format!(in alloc; "{:?}", filters.as_slice())),
+        Err(why) => Err(why),
+    }
 }
