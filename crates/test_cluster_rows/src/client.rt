@@ -16,6 +16,7 @@ use sv_connection::{Connection, Outcome, Served};
 use sv_journal::MemoryDisk;
 use sv_model::{Input, Key, Output, Packet, Setting, Site};
 use sv_node::Node;
+use test_engine::Own;
 
 /// The number of the client's request.
 const TOKEN: u64 = 7;
@@ -41,9 +42,9 @@ const NO: Packet = Packet::No {
     want: 1,
 };
 
-fn node(alloc: Global, number: u8) -> Result<Node<Shop, MemoryDisk>, RowFault>
+fn node(alloc: Global, number: u8) -> Result<Own<Node<Shop, MemoryDisk>>, RowFault>
     requires { number < 2 }
-    ensures { IfOk result (λ n. ⟦<Node<Shop, MemoryDisk> as Site>⟧.site_valid n) }
+    ensures { IfOk result (λ n. ⟦<Node<Shop, MemoryDisk> as Site>⟧.site_valid n.value) }
 {
     let setting = Setting::of(number, 2, 30);
     let shop = shop(alloc, "built-in")?;
@@ -54,7 +55,7 @@ fn node(alloc: Global, number: u8) -> Result<Node<Shop, MemoryDisk>, RowFault>
         MemoryDisk::new(alloc),
         setting,
     ) {
-        Ok(node) => Ok(node),
+        Ok(node) => Ok(Own::new(node)),
         Err(_) => Err(RowFault::Start),
     }
 }
@@ -186,7 +187,7 @@ fn hears<S: Site>(
 /// Node 0 hears of the want.
 fn home(told: &mut String, alloc: Global) -> Result<(), RowFault> {
     let mut home = node(alloc, 0)?;
-    hears(told, alloc, &mut home, "node 0", WANT)?;
+    hears(told, alloc, &mut home.value, "node 0", WANT)?;
     Ok(())
 }
 
@@ -207,6 +208,6 @@ fn ends<S: Site>(
 /// A client sends a GET with a cookie to node 1, waits, and is answered.
 pub fn play(alloc: Global, words: &str, told: &mut String) -> Result<(), RowFault> {
     let mut asked = node(alloc, 1)?;
-    let mut connection = asks(told, alloc, &mut asked, words)?;
-    ends(told, alloc, &mut asked, &mut connection)
+    let mut connection = asks(told, alloc, &mut asked.value, words)?;
+    ends(told, alloc, &mut asked.value, &mut connection)
 }

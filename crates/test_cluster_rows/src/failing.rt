@@ -9,7 +9,7 @@ ghost use Rattle.std.specs.Prelude.{IfOk};
 use crate::clock;
 use crate::disks::{generation, records};
 use crate::fault::RowFault;
-use crate::running::{Deed, acted, open};
+use crate::running::{Deed, Running, acted, open};
 use crate::shop::{Shop, shop};
 use crate::worlds::push_row;
 use std::alloc::{AllocError, Global};
@@ -79,16 +79,12 @@ struct Life {
 }
 
 /// A node's life.
-fn lived<E: Engine + Drop>(
-    alloc: Global,
-    node: Node<E, MemoryDisk>,
-    lines: &str,
-) -> Result<Life, RowFault>
-    requires { ⟦<Node<E, MemoryDisk> as Site>⟧.site_valid node }
+fn lived<E: Engine + Drop>(alloc: Global, node: Running<E>, lines: &str) -> Result<Life, RowFault>
+    requires { ⟦<Node<E, MemoryDisk> as Site>⟧.site_valid node.value }
 {
     let mut node = node;
-    let refusal = refusal(alloc, &mut node, lines)?;
-    let (_, a, b) = node.stop();
+    let refusal = refusal(alloc, &mut node.value, lines)?;
+    let (_, a, b) = node.into_value().stop();
     Ok(Life { refusal, a, b })
 }
 
@@ -111,8 +107,8 @@ fn live(alloc: Global, a: MemoryDisk, b: MemoryDisk, lines: &str) -> Result<Life
 }
 
 /// A node over disks that work.
-fn opened(alloc: Global, a: MemoryDisk, b: MemoryDisk) -> Result<Node<Shop, MemoryDisk>, RowFault>
-    ensures { IfOk result (λ n. ⟦<Node<Shop, MemoryDisk> as Site>⟧.site_valid n) }
+fn opened(alloc: Global, a: MemoryDisk, b: MemoryDisk) -> Result<Running<Shop>, RowFault>
+    ensures { IfOk result (λ n. ⟦<Node<Shop, MemoryDisk> as Site>⟧.site_valid n.value) }
 {
     let (mut a, mut b) = (a, b);
     a.fail_at(0);
@@ -133,14 +129,14 @@ fn current<'a>(a: &'a MemoryDisk, b: &'a MemoryDisk) -> &'a MemoryDisk {
 }
 
 /// What a node keeps, as the records of a snapshot.
-fn kept(alloc: Global, node: Node<Shop, MemoryDisk>) -> Result<String, RowFault>
-    requires { ⟦<Node<Shop, MemoryDisk> as Site>⟧.site_valid node }
+fn kept(alloc: Global, node: Running<Shop>) -> Result<String, RowFault>
+    requires { ⟦<Node<Shop, MemoryDisk> as Site>⟧.site_valid node.value }
 {
     let mut node = node;
-    if node.compact().is_err() {
+    if node.value.compact().is_err() {
         return Err(RowFault::Start);
     }
-    let (_, a, b) = node.stop();
+    let (_, a, b) = node.into_value().stop();
     Ok(records(alloc, current(&a, &b).bytes())?)
 }
 

@@ -5,12 +5,13 @@ ghost use Rattle.sv_model.specs.Ranges.{IsSetting};
 
 use crate::disks::{both, closed};
 use crate::fault::RowFault;
-use crate::running::open;
+use crate::running::{Running, open};
 use crate::worlds::push_row;
 use std::alloc::{AllocError, Global};
 use sv_journal::MemoryDisk;
 use sv_model::{Engine, Setting, Site};
 use sv_node::{Node, NotOpened};
+use test_engine::Own;
 
 /// Tells what stands on both disks.
 pub fn tell_disks(
@@ -27,14 +28,14 @@ pub fn tell_disks(
 /// A node that is stopped, and opened over what it left; a disk B whose first byte is closed before isn't read.
 pub fn reopened<E: Engine + Drop>(
     alloc: Global,
-    node: Node<E, MemoryDisk>,
+    node: Running<E>,
     line: &str,
     told: &mut String,
-) -> Result<Node<E, MemoryDisk>, RowFault>
-    requires { ⟦<Node<E, MemoryDisk> as Site>⟧.site_valid node }
-    ensures { IfOk result (λ n. ⟦<Node<E, MemoryDisk> as Site>⟧.site_valid n) }
+) -> Result<Running<E>, RowFault>
+    requires { ⟦<Node<E, MemoryDisk> as Site>⟧.site_valid node.value }
+    ensures { IfOk result (λ n. ⟦<Node<E, MemoryDisk> as Site>⟧.site_valid n.value) }
 {
-    let (engine, a, b) = node.stop();
+    let (engine, a, b) = node.into_value().stop();
     tell_disks(told, alloc, line, &a, &b)?;
     let b = match line {
         "reopen-without-b" => closed(alloc, &b)?,
@@ -61,12 +62,12 @@ fn tell_unopened<E: Drop>(
 
 /// A node that was opened.
 fn tell_opened<E: Engine + Drop>(
-    node: Node<E, MemoryDisk>,
+    node: Running<E>,
     line: &str,
     told: &mut String,
-) -> Result<Node<E, MemoryDisk>, RowFault>
-    requires { ⟦<Node<E, MemoryDisk> as Site>⟧.site_valid node }
-    ensures { IfOk result (λ n. ⟦<Node<E, MemoryDisk> as Site>⟧.site_valid n) }
+) -> Result<Running<E>, RowFault>
+    requires { ⟦<Node<E, MemoryDisk> as Site>⟧.site_valid node.value }
+    ensures { IfOk result (λ n. ⟦<Node<E, MemoryDisk> as Site>⟧.site_valid n.value) }
 {
     push_row(told, line, "opened")?;
     Ok(node)
@@ -78,9 +79,9 @@ fn opened_at_last<E: Engine + Drop>(
     refused: NotOpened<E, MemoryDisk>,
     line: &str,
     told: &mut String,
-) -> Result<Node<E, MemoryDisk>, RowFault>
+) -> Result<Running<E>, RowFault>
     requires { E.valid refused.engine }
-    ensures { IfOk result (λ n. ⟦<Node<E, MemoryDisk> as Site>⟧.site_valid n) }
+    ensures { IfOk result (λ n. ⟦<Node<E, MemoryDisk> as Site>⟧.site_valid n.value) }
 {
     tell_unopened(told, alloc, line, &refused)?;
     match open(alloc, refused.engine, refused.a, refused.b) {
@@ -92,18 +93,18 @@ fn opened_at_last<E: Engine + Drop>(
 /// A node that is opened over what another setting of it has left.
 pub fn opened_as<E: Engine + Drop>(
     alloc: Global,
-    node: Node<E, MemoryDisk>,
+    node: Running<E>,
     setting: Setting,
     line: &str,
     told: &mut String,
-) -> Result<Node<E, MemoryDisk>, RowFault>
-    requires valid { ⟦<Node<E, MemoryDisk> as Site>⟧.site_valid node }
+) -> Result<Running<E>, RowFault>
+    requires valid { ⟦<Node<E, MemoryDisk> as Site>⟧.site_valid node.value }
     requires setting { IsSetting setting }
-    ensures { IfOk result (λ n. ⟦<Node<E, MemoryDisk> as Site>⟧.site_valid n) }
+    ensures { IfOk result (λ n. ⟦<Node<E, MemoryDisk> as Site>⟧.site_valid n.value) }
 {
-    let (engine, a, b) = node.stop();
+    let (engine, a, b) = node.into_value().stop();
     match Node::open(alloc, engine, a, b, setting) {
-        Ok(node) => tell_opened(node, line, told),
+        Ok(node) => tell_opened(Own::new(node), line, told),
         Err(refused) => opened_at_last(alloc, refused, line, told),
     }
 }

@@ -27,6 +27,7 @@ use std::alloc::{AllocError, Global};
 use sv_journal::MemoryDisk;
 use sv_model::{Engine, Moment, Output, Setting, Site};
 use sv_node::{Node, NotOpened, OpenFault};
+use test_engine::Own;
 
 const SETTING: Setting = Setting {
     node: 0,
@@ -36,17 +37,23 @@ const SETTING: Setting = Setting {
     forget: false,
 };
 
+/// The node that runs.
+pub type Running<E> = Own<Node<E, MemoryDisk>>;
+
 /// The node over its disks, started once more.
 pub fn open<E: Engine + Drop>(
     alloc: Global,
     engine: E,
     a: MemoryDisk,
     b: MemoryDisk,
-) -> Result<Node<E, MemoryDisk>, NotOpened<E, MemoryDisk>>
+) -> Result<Running<E>, NotOpened<E, MemoryDisk>>
     requires { E.valid engine }
-    ensures { IfOk result (λ n. ⟦<Node<E, MemoryDisk> as Site>⟧.site_valid n) }
+    ensures { IfOk result (λ n. ⟦<Node<E, MemoryDisk> as Site>⟧.site_valid n.value) }
 {
-    Node::open(alloc, engine, a, b, SETTING)
+    match Node::open(alloc, engine, a, b, SETTING) {
+        Ok(node) => Ok(Own::new(node)),
+        Err(refused) => Err(refused),
+    }
 }
 
 /// What was put out.
@@ -120,17 +127,17 @@ pub fn acted<E: Engine + Drop>(
 /// The same, told.
 fn act<E: Engine + Drop>(
     alloc: Global,
-    node: Node<E, MemoryDisk>,
+    node: Running<E>,
     moment: Moment,
     token: u64,
     line: &str,
     told: &mut String,
-) -> Result<Node<E, MemoryDisk>, RowFault>
-    requires { ⟦<Node<E, MemoryDisk> as Site>⟧.site_valid node }
-    ensures { IfOk result (λ n. ⟦<Node<E, MemoryDisk> as Site>⟧.site_valid n) }
+) -> Result<Running<E>, RowFault>
+    requires { ⟦<Node<E, MemoryDisk> as Site>⟧.site_valid node.value }
+    ensures { IfOk result (λ n. ⟦<Node<E, MemoryDisk> as Site>⟧.site_valid n.value) }
 {
     let mut node = node;
-    match acted(alloc, &mut node, moment, token, line)? {
+    match acted(alloc, &mut node.value, moment, token, line)? {
         Deed::Done(said) | Deed::Refused(said) => push_row(told, line, said.as_str())?,
     }
     Ok(node)
@@ -139,14 +146,14 @@ fn act<E: Engine + Drop>(
 /// What happens to a node by a line.
 fn take<E: Engine + Drop>(
     alloc: Global,
-    node: Node<E, MemoryDisk>,
+    node: Running<E>,
     moment: Moment,
     token: u64,
     line: &str,
     told: &mut String,
-) -> Result<Node<E, MemoryDisk>, RowFault>
-    requires { ⟦<Node<E, MemoryDisk> as Site>⟧.site_valid node }
-    ensures { IfOk result (λ n. ⟦<Node<E, MemoryDisk> as Site>⟧.site_valid n) }
+) -> Result<Running<E>, RowFault>
+    requires { ⟦<Node<E, MemoryDisk> as Site>⟧.site_valid node.value }
+    ensures { IfOk result (λ n. ⟦<Node<E, MemoryDisk> as Site>⟧.site_valid n.value) }
 {
     match word(line) {
         ("at", _) => {
@@ -162,14 +169,14 @@ fn take<E: Engine + Drop>(
 /// The same, at a moment that the line may change.
 fn go_on<E: Engine + Drop>(
     alloc: Global,
-    node: Node<E, MemoryDisk>,
+    node: Running<E>,
     moment: &mut Moment,
     token: u64,
     line: &str,
     told: &mut String,
-) -> Result<Node<E, MemoryDisk>, RowFault>
-    requires { ⟦<Node<E, MemoryDisk> as Site>⟧.site_valid node }
-    ensures { IfOk result (λ n. ⟦<Node<E, MemoryDisk> as Site>⟧.site_valid n) }
+) -> Result<Running<E>, RowFault>
+    requires { ⟦<Node<E, MemoryDisk> as Site>⟧.site_valid node.value }
+    ensures { IfOk result (λ n. ⟦<Node<E, MemoryDisk> as Site>⟧.site_valid n.value) }
 {
     *moment = clock::behind(*moment, line)?;
     take(alloc, node, *moment, token, line, told)
@@ -178,11 +185,11 @@ fn go_on<E: Engine + Drop>(
 /// What happens to a node by these lines.
 fn live<E: Engine + Drop>(
     alloc: Global,
-    node: Node<E, MemoryDisk>,
+    node: Running<E>,
     lines: &str,
     told: &mut String,
-) -> Result<Node<E, MemoryDisk>, RowFault>
-    requires { ⟦<Node<E, MemoryDisk> as Site>⟧.site_valid node }
+) -> Result<Running<E>, RowFault>
+    requires { ⟦<Node<E, MemoryDisk> as Site>⟧.site_valid node.value }
 {
     let mut node = node;
     let mut moment = clock::start();
@@ -195,13 +202,13 @@ fn live<E: Engine + Drop>(
 /// What happens to a node by these lines, and what stands on its disks then.
 fn live_and_stop<E: Engine + Drop>(
     alloc: Global,
-    node: Node<E, MemoryDisk>,
+    node: Running<E>,
     lines: &str,
     told: &mut String,
 ) -> Result<(), RowFault>
-    requires { ⟦<Node<E, MemoryDisk> as Site>⟧.site_valid node }
+    requires { ⟦<Node<E, MemoryDisk> as Site>⟧.site_valid node.value }
 {
-    let (_, a, b) = live(alloc, node, lines, told)?.stop();
+    let (_, a, b) = live(alloc, node, lines, told)?.into_value().stop();
     Ok(tell_disks(told, alloc, "stop", &a, &b)?)
 }
 

@@ -10,7 +10,6 @@ mod again;
 mod cases;
 mod given;
 mod judge;
-mod own;
 mod refusing;
 mod shown;
 

@@ -2,9 +2,9 @@
 //!
 //! What refuses it is a library in the C language, `refuse.c`, which stands before the C library's own calls.
 
-use crate::own::Own;
 use std::io;
 use std::process::{Command, Output, Processes};
+use test_engine::Own;
 
 /// Processes, and memory.
 pub trait Machine: Processes + AllocGlobal {}

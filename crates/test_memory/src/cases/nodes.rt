@@ -5,12 +5,11 @@ ghost use Rattle.std.specs.Prelude.{IfOk};
 
 use crate::again::{Refusals, Unshown, done};
 use crate::given;
-use crate::own::Own;
 use std::alloc::{AllocError, Global};
 use sv_journal::{JournalFault, MemoryDisk};
 use sv_model::{Input, Moment, Output, Setting, Site, StepFault};
 use sv_node::{Node, OpenFault};
-use test_engine::{Counter, request};
+use test_engine::{Counter, Own, request};
 
 type Shown = Result<String, Unshown>;
 

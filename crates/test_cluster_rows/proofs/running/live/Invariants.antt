@@ -4,4 +4,4 @@ use Rattle.test_cluster_rows.proofs.running.live.Given as goal
 
 -- the node may go on
 abbrev pub invariant-loop-place : goal.invariant-loop-place
-invariant-loop-place g l = IsNode g.E.Engine.valid tells_all disk_bytes may_be_left l.node
+invariant-loop-place g l = IsNode g.E.Engine.valid tells_all disk_bytes may_be_left l.node.value
