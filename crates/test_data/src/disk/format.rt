@@ -1,121 +1,142 @@
-//! The format, byte for byte.
+//! What is read of the bytes of two disks.
 use crate::disk::fixtures::{
-    Held, added, expect_bytes, image, journal_on, new_journal, opened, read, records_of, shown_of,
+    Held, added, expect_bytes, image, journal_on, new_journal, opened, read, records_of,
 };
+use crate::disk::stage::found_text;
+use crate::disk::stories::EMPTY;
 use std::alloc::{AllocError, Global};
-use std::process::Abort;
 use std::test::Fail;
 use sv_journal::{JournalFault, MemoryDisk};
 
-// The worked example: an empty journal, and one with the first record that a node writes.
-static FIRST_RECORD: [u8; 10] = [2, 1, 0, 0, 0, 0, 0, 0, 0, 1];
+/// The header of a journal of generation 1.
+const HEAD: &[u8] = b"\xA5SVJRNL\x01\0\0\0\0\0\0\0\x01";
 
-#[test]
-fn a_new_journal_is_the_header_and_a_closed_gate(rt: HostRuntime) -> Result<(), Fail> {
-    let alloc = rt.alloc();
-    let mut journal = new_journal(alloc)?;
-    assert!(rt; read(&mut journal)?.is_empty());
-    expect_image(&rt, alloc, journal, 17, b"\0")
-}
-
-// A journal says that it is so long; its disk A holds the header and this, and disk B nothing.
-fn expect_image(
-    rt: &impl Abort,
-    alloc: Global,
-    journal: Held<MemoryDisk>,
-    len: u64,
-    rest: &[u8],
-) -> Result<(), Fail> {
-    assert_eq!(rt; journal.len(), len);
-    let (a, b) = journal.into_disks();
-    expect_bytes(rt, "disk A", a.bytes(), &image(alloc, rest)?);
-    expect_bytes(rt, "disk B", b.bytes(), b"");
-    Ok(())
-}
-
-#[test]
-fn an_entry_is_a_gate_a_length_and_the_payload(rt: HostRuntime) -> Result<(), Fail> {
-    let alloc = rt.alloc();
-    let mut journal = new_journal(alloc)?;
-    assert_eq!(rt; added(&mut journal, &FIRST_RECORD), Ok(()));
-    let found = shown_of(alloc, &mut journal)?;
-    expect_bytes(&rt, "the entry", &found, b"\x02\x01\0\0\0\0\0\0\0\x01|");
-    let entry = b"\xA5\0\0\0\x0A\x02\x01\0\0\0\0\0\0\0\x01\0";
-    expect_image(&rt, alloc, journal, 32, entry)
-}
-
-// What stands behind a header of generation 1, and the entries that are read, each with a bar behind it, or none where
-// that is damage.
-static REST: [(&str, &[u8], Option<&[u8]>); 9] = [
+/// What disk A holds, in parts, and disk B; and the entries that are read, each with a bar behind it, or the fault. Where neither disk is
+/// open, at most 17 bytes on A and at most 1 on B are what a stop leaves of a first opening.
+static DISKS: [(&str, &[&[u8]], &[u8], &[u8]); 22] = [
     (
         "whole",
-        b"\xA5\0\0\0\x0A\x02\x01\0\0\0\0\0\0\0\x01\0",
-        Some(b"\x02\x01\0\0\0\0\0\0\0\x01|"),
+        &[HEAD, b"\xA5\0\0\0\x0A\x02\x01\0\0\0\0\0\0\0\x01\0"],
+        b"",
+        b"\x02\x01\0\0\0\0\0\0\0\x01|",
     ),
     (
         "another gate",
-        b"\x37\0\0\0\x0A\x02\x01\0\0\0\0\0\0\0\x01\0",
-        Some(b""),
+        &[HEAD, b"\x37\0\0\0\x0A\x02\x01\0\0\0\0\0\0\0\x01\0"],
+        b"",
+        b"",
     ),
     (
         "another gate, cut off",
-        b"\x37\0\0\0\x0A\x02\x01\0",
-        Some(b""),
+        &[HEAD, b"\x37\0\0\0\x0A\x02\x01\0"],
+        b"",
+        b"",
     ),
     (
         "no payload",
-        b"\xA5\0\0\0\0\xA5\0\0\0\x01x\0junk",
-        Some(b"|x|"),
+        &[HEAD, b"\xA5\0\0\0\0\xA5\0\0\0\x01x\0junk"],
+        b"",
+        b"|x|",
     ),
-    ("cut off", b"\xA5\0\0\0\x0A\x02\x01\0", None),
-    ("ends at a gate", b"\xA5\0\0\0\x01x", None),
-    ("a length cut off", b"\xA5\0\0\0", None),
-    ("a payload cut off", b"\xA5\0\0\0\x02x", None),
-    ("a length past the limit", b"\xA5\0\x08\0\x01x\0", None),
+    (
+        "cut off",
+        &[HEAD, b"\xA5\0\0\0\x0A\x02\x01\0"],
+        b"",
+        b"Damaged",
+    ),
+    (
+        "ends at a gate",
+        &[HEAD, b"\xA5\0\0\0\x01x"],
+        b"",
+        b"Damaged",
+    ),
+    ("a length cut off", &[HEAD, b"\xA5\0\0\0"], b"", b"Damaged"),
+    (
+        "a payload cut off",
+        &[HEAD, b"\xA5\0\0\0\x02x"],
+        b"",
+        b"Damaged",
+    ),
+    (
+        "a length past the limit",
+        &[HEAD, b"\xA5\0\x08\0\x01x\0"],
+        b"",
+        b"Damaged",
+    ),
+    (
+        "the first gate of three is shut, and what stands behind it counts for nothing, open gates and all",
+        &[
+            HEAD,
+            b"\xA5\0\0\0\x02ab\0\0\0\0\x01x\xA5\0\0\0\0\xA5\0\0\0\x02yz\0",
+        ],
+        b"",
+        b"ab|",
+    ),
+    (
+        "the first gate of three opens all",
+        &[
+            HEAD,
+            b"\xA5\0\0\0\x02ab\xA5\0\0\0\x01x\xA5\0\0\0\0\xA5\0\0\0\x02yz\0",
+        ],
+        b"",
+        b"ab|x||yz|",
+    ),
+    (
+        "A closed, 17 bytes",
+        &[b"\x5ASVJRNL\x01\0\0\0\0\0\0\0\x01\0"],
+        b"\0",
+        b"",
+    ),
+    (
+        "A closed, 18 bytes",
+        &[b"\x5ASVJRNL\x01\0\0\0\0\0\0\0\x01\0\0"],
+        b"",
+        b"Damaged",
+    ),
+    ("B of 2 bytes", &[], b"\0\0", b"Damaged"),
+    ("B of 2 bytes beside a journal", &[EMPTY], b"\xA5\0", b""),
+    ("one generation", &[EMPTY], EMPTY, b"Damaged"),
+    ("B open, A blank", &[], EMPTY, b""),
+    ("16 bytes are not open", &[HEAD], b"", b""),
+    ("one open byte", &[b"\xA5"], b"\xA5", b""),
+    (
+        "other letters",
+        &[b"\xA5SVJRNX\x01\0\0\0\0\0\0\0\x01\0"],
+        b"",
+        b"Damaged",
+    ),
+    (
+        "other letters on B beside a journal",
+        &[EMPTY],
+        b"\xA5SVJRNX\x01\0\0\0\0\0\0\0\x01\0",
+        b"Damaged",
+    ),
+    (
+        "another number",
+        &[b"\xA5SVJRNL\x02\0\0\0\0\0\0\0\x01\0"],
+        b"",
+        b"Damaged",
+    ),
 ];
 
-#[test]
-fn entries_end_at_a_gate_that_is_not_open(rt: HostRuntime) {
-    for (name, rest, wanted) in &REST {
-        expect_found(&rt, name, found_behind(rt.alloc(), rest), *wanted);
+/// What is read of these disks.
+fn found_on(alloc: Global, a: &[&[u8]], b: &[u8]) -> Result<Vec<u8>, AllocError> {
+    let mut whole = Vec::new(alloc);
+    for part in a {
+        whole.extend_from_slice(part)?;
     }
+    found_text(alloc, &whole, b)
 }
 
-// What is read of a disk with this behind the header.
-fn found_behind(alloc: Global, rest: &[u8]) -> Result<Vec<u8>, JournalFault> {
-    records_of(alloc, &image(alloc, rest)?, b"")
-}
-
-// These entries were found, or the disks are damaged.
-fn is_found(found: &Result<Vec<u8>, JournalFault>, wanted: Option<&[u8]>) -> bool {
-    match (found, wanted) {
-        (Ok(found), Some(entries)) => found.as_slice() == entries,
-        (Err(fault), None) => *fault == JournalFault::Damaged,
-        _ => false,
-    }
-}
-
-fn expect_found(
-    rt: &impl Abort,
-    name: &str,
-    found: Result<Vec<u8>, JournalFault>,
-    wanted: Option<&[u8]>,
-) {
-    assert!(rt; is_found(&found, wanted), "{name}");
-}
-
-// A length of 524,288 is the longest; 524,289 is damage, whatever stands behind it.
 #[test]
-fn the_longest_payload_has_524288_bytes(rt: HostRuntime) -> Result<(), Fail> {
-    let alloc = rt.alloc();
-    let longest = entry_of(alloc, b"\xA5\0\x08\0\0", 524_288)?;
-    assert_eq!(rt; records_of(alloc, &longest, b"")?.len(), 524_289);
-    let too_long = entry_of(alloc, b"\xA5\0\x08\0\x01", 524_289)?;
-    expect_found(&rt, "too long", records_of(alloc, &too_long, b""), None);
+fn disks_are_journals_blank_or_damaged(rt: HostRuntime) -> Result<(), Fail> {
+    for (name, a, b, want) in &DISKS {
+        expect_bytes(&rt, name, &found_on(rt.alloc(), a, b)?, want);
+    }
     Ok(())
 }
 
-// An image with an entry of this gate and length, with so many bytes behind it, and a closed gate.
+/// An image with an entry of this gate and length, with so many bytes behind it, and a closed gate.
 fn entry_of(alloc: Global, front: &[u8], count: usize) -> Result<Vec<u8>, AllocError> {
     let payload = Vec::from_elem(alloc, 7u8, count)?;
     let mut bytes = image(alloc, front)?;
@@ -124,63 +145,26 @@ fn entry_of(alloc: Global, front: &[u8], count: usize) -> Result<Vec<u8>, AllocE
     Ok(bytes)
 }
 
-// Two disks that hold no entry, and whether they are damaged. Where neither is open, at most 17 bytes on A and at most 1
-// on B are what a stop leaves of a first opening.
-const EMPTY: &[u8] = b"\xA5SVJRNL\x01\0\0\0\0\0\0\0\x01\0";
-
-static BLANK: [(&str, &[u8], &[u8], bool); 11] = [
-    (
-        "A closed, 17 bytes",
-        b"\x5ASVJRNL\x01\0\0\0\0\0\0\0\x01\0",
-        b"\0",
-        false,
-    ),
-    (
-        "A closed, 18 bytes",
-        b"\x5ASVJRNL\x01\0\0\0\0\0\0\0\x01\0\0",
-        b"",
-        true,
-    ),
-    ("B of 2 bytes", b"", b"\0\0", true),
-    ("B of 2 bytes beside a journal", EMPTY, b"\xA5\0", false),
-    ("one generation", EMPTY, EMPTY, true),
-    ("B open, A blank", b"", EMPTY, false),
-    (
-        "16 bytes are not open",
-        b"\xA5SVJRNL\x01\0\0\0\0\0\0\0\x01",
-        b"",
-        false,
-    ),
-    ("one open byte", b"\xA5", b"\xA5", false),
-    (
-        "other letters",
-        b"\xA5SVJRNX\x01\0\0\0\0\0\0\0\x01\0",
-        b"",
-        true,
-    ),
-    (
-        "other letters on B beside a journal",
-        EMPTY,
-        b"\xA5SVJRNX\x01\0\0\0\0\0\0\0\x01\0",
-        true,
-    ),
-    (
-        "another number",
-        b"\xA5SVJRNL\x02\0\0\0\0\0\0\0\x01\0",
-        b"",
-        true,
-    ),
-];
-
-#[test]
-fn disks_that_are_not_open_are_blank_or_damaged(rt: HostRuntime) {
-    for (name, a, b, is_damaged) in &BLANK {
-        let wanted: Option<&[u8]> = if *is_damaged { None } else { Some(b"") };
-        expect_found(&rt, name, records_of(rt.alloc(), a, b), wanted);
+/// How many bytes are read where the entry of an image has so many, the bar behind it among them, or the fault.
+fn len_of_entry(alloc: Global, front: &[u8], count: usize) -> Result<Vec<u8>, AllocError> {
+    let image = entry_of(alloc, front, count)?;
+    match records_of(alloc, &image, b"") {
+        Ok(entries) => Ok(format!(in alloc; "{}", entries.len())?.into_bytes()),
+        Err(fault) => Ok(format!(in alloc; "{fault:?}")?.into_bytes()),
     }
 }
 
-// Adds 26 payloads of 100,000 bytes and 200 short ones.
+/// The longest payload there is.
+fn longest_payload(alloc: Global) -> Result<Vec<u8>, AllocError> {
+    len_of_entry(alloc, b"\xA5\0\x08\0\0", 524_288)
+}
+
+/// And one with a byte more, which stands there whole.
+fn too_long_payload(alloc: Global) -> Result<Vec<u8>, AllocError> {
+    len_of_entry(alloc, b"\xA5\0\x08\0\x01", 524_289)
+}
+
+/// Adds 26 payloads of 100,000 bytes and 200 short ones.
 fn add_many(alloc: Global, journal: &mut Held<MemoryDisk>) -> Result<(), Fail> {
     for i in 0..26u8 {
         added(journal, &Vec::from_elem(alloc, i, 100_000)?)?;
@@ -191,52 +175,102 @@ fn add_many(alloc: Global, journal: &mut Held<MemoryDisk>) -> Result<(), Fail> {
     Ok(())
 }
 
-fn expect_many(rt: &impl Abort, found: &[Vec<u8>]) {
-    assert_eq!(rt; found.len(), 226);
+/// The first of these payloads that isn't so, or their number.
+fn first_other(found: &[Vec<u8>]) -> usize {
     for (i, payload) in found.iter().enumerate() {
         let (byte, len) = if i < 26 {
             (i, 100_000)
         } else {
             (i.saturating_sub(26), 50)
         };
-        let is_whole = payload.len() == len && payload.iter().all(|b| usize::from(*b) == byte);
-        assert!(rt; is_whole, "{i}");
+        if payload.len() != len || !payload.iter().all(|b| usize::from(*b) == byte) {
+            return i;
+        }
     }
+    found.len()
 }
 
-// A disk is read in pieces of 1,048,576 bytes: 26 payloads of 100,000 bytes and 200 short ones lie across the ends of two.
-#[test]
-fn a_long_journal_is_read_in_pieces(rt: HostRuntime) -> Result<(), Fail> {
-    let alloc = rt.alloc();
+/// A journal with these payloads.
+fn long_journal(alloc: Global) -> Result<Held<MemoryDisk>, Fail> {
     let mut journal = new_journal(alloc)?;
     add_many(alloc, &mut journal)?;
-    // 16 + 26 * 100,005 + 200 * 55 + 1
-    assert_eq!(rt; journal.len(), 2_611_147);
-    let (a, b) = journal.into_disks();
-    expect_many(&rt, &read(&mut journal_on(alloc, a, b)?)?);
-    Ok(())
+    Ok(journal)
 }
 
-// What is said where two disks of two bytes are opened, if they are refused.
-fn text_of_refused(alloc: Global) -> Result<Option<String>, Fail> {
+/// The length of such a journal, and how many payloads are read as they were written where its disks are opened again.
+fn read_in_pieces(alloc: Global) -> Result<Vec<u8>, Fail> {
+    let journal = long_journal(alloc)?;
+    let len = journal.len();
+    let (a, b) = journal.into_disks();
+    let found = read(&mut journal_on(alloc, a, b)?)?;
+    Ok(format!(in alloc; "{len} {}", first_other(&found))?.into_bytes())
+}
+
+/// What is said where two disks of two bytes are opened, if they are refused.
+fn text_of_refused(alloc: Global) -> Result<Vec<u8>, AllocError> {
     let a = MemoryDisk::with(alloc, b"\0\0")?;
     let b = MemoryDisk::with(alloc, b"\0\0")?;
     match opened(alloc, a, b) {
-        Ok(_) => Ok(None),
-        Err(refused) => Ok(Some(format!(in alloc; "{refused}")?)),
+        Ok(_) => Ok(Vec::new(alloc)),
+        Err(refused) => Ok(format!(in alloc; "{refused}")?.into_bytes()),
+    }
+}
+
+/// What a fault says.
+fn text_of_damaged(alloc: Global) -> Result<Vec<u8>, AllocError> {
+    Ok(format!(in alloc; "{}", JournalFault::Damaged)?.into_bytes())
+}
+
+/// What is tried of bytes that are too many for a table, and of what faults say.
+#[derive(Clone, Copy)]
+enum Case {
+    Longest,
+    TooLong,
+    Pieces,
+    Damaged,
+    Refused,
+}
+
+static CASES: [(&str, Case, &[u8]); 5] = [
+    (
+        "a payload of 524,288 bytes, and a bar",
+        Case::Longest,
+        b"524289",
+    ),
+    (
+        "a payload of a byte more, whatever stands behind it",
+        Case::TooLong,
+        b"Damaged",
+    ),
+    // A disk is read in pieces of 1,048,576 bytes: 26 payloads of 100,000 bytes and 200 short ones lie across the ends of two.
+    // They take 16 + 26 * 100,005 + 200 * 55 + 1 bytes.
+    ("a long journal", Case::Pieces, b"2611147 226"),
+    (
+        "a fault",
+        Case::Damaged,
+        b"the disks hold no journal that can be read",
+    ),
+    (
+        "two bytes on B",
+        Case::Refused,
+        b"the disks hold no journal that can be read",
+    ),
+];
+
+fn told(alloc: Global, case: Case) -> Result<Vec<u8>, Fail> {
+    match case {
+        Case::Longest => Ok(longest_payload(alloc)?),
+        Case::TooLong => Ok(too_long_payload(alloc)?),
+        Case::Pieces => read_in_pieces(alloc),
+        Case::Damaged => Ok(text_of_damaged(alloc)?),
+        Case::Refused => Ok(text_of_refused(alloc)?),
     }
 }
 
 #[test]
-fn a_fault_says_what_is_at_fault(rt: HostRuntime) -> Result<(), Fail> {
-    let alloc = rt.alloc();
-    let wanted = "the disks hold no journal that can be read";
-    let text = format!(in alloc; "{}", JournalFault::Damaged)?;
-    assert!(rt; text.as_str() == wanted);
-    let text = text_of_refused(alloc)?;
-    assert!(rt;
-        text.is_some_and(|text| text.as_str() == wanted),
-        "two bytes on B"
-    );
+fn long_journals_and_faults(rt: HostRuntime) -> Result<(), Fail> {
+    for (name, case, want) in &CASES {
+        expect_bytes(&rt, name, &told(rt.alloc(), *case)?, want);
+    }
     Ok(())
 }

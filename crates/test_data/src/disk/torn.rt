@@ -1,8 +1,10 @@
 //! Images that a stop leaves of a write that was not synced.
-use crate::disk::fixtures::{image, records_of, with_gate};
+use crate::disk::fixtures::{image, records_of};
+use crate::disk::stories::{BOOT_COMMIT, COMPACTED, COUNTERS_STATE, EMPTY, OLD};
 use std::alloc::{AllocError, Global};
 use std::process::Abort;
 use std::test::Fail;
+use sv_journal::JournalFault;
 
 // Writes this choice of what a stop may leave of a range: each byte is 0, an open gate or the one that was written.
 fn tear(image: &mut Vec<u8>, at: usize, new: &[u8], choice: usize) {
@@ -20,84 +22,126 @@ fn tear(image: &mut Vec<u8>, at: usize, new: &[u8], choice: usize) {
     }
 }
 
-// Until the first sync any bytes may stand behind the closed gate, up to any length: the old entries are there.
-#[test]
-fn each_torn_image_of_a_small_entry_opens(rt: HostRuntime) -> Result<(), Fail> {
-    let alloc = rt.alloc();
-    let old = image(alloc, b"\xA5\0\0\0\x02ab\0")?;
-    for len in 24..31usize {
-        expect_torn_entries(&rt, alloc, &old, len)?;
-    }
-    Ok(())
-}
-
-// So long an image of the old one, with each choice of what is left of a new entry, is read as the old one.
-fn expect_torn_entries(rt: &impl Abort, alloc: Global, old: &[u8], len: usize) -> Result<(), Fail> {
+// Until the first sync any bytes may stand behind the closed gate, up to any length. So long an image of the old entry, with
+// each choice of what is left of a new one, is read as the old one.
+fn expect_torn_entries(rt: &impl Abort, alloc: Global, len: usize) -> Result<(), Fail> {
     for choice in 0..729usize {
-        let found = found_in_torn(alloc, old, len, choice)?;
+        let found = found_in_torn(alloc, len, choice)?;
         assert_eq!(rt; found.as_slice(), b"ab|".as_slice(), "{len} {choice}");
     }
     Ok(())
 }
 
-fn found_in_torn(alloc: Global, old: &[u8], len: usize, choice: usize) -> Result<Vec<u8>, Fail> {
-    let torn = torn_entry(alloc, old, len, choice)?;
-    Ok(records_of(alloc, &torn, b"")?)
+fn found_in_torn(alloc: Global, len: usize, choice: usize) -> Result<Vec<u8>, JournalFault> {
+    records_of(alloc, &torn_entry(alloc, len, choice)?, b"")
 }
 
-fn torn_entry(alloc: Global, old: &[u8], len: usize, choice: usize) -> Result<Vec<u8>, AllocError> {
-    let mut torn = Vec::from_slice(alloc, old)?;
+fn torn_entry(alloc: Global, len: usize, choice: usize) -> Result<Vec<u8>, AllocError> {
+    let mut torn = image(alloc, b"\xA5\0\0\0\x02ab\0")?;
     torn.resize(len, 0x5A)?;
     tear(&mut torn, 24, b"\0\0\0\x01x\0", choice);
     Ok(torn)
 }
 
-// Then the gate may be any byte: the new entry is there where it is open.
-#[test]
-fn each_torn_gate_opens(rt: HostRuntime) -> Result<(), Fail> {
-    let alloc = rt.alloc();
-    for gate in 0..=255u8 {
-        let found = found_with(alloc, gate)?;
-        let wanted: &[u8] = if gate == 0xA5 { b"ab|x|" } else { b"ab|" };
-        assert_eq!(rt; found.as_slice(), wanted, "{gate}");
-    }
-    Ok(())
-}
-
-fn found_with(alloc: Global, gate: u8) -> Result<Vec<u8>, Fail> {
-    let torn = torn_gate(alloc, b"\xA5\0\0\0\x02ab", gate, b"\0\0\0\x01x\0")?;
-    Ok(records_of(alloc, &torn, b"")?)
-}
-
-// An image with this gate between these bytes.
-fn torn_gate(alloc: Global, front: &[u8], gate: u8, rest: &[u8]) -> Result<Vec<u8>, AllocError> {
-    let mut torn = image(alloc, front)?;
-    torn.push(gate)?;
-    torn.extend_from_slice(rest)?;
-    Ok(torn)
-}
-
-// The first journal while it is made: what is behind byte 0 torn.
-#[test]
-fn each_torn_image_of_a_new_journal_opens(rt: HostRuntime) -> Result<(), Fail> {
-    let alloc = rt.alloc();
+// The first journal while it is made, so long and all of this byte.
+fn expect_torn_new(rt: &impl Abort, alloc: Global, len: usize) -> Result<(), Fail> {
     for byte in [0u8, 0xA5, 0x37] {
-        for len in 0..=16usize {
-            let torn = Vec::from_elem(alloc, byte, len)?;
-            assert!(rt; records_of(alloc, &torn, b"")?.is_empty(), "{len} {byte}");
-        }
+        assert!(rt; is_empty(alloc, byte, len)?, "{len} {byte}");
     }
     Ok(())
 }
 
-// And byte 0, once that is there.
+fn is_empty(alloc: Global, byte: u8, len: usize) -> Result<bool, JournalFault> {
+    let torn = Vec::from_elem(alloc, byte, len)?;
+    Ok(records_of(alloc, &torn, b"")?.is_empty())
+}
+
+/// Two disks with a gate at a place of one of them, and what is read where it is open, and where it is anything else.
+struct Gate {
+    name: &'static str,
+    a: &'static [u8],
+    b: &'static [u8],
+    is_on_a: bool,
+    at: usize,
+    open: &'static [u8],
+    closed: &'static [u8],
+}
+
+static GATES: [Gate; 4] = [
+    Gate {
+        name: "of a second entry, which is there where its gate is open",
+        a: b"\xA5SVJRNL\x01\0\0\0\0\0\0\0\x01\xA5\0\0\0\x02ab\0\0\0\0\x01x\0",
+        b: b"",
+        is_on_a: true,
+        at: 23,
+        open: b"ab|x|",
+        closed: b"ab|",
+    },
+    Gate {
+        name: "of a new journal, which has no entry either way",
+        a: EMPTY,
+        b: b"",
+        is_on_a: true,
+        at: 0,
+        open: b"",
+        closed: b"",
+    },
+    Gate {
+        name: "of A behind a compaction, beside which the newer journal on B is read",
+        a: OLD,
+        b: COMPACTED,
+        is_on_a: true,
+        at: 0,
+        open: COUNTERS_STATE,
+        closed: COUNTERS_STATE,
+    },
+    Gate {
+        name: "of B in a compaction, which is read where it is open, and else the journal on A",
+        a: OLD,
+        b: COMPACTED,
+        is_on_a: false,
+        at: 0,
+        open: COUNTERS_STATE,
+        closed: BOOT_COMMIT,
+    },
+];
+
+// What is read with this byte in the place of a gate.
+fn found_with(alloc: Global, gate: &Gate, byte: u8) -> Result<Vec<u8>, JournalFault> {
+    let mut a = Vec::from_slice(alloc, gate.a)?;
+    let mut b = Vec::from_slice(alloc, gate.b)?;
+    let torn = if gate.is_on_a { &mut a } else { &mut b };
+    if let Some(place) = torn.get_mut(gate.at) {
+        *place = byte;
+    }
+    records_of(alloc, &a, &b)
+}
+
+// Each byte in the place of a gate.
+fn expect_torn_gate(rt: &impl Abort, alloc: Global, gate: &Gate) -> Result<(), Fail> {
+    for byte in 0..=255u8 {
+        let wanted = if byte == 0xA5 { gate.open } else { gate.closed };
+        let found = found_with(alloc, gate, byte)?;
+        assert_eq!(rt;
+            found.as_slice(),
+            wanted,
+            "{byte} as the gate {}",
+            gate.name
+        );
+    }
+    Ok(())
+}
+
 #[test]
-fn each_torn_gate_of_a_new_journal_opens(rt: HostRuntime) -> Result<(), Fail> {
-    let alloc = rt.alloc();
-    let new = image(alloc, b"\0")?;
-    for gate in 0..=255u8 {
-        let torn = with_gate(alloc, &new, gate)?;
-        assert!(rt; records_of(alloc, &torn, b"")?.is_empty(), "{gate}");
+fn torn_images_open(rt: HostRuntime) -> Result<(), Fail> {
+    for len in 0..=16usize {
+        expect_torn_new(&rt, rt.alloc(), len)?;
+    }
+    for len in 24..31usize {
+        expect_torn_entries(&rt, rt.alloc(), len)?;
+    }
+    for gate in &GATES {
+        expect_torn_gate(&rt, rt.alloc(), gate)?;
     }
     Ok(())
 }
