@@ -42,6 +42,7 @@ fn is_value(value: &Option<Sequence<u8>>, want: Option<&[u8]>) -> bool {
 
 /// A value that is put at a name, the old value, and all attributes behind that, with the bytes of all.
 struct Step {
+    row: &'static str,
     name: &'static str,
     value: &'static [u8],
     old: Option<&'static [u8]>,
@@ -53,6 +54,7 @@ struct Step {
 /// The bytes of all are added up by hand.
 static PUT: [Step; 6] = [
     Step {
+        row: "the first",
         name: "z",
         value: b"1",
         old: None,
@@ -60,6 +62,7 @@ static PUT: [Step; 6] = [
         size: 2,
     },
     Step {
+        row: "one before it",
         name: "a",
         value: b"22",
         old: None,
@@ -67,6 +70,7 @@ static PUT: [Step; 6] = [
         size: 5,
     },
     Step {
+        row: "one behind both",
         name: "é",
         value: b"",
         old: None,
@@ -74,6 +78,7 @@ static PUT: [Step; 6] = [
         size: 7,
     },
     Step {
+        row: "a capital, before small letters",
         name: "B",
         value: b"3",
         old: None,
@@ -81,6 +86,7 @@ static PUT: [Step; 6] = [
         size: 9,
     },
     Step {
+        row: "a value in the place of another",
         name: "a",
         value: b"",
         old: Some(b"22"),
@@ -88,6 +94,7 @@ static PUT: [Step; 6] = [
         size: 7,
     },
     Step {
+        row: "a longer value",
         name: "z",
         value: b"long",
         old: Some(b"1"),
@@ -109,20 +116,17 @@ fn is_put(alloc: Global, attributes: &mut Attributes, row: &Step) -> Result<bool
     Ok(is_value(&old, row.old) && are_behind(attributes, row))
 }
 
-#[test]
-fn values_are_put(rt: HostRuntime) -> Result<(), Fail> {
-    let mut attributes = Attributes::new(rt.alloc());
-    for row in &PUT {
-        assert!(rt; is_put(rt.alloc(), &mut attributes, row)?, "{}", row.name);
+pub(super) fn other_put(alloc: Global) -> Result<Option<&'static str>, Fail> {
+    let mut attributes = Attributes::new(alloc);
+    if attributes.len() != 0 || attributes.size() != 0 {
+        return Ok(Some("none at first"));
     }
-    Ok(())
-}
-
-#[test]
-fn there_are_none_at_first(rt: HostRuntime) {
-    let attributes = Attributes::new(rt.alloc());
-    assert_eq!(rt; attributes.len(), 0);
-    assert_eq!(rt; attributes.size(), 0);
+    for row in &PUT {
+        if !is_put(alloc, &mut attributes, row)? {
+            return Ok(Some(row.row));
+        }
+    }
+    Ok(None)
 }
 
 /// What all rows leave behind.
@@ -147,36 +151,65 @@ fn have_names(alloc: Global, attributes: &Attributes, want: &[&str]) -> Result<b
     Ok(are_names(attributes.names(alloc)?.as_slice(), want))
 }
 
-#[test]
-fn names_are_in_order(rt: HostRuntime) -> Result<(), Fail> {
-    let attributes = all(rt.alloc())?;
-    assert_eq!(rt; attributes.len(), 4);
-    assert_eq!(rt; attributes.get("A"), None);
-    assert!(rt; have_names(rt.alloc(), &attributes, &["B", "a", "z", "é"])?);
-    Ok(())
+pub(super) fn other_names(alloc: Global) -> Result<Option<&'static str>, Fail> {
+    let attributes = all(alloc)?;
+    if attributes.len() != 4 || attributes.get("A").is_some() {
+        return Ok(Some("a name in another case"));
+    }
+    if !have_names(alloc, &attributes, &["B", "a", "z", "é"])? {
+        return Ok(Some("all names"));
+    }
+    Ok(None)
 }
 
 /// A name whose value is removed, the old value, and all attributes behind that, with the bytes of all.
-const REMOVED: [(&str, Option<&[u8]>, Pairs, usize); 3] = [
-    (
-        "z",
-        Some(b"long"),
-        &[("B", b"3"), ("a", b""), ("é", b"")],
-        5,
-    ),
-    ("z", None, &[("B", b"3"), ("a", b""), ("é", b"")], 5),
-    ("B", Some(b"3"), &[("a", b""), ("é", b"")], 3),
+struct Removal {
+    row: &'static str,
+    name: &'static str,
+    old: Option<&'static [u8]>,
+    all: Pairs,
+    size: usize,
+}
+
+static REMOVED: [Removal; 3] = [
+    Removal {
+        row: "z",
+        name: "z",
+        old: Some(b"long"),
+        all: &[("B", b"3"), ("a", b""), ("é", b"")],
+        size: 5,
+    },
+    Removal {
+        row: "z once more",
+        name: "z",
+        old: None,
+        all: &[("B", b"3"), ("a", b""), ("é", b"")],
+        size: 5,
+    },
+    Removal {
+        row: "B",
+        name: "B",
+        old: Some(b"3"),
+        all: &[("a", b""), ("é", b"")],
+        size: 3,
+    },
 ];
 
-#[test]
-fn values_are_removed(rt: HostRuntime) -> Result<(), Fail> {
-    let mut attributes = all(rt.alloc())?;
-    for (name, old, want, size) in REMOVED {
-        assert!(rt; is_value(&attributes.remove(name), old), "{name}");
-        assert!(rt; are_attributes(&attributes, want), "without {name}");
-        assert_eq!(rt; attributes.size(), size, "the size without {name}");
+/// Removes the value of a row, and compares.
+fn is_removed(attributes: &mut Attributes, row: &Removal) -> bool {
+    is_value(&attributes.remove(row.name), row.old)
+        && are_attributes(attributes, row.all)
+        && attributes.size() == row.size
+}
+
+pub(super) fn other_removed(alloc: Global) -> Result<Option<&'static str>, Fail> {
+    let mut attributes = all(alloc)?;
+    for row in &REMOVED {
+        if !is_removed(&mut attributes, row) {
+            return Ok(Some(row.row));
+        }
     }
-    Ok(())
+    Ok(None)
 }
 
 /// Two attributes.
@@ -195,17 +228,19 @@ fn copied_before(alloc: Global) -> Result<Attributes, Fail> {
     Ok(copy)
 }
 
-/// A copy lives on by itself.
-#[test]
-fn copies_are_equal(rt: HostRuntime) -> Result<(), Fail> {
-    let copy = copied_before(rt.alloc())?;
-    assert!(rt; are_attributes(&copy, &[("j", b"two"), ("k", b"one")]));
-    assert_eq!(rt; copy.size(), 8);
-    Ok(())
+pub(super) fn other_copy(alloc: Global) -> Result<Option<&'static str>, Fail> {
+    let copy = copied_before(alloc)?;
+    if !are_attributes(&copy, &[("j", b"two"), ("k", b"one")]) {
+        return Ok(Some("its values"));
+    }
+    if copy.size() != 8 {
+        return Ok(Some("its size"));
+    }
+    Ok(None)
 }
 
 /// Attributes of which this is the only one.
-pub(super) fn single(alloc: Global, name: &str, value: &[u8]) -> Result<Attributes, Fail> {
+fn single(alloc: Global, name: &str, value: &[u8]) -> Result<Attributes, Fail> {
     if name.len() > 1_000 || value.len() > 1_000 {
         return Err("the test's attributes are small".into());
     }
@@ -216,9 +251,9 @@ pub(super) fn single(alloc: Global, name: &str, value: &[u8]) -> Result<Attribut
     Ok(attributes)
 }
 
-#[test]
-fn attributes_are_pushed(rt: HostRuntime) -> Result<(), Fail> {
-    let attributes = single(rt.alloc(), "k", b"one")?;
-    assert!(rt; are_attributes(&attributes, &[("k", b"one")]));
-    Ok(())
+pub(super) fn other_pushed(alloc: Global) -> Result<Option<&'static str>, Fail> {
+    if !are_attributes(&single(alloc, "k", b"one")?, &[("k", b"one")]) {
+        return Ok(Some("k"));
+    }
+    Ok(None)
 }

@@ -1,0 +1,111 @@
+//! Plain pages.
+
+use crate::model::fields::{Pairs, are_fields, fields_of};
+use http::StatusCode;
+use std::alloc::Global;
+use std::test::Fail;
+use sv_model::{Response, Sequence, phrase, plain_body, plain_page, plain_type};
+
+/// A plain page: its code, the fields so far, and the fields, the phrase and the body that it has then.
+struct Page {
+    name: &'static str,
+    code: u16,
+    so_far: Pairs,
+    fields: Pairs,
+    phrase: &'static str,
+    body: &'static [u8],
+    head_only: bool,
+    close: bool,
+}
+
+/// The phrases are those of RFC 9110, section 15; it has none for 299.
+static PAGES: [Page; 4] = [
+    Page {
+        name: "404, of which the head is sent alone",
+        code: 404,
+        so_far: &[("x-a", "1")],
+        fields: &[("x-a", "1"), ("content-type", "text/plain")],
+        phrase: "Not Found",
+        body: b"404 Not Found\n",
+        head_only: true,
+        close: false,
+    },
+    Page {
+        name: "500, which has a type and closes",
+        code: 500,
+        so_far: &[("content-type", "text/html"), ("x-a", "1")],
+        fields: &[("content-type", "text/plain"), ("x-a", "1")],
+        phrase: "Internal Server Error",
+        body: b"500 Internal Server Error\n",
+        head_only: false,
+        close: true,
+    },
+    Page {
+        name: "299",
+        code: 299,
+        so_far: &[],
+        fields: &[("content-type", "text/plain")],
+        phrase: "",
+        body: b"299 \n",
+        head_only: false,
+        close: false,
+    },
+    Page {
+        name: "503",
+        code: 503,
+        so_far: &[],
+        fields: &[("content-type", "text/plain")],
+        phrase: "Service Unavailable",
+        body: b"503 Service Unavailable\n",
+        head_only: false,
+        close: false,
+    },
+];
+
+/// The plain page of a row.
+fn page_of(alloc: Global, page: &Page) -> Result<Response, Fail> {
+    let status = StatusCode::from_u16(page.code)?;
+    let fields = fields_of(alloc, page.so_far)?;
+    Ok(plain_page(alloc, status, fields, page.head_only, page.close)?)
+}
+
+/// The response is what a row says.
+fn is_page(response: &Response, page: &Page) -> bool {
+    response.status.as_u16() == page.code
+        && are_fields(response.fields.as_slice(), page.fields)
+        && response.body.as_slice() == page.body
+        && response.head_only == page.head_only
+        && response.close == page.close
+}
+
+/// The plain body of a code.
+fn body_of(alloc: Global, code: u16) -> Result<Sequence<u8>, Fail> {
+    Ok(plain_body(alloc, StatusCode::from_u16(code)?)?)
+}
+
+fn is_made(alloc: Global, page: &Page) -> Result<bool, Fail> {
+    Ok(is_page(&page_of(alloc, page)?, page))
+}
+
+/// The phrase and the plain body of a row's code are its own.
+fn is_said(alloc: Global, page: &Page) -> Result<bool, Fail> {
+    let is_phrase = phrase(StatusCode::from_u16(page.code)?) == page.phrase;
+    Ok(is_phrase && body_of(alloc, page.code)?.as_slice() == page.body)
+}
+
+fn is_plain_type() -> bool {
+    let plain = plain_type();
+    plain.name.as_str() == "content-type" && plain.value.as_bytes() == b"text/plain".as_slice()
+}
+
+pub(super) fn other_page(alloc: Global) -> Result<Option<&'static str>, Fail> {
+    if !is_plain_type() {
+        return Ok(Some("the plain type"));
+    }
+    for page in &PAGES {
+        if !is_made(alloc, page)? || !is_said(alloc, page)? {
+            return Ok(Some(page.name));
+        }
+    }
+    Ok(None)
+}
