@@ -1,12 +1,14 @@
 //! A core by itself, node 0 of three: what it is recovered from, what it is given, and what it puts out.
 
 use crate::member::{NOW, SECRET};
+use crate::{forgets, limits, room};
 use std::alloc::{AllocError, Global};
 use std::process::Abort;
 use std::test::Fail;
-use sv_core::{ApplyFault, Core};
+use sv_core::{ApplyFault, Census, Core};
 use sv_model::{
-    Attributes, Input, Key, KeyState, Moment, Output, Packet, Record, Request, Session, Setting,
+    Attributes, Change, Input, Key, KeyState, Moment, Output, Packet, Record, Request, Session,
+    Setting,
 };
 use test_engine::{Counter, hello, output_text, request, state_text};
 
@@ -37,24 +39,26 @@ pub enum Given {
     Poke,
     /// What is known of a key.
     Known(KeyName),
+    /// How many keys are active, sent, gone and ended.
+    Census,
 }
 
 /// What a core is given, and what it puts out, `+` before it where a record says so; or what is known.
 pub type Row = (Given, &'static str);
 
-pub fn key((home, serial): KeyName) -> Key {
+fn key((home, serial): KeyName) -> Key {
     Key { home, serial }
 }
 
-/// Node 0 of three, which knows so many keys at most.
-pub fn setting(keys: u32, forget: bool) -> Setting {
+/// Node 0 of three, which knows so many keys at most, and at which requests wait for 30 seconds.
+fn setting(keys: u32, forget: bool) -> Setting {
     let mut setting = Setting::of(0, 3, 30);
     setting.keys = keys;
     setting.forget = forget;
     setting
 }
 
-pub fn recover(
+fn recover(
     alloc: Global,
     setting: Setting,
     records: &[Record],
@@ -70,11 +74,7 @@ pub fn recover(
 }
 
 /// A core of these records, which fit.
-pub fn recovered(
-    alloc: Global,
-    setting: Setting,
-    records: &[Record],
-) -> Result<Core<Counter>, Fail> {
+fn recovered(alloc: Global, setting: Setting, records: &[Record]) -> Result<Core<Counter>, Fail> {
     match recover(alloc, setting, records) {
         Ok(core) => Ok(core),
         Err(_) => Err("the records don't fit".into()),
@@ -82,15 +82,11 @@ pub fn recovered(
 }
 
 /// The records are refused, since one of them doesn't fit.
-pub fn is_refused(alloc: Global, setting: Setting, records: &[Record]) -> bool {
+fn is_refused(alloc: Global, setting: Setting, records: &[Record]) -> bool {
     match recover(alloc, setting, records) {
         Ok(_) => false,
         Err(fault) => fault == ApplyFault::BadRecord,
     }
-}
-
-pub fn session(alloc: Global) -> Session {
-    session_of(alloc, NOW)
 }
 
 /// A session that was named last in this second.
@@ -106,39 +102,120 @@ fn session_of(alloc: Global, last: u64) -> Session {
     }
 }
 
-pub fn active(alloc: Global, name: KeyName) -> Record {
+/// A record that a core is recovered from.
+#[derive(Clone, Copy)]
+pub enum Entry {
+    Boot(u64),
+    /// A start of a home that forgets.
+    Forgets(u8, u64),
+    /// The start's number and the next serial, at the head of a snapshot.
+    Counters(u64, u64),
+    /// The head of a home that counts what it has forgotten, in its first start, with the next serial.
+    Counted(u8, u64),
+    /// A session that is here with epoch 1.
+    Active(KeyName),
+    /// One that goes to node 2 with epoch 2.
+    Sent(KeyName),
+    /// One that was here and has gone, with its epoch.
+    Gone(KeyName, u64),
+    Ended(KeyName),
+    /// So many of node 1 have gone with epoch 2.
+    AllGone(u64),
+    /// So many of node 0 have ended.
+    AllEnded(u64),
+    /// A request has made a session of node 0, with this serial.
+    Born(u64),
+    /// A request that made the first session has ended it.
+    EndedAtBirth,
+    Expired(KeyName),
+}
+
+fn active(alloc: Global) -> KeyState {
+    KeyState::Active {
+        epoch: 1,
+        session: session_of(alloc, NOW),
+    }
+}
+
+fn sent(alloc: Global) -> KeyState {
+    KeyState::Sent {
+        epoch: 2,
+        session: session_of(alloc, NOW),
+        to: 2,
+    }
+}
+
+fn state(name: KeyName, state: KeyState) -> Record {
     Record::State {
         key: key(name),
-        state: KeyState::Active {
-            epoch: 1,
-            session: session(alloc),
+        state,
+    }
+}
+
+fn commit(born: Change) -> Record {
+    Record::Commit {
+        named: Change::Absent,
+        born,
+    }
+}
+
+fn alive(alloc: Global, serial: u64) -> Change {
+    Change::Alive {
+        key: key((0, serial)),
+        session: session_of(alloc, NOW),
+    }
+}
+
+/// A record that says a key's state; of many alike, the one with this serial.
+fn state_record(alloc: Global, entry: Entry, serial: u64) -> Record {
+    match entry {
+        Entry::Active(name) => state(name, active(alloc)),
+        Entry::Sent(name) => state(name, sent(alloc)),
+        Entry::Gone(name, epoch) => state(name, KeyState::Gone { epoch }),
+        Entry::Ended(name) => state(name, KeyState::Ended { epoch: 1 }),
+        Entry::AllGone(_) => state((1, serial), KeyState::Gone { epoch: 2 }),
+        _ => state((0, serial), KeyState::Ended { epoch: 1 }),
+    }
+}
+
+fn record(alloc: Global, entry: Entry, serial: u64) -> Record {
+    match entry {
+        Entry::Boot(boot) => Record::Boot(boot),
+        Entry::Forgets(home, boot) => Record::Forgets { home, boot },
+        Entry::Counters(boot, next) => Record::Counters { boot, next },
+        Entry::Counted(home, next) => Record::Counted {
+            home,
+            boot: 1,
+            next,
         },
+        Entry::Born(serial) => commit(alive(alloc, serial)),
+        Entry::EndedAtBirth => commit(Change::Ended(key((0, 1)))),
+        Entry::Expired(name) => Record::Expired(key(name)),
+        _ => state_record(alloc, entry, serial),
     }
 }
 
-/// A session of another node, which was here and has gone.
-pub fn gone(name: KeyName) -> Record {
-    Record::State {
-        key: key(name),
-        state: KeyState::Gone { epoch: 2 },
+/// How many records an entry stands for.
+fn count(entry: Entry) -> u64 {
+    match entry {
+        Entry::AllGone(count) => count,
+        Entry::AllEnded(count) => count,
+        _ => 1,
     }
 }
 
-/// The head of a node that counts what it has forgotten.
-pub fn counted(next: u64) -> Record {
-    Record::Counted {
-        home: 0,
-        boot: 1,
-        next,
+fn push(records: &mut Vec<Record>, alloc: Global, entry: Entry) -> Result<(), AllocError> {
+    for serial in 1..count(entry).saturating_add(1) {
+        records.push(record(alloc, entry, serial))?;
     }
+    Ok(())
 }
 
-/// Such a head, and the first keys of node 0 up to this one, active.
-pub fn first(alloc: Global, next: u64, last: u64) -> Result<Vec<Record>, Fail> {
+/// The records of these entries.
+fn records_of(alloc: Global, entries: &[Entry]) -> Result<Vec<Record>, AllocError> {
     let mut records = Vec::new(alloc);
-    records.push(counted(next))?;
-    for serial in 1..last.saturating_add(1) {
-        records.push(active(alloc, (0, serial)))?;
+    for entry in entries {
+        push(&mut records, alloc, *entry)?;
     }
     Ok(records)
 }
@@ -169,7 +246,7 @@ fn carried(alloc: Global, given: Given) -> Input {
             boot: 1,
             want: 1,
         }),
-        Given::Grant(name, epoch) => grant(name, epoch, session(alloc)),
+        Given::Grant(name, epoch) => grant(name, epoch, session_of(alloc, NOW)),
         Given::StaleGrant(name, epoch) => grant(name, epoch, session_of(alloc, NOW - 60)),
         Given::Ack(name, epoch) => Input::Packet(Packet::Ack {
             from,
@@ -226,36 +303,241 @@ fn taken(core: &mut Core<Counter>, alloc: Global, given: Given) -> Result<String
     Ok(outputs_text(alloc, kept, &outputs)?)
 }
 
+fn census_text(alloc: Global, census: &Census) -> Result<String, AllocError> {
+    format!(in alloc;
+        "{} {} {} {}",
+        census.active, census.sent, census.gone, census.ended
+    )
+}
+
 fn told(core: &mut Core<Counter>, alloc: Global, given: Given) -> Result<String, Fail> {
     match given {
         Given::Known(name) => Ok(state_text(alloc, core.state(key(name)))?),
+        Given::Census => Ok(census_text(alloc, &core.census())?),
         _ => taken(core, alloc, given),
     }
 }
 
 /// A core is given these in order, each with what it puts out.
-pub fn expect(
+fn expect(
     rt: &impl Abort,
     core: &mut Core<Counter>,
     alloc: Global,
+    name: &str,
     rows: &[Row],
 ) -> Result<(), Fail> {
     for (place, (given, want)) in rows.iter().enumerate() {
         let told = told(core, alloc, *given)?;
-        assert_eq!(rt; told.as_str(), *want, "row {place}");
+        assert_eq!(rt; told.as_str(), *want, "{name}, row {place}");
     }
     Ok(())
 }
 
-/// The snapshot of a core that was recovered from these records and given these rows.
-pub fn expect_of(
+/// What is looked at of a snapshot.
+#[derive(Clone, Copy)]
+pub enum Left {
+    Any,
+    /// It has so many records.
+    Records(usize),
+    /// It has so many, at their head the number of the start and the next serial.
+    Headed(usize, u64, u64),
+}
+
+/// What a core is given, how often, and what its snapshot is then.
+pub struct Part {
+    pub times: u32,
+    pub rows: &'static [Row],
+    pub left: Left,
+}
+
+/// A core of these records is given the rows of the first part; one that is recovered from its snapshot those of the next one.
+pub struct Story {
+    pub name: &'static str,
+    pub keys: u32,
+    pub forget: bool,
+    pub records: &'static [Entry],
+    pub parts: &'static [Part],
+}
+
+/// A core is given the rows of a part, as often as that says.
+fn expect_part(
+    rt: &impl Abort,
+    core: &mut Core<Counter>,
+    alloc: Global,
+    name: &str,
+    part: &Part,
+) -> Result<(), Fail> {
+    for _time in 0..part.times {
+        expect(rt, core, alloc, name, part.rows)?;
+    }
+    Ok(())
+}
+
+/// The snapshot of a core that was recovered from these records, behind a part.
+fn left_by(
     rt: &impl Abort,
     alloc: Global,
-    setting: Setting,
+    story: &Story,
     records: &[Record],
-    rows: &[Row],
+    part: &Part,
 ) -> Result<Vec<Record>, Fail> {
-    let mut core = recovered(alloc, setting, records)?;
-    expect(rt, &mut core, alloc, rows)?;
+    let mut core = recovered(alloc, setting(story.keys, story.forget), records)?;
+    expect_part(rt, &mut core, alloc, story.name, part)?;
     Ok(core.snapshot()?)
+}
+
+fn is_head(record: Option<&Record>, its_boot: u64, its_next: u64) -> bool {
+    match record {
+        Some(Record::Counters { boot, next }) => *boot == its_boot && *next == its_next,
+        _ => false,
+    }
+}
+
+fn is_left(records: &[Record], left: Left) -> bool {
+    match left {
+        Left::Any => true,
+        Left::Records(count) => records.len() == count,
+        Left::Headed(count, boot, next) => {
+            records.len() == count && is_head(records.first(), boot, next)
+        }
+    }
+}
+
+fn expect_story(rt: &impl Abort, alloc: Global, story: &Story) -> Result<(), Fail> {
+    let mut records = records_of(alloc, story.records)?;
+    for part in story.parts {
+        records = left_by(rt, alloc, story, &records, part)?;
+        let is_left = is_left(&records, part.left);
+        assert!(rt;
+            is_left,
+            "{}: {} records are left",
+            story.name,
+            records.len()
+        );
+    }
+    Ok(())
+}
+
+fn expect_stories(rt: &impl Abort, alloc: Global, stories: &[Story]) -> Result<(), Fail> {
+    for story in stories {
+        expect_story(rt, alloc, story)?;
+    }
+    Ok(())
+}
+
+#[test]
+fn numbers_at_their_ends(rt: HostRuntime) -> Result<(), Fail> {
+    expect_stories(&rt, rt.alloc(), &limits::STORIES)
+}
+
+#[test]
+fn room_for_keys(rt: HostRuntime) -> Result<(), Fail> {
+    expect_stories(&rt, rt.alloc(), &room::STORIES)
+}
+
+#[test]
+fn keys_that_are_forgotten(rt: HostRuntime) -> Result<(), Fail> {
+    expect_stories(&rt, rt.alloc(), &forgets::STORIES)
+}
+
+/// Records of which the last one doesn't fit behind those before it, which do.
+pub struct Refused {
+    pub why: &'static str,
+    pub keys: u32,
+    pub forget: bool,
+    pub records: &'static [Entry],
+}
+
+/// The records are taken without the last one, and refused with it.
+fn is_last_refused(alloc: Global, refused: &Refused) -> Result<bool, Fail> {
+    let records = records_of(alloc, refused.records)?;
+    let (_, before) = records.split_last().ok_or("no records")?;
+    let set = setting(refused.keys, refused.forget);
+    Ok(!is_refused(alloc, set, before) && is_refused(alloc, set, &records))
+}
+
+fn expect_refused(rt: &impl Abort, alloc: Global, all: &[Refused]) -> Result<(), Fail> {
+    for refused in all {
+        assert!(rt; is_last_refused(alloc, refused)?, "{}", refused.why);
+    }
+    Ok(())
+}
+
+#[test]
+fn records_that_do_not_fit(rt: HostRuntime) -> Result<(), Fail> {
+    expect_refused(&rt, rt.alloc(), &limits::REFUSED)?;
+    expect_refused(&rt, rt.alloc(), &forgets::REFUSED)
+}
+
+#[test]
+fn records_of_too_many_keys(rt: HostRuntime) -> Result<(), Fail> {
+    expect_refused(&rt, rt.alloc(), &room::REFUSED)
+}
+
+/// How the next start is written, if there is one.
+#[derive(Clone, Copy, PartialEq, Eq)]
+pub enum Start {
+    None,
+    Plain(u64),
+    /// It says that its home, which is node 0, forgets.
+    Forgets(u64),
+    Other,
+}
+
+fn start_of(entry: Option<&Record>) -> Start {
+    match entry {
+        Some(Record::Boot(boot)) => Start::Plain(*boot),
+        Some(Record::Forgets { home: 0, boot }) => Start::Forgets(*boot),
+        _ => Start::Other,
+    }
+}
+
+/// The next start of a node that forgets or not, behind these records.
+fn next_start(alloc: Global, forget: bool, entries: &[Entry]) -> Result<Start, Fail> {
+    let records = records_of(alloc, entries)?;
+    let mut core = recovered(alloc, setting(10, forget), &records)?;
+    match core.decide_start()? {
+        Some(decision) => Ok(start_of(decision.entry())),
+        None => Ok(Start::None),
+    }
+}
+
+/// Whether a node forgets, its records, and its next start.
+static STARTS: [(&str, bool, &[Entry], Start); 5] = [
+    (
+        "a start that forgets says so",
+        true,
+        &[Entry::Boot(1)],
+        Start::Forgets(2),
+    ),
+    ("a plain start", false, &[Entry::Boot(1)], Start::Plain(2)),
+    (
+        "a plain start behind one that forgot",
+        false,
+        &[Entry::Forgets(0, 1)],
+        Start::Plain(2),
+    ),
+    (
+        "a start that forgets behind one that did",
+        true,
+        &[Entry::Forgets(0, 1)],
+        Start::Forgets(2),
+    ),
+    (
+        "there is no start behind the last one",
+        false,
+        &[Entry::Counters(u64::MAX, 1)],
+        Start::None,
+    ),
+];
+
+#[test]
+fn starts_say_whether_they_forget(rt: HostRuntime) -> Result<(), Fail> {
+    for (name, forget, entries, want) in &STARTS {
+        assert!(rt;
+            next_start(rt.alloc(), *forget, entries)? == *want,
+            "{name}"
+        );
+    }
+    Ok(())
 }

@@ -3,6 +3,7 @@
 use crate::cluster::Cluster;
 use crate::member::NOW;
 use crate::step::{KeyName, Step};
+use std::alloc::Global;
 use std::process::Abort;
 use std::test::Fail;
 
@@ -12,16 +13,21 @@ const K1: KeyName = (0, 1);
 type Row = (Step, &'static str);
 
 /// Takes the steps in order, each with what it puts out.
-fn expect_rows(rt: &impl Abort, cluster: &mut Cluster, rows: &[Row]) -> Result<(), Fail> {
+fn expect_rows(
+    rt: &impl Abort,
+    cluster: &mut Cluster,
+    name: &str,
+    rows: &[Row],
+) -> Result<(), Fail> {
     for (place, (step, want)) in rows.iter().enumerate() {
         let said = cluster.take(*step)?;
-        assert_eq!(rt; said.as_str(), *want, "step {place}");
+        assert_eq!(rt; said.as_str(), *want, "{name}, step {place}");
     }
     Ok(())
 }
 
 /// A session is made at node 0, wanted by node 1 and handed over to it.
-static HANDED_OVER: [Row; 10] = [
+const HANDED_OVER: &[Row] = &[
     (Step::First(0), "answer 1"),
     (Step::Again(1, K1), "p0 Want 1 to 0, p1 Want 1 to 2"),
     (Step::Deliver(0), "p2 Grant 0 to 1 epoch 2"),
@@ -35,7 +41,7 @@ static HANDED_OVER: [Row; 10] = [
 ];
 
 /// Then it goes back and forth by order, and an old packet comes once more.
-static BACK_AND_FORTH: [Row; 15] = [
+const BACK_AND_FORTH: &[Row] = &[
     (Step::Deliver(2), "p4 Ack 1 to 0 epoch 2"),
     (Step::State(1, K1), "Active 2 count 2"),
     (Step::Move(1, K1, 0), "p5 Grant 1 to 0 epoch 3, moved"),
@@ -54,25 +60,15 @@ static BACK_AND_FORTH: [Row; 15] = [
 ];
 
 /// What a node has handed over, or has never held, it doesn't move.
-static REFUSED_MOVES: [Row; 4] = [
+const REFUSED_MOVES: &[Row] = &[
     (Step::Move(0, (0, 9), 1), "refused UnknownKey"),
     (Step::Move(0, K1, 1), "refused NotActive"),
     (Step::Move(1, K1, 1), "refused BadPeer"),
     (Step::Move(1, K1, 3), "refused BadPeer"),
 ];
 
-#[test]
-fn sessions_go_from_node_to_node(rt: HostRuntime) -> Result<(), Fail> {
-    let mut cluster = Cluster::new(rt.alloc())?;
-    expect_rows(&rt, &mut cluster, &HANDED_OVER)?;
-    expect_rows(&rt, &mut cluster, &BACK_AND_FORTH)?;
-    let mut other = Cluster::new(rt.alloc())?;
-    expect_rows(&rt, &mut other, &HANDED_OVER)?;
-    expect_rows(&rt, &mut other, &REFUSED_MOVES)
-}
-
 /// A move whose record is kept and whose Grant never left is sent again in time.
-static TORN_MOVE: [Row; 6] = [
+const TORN_MOVE: &[Row] = &[
     (Step::First(0), "answer 1"),
     (Step::TornMove(0, K1, 1, true), ""),
     (Step::State(0, K1), "Sent 2 to 1 count 1"),
@@ -82,7 +78,7 @@ static TORN_MOVE: [Row; 6] = [
 ];
 
 /// A request whose record is kept has been counted though its answer never left.
-static TORN_KEPT: [Row; 4] = [
+const TORN_KEPT: &[Row] = &[
     (Step::First(0), "answer 1"),
     (Step::TornAgain(0, K1, true), ""),
     (Step::Again(0, K1), "answer 3"),
@@ -90,7 +86,7 @@ static TORN_KEPT: [Row; 4] = [
 ];
 
 /// One whose record isn't kept hasn't.
-static TORN_NOT_KEPT: [Row; 4] = [
+const TORN_NOT_KEPT: &[Row] = &[
     (Step::First(0), "answer 1"),
     (Step::TornAgain(0, K1, false), ""),
     (Step::Again(0, K1), "answer 2"),
@@ -98,7 +94,7 @@ static TORN_NOT_KEPT: [Row; 4] = [
 ];
 
 /// A session that was taken over is there behind a stop, and so is the boot number.
-static TAKEN_THEN_STOPPED: [Row; 5] = [
+const TAKEN_THEN_STOPPED: &[Row] = &[
     (Step::Restart(1), ""),
     (Step::Again(1, K1), "answer 3"),
     (Step::Restart(1), ""),
@@ -107,7 +103,7 @@ static TAKEN_THEN_STOPPED: [Row; 5] = [
 ];
 
 /// What is Gone stays Gone in a snapshot and behind it.
-static COMPACTED: [Row; 8] = [
+const COMPACTED: &[Row] = &[
     (Step::Compact(0), ""),
     (Step::State(0, K1), "Gone 2"),
     (Step::Boot(0), "2"),
@@ -118,22 +114,8 @@ static COMPACTED: [Row; 8] = [
     (Step::First(0), "answer 1"),
 ];
 
-#[test]
-fn stops_lose_and_double_nothing(rt: HostRuntime) -> Result<(), Fail> {
-    for rows in [&TORN_MOVE[..], &TORN_KEPT[..], &TORN_NOT_KEPT[..]] {
-        let mut cluster = Cluster::new(rt.alloc())?;
-        expect_rows(&rt, &mut cluster, rows)?;
-    }
-    for rows in [&TAKEN_THEN_STOPPED[..], &COMPACTED[..]] {
-        let mut cluster = Cluster::new(rt.alloc())?;
-        expect_rows(&rt, &mut cluster, &HANDED_OVER)?;
-        expect_rows(&rt, &mut cluster, rows)?;
-    }
-    Ok(())
-}
-
 /// A request for a session that its home never made is served without it, once.
-static NEVER_MADE: [Row; 6] = [
+const NEVER_MADE: &[Row] = &[
     (Step::Again(1, K1), "p0 Want 1 to 0, p1 Want 1 to 2"),
     (Step::Deliver(0), "p2 No 0 to 1"),
     (Step::Deliver(2), "answer 1"),
@@ -143,7 +125,7 @@ static NEVER_MADE: [Row; 6] = [
 ];
 
 /// A No to an earlier start serves nothing.
-static OLD_NO: [Row; 5] = [
+const OLD_NO: &[Row] = &[
     (Step::Again(1, K1), "p0 Want 1 to 0, p1 Want 1 to 2"),
     (Step::Deliver(0), "p2 No 0 to 1"),
     (Step::Restart(1), ""),
@@ -153,7 +135,7 @@ static OLD_NO: [Row; 5] = [
 
 /// Of three that wait the second is served when its session has come, and then of the others the one that came first, though
 /// its session has come last.
-static IN_LINE: [Row; 18] = [
+const IN_LINE: &[Row] = &[
     (Step::First(0), "answer 1"),
     (Step::First(0), "answer 1"),
     (Step::First(0), "answer 1"),
@@ -175,7 +157,7 @@ static IN_LINE: [Row; 18] = [
 ];
 
 /// A No to the second of three that wait lets it leave, and no other: the third is asked for again.
-static NO_IN_THE_MIDDLE: [Row; 9] = [
+const NO_IN_THE_MIDDLE: &[Row] = &[
     (Step::Again(1, K1), "p0 Want 1 to 0, p1 Want 1 to 2"),
     (Step::Again(1, (0, 2)), "p2 Want 1 to 0, p3 Want 1 to 2"),
     (Step::Again(1, (0, 3)), "p4 Want 1 to 0, p5 Want 1 to 2"),
@@ -188,7 +170,7 @@ static NO_IN_THE_MIDDLE: [Row; 9] = [
 ];
 
 /// A session ends at the second in which it has gone 60 without a request, and the next request makes another.
-static EXPIRED: [Row; 6] = [
+const EXPIRED: &[Row] = &[
     (Step::First(0), "answer 1"),
     (Step::Tick(0, 1059), ""),
     (Step::State(0, K1), "Active 1 count 1"),
@@ -198,7 +180,7 @@ static EXPIRED: [Row; 6] = [
 ];
 
 /// Requests wait for 30 seconds; what was asked for is asked for again until then.
-static WAITED: [Row; 5] = [
+const WAITED: &[Row] = &[
     (Step::Again(1, K1), "p0 Want 1 to 0, p1 Want 1 to 2"),
     (Step::Tick(1, 1029), "p2 Want 1 to 0, p3 Want 1 to 2"),
     (Step::Tick(1, 1030), "refuse Deadline"),
@@ -206,41 +188,74 @@ static WAITED: [Row; 5] = [
     (Step::Deliver(0), "p4 No 0 to 1"),
 ];
 
-/// How often a text stands in another.
-fn times(text: &str, part: &str) -> usize {
-    text.matches(part).count()
+/// What happens to three nodes, in parts one behind the other.
+static STORIES: [(&str, &[&[Row]]); 13] = [
+    (
+        "sessions go from node to node",
+        &[HANDED_OVER, BACK_AND_FORTH],
+    ),
+    ("refused moves", &[HANDED_OVER, REFUSED_MOVES]),
+    ("a torn move", &[TORN_MOVE]),
+    ("a torn request whose record is kept", &[TORN_KEPT]),
+    ("a torn request whose record isn't kept", &[TORN_NOT_KEPT]),
+    (
+        "a session is taken over, and its node stops",
+        &[HANDED_OVER, TAKEN_THEN_STOPPED],
+    ),
+    ("snapshots", &[HANDED_OVER, COMPACTED]),
+    ("a session that was never made", &[NEVER_MADE]),
+    ("a No to an earlier start", &[OLD_NO]),
+    ("requests are served in order", &[IN_LINE]),
+    ("a No in the middle", &[NO_IN_THE_MIDDLE]),
+    ("sessions end", &[EXPIRED]),
+    ("requests wait", &[WAITED]),
+];
+
+fn expect_story(rt: &impl Abort, alloc: Global, name: &str, parts: &[&[Row]]) -> Result<(), Fail> {
+    let mut cluster = Cluster::new(alloc)?;
+    for rows in parts {
+        expect_rows(rt, &mut cluster, name, rows)?;
+    }
+    Ok(())
 }
 
-/// 64 requests wait, each for a session of its own, and no more.
-fn wait_in_full(rt: &impl Abort, cluster: &mut Cluster) -> Result<(), Fail> {
+/// 64 requests wait, each for a session of its own.
+fn wait(cluster: &mut Cluster) -> Result<(), Fail> {
     for serial in 1..65 {
         cluster.take(Step::Again(1, (0, serial)))?;
     }
-    assert_eq!(rt; cluster.sent(), 128);
-    let full = cluster.take(Step::Again(1, (0, 65)))?;
-    assert_eq!(rt; full.as_str(), "refuse ParkFull");
-    let again = cluster.take(Step::Tick(1, 1029))?;
-    assert_eq!(rt; times(again.as_str(), "Want"), 128);
-    assert_eq!(rt; cluster.sent(), 256);
-    let late = cluster.take(Step::Tick(1, 1030))?;
-    assert_eq!(rt; times(late.as_str(), "refuse Deadline"), 64);
-    assert_eq!(rt; cluster.sent(), 256);
+    Ok(())
+}
+
+/// And no more.
+const PARK_FULL: &[Row] = &[(Step::Again(1, (0, 65)), "refuse ParkFull")];
+
+/// Time passes for those who wait: how often the text of that has a part, and how many packets were sent by then.
+const IN_FULL: [(Step, &str, (usize, usize)); 2] = [
+    (Step::Tick(1, 1029), "Want", (128, 256)),
+    (Step::Tick(1, 1030), "refuse Deadline", (64, 256)),
+];
+
+/// How often the text of a step has a part, and how many packets were sent by then.
+fn counted(cluster: &mut Cluster, step: Step, part: &str) -> Result<(usize, usize), Fail> {
+    let said = cluster.take(step)?;
+    Ok((said.as_str().matches(part).count(), cluster.sent()))
+}
+
+fn expect_waits_in_full(rt: &impl Abort, alloc: Global) -> Result<(), Fail> {
+    let mut cluster = Cluster::new(alloc)?;
+    wait(&mut cluster)?;
+    expect_rows(rt, &mut cluster, "64 requests wait", PARK_FULL)?;
+    for (step, part, want) in IN_FULL {
+        assert_eq!(rt; counted(&mut cluster, step, part)?, want, "{part}");
+    }
     Ok(())
 }
 
 #[test]
-fn requests_wait_and_sessions_end(rt: HostRuntime) -> Result<(), Fail> {
-    for rows in [
-        &NEVER_MADE[..],
-        &OLD_NO[..],
-        &IN_LINE[..],
-        &NO_IN_THE_MIDDLE[..],
-        &EXPIRED[..],
-        &WAITED[..],
-    ] {
-        let mut cluster = Cluster::new(rt.alloc())?;
-        expect_rows(&rt, &mut cluster, rows)?;
+fn clusters(rt: HostRuntime) -> Result<(), Fail> {
+    for (name, parts) in &STORIES {
+        expect_story(&rt, rt.alloc(), name, parts)?;
     }
-    let mut cluster = Cluster::new(rt.alloc())?;
-    wait_in_full(&rt, &mut cluster)
+    expect_waits_in_full(&rt, rt.alloc())
 }

@@ -23,38 +23,14 @@ const COUNTERS: &[u8] = b"\x02\x08\0\0\0\0\0\0\0\x01\0\0\0\0\0\0\0\x02";
 const STATE: &[u8] =
     b"\x02\x07\0\0\0\0\0\0\0\0\x01\x01\0\0\0\0\0\0\0\x01\0\0\0\0\0\0\0\0\0\0\0\0\0\0\0\x01\0\0\0\0\0\0\0\x03\xE8\0\0\0\0\0\0\x03\xE8\0\0\x07\x08\x01\0\x01\0\x05count\0\0\0\x011";
 
-// Each of these with a bar behind it, as it is read.
-pub const BOOT_COMMIT: &[u8] = b"\x02\x01\0\0\0\0\0\0\0\x01|\
-\x02\x02\0\x01\0\0\0\0\0\0\0\0\x01\0\0\0\0\0\0\0\0\0\0\0\0\0\0\0\x01\0\0\0\0\0\0\0\x03\xE8\0\0\0\0\0\0\x03\xE8\0\0\x07\x08\x01\0\x01\0\x05count\0\0\0\x011|";
-
-pub const COUNTERS_STATE: &[u8] = b"\x02\x08\0\0\0\0\0\0\0\x01\0\0\0\0\0\0\0\x02|\
-\x02\x07\0\0\0\0\0\0\0\0\x01\x01\0\0\0\0\0\0\0\x01\0\0\0\0\0\0\0\0\0\0\0\0\0\0\0\x01\0\0\0\0\0\0\0\x03\xE8\0\0\0\0\0\0\x03\xE8\0\0\x07\x08\x01\0\x01\0\x05count\0\0\0\x011|";
-
-const COUNTERS_STATE_BOOT: &[u8] = b"\x02\x08\0\0\0\0\0\0\0\x01\0\0\0\0\0\0\0\x02|\
-\x02\x07\0\0\0\0\0\0\0\0\x01\x01\0\0\0\0\0\0\0\x01\0\0\0\0\0\0\0\0\0\0\0\0\0\0\0\x01\0\0\0\0\0\0\0\x03\xE8\0\0\0\0\0\0\x03\xE8\0\0\x07\x08\x01\0\x01\0\x05count\0\0\0\x011|\
-\x02\x01\0\0\0\0\0\0\0\x01|";
-
-const STATE_ALONE: &[u8] =
-    b"\x02\x07\0\0\0\0\0\0\0\0\x01\x01\0\0\0\0\0\0\0\x01\0\0\0\0\0\0\0\0\0\0\0\0\0\0\0\x01\0\0\0\0\0\0\0\x03\xE8\0\0\0\0\0\0\x03\xE8\0\0\x07\x08\x01\0\x01\0\x05count\0\0\0\x011|";
-
 // Disk A with the first two: 16 bytes of header, 5 beside each entry, and a closed gate are 102.
-pub const OLD: &[u8] = b"\xA5SVJRNL\x01\0\0\0\0\0\0\0\x01\
+const OLD: &[u8] = b"\xA5SVJRNL\x01\0\0\0\0\0\0\0\x01\
 \xA5\0\0\0\x0A\x02\x01\0\0\0\0\0\0\0\x01\
 \xA5\0\0\0\x41\x02\x02\0\x01\0\0\0\0\0\0\0\0\x01\0\0\0\0\0\0\0\0\0\0\0\0\0\0\0\x01\0\0\0\0\0\0\0\x03\xE8\0\0\0\0\0\0\x03\xE8\0\0\x07\x08\x01\0\x01\0\x05count\0\0\0\x011\0";
 
 // Disk B then: a gate, the letters, the format's number and generation 2; two entries; a closed gate.
-pub const COMPACTED: &[u8] = b"\xA5SVJRNL\x01\0\0\0\0\0\0\0\x02\
+const COMPACTED: &[u8] = b"\xA5SVJRNL\x01\0\0\0\0\0\0\0\x02\
 \xA5\0\0\0\x12\x02\x08\0\0\0\0\0\0\0\x01\0\0\0\0\0\0\0\x02\
-\xA5\0\0\0\x48\x02\x07\0\0\0\0\0\0\0\0\x01\x01\0\0\0\0\0\0\0\x01\0\0\0\0\0\0\0\0\0\0\0\0\0\0\0\x01\0\0\0\0\0\0\0\x03\xE8\0\0\0\0\0\0\x03\xE8\0\0\x07\x08\x01\0\x01\0\x05count\0\0\0\x011\0";
-
-// The same with an entry more.
-const GROWN: &[u8] = b"\xA5SVJRNL\x01\0\0\0\0\0\0\0\x02\
-\xA5\0\0\0\x12\x02\x08\0\0\0\0\0\0\0\x01\0\0\0\0\0\0\0\x02\
-\xA5\0\0\0\x48\x02\x07\0\0\0\0\0\0\0\0\x01\x01\0\0\0\0\0\0\0\x01\0\0\0\0\0\0\0\0\0\0\0\0\0\0\0\x01\0\0\0\0\0\0\0\x03\xE8\0\0\0\0\0\0\x03\xE8\0\0\x07\x08\x01\0\x01\0\x05count\0\0\0\x011\
-\xA5\0\0\0\x0A\x02\x01\0\0\0\0\0\0\0\x01\0";
-
-// Disk A behind a second compaction, which keeps the session alone: generation 3, an entry, a closed gate.
-const AGAIN: &[u8] = b"\xA5SVJRNL\x01\0\0\0\0\0\0\0\x03\
 \xA5\0\0\0\x48\x02\x07\0\0\0\0\0\0\0\0\x01\x01\0\0\0\0\0\0\0\x01\0\0\0\0\0\0\0\0\0\0\0\0\0\0\0\x01\0\0\0\0\0\0\0\x03\xE8\0\0\0\0\0\0\x03\xE8\0\0\x07\x08\x01\0\x01\0\x05count\0\0\0\x011\0";
 
 // The greatest generation there is, and the one before it.
@@ -147,38 +123,45 @@ const COMPACTION: [Row; 6] = [
 
 /// A second compaction makes A current, and B keeps what it held.
 const GENERATIONS: [Row; 14] = [
-    (Act::Append(BOOT), b"ok"),
-    (Act::Append(COMMIT), b"ok"),
-    (Act::Compact(&[COUNTERS, STATE]), b"ok"),
+    (Act::Append(b"one"), b"ok"),
+    (Act::Append(b"two"), b"ok"),
+    (Act::Compact(&[b"c", b"st"]), b"ok"),
     (Act::Reopen, b""),
-    (Act::Len, b"117"),
-    (Act::Entries, COUNTERS_STATE),
-    (Act::Append(BOOT), b"ok"),
-    (Act::Len, b"132"),
-    (Act::Entries, COUNTERS_STATE_BOOT),
-    (Act::Compact(&[STATE]), b"ok"),
-    (Act::A, AGAIN),
-    (Act::B, GROWN),
-    // 16 + 77 + 1
-    (Act::Len, b"94"),
-    (Act::Entries, STATE_ALONE),
+    // 16 + 6 + 7 + 1
+    (Act::Len, b"30"),
+    (Act::Entries, b"c|st|"),
+    (Act::Append(b"one"), b"ok"),
+    (Act::Len, b"38"),
+    (Act::Entries, b"c|st|one|"),
+    (Act::Compact(&[b"st"]), b"ok"),
+    (
+        Act::A,
+        b"\xA5SVJRNL\x01\0\0\0\0\0\0\0\x03\xA5\0\0\0\x02st\0",
+    ),
+    (
+        Act::B,
+        b"\xA5SVJRNL\x01\0\0\0\0\0\0\0\x02\xA5\0\0\0\x01c\xA5\0\0\0\x02st\xA5\0\0\0\x03one\0",
+    ),
+    // 16 + 7 + 1
+    (Act::Len, b"24"),
+    (Act::Entries, b"st|"),
 ];
 
 const CLOSED: [Row; 6] = [
-    (Act::Append(BOOT), b"ok"),
-    (Act::Append(COMMIT), b"ok"),
-    (Act::Compact(&[COUNTERS, STATE]), b"ok"),
+    (Act::Append(b"one"), b"ok"),
+    (Act::Append(b"two"), b"ok"),
+    (Act::Compact(&[b"c", b"st"]), b"ok"),
     (Act::CloseB, b""),
-    (Act::Len, b"102"),
-    (Act::Entries, BOOT_COMMIT),
+    // 16 + 8 + 8 + 1
+    (Act::Len, b"33"),
+    (Act::Entries, b"one|two|"),
 ];
 
 /// The calls of a compaction over an older journal, behind the sync of its opening: the gate is closed, the rest is cut
 /// away, and what is written behind the closed gate is synced before the gate is opened.
-const OVER_AN_OLDER: [Row; 6] = [
-    (Act::Append(BOOT), b"ok"),
-    (Act::Append(COMMIT), b"ok"),
-    (Act::Compact(&[COUNTERS, STATE]), b"ok"),
+const OVER_AN_OLDER: [Row; 5] = [
+    (Act::Append(b"one"), b"ok"),
+    (Act::Compact(&[b"c", b"st"]), b"ok"),
     (Act::Reopen, b""),
     (Act::Compact(&[]), b"ok"),
     (
@@ -229,7 +212,8 @@ const DEVICE_IN_A_COMPACTION: [Row; 11] = [
     (Act::Entries, b"z|"),
 ];
 
-static STORIES: [Story; 20] = [
+/// New journals, and entries that are added.
+static ADDING: [Story; 6] = [
     Story {
         name: "a new journal is the header and a closed gate",
         a: b"",
@@ -265,6 +249,63 @@ static STORIES: [Story; 20] = [
         fails: 0,
         rows: &TOGETHER,
     },
+    Story {
+        name: "none together are no call",
+        a: AB,
+        b: b"",
+        fails: 0,
+        rows: &NONE_TOGETHER,
+    },
+];
+
+/// Compactions, and which of two disks is read.
+static COMPACTING: [Story; 6] = [
+    Story {
+        name: "a compaction writes the other disk",
+        a: b"",
+        b: b"",
+        fails: 0,
+        rows: &COMPACTION,
+    },
+    Story {
+        name: "the greater generation is read",
+        a: b"",
+        b: b"",
+        fails: 0,
+        rows: &GENERATIONS,
+    },
+    Story {
+        name: "a closed disk is not read",
+        a: b"",
+        b: b"",
+        fails: 0,
+        rows: &CLOSED,
+    },
+    Story {
+        name: "a compaction is four changes and four syncs",
+        a: b"",
+        b: b"",
+        fails: 0,
+        rows: &OVER_AN_OLDER,
+    },
+    Story {
+        name: "the last generation is full",
+        a: BEFORE,
+        b: LAST,
+        fails: 0,
+        rows: &LAST_GENERATION,
+    },
+    Story {
+        name: "the generation before the last is not full",
+        a: BEFORE,
+        b: b"",
+        fails: 0,
+        rows: &BEFORE_THE_LAST,
+    },
+];
+
+/// Calls of the first disk that fail.
+static FAILING: [Story; 8] = [
     Story {
         name: "five calls of A open a journal",
         a: AB,
@@ -308,55 +349,6 @@ static STORIES: [Story; 20] = [
         rows: &THROUGH,
     },
     Story {
-        name: "none together are no call",
-        a: AB,
-        b: b"",
-        fails: 0,
-        rows: &NONE_TOGETHER,
-    },
-    Story {
-        name: "a compaction writes the other disk",
-        a: b"",
-        b: b"",
-        fails: 0,
-        rows: &COMPACTION,
-    },
-    Story {
-        name: "the greater generation is read",
-        a: b"",
-        b: b"",
-        fails: 0,
-        rows: &GENERATIONS,
-    },
-    Story {
-        name: "a closed disk is not read",
-        a: b"",
-        b: b"",
-        fails: 0,
-        rows: &CLOSED,
-    },
-    Story {
-        name: "a compaction is four changes and four syncs",
-        a: b"",
-        b: b"",
-        fails: 0,
-        rows: &OVER_AN_OLDER,
-    },
-    Story {
-        name: "the last generation is full",
-        a: BEFORE,
-        b: LAST,
-        fails: 0,
-        rows: &LAST_GENERATION,
-    },
-    Story {
-        name: "the generation before the last is not full",
-        a: BEFORE,
-        b: b"",
-        fails: 0,
-        rows: &BEFORE_THE_LAST,
-    },
-    Story {
         name: "a journal that met Device answers Failed",
         a: b"",
         b: b"",
@@ -383,10 +375,24 @@ fn expect_rows(rt: &impl Abort, alloc: Global, story: &Story) -> Result<(), Fail
     Ok(())
 }
 
-#[test]
-fn journals(rt: HostRuntime) -> Result<(), Fail> {
-    for story in &STORIES {
-        expect_rows(&rt, rt.alloc(), story)?;
+fn expect_stories(rt: &impl Abort, alloc: Global, stories: &[Story]) -> Result<(), Fail> {
+    for story in stories {
+        expect_rows(rt, alloc, story)?;
     }
     Ok(())
+}
+
+#[test]
+fn entries_are_added(rt: HostRuntime) -> Result<(), Fail> {
+    expect_stories(&rt, rt.alloc(), &ADDING)
+}
+
+#[test]
+fn journals_are_compacted(rt: HostRuntime) -> Result<(), Fail> {
+    expect_stories(&rt, rt.alloc(), &COMPACTING)
+}
+
+#[test]
+fn calls_that_fail(rt: HostRuntime) -> Result<(), Fail> {
+    expect_stories(&rt, rt.alloc(), &FAILING)
 }

@@ -1,6 +1,6 @@
 //! Images that a stop leaves of a write that was not synced.
 use crate::disk::fixtures::{image, records_of};
-use crate::disk::stories::{BOOT_COMMIT, COMPACTED, COUNTERS_STATE, EMPTY, OLD};
+use crate::disk::stories::EMPTY;
 use std::alloc::{AllocError, Global};
 use std::process::Abort;
 use std::test::Fail;
@@ -67,6 +67,11 @@ struct Gate {
     closed: &'static [u8],
 }
 
+/// A journal, and what a compaction of it leaves on the other disk.
+const OLD: &[u8] = b"\xA5SVJRNL\x01\0\0\0\0\0\0\0\x01\xA5\0\0\0\x03one\xA5\0\0\0\x03two\0";
+
+const COMPACTED: &[u8] = b"\xA5SVJRNL\x01\0\0\0\0\0\0\0\x02\xA5\0\0\0\x01c\xA5\0\0\0\x02st\0";
+
 static GATES: [Gate; 4] = [
     Gate {
         name: "of a second entry, which is there where its gate is open",
@@ -92,8 +97,8 @@ static GATES: [Gate; 4] = [
         b: COMPACTED,
         is_on_a: true,
         at: 0,
-        open: COUNTERS_STATE,
-        closed: COUNTERS_STATE,
+        open: b"c|st|",
+        closed: b"c|st|",
     },
     Gate {
         name: "of B in a compaction, which is read where it is open, and else the journal on A",
@@ -101,20 +106,27 @@ static GATES: [Gate; 4] = [
         b: COMPACTED,
         is_on_a: false,
         at: 0,
-        open: COUNTERS_STATE,
-        closed: BOOT_COMMIT,
+        open: b"c|st|",
+        closed: b"one|two|",
     },
 ];
 
-// What is read with this byte in the place of a gate.
-fn found_with(alloc: Global, gate: &Gate, byte: u8) -> Result<Vec<u8>, JournalFault> {
-    let mut a = Vec::from_slice(alloc, gate.a)?;
-    let mut b = Vec::from_slice(alloc, gate.b)?;
-    let torn = if gate.is_on_a { &mut a } else { &mut b };
-    if let Some(place) = torn.get_mut(gate.at) {
+// These bytes with another one at a place.
+fn with_byte(alloc: Global, bytes: &[u8], at: usize, byte: u8) -> Result<Vec<u8>, AllocError> {
+    let mut torn = Vec::from_slice(alloc, bytes)?;
+    if let Some(place) = torn.get_mut(at) {
         *place = byte;
     }
-    records_of(alloc, &a, &b)
+    Ok(torn)
+}
+
+// What is read with this byte in the place of a gate.
+fn found_with(alloc: Global, gate: &Gate, byte: u8) -> Result<Vec<u8>, JournalFault> {
+    if gate.is_on_a {
+        records_of(alloc, &with_byte(alloc, gate.a, gate.at, byte)?, gate.b)
+    } else {
+        records_of(alloc, gate.a, &with_byte(alloc, gate.b, gate.at, byte)?)
+    }
 }
 
 // Each byte in the place of a gate.
