@@ -32,20 +32,62 @@ fn len_text(alloc: Global, len: Result<u64, Device>) -> Result<Vec<u8>, AllocErr
     }
 }
 
+/// A disk that answers whatever the range of a call.
+trait AnyRange: Disk {
+    fn read_any(&mut self, at: u64, bytes: &mut [u8]) -> Result<(), Device>;
+
+    fn write_any(&mut self, at: u64, bytes: &[u8]) -> Result<(), Device>;
+
+    fn cut_any(&mut self, len: u64) -> Result<(), Device>;
+}
+
+impl AnyRange for MemoryDisk {
+    fn read_any(&mut self, at: u64, bytes: &mut [u8]) -> Result<(), Device> {
+        self.read(at, bytes)
+    }
+
+    fn write_any(&mut self, at: u64, bytes: &[u8]) -> Result<(), Device> {
+        self.write_at(at, bytes)
+    }
+
+    fn cut_any(&mut self, len: u64) -> Result<(), Device> {
+        self.cut(len)
+    }
+}
+
+impl AnyRange for FileDisk {
+    fn read_any(&mut self, at: u64, bytes: &mut [u8]) -> Result<(), Device> {
+        self.read(at, bytes)
+    }
+
+    fn write_any(&mut self, at: u64, bytes: &[u8]) -> Result<(), Device> {
+        self.write_at(at, bytes)
+    }
+
+    fn cut_any(&mut self, len: u64) -> Result<(), Device> {
+        self.cut(len)
+    }
+}
+
 /// The bytes of a range, or that they can't be read.
-fn range(alloc: Global, disk: &mut impl Disk, at: u64, len: usize) -> Result<Vec<u8>, AllocError> {
+fn range(
+    alloc: Global,
+    disk: &mut impl AnyRange,
+    at: u64,
+    len: usize,
+) -> Result<Vec<u8>, AllocError> {
     let mut bytes = Vec::from_elem(alloc, 0u8, len)?;
-    match disk.read(at, &mut bytes) {
+    match disk.read_any(at, &mut bytes) {
         Ok(()) => Ok(bytes),
         Err(Device) => Vec::from_slice(alloc, b"Device"),
     }
 }
 
 /// What a call answers.
-fn told(alloc: Global, disk: &mut impl Disk, call: Call) -> Result<Vec<u8>, AllocError> {
+fn told(alloc: Global, disk: &mut impl AnyRange, call: Call) -> Result<Vec<u8>, AllocError> {
     match call {
-        Call::Write(at, bytes) => answer_text(alloc, disk.write_at(at, bytes)),
-        Call::Cut(len) => answer_text(alloc, disk.cut(len)),
+        Call::Write(at, bytes) => answer_text(alloc, disk.write_any(at, bytes)),
+        Call::Cut(len) => answer_text(alloc, disk.cut_any(len)),
         Call::Sync => answer_text(alloc, disk.sync()),
         Call::Len => len_text(alloc, disk.len()),
         Call::Read(at, len) => range(alloc, disk, at, len),
@@ -56,7 +98,7 @@ fn told(alloc: Global, disk: &mut impl Disk, call: Call) -> Result<Vec<u8>, Allo
 fn expect_told(
     rt: &impl Abort,
     alloc: Global,
-    disk: &mut impl Disk,
+    disk: &mut impl AnyRange,
     what: &str,
     calls: &[(Call, &[u8])],
 ) -> Result<(), Fail> {
