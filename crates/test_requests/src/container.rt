@@ -4,6 +4,8 @@
 //! What is served is proved; which object is called when, that each is destroyed and dropped once, and in which order listeners
 //! hear, no contract says, and these tests do. Expected notes are those of Jakarta Servlet 6.0, sections 2.3 ("Servlet Life
 //! Cycle"), 6.2.1 ("Filter Lifecycle") and 11.3.2 ("Listener Registration"), or are reasoned out beside each row.
+//!
+//! Each thing that is tried is a function that tells whether it came as it has to, of an input by its number; one test calls them.
 
 mod boxed;
 mod cast;
@@ -14,3 +16,100 @@ mod lives;
 mod mapping;
 mod noting;
 mod served;
+
+use std::alloc::{AllocError, Global};
+use std::test::Fail;
+
+/// What is tried, each by a function of this name.
+#[derive(Clone, Copy)]
+enum Trial {
+    BoxesLiveAsTheirObjectsDo,
+    DropCallsNoObject,
+    FaultsHandAllObjectsBack,
+    FindsEachOfAsManyPatternsAsThereMayBe,
+    JudgesAMegabyte,
+    ListenersHearInOrder,
+    LivesInOrder,
+    RefusesPatternsPastTheLimit,
+    RequestsReachTheirObjects,
+    SaysWhatIsAtFault,
+    SaysWhatToLookFor,
+}
+
+/// How many inputs each has, and its name.
+static TRIALS: [(Trial, usize, &str); 11] = [
+    (Trial::LivesInOrder, 3, "lives in order"),
+    (Trial::DropCallsNoObject, 1, "a drop calls no object"),
+    (
+        Trial::BoxesLiveAsTheirObjectsDo,
+        1,
+        "boxes live as their objects do",
+    ),
+    (Trial::ListenersHearInOrder, 14, "listeners hear in order"),
+    (
+        Trial::RequestsReachTheirObjects,
+        7,
+        "requests reach their objects",
+    ),
+    (
+        Trial::FaultsHandAllObjectsBack,
+        12,
+        "faults hand all objects back",
+    ),
+    (
+        Trial::SaysWhatToLookFor,
+        8,
+        "a descriptor's fault says what to look for",
+    ),
+    (
+        Trial::JudgesAMegabyte,
+        1,
+        "a descriptor of a megabyte is judged",
+    ),
+    (
+        Trial::SaysWhatIsAtFault,
+        4,
+        "a pattern's fault says what it is",
+    ),
+    (
+        Trial::RefusesPatternsPastTheLimit,
+        1,
+        "patterns past the limit are refused",
+    ),
+    (
+        Trial::FindsEachOfAsManyPatternsAsThereMayBe,
+        1,
+        "each of as many patterns as there may be is found",
+    ),
+];
+
+/// Whether an input comes as it has to.
+fn holds(alloc: Global, trial: Trial, input: usize) -> Result<bool, AllocError> {
+    match trial {
+        Trial::BoxesLiveAsTheirObjectsDo => boxed::boxes_live_as_their_objects_do(alloc),
+        Trial::DropCallsNoObject => lives::drop_calls_no_object(alloc),
+        Trial::FaultsHandAllObjectsBack => faults::faults_hand_all_objects_back(alloc, input),
+        Trial::FindsEachOfAsManyPatternsAsThereMayBe => {
+            Ok(mapping::servlets::finds_each_of_as_many_patterns_as_there_may_be(alloc))
+        }
+        Trial::JudgesAMegabyte => descriptor::size::judges_a_megabyte(alloc),
+        Trial::ListenersHearInOrder => events::listeners_hear_in_order(alloc, input),
+        Trial::LivesInOrder => lives::lives_in_order(alloc, input),
+        Trial::RefusesPatternsPastTheLimit => {
+            Ok(mapping::servlets::refuses_patterns_past_the_limit(alloc))
+        }
+        Trial::RequestsReachTheirObjects => served::requests_reach_their_objects(alloc, input),
+        Trial::SaysWhatIsAtFault => mapping::patterns::says_what_is_at_fault(alloc, input),
+        Trial::SaysWhatToLookFor => descriptor::texts::says_what_to_look_for(alloc, input),
+    }
+}
+
+#[test]
+fn a_container_does_as_it_has_to(rt: HostRuntime) -> Result<(), Fail> {
+    for (trial, inputs, name) in &TRIALS {
+        for input in 0..*inputs {
+            assert!(rt; holds(rt.alloc(), *trial, input)?, "{name}, input {input}");
+        }
+    }
+    Ok(())
+}

@@ -1,6 +1,6 @@
 //! What a reader answers behind a fault.
 
-use std::test::Fail;
+use std::alloc::Global;
 use sv_message::{ReadFault, RequestReader};
 
 /// Why the reader has no next request.
@@ -19,9 +19,7 @@ fn is_closed_by_a_fault(reader: &mut RequestReader) -> Result<bool, ReadFault> {
     )
 }
 
-#[test]
-fn a_fault_closes_the_reader(rt: HostRuntime) -> Result<(), Fail> {
-    let mut reader = RequestReader::new(rt.alloc());
-    assert_eq!(rt; is_closed_by_a_fault(&mut reader), Ok(true));
-    Ok(())
+pub(super) fn a_fault_closes_the_reader(alloc: Global) -> bool {
+    let mut reader = RequestReader::new(alloc);
+    is_closed_by_a_fault(&mut reader) == Ok(true)
 }

@@ -1,8 +1,7 @@
 //! Many requests in one stream: the same ones come, however it is cut.
 
 use std::alloc::{AllocError, Global};
-use std::test::Fail;
-use sv_message::{RawRequest, RequestReader};
+use sv_message::{RawRequest, ReadFault, RequestReader};
 
 /// Adds ten chunks of 99 bytes.
 fn add_chunks(stream: &mut Vec<u8>) -> Result<(), AllocError> {
@@ -57,19 +56,23 @@ fn number_of(raw: &RawRequest) -> &str {
 }
 
 /// Adds the number of the next request, if it is there.
-fn tell_next(told: &mut String, reader: &mut RequestReader) -> Result<bool, Fail> {
+fn tell_next(told: &mut String, reader: &mut RequestReader) -> Result<bool, ReadFault> {
     match reader.next() {
         Ok(Some(raw)) => {
             told.push_str(number_of(&raw))?;
             Ok(true)
         }
         Ok(None) => Ok(false),
-        Err(fault) => Err(fault.into()),
+        Err(fault) => Err(fault),
     }
 }
 
 /// Adds the numbers of the requests that are there behind a piece.
-fn tell_piece(told: &mut String, reader: &mut RequestReader, piece: &[u8]) -> Result<(), Fail> {
+fn tell_piece(
+    told: &mut String,
+    reader: &mut RequestReader,
+    piece: &[u8],
+) -> Result<(), ReadFault> {
     reader.feed(piece)?;
     for _ in 0..201 {
         if !tell_next(told, reader)? {
@@ -84,7 +87,7 @@ fn tell_all(
     reader: &mut RequestReader,
     stream: &[u8],
     size: usize,
-) -> Result<(), Fail> {
+) -> Result<(), ReadFault> {
     for piece in stream.chunks(size.max(1)) {
         tell_piece(told, reader, piece)?;
     }
@@ -92,7 +95,7 @@ fn tell_all(
 }
 
 /// Whether a stream in pieces of a size has requests of just these numbers.
-fn has_numbers(alloc: Global, stream: &[u8], want: &str, size: usize) -> Result<bool, Fail> {
+fn has_numbers(alloc: Global, stream: &[u8], want: &str, size: usize) -> Result<bool, ReadFault> {
     let mut told = String::new(alloc);
     let mut reader = RequestReader::new(alloc);
     match tell_all(&mut told, &mut reader, stream, size) {
@@ -101,17 +104,14 @@ fn has_numbers(alloc: Global, stream: &[u8], want: &str, size: usize) -> Result<
     }
 }
 
+/// How long the pieces are.
 static SIZES: [usize; 4] = [1, 7, 4_096, 1_048_576];
 
-#[test]
-fn two_hundred_chunked_bodies(rt: HostRuntime) -> Result<(), Fail> {
-    let stream = pipeline(rt.alloc())?;
-    let want = all_numbers(rt.alloc())?;
-    for size in &SIZES {
-        assert!(rt;
-            has_numbers(rt.alloc(), &stream, &want, *size)?,
-            "pieces of {size}"
-        );
-    }
-    Ok(())
+pub(super) fn two_hundred_chunked_bodies(alloc: Global, input: usize) -> Result<bool, AllocError> {
+    let Some(size) = SIZES.get(input) else {
+        return Ok(false);
+    };
+    let stream = pipeline(alloc)?;
+    let want = all_numbers(alloc)?;
+    Ok(has_numbers(alloc, &stream, &want, *size) == Ok(true))
 }

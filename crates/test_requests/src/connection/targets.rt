@@ -2,7 +2,6 @@
 
 use http::Method;
 use std::alloc::{AllocError, Global};
-use std::test::Fail;
 use sv_target::{Target, TargetFault};
 
 /// The path of a target and its query behind a space.
@@ -30,18 +29,25 @@ fn is_shown(
     Ok(shown(alloc, answer)?.as_str() == want)
 }
 
+/// The letter of a byte of ASCII.
+fn letter_of(byte: usize) -> Option<char> {
+    match u8::try_from(byte) {
+        Ok(byte) if byte < 128 => Some(char::from(byte)),
+        _ => None,
+    }
+}
+
 /// What the escape of one byte behind a slash has to give: a character of ASCII but NUL, the slash, the backslash and
 /// a dot alone.
-fn unescaped(byte: u8) -> Option<char> {
-    if byte < 128 && !b"\0/\\.".contains(&byte) {
-        Some(char::from(byte))
-    } else {
-        None
+fn unescaped(byte: usize) -> Option<char> {
+    match letter_of(byte) {
+        Some('\0' | '/' | '\\' | '.') => None,
+        letter => letter,
     }
 }
 
 /// What the path of a slash and the escape of a byte has to be.
-fn path_of(alloc: Global, byte: u8) -> Result<String, AllocError> {
+fn path_of(alloc: Global, byte: usize) -> Result<String, AllocError> {
     match unescaped(byte) {
         Some(letter) => format!(in alloc; "/{letter}"),
         None => String::from_str(alloc, "BadTarget"),
@@ -49,27 +55,22 @@ fn path_of(alloc: Global, byte: u8) -> Result<String, AllocError> {
 }
 
 /// Whether a text with the escape of a byte behind a slash is read as it has to be.
-fn is_unescaped(alloc: Global, text: &str, byte: u8) -> Result<bool, AllocError> {
+fn is_unescaped(alloc: Global, text: &str, byte: usize) -> Result<bool, AllocError> {
     let want = path_of(alloc, byte)?;
     is_shown(alloc, &Target::read_within(alloc, text), &want)
 }
 
-#[test]
-fn every_escape_of_one_byte(rt: HostRuntime) -> Result<(), Fail> {
-    for byte in 0..=255 {
-        let text = format!(in rt.alloc(); "/%{byte:02x}")?;
-        assert!(rt; is_unescaped(rt.alloc(), &text, byte)?, "{text}");
-    }
-    Ok(())
+pub(super) fn every_escape_of_one_byte(alloc: Global, byte: usize) -> Result<bool, AllocError> {
+    let text = format!(in alloc; "/%{byte:02x}")?;
+    is_unescaped(alloc, &text, byte)
 }
 
-#[test]
-fn every_escape_of_one_byte_in_capitals(rt: HostRuntime) -> Result<(), Fail> {
-    for byte in 0..=255 {
-        let text = format!(in rt.alloc(); "/%{byte:02X}")?;
-        assert!(rt; is_unescaped(rt.alloc(), &text, byte)?, "{text}");
-    }
-    Ok(())
+pub(super) fn every_escape_of_one_byte_in_capitals(
+    alloc: Global,
+    byte: usize,
+) -> Result<bool, AllocError> {
+    let text = format!(in alloc; "/%{byte:02X}")?;
+    is_unescaped(alloc, &text, byte)
 }
 
 /// What a letter between two others has to give.
@@ -84,20 +85,18 @@ fn between(alloc: Global, letter: char) -> Result<String, AllocError> {
     }
 }
 
-/// Whether a byte between two letters is read as it has to be.
-fn is_read_between(alloc: Global, byte: u8) -> Result<bool, AllocError> {
-    let letter = char::from(byte);
+/// Whether a letter between two others is read as it has to be.
+fn is_read_between(alloc: Global, letter: char) -> Result<bool, AllocError> {
     let raw = format!(in alloc; "/a{letter}b")?;
     let want = between(alloc, letter)?;
     is_shown(alloc, &Target::read(alloc, &Method::GET, &raw), &want)
 }
 
-#[test]
-fn every_byte_of_ascii(rt: HostRuntime) -> Result<(), Fail> {
-    for byte in 0..=127 {
-        assert!(rt; is_read_between(rt.alloc(), byte)?, "byte {byte}");
+pub(super) fn every_byte_of_ascii(alloc: Global, byte: usize) -> Result<bool, AllocError> {
+    match letter_of(byte) {
+        Some(letter) => is_read_between(alloc, letter),
+        None => Ok(false),
     }
-    Ok(())
 }
 
 /// A path of so many bytes.
@@ -116,9 +115,6 @@ fn is_read(alloc: Global, length: usize) -> Result<bool, TargetFault> {
     Ok(target.path.as_str() == text.as_str())
 }
 
-#[test]
-fn long_paths(rt: HostRuntime) -> Result<(), Fail> {
-    assert_eq!(rt; is_read(rt.alloc(), 65_534), Ok(true));
-    assert_eq!(rt; is_read(rt.alloc(), 65_535), Err(TargetFault::BadTarget));
-    Ok(())
+pub(super) fn long_paths(alloc: Global) -> bool {
+    is_read(alloc, 65_534) == Ok(true) && is_read(alloc, 65_535) == Err(TargetFault::BadTarget)
 }

@@ -1,10 +1,10 @@
 //! Calls of a connection with the bytes that they have to write, and readers and writers that fail.
 
-mod alone;
+pub(super) mod alone;
 mod echo;
 mod engines;
-mod parked;
-mod received;
+pub(super) mod parked;
+pub(super) mod received;
 mod rows;
 mod streams;
 
@@ -13,7 +13,6 @@ use http::StatusCode;
 use rows::{ANSWERS, REFUSALS, Row};
 use std::alloc::{AllocError, Global};
 use std::io::{Read, Write};
-use std::process::Abort;
 use std::test::Fail;
 use streams::{Drip, GULP, Sink, new_sink, slow_reader};
 use sv_connection::{Connection, Outcome, RequestFault, Served, refusal};
@@ -52,73 +51,60 @@ fn serve<R: Read, W: Write>(
     connection.serve_next(reader, writer, site, AT, token)
 }
 
-/// The token of the first call that ends otherwise than the row says, or hands out another number of outputs.
-fn first_other<R: Read>(
+/// Each call ends as the row says, and hands out as many outputs.
+fn are_ended<R: Read>(
     row: &Row,
     connection: &mut Connection,
     reader: &mut R,
     writer: &mut Vec<u8>,
     site: &mut Echo,
-) -> Option<u64> {
+) -> bool {
     let mut token: u64 = 40;
     for (outcome, outputs) in &row.calls {
         token = token.wrapping_add(1);
         let served = serve(connection, reader, writer, site, token);
         if served.outcome != *outcome || served.outputs.len() != *outputs {
-            return Some(token);
+            return false;
         }
     }
-    None
+    true
 }
 
-/// The same, and how many steps were taken.
-fn row_ran<R: Read>(
-    alloc: Global,
-    row: &Row,
-    reader: &mut R,
-    writer: &mut Vec<u8>,
-) -> (Option<u64>, u64) {
+/// What the calls of a row's connection do otherwise than it says.
+fn difference<R: Read>(alloc: Global, row: &Row, reader: &mut R) -> &'static str {
     let mut connection = Connection::new(alloc, row.single);
     let mut site = Echo::new(alloc);
-    let other = first_other(row, &mut connection, reader, writer, &mut site);
-    (other, site.steps)
+    let mut writer = Vec::new(alloc);
+    let are_ended = are_ended(row, &mut connection, reader, &mut writer, &mut site);
+    if !are_ended {
+        "a call ends otherwise"
+    } else if site.steps != row.steps {
+        "another number of steps"
+    } else if writer.as_slice() != row.written.as_bytes() {
+        "another text"
+    } else {
+        ""
+    }
 }
 
-fn expect_row<R: Read>(
-    rt: &(impl Abort + AllocGlobal),
-    row: &Row,
-    reader: &mut R,
-) -> Result<(), Fail> {
-    let mut writer = Vec::new(rt.alloc());
-    let ran = row_ran(rt.alloc(), row, reader, &mut writer);
-    assert_eq!(rt; ran, (None, row.steps), "{}", row.name);
-    assert_eq!(rt;
-        str::from_utf8(&writer).ok(),
-        Some(row.written),
-        "text of {}",
-        row.name
-    );
-    Ok(())
+/// The same, for a reader that gives what is sent at once, or a byte at a time.
+fn difference_read(alloc: Global, row: &Row, is_slow: bool) -> &'static str {
+    if is_slow {
+        difference(alloc, row, &mut slow_reader(row.sent.as_bytes(), 0))
+    } else {
+        difference(alloc, row, &mut row.sent.as_bytes())
+    }
 }
 
-fn expect_rows(rt: &(impl Abort + AllocGlobal), rows: &[Row]) -> Result<(), Fail> {
-    for row in rows {
-        let mut whole = row.sent.as_bytes();
-        expect_row(rt, row, &mut whole)?;
-        let mut dripping = slow_reader(row.sent.as_bytes(), 0);
-        expect_row(rt, row, &mut dripping)?;
+#[test]
+fn answers_and_refused_requests(rt: HostRuntime) -> Result<(), Fail> {
+    for row in ANSWERS.iter().chain(&REFUSALS) {
+        for is_slow in [false, true] {
+            let difference = difference_read(rt.alloc(), row, is_slow);
+            assert!(rt; difference.is_empty(), "{}: {difference}", row.name);
+        }
     }
     Ok(())
-}
-
-#[test]
-fn answers(rt: HostRuntime) -> Result<(), Fail> {
-    expect_rows(&rt, &ANSWERS)
-}
-
-#[test]
-fn refused_requests(rt: HostRuntime) -> Result<(), Fail> {
-    expect_rows(&rt, &REFUSALS)
 }
 
 /// How a call ends, and the token, the time and the close that the site is asked with.
@@ -131,12 +117,10 @@ fn asked(alloc: Global, single: bool, token: u64) -> (Outcome, u64, u64, bool) {
     (served.outcome, site.token, site.now, site.close)
 }
 
-#[test]
-fn the_site_is_asked_as_the_call_says(rt: HostRuntime) -> Result<(), Fail> {
+pub(super) fn the_site_is_asked_as_the_call_says(alloc: Global) -> bool {
     let (answered, now, last) = (Outcome::Answered, AT.now, u64::MAX);
-    assert_eq!(rt; asked(rt.alloc(), false, 0), (answered, 0, now, false));
-    assert_eq!(rt; asked(rt.alloc(), true, last), (answered, last, now, true));
-    Ok(())
+    asked(alloc, false, 0) == (answered, 0, now, false)
+        && asked(alloc, true, last) == (answered, last, now, true)
 }
 
 /// How two calls of a connection end that closes after the first, with the reads up to each; and how many bytes a read asks for.
@@ -152,16 +136,14 @@ fn closed(alloc: Global) -> ((Outcome, usize), (Outcome, usize), usize) {
 }
 
 /// A closed connection reads nothing more.
-#[test]
-fn what_follows_a_close_is_not_read(rt: HostRuntime) -> Result<(), Fail> {
+pub(super) fn what_follows_a_close_is_not_read(alloc: Global) -> bool {
     let reads = REQUEST.len();
     let want = ((Outcome::Answered, reads), (Outcome::Closed, reads), 4_096);
-    assert_eq!(rt; closed(rt.alloc()), want);
-    Ok(())
+    closed(alloc) == want
 }
 
 /// How one call ends, and where it doesn't answer, the next one; what was done meanwhile.
-#[derive(Clone, Copy, Debug, PartialEq, Eq)]
+#[derive(Clone, Copy, PartialEq, Eq)]
 struct Ran {
     first: Outcome,
     /// How many outputs the first one hands out.
@@ -276,25 +258,27 @@ fn unwritten(fails_at: usize) -> Ran {
 }
 
 /// Each read of a request fails in turn; with none failing the request is answered.
-#[test]
-fn a_reader_that_fails(rt: HostRuntime) -> Result<(), Fail> {
-    for fails_at in 1..=REQUEST.len() {
-        assert_eq!(rt; run(rt.alloc(), REQUEST, fails_at, 0), unread(fails_at));
-    }
-    assert_eq!(rt; run(rt.alloc(), REQUEST, REQUEST.len() + 1, 0), answered());
-    Ok(())
+pub(super) fn a_reader_that_fails(alloc: Global, input: usize) -> bool {
+    let fails_at = input.saturating_add(1);
+    let want = if fails_at <= REQUEST.len() {
+        unread(fails_at)
+    } else {
+        answered()
+    };
+    run(alloc, REQUEST, fails_at, 0) == want
 }
 
 /// Each write of an answer fails in turn, and the flush; what was written before is a piece of the answer. A request that follows
 /// isn't read.
-#[test]
-fn a_writer_that_fails(rt: HostRuntime) -> Result<(), Fail> {
+pub(super) fn a_writer_that_fails(alloc: Global, input: usize) -> bool {
     let sent = b"GET /a HTTP/1.1\r\nHost: h\r\n\r\nGET /b HTTP/1.1\r\nHost: h\r\n\r\n";
-    for fails_at in 1..=WRITES + 1 {
-        assert_eq!(rt; run(rt.alloc(), sent, 0, fails_at), unwritten(fails_at));
-    }
-    assert_eq!(rt; run(rt.alloc(), sent, 0, WRITES + 2), answered());
-    Ok(())
+    let fails_at = input.saturating_add(1);
+    let want = if fails_at <= WRITES + 1 {
+        unwritten(fails_at)
+    } else {
+        answered()
+    };
+    run(alloc, sent, 0, fails_at) == want
 }
 
 const TOO_LONG: &str =
@@ -319,14 +303,9 @@ fn run_endless(
 }
 
 /// A reader that never ends a head, a byte a read: 8,192 of them are too long for one.
-#[test]
-fn a_reader_that_never_ends_a_head(rt: HostRuntime) -> Result<(), Fail> {
+pub(super) fn a_reader_that_never_ends_a_head(alloc: Global) -> bool {
     let too_long = Outcome::Refused(RequestFault::Read(ReadFault::HeadTooLong));
-    assert_eq!(rt;
-        run_endless(rt.alloc(), b"a", 0, TOO_LONG),
-        (too_long, 8_192, 0, true)
-    );
-    Ok(())
+    run_endless(alloc, b"a", 0, TOO_LONG) == (too_long, 8_192, 0, true)
 }
 
 /// The head of a body in chunks, of 57 bytes, and a chunk of one byte behind a line of 67.
@@ -335,11 +314,8 @@ static CHUNKS: &[u8] =
 
 /// A reader that never ends a body, a byte a read: 65,536 chunks of 70 bytes would be 4,587,520 of them, and the call ends at
 /// 1,048,576.
-#[test]
-fn a_reader_that_never_ends_a_body(rt: HostRuntime) -> Result<(), Fail> {
-    let ran = run_endless(rt.alloc(), CHUNKS, 57, "");
-    assert_eq!(rt; ran, (Outcome::ReadFailed, 1_048_576, 0, true));
-    Ok(())
+pub(super) fn a_reader_that_never_ends_a_body(alloc: Global) -> bool {
+    run_endless(alloc, CHUNKS, 57, "") == (Outcome::ReadFailed, 1_048_576, 0, true)
 }
 
 static CAUSES: [(Cause, &str); 7] = [
@@ -380,15 +356,9 @@ fn is_refusal(
     )
 }
 
-#[test]
-fn refusals(rt: HostRuntime) -> Result<(), Fail> {
-    for row in &CAUSES {
-        assert!(rt; is_refusal(rt.alloc(), row, false, true)?, "{}", row.1);
-        assert!(rt;
-            is_refusal(rt.alloc(), row, true, false)?,
-            "{} to a HEAD",
-            row.1
-        );
-    }
-    Ok(())
+pub(super) fn refusals(alloc: Global, input: usize) -> Result<bool, AllocError> {
+    let Some(row) = CAUSES.get(input) else {
+        return Ok(false);
+    };
+    Ok(is_refusal(alloc, row, false, true)? && is_refusal(alloc, row, true, false)?)
 }

@@ -5,78 +5,77 @@
 
 ghost use Rattle.sv_container.specs.Life.{AreNamedNew};
 
-use crate::container::cast::{
-    expect_end, expect_notes, filter_of, listeners_of, new_diary, servlet_of,
-};
-use crate::container::lives::{DESCRIPTOR, FILTERS, LISTENERS, NAMES, SERVLETS, STARTED};
+use crate::container::cast::{filter_of, has_end, has_notes, listener_of, new_diary, servlet_of};
+use crate::container::lives::{DESCRIPTOR, FILTERS, LISTENERS, SERVLETS, STARTED};
 use crate::container::noting::Diary;
-use crate::container::served::serve;
-use std::process::Abort;
-use std::test::Fail;
+use crate::container::served::is_answered;
+use std::alloc::{AllocError, Global};
 use sv_config::Deployment;
 use sv_container::{Container, Named, Stopped};
 use sv_model::Engine;
 use sv_servlet::{Filter, Listener, Servlet};
 
 /// Boxes the servlets.
-fn boxed_life(rt: &(impl Abort + AllocGlobal)) -> Result<(), Fail> {
-    let alloc = rt.alloc();
-    let diary = new_diary(alloc)?;
+fn boxed_life(alloc: Global, diary: &Diary) -> Result<bool, AllocError> {
     let mut servlets: Vec<Named<Box<dyn Servlet>>> = Vec::new(alloc);
-    for part in SERVLETS {
-        let (context, name) = part;
-        let object: Box<dyn Servlet> = Box::new(alloc, servlet_of(alloc, &diary, name)?)?;
-        let name = String::from_str(alloc, name)?;
+    for part in &SERVLETS {
+        let Named {
+            context,
+            name,
+            object,
+        } = servlet_of(alloc, diary, part, "")?;
+        let object: Box<dyn Servlet> = Box::new(alloc, object)?;
         servlets.push(Named {
             context,
             name,
             object,
         })?;
     }
-    with_servlets(rt, &diary, servlets)
+    with_servlets(alloc, diary, servlets)
 }
 
 /// Boxes the filters.
 fn with_servlets<S: Servlet>(
-    rt: &(impl Abort + AllocGlobal),
+    alloc: Global,
     diary: &Diary,
     servlets: Vec<Named<S>>,
-) -> Result<(), Fail>
+) -> Result<bool, AllocError>
     requires { AreNamedNew S.servlet_phase servlets.items }
 {
-    let alloc = rt.alloc();
     let mut filters: Vec<Named<Box<dyn Filter>>> = Vec::new(alloc);
-    for part in FILTERS {
-        let (context, name) = part;
-        let object: Box<dyn Filter> = Box::new(alloc, filter_of(alloc, diary, name)?)?;
-        let name = String::from_str(alloc, name)?;
+    for part in &FILTERS {
+        let Named {
+            context,
+            name,
+            object,
+        } = filter_of(alloc, diary, part, "")?;
+        let object: Box<dyn Filter> = Box::new(alloc, object)?;
         filters.push(Named {
             context,
             name,
             object,
         })?;
     }
-    with_filters(rt, diary, servlets, filters)
+    with_filters(alloc, diary, servlets, filters)
 }
 
 /// Boxes the listeners.
 fn with_filters<S: Servlet, F: Filter>(
-    rt: &(impl Abort + AllocGlobal),
+    alloc: Global,
     diary: &Diary,
     servlets: Vec<Named<S>>,
     filters: Vec<Named<F>>,
-) -> Result<(), Fail>
+) -> Result<bool, AllocError>
     requires servlets { AreNamedNew S.servlet_phase servlets.items }
     requires filters { AreNamedNew F.filter_phase filters.items }
 {
-    let alloc = rt.alloc();
     let mut listeners: Vec<Named<Box<dyn Listener>>> = Vec::new(alloc);
-    for named in listeners_of(alloc, diary, &LISTENERS)? {
+    for part in &LISTENERS {
         let Named {
             context,
             name,
             object,
-        } = named;
+        } = listener_of(alloc, diary, part)?;
         let object: Box<dyn Listener> = Box::new(alloc, object)?;
         listeners.push(Named {
             context,
@@ -84,10 +83,26 @@ fn with_filters<S: Servlet, F: Filter>(
             object,
         })?;
     }
-    let deployment = Deployment::from_toml(alloc, DESCRIPTOR)?;
+    Ok(with_all(alloc, diary, servlets, filters, listeners))
+}
+
+/// Starts the container.
+fn with_all<S: Servlet, F: Filter, L: Listener>(
+    alloc: Global,
+    diary: &Diary,
+    servlets: Vec<Named<S>>,
+    filters: Vec<Named<F>>,
+    listeners: Vec<Named<L>>,
+) -> bool
+    requires servlets { AreNamedNew S.servlet_phase servlets.items }
+    requires filters { AreNamedNew F.filter_phase filters.items }
+{
+    let Ok(deployment) = Deployment::from_toml(alloc, DESCRIPTOR) else {
+        return false;
+    };
     match Container::start(alloc, deployment, servlets, filters, listeners) {
-        Ok(container) => lived(rt, diary, container),
-        Err(_) => Err("not started".into()),
+        Ok(container) => is_lived(alloc, diary, container),
+        Err(_) => false,
     }
 }
 
@@ -102,22 +117,22 @@ const SHUT_DOWN: &str =
     "s3.destroy f3.destroy l4.down l3.down s2.destroy s1.destroy f2.destroy f1.destroy l2.down l1.down ";
 
 /// The container has started; it serves, and is shut down.
-fn lived<S: Servlet, F: Filter, L: Listener>(
-    rt: &(impl Abort + AllocGlobal),
+fn is_lived<S: Servlet, F: Filter, L: Listener>(
+    alloc: Global,
     diary: &Diary,
     container: Container<S, F, L>,
-) -> Result<(), Fail>
+) -> bool
     requires { ⟦<Container<S, F, L> as Engine>⟧.valid container }
 {
     let mut container = container;
-    expect_notes(rt, diary, STARTED, "start")?;
-    assert_eq!(rt; serve(rt.alloc(), &mut container, "/a/1")?, 200);
-    expect_notes(rt, diary, SERVED, "request")?;
-    assert_eq!(rt; container.shutdown(), STOPPED);
-    expect_end(rt, diary, SHUT_DOWN, &NAMES)
+    let is_started = has_notes(diary, STARTED);
+    let is_answered = is_answered(alloc, &mut container, "/a/1", 200) == Ok(true);
+    let is_served = has_notes(diary, SERVED);
+    let is_stopped = container.shutdown() == STOPPED;
+    is_started && is_answered && is_served && is_stopped && has_end(diary, SHUT_DOWN)
 }
 
-#[test]
-fn boxes_live_as_their_objects_do(rt: HostRuntime) -> Result<(), Fail> {
-    boxed_life(&rt)
+pub fn boxes_live_as_their_objects_do(alloc: Global) -> Result<bool, AllocError> {
+    let diary = new_diary(alloc)?;
+    boxed_life(alloc, &diary)
 }

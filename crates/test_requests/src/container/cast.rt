@@ -7,9 +7,7 @@ ghost use Rattle.sv_servlet.specs.declared.servlet.Phase.TheVariants.{New};
 use crate::container::noting::{Diary, NotingFilter, NotingListener, NotingServlet, Pen};
 use std::alloc::{AllocError, Global};
 use std::cell::RefCell;
-use std::process::Abort;
 use std::rc::Rc;
-use std::test::Fail;
 use sv_container::Named;
 use sv_servlet::{Filter, Phase, Servlet};
 
@@ -28,29 +26,67 @@ fn pen_of(alloc: Global, diary: &Diary, name: &str) -> Result<Pen, AllocError> {
     })
 }
 
-/// A servlet that can be initialised, as it was made.
-pub fn servlet_of(alloc: Global, diary: &Diary, name: &str) -> Result<NotingServlet, AllocError>
-    ensures { IfOk result (λ s. s.phase ≡ New) }
+/// A servlet as it was made; the one that is called `unable` can't be initialised.
+pub fn servlet_of(
+    alloc: Global,
+    diary: &Diary,
+    part: &Part,
+    unable: &str,
+) -> Result<Named<NotingServlet>, AllocError>
+    ensures { IfOk result (λ n. n.object.phase ≡ New) }
 {
-    Ok(NotingServlet {
+    let (context, name) = *part;
+    let object = NotingServlet {
         pen: pen_of(alloc, diary, name)?,
-        is_able: true,
+        is_able: name != unable,
         phase: Phase::New,
+    };
+    Ok(Named {
+        context,
+        name: String::from_str(alloc, name)?,
+        object,
     })
 }
 
-/// A filter that can be initialised, as it was made.
-pub fn filter_of(alloc: Global, diary: &Diary, name: &str) -> Result<NotingFilter, AllocError>
-    ensures { IfOk result (λ f. f.phase ≡ New) }
+/// A filter as it was made; the one that is called `unable` can't be initialised.
+pub fn filter_of(
+    alloc: Global,
+    diary: &Diary,
+    part: &Part,
+    unable: &str,
+) -> Result<Named<NotingFilter>, AllocError>
+    ensures { IfOk result (λ n. n.object.phase ≡ New) }
 {
-    Ok(NotingFilter {
+    let (context, name) = *part;
+    let object = NotingFilter {
         pen: pen_of(alloc, diary, name)?,
-        is_able: true,
+        is_able: name != unable,
         phase: Phase::New,
+    };
+    Ok(Named {
+        context,
+        name: String::from_str(alloc, name)?,
+        object,
     })
 }
 
-/// Servlets; the one that is called `unable` can't be initialised.
+/// A listener.
+pub fn listener_of(
+    alloc: Global,
+    diary: &Diary,
+    part: &Part,
+) -> Result<Named<NotingListener>, AllocError> {
+    let (context, name) = *part;
+    let object = NotingListener {
+        pen: pen_of(alloc, diary, name)?,
+    };
+    Ok(Named {
+        context,
+        name: String::from_str(alloc, name)?,
+        object,
+    })
+}
+
 pub fn servlets_of(
     alloc: Global,
     diary: &Diary,
@@ -61,23 +97,12 @@ pub fn servlets_of(
 {
     let mut all = Vec::new(alloc);
     for part in parts {
-        let (context, name) = *part;
-        let object = NotingServlet {
-            pen: pen_of(alloc, diary, name)?,
-            is_able: name != unable,
-            phase: Phase::New,
-        };
-        let name = String::from_str(alloc, name)?;
-        all.push(Named {
-            context,
-            name,
-            object,
-        })?;
+        let named = servlet_of(alloc, diary, part, unable)?;
+        all.push(named)?;
     }
     Ok(all)
 }
 
-/// Filters; the one that is called `unable` can't be initialised.
 pub fn filters_of(
     alloc: Global,
     diary: &Diary,
@@ -88,18 +113,8 @@ pub fn filters_of(
 {
     let mut all = Vec::new(alloc);
     for part in parts {
-        let (context, name) = *part;
-        let object = NotingFilter {
-            pen: pen_of(alloc, diary, name)?,
-            is_able: name != unable,
-            phase: Phase::New,
-        };
-        let name = String::from_str(alloc, name)?;
-        all.push(Named {
-            context,
-            name,
-            object,
-        })?;
+        let named = filter_of(alloc, diary, part, unable)?;
+        all.push(named)?;
     }
     Ok(all)
 }
@@ -111,50 +126,61 @@ pub fn listeners_of(
 ) -> Result<Vec<Named<NotingListener>>, AllocError> {
     let mut all = Vec::new(alloc);
     for part in parts {
-        let (context, name) = *part;
-        let object = NotingListener {
-            pen: pen_of(alloc, diary, name)?,
-        };
-        let name = String::from_str(alloc, name)?;
-        all.push(Named {
-            context,
-            name,
-            object,
-        })?;
+        all.push(listener_of(alloc, diary, part)?)?;
     }
     Ok(all)
 }
 
-/// What was noted since the last look.
-pub fn expect_notes(
-    rt: &(impl Abort + AllocGlobal),
-    diary: &Diary,
-    want: &str,
-    row: &str,
-) -> Result<(), Fail> {
-    let mut notes = diary.try_borrow_mut()?;
-    assert_eq!(rt; notes.as_str(), want, "{row}");
-    notes.clear();
-    Ok(())
+/// Forgets what was noted.
+pub fn clear_notes(diary: &Diary) {
+    if let Ok(mut notes) = diary.try_borrow_mut() {
+        notes.clear();
+    }
 }
 
-/// What was noted since the last look: `calls`, and then that each of `names` was dropped, once, in any order.
-pub fn expect_end(
-    rt: &(impl Abort + AllocGlobal),
-    diary: &Diary,
-    calls: &str,
-    names: &[&str],
-) -> Result<(), Fail> {
-    let notes = diary.try_borrow()?;
-    let Some(drops) = notes.as_str().strip_prefix(calls) else {
-        return Err("other calls at the end".into());
-    };
-    let mut length = 0usize;
-    for name in names {
-        let note = format!(in rt.alloc(); "{name}.drop ")?;
-        assert!(rt; drops.contains(note.as_str()), "{name} in {drops}");
-        length = length.saturating_add(note.len());
+/// Just this was noted since the last look.
+pub fn has_notes(diary: &Diary, want: &str) -> bool {
+    match diary.try_borrow_mut() {
+        Ok(mut notes) => {
+            let is_same = notes.as_str() == want;
+            notes.clear();
+            is_same
+        }
+        Err(_) => false,
     }
-    assert_eq!(rt; drops.len(), length, "{drops}");
-    Ok(())
+}
+
+/// So many bytes were noted since the last look.
+pub fn has_so_many(diary: &Diary, count: usize) -> bool {
+    match diary.try_borrow() {
+        Ok(notes) => notes.len() == count,
+        Err(_) => false,
+    }
+}
+
+/// That each of the two applications' objects was dropped.
+static DROPS: [&str; 10] = [
+    "s1.drop ", "s2.drop ", "s3.drop ", "f1.drop ", "f2.drop ", "f3.drop ", "l1.drop ", "l2.drop ",
+    "l3.drop ", "l4.drop ",
+];
+
+/// Each note is among these, once.
+fn are_drops(notes: &str) -> bool {
+    for drop in &DROPS {
+        if !notes.contains(*drop) {
+            return false;
+        }
+    }
+    notes.len() == 8 * DROPS.len()
+}
+
+/// What was noted since the last look: `calls`, and then that each object was dropped, once, in any order.
+pub fn has_end(diary: &Diary, calls: &str) -> bool {
+    match diary.try_borrow() {
+        Ok(notes) => match notes.as_str().strip_prefix(calls) {
+            Some(drops) => are_drops(drops),
+            None => false,
+        },
+        Err(_) => false,
+    }
 }

@@ -1,4 +1,4 @@
 //! What is said of a descriptor's fault, and descriptors of a megabyte.
 
-mod size;
-mod texts;
+pub mod size;
+pub mod texts;

@@ -1,10 +1,9 @@
 //! Which listeners hear an event, and in which order.
 
-use crate::container::cast::{expect_notes, new_diary};
-use crate::container::lives::started;
+use crate::container::cast::{has_notes, new_diary};
+use crate::container::lives::{STARTED, started};
+use crate::container::noting::Diary;
 use std::alloc::{AllocError, Global};
-use std::process::Abort;
-use std::test::Fail;
 use sv_model::{Engine, Event, Key, Secret, Sequence, Text, Told};
 
 const KEY: Key = Key { home: 0, serial: 1 };
@@ -13,7 +12,7 @@ const KEY: Key = Key { home: 0, serial: 1 };
 type Row = (u8, u8, &'static str);
 
 // What ends something is heard by the last declared first, all else by the first declared first; in its context alone.
-const ROWS: [Row; 14] = [
+static ROWS: [Row; 14] = [
     (0, 1, "l1.up l2.up "),
     (0, 2, "l2.down l1.down "),
     (0, 3, "l1.in l2.in "),
@@ -65,30 +64,31 @@ fn event_of(alloc: Global, number: u8) -> Result<Event, AllocError> {
     })
 }
 
-/// Tells an engine an event.
-fn tell<E: Engine>(engine: &mut E, told: Told)
+/// Tells an engine an event, by its number.
+fn tell<E: Engine>(alloc: Global, engine: &mut E, context: u8, number: u8) -> Result<(), AllocError>
     requires { E.valid engine.old }
     ensures { E.valid engine.new }
 {
-    engine.tell(&[told]);
-}
-
-fn expect_heard(rt: &(impl Abort + AllocGlobal), row: &Row) -> Result<(), Fail> {
-    let (context, number, want) = *row;
-    let diary = new_diary(rt.alloc())?;
-    let mut container = started(rt.alloc(), &diary, "")?;
-    if let Ok(mut notes) = diary.try_borrow_mut() {
-        notes.clear();
-    }
-    let event = event_of(rt.alloc(), number)?;
-    tell(&mut container, Told { context, event });
-    expect_notes(rt, &diary, want, want)
-}
-
-#[test]
-fn listeners_hear_in_order(rt: HostRuntime) -> Result<(), Fail> {
-    for row in ROWS {
-        expect_heard(&rt, &row)?;
-    }
+    let event = event_of(alloc, number)?;
+    engine.tell(&[Told { context, event }]);
     Ok(())
+}
+
+/// The listeners hear a row's event as it says.
+fn is_heard(alloc: Global, diary: &Diary, row: &Row) -> bool {
+    let (context, number, want) = *row;
+    let Some(mut container) = started(alloc, diary, "") else {
+        return false;
+    };
+    let is_started = has_notes(diary, STARTED);
+    let told = tell(alloc, &mut container, context, number);
+    is_started && told.is_ok() && has_notes(diary, want)
+}
+
+pub fn listeners_hear_in_order(alloc: Global, input: usize) -> Result<bool, AllocError> {
+    let Some(row) = ROWS.get(input) else {
+        return Ok(false);
+    };
+    let diary = new_diary(alloc)?;
+    Ok(is_heard(alloc, &diary, row))
 }

@@ -1,13 +1,10 @@
 //! Containers that are not started.
 
 use crate::container::cast::{
-    Part, expect_notes, filters_of, listeners_of, new_diary, servlets_of,
+    Part, filters_of, has_notes, has_so_many, listeners_of, new_diary, servlets_of,
 };
-use crate::container::lives::Noted;
 use crate::container::noting::{Diary, NotingFilter, NotingListener, NotingServlet};
 use std::alloc::{AllocError, Global};
-use std::process::Abort;
-use std::test::Fail;
 use sv_config::Deployment;
 use sv_container::{Container, NotStarted, StartFault};
 
@@ -32,7 +29,7 @@ const F: &[Part] = &[(0, "f")];
 
 const L: &[Part] = &[(0, "l")];
 
-const ROWS: [Row; 12] = [
+static ROWS: [Row; 12] = [
     (&[], F, L, StartFault::MissingObject),
     (S, &[], L, StartFault::MissingObject),
     (S, F, &[], StartFault::MissingObject),
@@ -50,57 +47,51 @@ const ROWS: [Row; 12] = [
     (S, F, &[(0, "l"), (0, "l")], StartFault::ExtraObject),
 ];
 
-type Started = Result<Noted, NotStarted<NotingServlet, NotingFilter, NotingListener>>;
+type Back = NotStarted<NotingServlet, NotingFilter, NotingListener>;
 
-/// A start with the objects of a row, which note in a diary.
-fn start_with(alloc: Global, diary: &Diary, row: &Row) -> Result<Started, AllocError> {
+/// What a start with the objects of a row, which note in a diary, hands back.
+fn back_from(alloc: Global, diary: &Diary, row: &Row) -> Option<Back> {
     let (servlets, filters, listeners, _) = *row;
-    let Ok(deployment) = Deployment::from_toml(alloc, DESCRIPTOR) else {
-        return Err(AllocError);
-    };
-    let servlets = servlets_of(alloc, diary, servlets, "")?;
-    let filters = filters_of(alloc, diary, filters, "")?;
-    let listeners = listeners_of(alloc, diary, listeners)?;
-    Ok(Container::start(alloc, deployment, servlets, filters, listeners))
+    let servlets = servlets_of(alloc, diary, servlets, "").ok()?;
+    let filters = filters_of(alloc, diary, filters, "").ok()?;
+    let listeners = listeners_of(alloc, diary, listeners).ok()?;
+    let deployment = Deployment::from_toml(alloc, DESCRIPTOR).ok()?;
+    Container::start(alloc, deployment, servlets, filters, listeners).err()
+}
+
+/// The fault is that of a row, and all its objects are there.
+fn is_whole(back: &Back, row: &Row) -> bool {
+    let (servlets, filters, listeners, fault) = *row;
+    back.fault == fault
+        && back.servlets.len() == servlets.len()
+        && back.filters.len() == filters.len()
+        && back.listeners.len() == listeners.len()
+}
+
+/// Each object of a row has noted its drop, once, and nothing else was noted.
+fn are_dropped(diary: &Diary, row: &Row) -> bool {
+    let (servlets, filters, listeners, _) = *row;
+    // Each note is as long as `s.drop `.
+    has_so_many(
+        diary,
+        7 * (servlets.len() + filters.len() + listeners.len()),
+    )
 }
 
 /// All objects of a row are handed back, none has been called, and each is dropped once.
-fn expect_back(
-    rt: &(impl Abort + AllocGlobal),
-    diary: &Diary,
-    back: NotStarted<NotingServlet, NotingFilter, NotingListener>,
-    row: &Row,
-) -> Result<(), Fail> {
-    let (servlets, filters, listeners, _) = *row;
-    assert_eq!(rt; back.servlets.len(), servlets.len());
-    assert_eq!(rt; back.filters.len(), filters.len());
-    assert_eq!(rt; back.listeners.len(), listeners.len());
-    expect_notes(rt, diary, "", "before the drop")?;
+fn is_handed_back(alloc: Global, diary: &Diary, row: &Row) -> bool {
+    let Some(back) = back_from(alloc, diary, row) else {
+        return false;
+    };
+    let is_right = is_whole(&back, row) && has_notes(diary, "");
     drop(back);
-    let drops = diary.try_borrow()?;
-    // Each note is as long as `s.drop `.
-    assert_eq!(rt;
-        drops.len(),
-        7 * (servlets.len() + filters.len() + listeners.len())
-    );
-    Ok(())
+    is_right && are_dropped(diary, row)
 }
 
-fn expect_fault(rt: &(impl Abort + AllocGlobal), row: &Row) -> Result<(), Fail> {
-    let diary = new_diary(rt.alloc())?;
-    match start_with(rt.alloc(), &diary, row)? {
-        Ok(_) => Err("started".into()),
-        Err(back) => {
-            assert_eq!(rt; back.fault, row.3);
-            expect_back(rt, &diary, back, row)
-        }
-    }
-}
-
-#[test]
-fn faults_hand_all_objects_back(rt: HostRuntime) -> Result<(), Fail> {
-    for row in ROWS {
-        expect_fault(&rt, &row)?;
-    }
-    Ok(())
+pub fn faults_hand_all_objects_back(alloc: Global, input: usize) -> Result<bool, AllocError> {
+    let Some(row) = ROWS.get(input) else {
+        return Ok(false);
+    };
+    let diary = new_diary(alloc)?;
+    Ok(is_handed_back(alloc, &diary, row))
 }

@@ -1,4 +1,4 @@
 //! Mapping at its limits, and what is said of a fault.
 
-mod patterns;
-mod servlets;
+pub mod patterns;
+pub mod servlets;

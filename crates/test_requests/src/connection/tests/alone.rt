@@ -7,7 +7,6 @@ use super::AT;
 use super::engines::{Greeter, Turner};
 use http::Method;
 use std::alloc::Global;
-use std::test::Fail;
 use sv_connection::Solo;
 use sv_model::{
     Input, Key, Moment, MoveRefusal, Output, Packet, Request, Secret, Sequence, Site, StepFault,
@@ -28,7 +27,7 @@ fn step_at<S: Site>(site: &mut S, now: u64, input: Input) -> Result<Vec<Output>,
 }
 
 /// The same at one moment, by a request.
-fn ask_once<S: Site>(site: &mut S, alloc: Global, token: u64) -> Result<Vec<Output>, Fail>
+fn ask_once<S: Site>(site: &mut S, alloc: Global, token: u64) -> Result<Vec<Output>, StepFault>
     requires { S.site_valid site.old }
     ensures { S.site_valid site.new }
 {
@@ -43,7 +42,7 @@ fn ask_once<S: Site>(site: &mut S, alloc: Global, token: u64) -> Result<Vec<Outp
         body: Sequence::new(alloc),
         close: true,
     };
-    Ok(step_at(site, AT.now, Input::Ask { token, request })?)
+    step_at(site, AT.now, Input::Ask { token, request })
 }
 
 /// By an order to move a session.
@@ -68,15 +67,18 @@ fn is_greeting(outputs: &[Output], token: u64) -> bool {
     }
 }
 
-#[test]
-fn a_node_alone_answers(rt: HostRuntime) -> Result<(), Fail> {
-    let alloc = rt.alloc();
+/// Whether a request under a number is greeted.
+fn greets<S: Site>(site: &mut S, alloc: Global, token: u64) -> Result<bool, StepFault>
+    requires { S.site_valid site.old }
+    ensures { S.site_valid site.new }
+{
+    let outputs = ask_once(site, alloc, token)?;
+    Ok(is_greeting(&outputs, token))
+}
+
+pub(in crate::connection) fn a_node_alone_answers(alloc: Global) -> bool {
     let mut site = Solo::new(alloc, Greeter { alloc });
-    for token in 3..5 {
-        let outputs = ask_once(&mut site, alloc, token)?;
-        assert!(rt; is_greeting(&outputs, token), "under {token}");
-    }
-    Ok(())
+    greets(&mut site, alloc, 3) == Ok(true) && greets(&mut site, alloc, 4) == Ok(true)
 }
 
 /// The first session, of the only node.
@@ -93,7 +95,7 @@ fn is_refusal(outputs: &[Output], reason: MoveRefusal) -> bool {
 }
 
 /// Whether a request under the number 7 is answered.
-fn is_answered<S: Site>(site: &mut S, alloc: Global) -> Result<bool, Fail>
+fn is_answered<S: Site>(site: &mut S, alloc: Global) -> Result<bool, StepFault>
     requires { S.site_valid site.old }
     ensures { S.site_valid site.new }
 {
@@ -101,17 +103,30 @@ fn is_answered<S: Site>(site: &mut S, alloc: Global) -> Result<bool, Fail>
     Ok(matches!(outputs.as_slice(), [Output::Answer { token: 7, .. }]))
 }
 
-/// Nothing is known of the session, then it was made, then it has ended.
-static REASONS: [MoveRefusal; 3] = [
-    MoveRefusal::UnknownKey,
-    MoveRefusal::BadPeer,
-    MoveRefusal::NotActive,
-];
+/// A move of the first session is refused for a reason, and then a request is answered.
+fn is_turned<S: Site>(site: &mut S, alloc: Global, reason: MoveRefusal) -> Result<bool, StepFault>
+    requires { S.site_valid site.old }
+    ensures { S.site_valid site.new }
+{
+    Ok(is_refused(site, FIRST.0, reason)? && is_answered(site, alloc)?)
+}
+
+/// Nothing is known of the first session, then it was made, then it has ended; the third request made the second one, since the
+/// first had ended.
+fn keeps_sessions<S: Site>(site: &mut S, alloc: Global) -> Result<bool, StepFault>
+    requires { S.site_valid site.old }
+    ensures { S.site_valid site.new }
+{
+    Ok(
+        is_turned(site, alloc, MoveRefusal::UnknownKey)?
+            && is_turned(site, alloc, MoveRefusal::BadPeer)?
+            && is_turned(site, alloc, MoveRefusal::NotActive)?
+            && is_refused(site, SECOND, MoveRefusal::BadPeer)?,
+    )
+}
 
 /// Each request names the first session: where it isn't active one is made, where it is it ends.
-#[test]
-fn a_node_alone_keeps_its_sessions(rt: HostRuntime) -> Result<(), Fail> {
-    let alloc = rt.alloc();
+pub(in crate::connection) fn a_node_alone_keeps_its_sessions(alloc: Global) -> bool {
     let mut site = Solo::new(
         alloc,
         Turner {
@@ -120,13 +135,7 @@ fn a_node_alone_keeps_its_sessions(rt: HostRuntime) -> Result<(), Fail> {
             told: 0,
         },
     );
-    for reason in &REASONS {
-        assert!(rt; is_refused(&mut site, FIRST.0, *reason)?, "{reason:?}");
-        assert!(rt; is_answered(&mut site, alloc)?);
-    }
-    // The third request made the second session, since the first had ended.
-    assert!(rt; is_refused(&mut site, SECOND, MoveRefusal::BadPeer)?);
-    Ok(())
+    keeps_sessions(&mut site, alloc) == Ok(true)
 }
 
 /// So many seconds after the requests, what a move of each of two sessions is refused for, and how many ends listeners were told.
@@ -166,7 +175,7 @@ static TICKS: [Ticked; 4] = [
 ];
 
 /// How many outputs a step has.
-fn put_out<S: Site>(site: &mut S, now: u64, input: Input) -> Result<usize, Fail>
+fn put_out<S: Site>(site: &mut S, now: u64, input: Input) -> Result<usize, StepFault>
     requires valid { S.site_valid site.old }
     requires input { IsInput input }
     ensures { S.site_valid site.new }
@@ -176,7 +185,7 @@ fn put_out<S: Site>(site: &mut S, now: u64, input: Input) -> Result<usize, Fail>
 }
 
 /// Whether an order to move a session is refused for this reason.
-fn is_refused<S: Site>(site: &mut S, key: Key, reason: MoveRefusal) -> Result<bool, Fail>
+fn is_refused<S: Site>(site: &mut S, key: Key, reason: MoveRefusal) -> Result<bool, StepFault>
     requires valid { S.site_valid site.old }
     requires key { IsKey key }
     ensures { S.site_valid site.new }
@@ -185,10 +194,31 @@ fn is_refused<S: Site>(site: &mut S, key: Key, reason: MoveRefusal) -> Result<bo
     Ok(is_refusal(outputs.as_slice(), reason))
 }
 
+/// After so many seconds a tick puts nothing out, and then moves of the two sessions are refused as it says.
+fn is_ticked<S: Site>(site: &mut S, tick: &Ticked) -> Result<bool, StepFault>
+    requires { S.site_valid site.old }
+    ensures { S.site_valid site.new }
+{
+    let now = AT.now.saturating_add(tick.after);
+    Ok(
+        put_out(site, now, Input::Tick)? == 0
+            && is_refused(site, FIRST.0, tick.first)?
+            && is_refused(site, SECOND, tick.second)?,
+    )
+}
+
+/// Makes both sessions.
+fn make_two<S: Site>(site: &mut S, alloc: Global) -> Result<(), StepFault>
+    requires { S.site_valid site.old }
+    ensures { S.site_valid site.new }
+{
+    ask_once(site, alloc, 7)?;
+    ask_once(site, alloc, 7)?;
+    Ok(())
+}
+
 /// A session that nothing has named for its 60 seconds ends at a tick, and not before; the listeners are told it once.
-#[test]
-fn a_node_alone_ends_what_has_expired(rt: HostRuntime) -> Result<(), Fail> {
-    let alloc = rt.alloc();
+pub(in crate::connection) fn a_node_alone_ends_what_has_expired(alloc: Global) -> bool {
     let mut site = Solo::new(
         alloc,
         Turner {
@@ -197,23 +227,19 @@ fn a_node_alone_ends_what_has_expired(rt: HostRuntime) -> Result<(), Fail> {
             told: 0,
         },
     );
-    for _ in 0..2 {
-        ask_once(&mut site, alloc, 7)?;
-    }
+    let mut is_right = make_two(&mut site, alloc) == Ok(());
     for tick in &TICKS {
-        let now = AT.now.saturating_add(tick.after);
-        assert_eq!(rt; put_out(&mut site, now, Input::Tick)?, 0);
-        assert!(rt; is_refused(&mut site, FIRST.0, tick.first)?, "the first");
-        assert!(rt; is_refused(&mut site, SECOND, tick.second)?, "the second");
-        assert_eq!(rt; site.engine.told, tick.told);
+        let is_ended = is_ticked(&mut site, tick) == Ok(true);
+        is_right = is_right && is_ended && site.engine.told == tick.told;
     }
-    Ok(())
+    is_right
 }
 
-#[test]
-fn a_node_alone_has_no_peers(rt: HostRuntime) -> Result<(), Fail> {
-    let alloc = rt.alloc();
-    let mut site = Solo::new(alloc, Greeter { alloc });
+/// What concerns other nodes puts nothing out, and nothing can be moved.
+fn has_no_peers<S: Site>(site: &mut S) -> Result<bool, StepFault>
+    requires { S.site_valid site.old }
+    ensures { S.site_valid site.new }
+{
     let no = Packet::No {
         from: 1,
         to: 0,
@@ -221,9 +247,15 @@ fn a_node_alone_has_no_peers(rt: HostRuntime) -> Result<(), Fail> {
         boot: 1,
         want: 0,
     };
-    assert_eq!(rt; put_out(&mut site, AT.now, Input::Poke)?, 0);
-    assert_eq!(rt; put_out(&mut site, AT.now, Input::Tick)?, 0);
-    assert_eq!(rt; put_out(&mut site, AT.now, Input::Packet(no))?, 0);
-    assert!(rt; is_refused(&mut site, FIRST.0, MoveRefusal::UnknownKey)?);
-    Ok(())
+    Ok(
+        put_out(site, AT.now, Input::Packet(no))? == 0
+            && put_out(site, AT.now, Input::Poke)? == 0
+            && put_out(site, AT.now, Input::Tick)? == 0
+            && is_refused(site, FIRST.0, MoveRefusal::UnknownKey)?,
+    )
+}
+
+pub(in crate::connection) fn a_node_alone_has_no_peers(alloc: Global) -> bool {
+    let mut site = Solo::new(alloc, Greeter { alloc });
+    has_no_peers(&mut site) == Ok(true)
 }

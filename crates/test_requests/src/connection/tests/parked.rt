@@ -6,7 +6,6 @@ use super::AT;
 use super::echo::Echo;
 use super::streams::new_sink;
 use std::alloc::{AllocError, Global};
-use std::test::Fail;
 use sv_connection::{Connection, Outcome, refusal};
 use sv_model::{Cause, Response};
 
@@ -27,7 +26,7 @@ static ROWS: [Row; 2] = [
 ];
 
 /// A request that waits, and its answer.
-#[derive(Clone, Copy, Debug, PartialEq, Eq)]
+#[derive(Clone, Copy, PartialEq, Eq)]
 struct Waited {
     waits_before: bool,
     first: Outcome,
@@ -69,21 +68,23 @@ fn waited_by(alloc: Global, row: &Row) -> Result<Waited, AllocError> {
 }
 
 /// Nothing is written until the answer is there, and that is all that is written.
-#[test]
-fn a_request_waits_for_its_answer(rt: HostRuntime) -> Result<(), Fail> {
-    for row in &ROWS {
-        let want = Waited {
-            waits_before: false,
-            first: Outcome::Parked { head_only: row.1 },
-            waits: true,
-            early: 0,
-            late: Outcome::Answered,
-            waits_after: false,
-            is_written: true,
-        };
-        assert_eq!(rt; waited_by(rt.alloc(), row)?, want, "{}", row.0);
-    }
-    Ok(())
+pub(in crate::connection) fn a_request_waits_for_its_answer(
+    alloc: Global,
+    input: usize,
+) -> Result<bool, AllocError> {
+    let Some(row) = ROWS.get(input) else {
+        return Ok(false);
+    };
+    let want = Waited {
+        waits_before: false,
+        first: Outcome::Parked { head_only: row.1 },
+        waits: true,
+        early: 0,
+        late: Outcome::Answered,
+        waits_after: false,
+        is_written: true,
+    };
+    Ok(waited_by(alloc, row)? == want)
 }
 
 /// A request that waits, its answer, whose first write fails, and the call after it; and how many steps were taken.
@@ -104,14 +105,14 @@ fn fail_late(alloc: Global, response: &Response) -> ([Outcome; 3], u64) {
 }
 
 /// An answer that can't be written closes the connection, which waits no longer.
-#[test]
-fn a_late_answer_that_is_not_written(rt: HostRuntime) -> Result<(), Fail> {
-    let response = refusal(rt.alloc(), Cause::Deadline, false, false)?;
+pub(in crate::connection) fn a_late_answer_that_is_not_written(
+    alloc: Global,
+) -> Result<bool, AllocError> {
+    let response = refusal(alloc, Cause::Deadline, false, false)?;
     let want = [
         Outcome::Parked { head_only: false },
         Outcome::WriteFailed,
         Outcome::Closed,
     ];
-    assert_eq!(rt; fail_late(rt.alloc(), &response), (want, 1));
-    Ok(())
+    Ok(fail_late(alloc, &response) == (want, 1))
 }

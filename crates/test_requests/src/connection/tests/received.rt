@@ -4,8 +4,7 @@
 
 use super::AT;
 use http::StatusCode;
-use std::alloc::Global;
-use std::test::Fail;
+use std::alloc::{AllocError, Global};
 use sv_connection::{Connection, Outcome, Received};
 use sv_model::{Request, Response, Sequence, is_head};
 
@@ -17,6 +16,11 @@ const LAST: &str = "HEAD /b HTTP/1.1\r\nHost: h\r\nConnection: close\r\n\r\n";
 
 /// A request without a host, which is a fault once its head has ended.
 const FAULTY: &str = "GET /b HTTP/1.1\r\nA: b\r\n\r\n";
+
+/// How many places there are to cut two requests at, the ends among them, and how many to cut one and the faulty one.
+pub(in crate::connection) const CUTS_OF_TWO: usize = FIRST.len() + LAST.len() + 1;
+
+pub(in crate::connection) const CUTS_OF_FAULT: usize = FIRST.len() + FAULTY.len() + 1;
 
 /// The answer to the first, and the page of the fault.
 const ANSWERED: &str =
@@ -56,7 +60,7 @@ impl Caller {
     }
 
     /// Tells of a request, and answers it with no body.
-    fn tell_request(&mut self, request: &Request) -> Result<(), Fail> {
+    fn tell_request(&mut self, request: &Request) -> Result<(), AllocError> {
         let head_only = is_head(&request.method);
         let close = request.close;
         let path = request.path.as_str();
@@ -77,13 +81,13 @@ impl Caller {
         let _ = self.connection.answer(&mut self.written, &response, AT.now);
     }
 
-    fn tell_refusal(&mut self, outcome: Outcome, head_only: bool) -> Result<(), Fail> {
+    fn tell_refusal(&mut self, outcome: Outcome, head_only: bool) -> Result<(), AllocError> {
         let text = format!(in self.alloc; "{outcome:?} {head_only};")?;
         Ok(self.told.push_str(&text)?)
     }
 
     /// Tells what was given; a request is answered, and the page of a fault is written. Whether more can be there.
-    fn tell(&mut self, received: Received) -> Result<bool, Fail> {
+    fn tell(&mut self, received: Received) -> Result<bool, AllocError> {
         match received {
             Received::Request(request) => {
                 self.tell_request(&request)?;
@@ -108,7 +112,7 @@ impl Caller {
         }
     }
 
-    fn receive_once(&mut self, piece: &[u8]) -> Result<bool, Fail> {
+    fn receive_once(&mut self, piece: &[u8]) -> Result<bool, AllocError> {
         if self.connection.waiting() {
             return Ok(false);
         }
@@ -117,7 +121,7 @@ impl Caller {
     }
 
     /// Hands on what has come, and then nothing, until there is no request.
-    fn receive(&mut self, piece: &[u8]) -> Result<(), Fail> {
+    fn receive(&mut self, piece: &[u8]) -> Result<(), AllocError> {
         if !self.receive_once(piece)? {
             return Ok(());
         }
@@ -130,7 +134,7 @@ impl Caller {
     }
 
     /// Says that nothing more comes, until there is no request.
-    fn end(&mut self) -> Result<(), Fail> {
+    fn end(&mut self) -> Result<(), AllocError> {
         for _ in 0..3 {
             if self.connection.waiting() {
                 break;
@@ -144,11 +148,11 @@ impl Caller {
     }
 }
 
-/// Two pieces and the end, by how much of the stream comes with the first.
-fn tell_cut(caller: &mut Caller, stream: &[u8], cut: usize) -> Result<(), Fail> {
-    caller.receive(stream.get(..cut).ok_or("cut behind the end")?)?;
+/// Two pieces and the end.
+fn tell_cut(caller: &mut Caller, first: &[u8], rest: &[u8]) -> Result<(), AllocError> {
+    caller.receive(first)?;
     caller.told.push('|')?;
-    caller.receive(stream.get(cut..).ok_or("cut behind the end")?)?;
+    caller.receive(rest)?;
     caller.told.push('|')?;
     caller.end()
 }
@@ -160,9 +164,13 @@ fn is_told(
     cut: usize,
     told: &str,
     written: &str,
-) -> Result<bool, Fail> {
+) -> Result<bool, AllocError> {
+    let bytes = stream.as_bytes();
+    let (Some(first), Some(rest)) = (bytes.get(..cut), bytes.get(cut..)) else {
+        return Ok(false);
+    };
     let mut caller = Caller::new(alloc);
-    match tell_cut(&mut caller, stream.as_bytes(), cut) {
+    match tell_cut(&mut caller, first, rest) {
         Ok(()) => Ok(
             caller.told.as_str() == told && caller.written.as_slice() == written.as_bytes(),
         ),
@@ -181,22 +189,19 @@ fn told_of_two(cut: usize, end: usize) -> &'static str {
     }
 }
 
+/// The answer to the last.
+const CLOSING: &str =
+    "HTTP/1.1 200 OK\r\nDate: Sun, 06 Nov 1994 08:49:37 GMT\r\nContent-Length: 0\r\nConnection: close\r\n\r\n";
+
 /// Two requests come, however the stream is cut: one is given once it is whole, and all else is kept.
-#[test]
-fn two_requests_cut_anywhere(rt: HostRuntime) -> Result<(), Fail> {
-    let alloc = rt.alloc();
+pub(in crate::connection) fn two_requests_cut_anywhere(
+    alloc: Global,
+    cut: usize,
+) -> Result<bool, AllocError> {
     let stream = format!(in alloc; "{FIRST}{LAST}")?;
-    let closing =
-        "HTTP/1.1 200 OK\r\nDate: Sun, 06 Nov 1994 08:49:37 GMT\r\nContent-Length: 0\r\nConnection: close\r\n\r\n";
-    let written = format!(in alloc; "{ANSWERED}{closing}")?;
-    for cut in 0..=stream.len() {
-        let told = told_of_two(cut, stream.len());
-        assert!(rt;
-            is_told(alloc, &stream, cut, told, &written)?,
-            "cut at {cut}"
-        );
-    }
-    Ok(())
+    let written = format!(in alloc; "{ANSWERED}{CLOSING}")?;
+    let told = told_of_two(cut, stream.len());
+    is_told(alloc, &stream, cut, told, &written)
 }
 
 /// What a request and a fault are told as, by where their stream is cut.
@@ -211,29 +216,24 @@ fn told_of_fault(cut: usize, end: usize) -> &'static str {
 }
 
 /// The request before a fault is given, and the fault once it stands there.
-#[test]
-fn a_fault_in_the_second_cut_anywhere(rt: HostRuntime) -> Result<(), Fail> {
-    let alloc = rt.alloc();
+pub(in crate::connection) fn a_fault_in_the_second_cut_anywhere(
+    alloc: Global,
+    cut: usize,
+) -> Result<bool, AllocError> {
     let stream = format!(in alloc; "{FIRST}{FAULTY}")?;
     let written = format!(in alloc; "{ANSWERED}{PAGE}")?;
-    for cut in 0..=stream.len() {
-        let told = told_of_fault(cut, stream.len());
-        assert!(rt;
-            is_told(alloc, &stream, cut, told, &written)?,
-            "cut at {cut}"
-        );
-    }
-    Ok(())
+    let told = told_of_fault(cut, stream.len());
+    is_told(alloc, &stream, cut, told, &written)
 }
 
 /// Some bytes, and the end.
-fn tell_end(caller: &mut Caller, sent: &[u8]) -> Result<(), Fail> {
+fn tell_end(caller: &mut Caller, sent: &[u8]) -> Result<(), AllocError> {
     caller.receive(sent)?;
     caller.end()
 }
 
 /// Whether the input that ends behind these bytes is told so, and no more than this is written; and whether it closes.
-fn ends_so(alloc: Global, sent: &[u8], told: &str, written: &str) -> Result<bool, Fail> {
+fn ends_so(alloc: Global, sent: &[u8], told: &str, written: &str) -> Result<bool, AllocError> {
     let mut caller = Caller::new(alloc);
     match tell_end(&mut caller, sent) {
         Ok(()) => Ok(
@@ -246,7 +246,7 @@ fn ends_so(alloc: Global, sent: &[u8], told: &str, written: &str) -> Result<bool
 }
 
 /// Whether the input that ends inside the first of two requests, or the second, is told so.
-fn ends_inside(alloc: Global, sent: &[u8]) -> Result<bool, Fail> {
+fn ends_inside(alloc: Global, sent: &[u8]) -> Result<bool, AllocError> {
     if sent.len() < FIRST.len() {
         ends_so(alloc, sent, "more;closed;", "")
     } else {
@@ -255,35 +255,37 @@ fn ends_inside(alloc: Global, sent: &[u8]) -> Result<bool, Fail> {
 }
 
 /// The input ends inside a request: nothing is written for it, and the connection closes.
-#[test]
-fn the_input_ends_inside_a_request(rt: HostRuntime) -> Result<(), Fail> {
-    let alloc = rt.alloc();
+pub(in crate::connection) fn the_input_ends_inside_a_request(
+    alloc: Global,
+    len: usize,
+) -> Result<bool, AllocError> {
     let stream = format!(in alloc; "{FIRST}{LAST}")?;
-    for len in 0..stream.len() {
-        assert!(rt;
-            ends_inside(alloc, &stream.as_bytes()[..len])?,
-            "of {len} bytes"
-        );
+    match stream.as_bytes().get(..len) {
+        Some(sent) => ends_inside(alloc, sent),
+        None => Ok(false),
     }
-    Ok(())
 }
 
 /// All of a stream at once, and the end.
-fn tell_whole(caller: &mut Caller, stream: &str) -> Result<(), Fail> {
+fn tell_whole(caller: &mut Caller, stream: &str) -> Result<(), AllocError> {
     let _ = caller.receive_once(stream.as_bytes())?;
     caller.end()
 }
 
-/// What stands there whole is given, though nothing more comes.
-#[test]
-fn the_input_ends_behind_two_requests(rt: HostRuntime) -> Result<(), Fail> {
-    let stream = format!(in rt.alloc(); "{FIRST}{LAST}")?;
-    let mut caller = Caller::new(rt.alloc());
-    match tell_whole(&mut caller, &stream) {
-        Ok(()) => assert_eq!(rt; caller.told.as_str(), "/a false false;/b true true;closed;"),
-        Err(fault) => return Err(fault),
+fn is_told_whole(alloc: Global, stream: &str, told: &str) -> Result<bool, AllocError> {
+    let mut caller = Caller::new(alloc);
+    match tell_whole(&mut caller, stream) {
+        Ok(()) => Ok(caller.told.as_str() == told),
+        Err(fault) => Err(fault),
     }
-    Ok(())
+}
+
+/// What stands there whole is given, though nothing more comes.
+pub(in crate::connection) fn the_input_ends_behind_two_requests(
+    alloc: Global,
+) -> Result<bool, AllocError> {
+    let stream = format!(in alloc; "{FIRST}{LAST}")?;
+    is_told_whole(alloc, &stream, "/a false false;/b true true;closed;")
 }
 
 static FAULTY_TARGETS: [(&str, &str); 2] = [
@@ -298,12 +300,12 @@ static FAULTY_TARGETS: [(&str, &str); 2] = [
 ];
 
 /// Two pieces, the second of which is the rest of a request.
-fn tell_two(caller: &mut Caller, sent: &str) -> Result<(), Fail> {
+fn tell_two(caller: &mut Caller, sent: &str) -> Result<(), AllocError> {
     caller.receive(sent.as_bytes())?;
     caller.receive(b" / HTTP/1.1\r\nHost: h\r\n\r\n")
 }
 
-fn is_refused(alloc: Global, sent: &str, told: &str) -> Result<bool, Fail> {
+fn is_refused(alloc: Global, sent: &str, told: &str) -> Result<bool, AllocError> {
     let mut caller = Caller::new(alloc);
     match tell_two(&mut caller, sent) {
         Ok(()) => Ok(caller.told.as_str() == told),
@@ -312,10 +314,12 @@ fn is_refused(alloc: Global, sent: &str, told: &str) -> Result<bool, Fail> {
 }
 
 /// A fault of the method and the target is met once the request is whole, and nothing is read behind it.
-#[test]
-fn a_faulty_target(rt: HostRuntime) -> Result<(), Fail> {
-    for (sent, told) in &FAULTY_TARGETS {
-        assert!(rt; is_refused(rt.alloc(), sent, told)?, "{sent}");
+pub(in crate::connection) fn a_faulty_target(
+    alloc: Global,
+    input: usize,
+) -> Result<bool, AllocError> {
+    match FAULTY_TARGETS.get(input) {
+        Some((sent, told)) => is_refused(alloc, sent, told),
+        None => Ok(false),
     }
-    Ok(())
 }

@@ -1,11 +1,10 @@
 //! Descriptors of a megabyte: read once, with no look at each pair.
 
-use std::alloc::Global;
-use std::test::Fail;
+use std::alloc::{AllocError, Global};
 use sv_config::{ConfigFault, Deployment};
 
 /// A descriptor of more than a million bytes: filters, and filter mappings that name them.
-fn large(alloc: Global, names: usize) -> Result<String, Fail> {
+fn large(alloc: Global, names: usize) -> Result<String, AllocError> {
     let mut text = String::from_str(alloc, "[[context]]\npath = \"\"\n")?;
     for n in 0..names {
         let lines = format!(in alloc;
@@ -16,13 +15,12 @@ fn large(alloc: Global, names: usize) -> Result<String, Fail> {
     Ok(text)
 }
 
-#[test]
-fn judges_a_megabyte(rt: HostRuntime) -> Result<(), Fail> {
-    let text = large(rt.alloc(), 11000)?;
-    assert!(rt; text.len() > 1_000_000, "{} bytes", text.len());
-    match Deployment::from_toml(rt.alloc(), &text) {
-        Ok(_) => panic!(rt; "11,000 filters are read"),
-        Err(fault) => assert_eq!(rt; fault, ConfigFault::LimitExceeded),
-    }
-    Ok(())
+pub fn judges_a_megabyte(alloc: Global) -> Result<bool, AllocError> {
+    let text = large(alloc, 11_000)?;
+    Ok(text.len() > 1_000_000 && has_too_many(alloc, &text))
+}
+
+/// A descriptor goes beyond a limit.
+fn has_too_many(alloc: Global, text: &str) -> bool {
+    Deployment::from_toml(alloc, text).err() == Some(ConfigFault::LimitExceeded)
 }

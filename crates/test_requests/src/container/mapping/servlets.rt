@@ -1,7 +1,6 @@
 //! As many patterns as a context may have, and memory that is refused.
 
-use std::alloc::Global;
-use std::test::Fail;
+use std::alloc::{AllocError, Global};
 use sv_mapping::{MAX_PATTERNS, MappingFault, Mappings, Match, Pattern};
 
 /// As many patterns as there may be: the numbers from 0 on, each of the servlet of that number.
@@ -14,36 +13,47 @@ fn full(alloc: Global) -> Result<Mappings, MappingFault> {
     Ok(mappings)
 }
 
+fn has_all(alloc: Global) -> Result<bool, MappingFault> {
+    Ok(full(alloc)?.len() == MAX_PATTERNS)
+}
+
 /// What one pattern more comes to.
 fn added(alloc: Global, pattern: &str) -> Result<(), MappingFault> {
     let mut mappings = full(alloc)?;
     mappings.add(Pattern::read(alloc, pattern)?, 1)
 }
 
-#[test]
-fn refuses_patterns_past_the_limit(rt: HostRuntime) -> Result<(), Fail> {
-    assert_eq!(rt; Mappings::new(rt.alloc()).len(), 0);
-    assert_eq!(rt; full(rt.alloc())?.len(), MAX_PATTERNS);
-    assert_eq!(rt; added(rt.alloc(), "/more"), Err(MappingFault::TooMany));
-    assert_eq!(rt;
-        added(rt.alloc(), "/7"),
-        Err(MappingFault::DuplicatePattern)
-    );
-    Ok(())
+pub fn refuses_patterns_past_the_limit(alloc: Global) -> bool {
+    Mappings::new(alloc).len() == 0
+        && has_all(alloc) == Ok(true)
+        && added(alloc, "/more") == Err(MappingFault::TooMany)
+        && added(alloc, "/7") == Err(MappingFault::DuplicatePattern)
 }
 
-#[test]
-fn finds_each_of_as_many_patterns_as_there_may_be(rt: HostRuntime) -> Result<(), Fail> {
-    let mappings = full(rt.alloc())?;
+/// A path is found as its own pattern.
+fn is_found(alloc: Global, mappings: &Mappings, n: usize) -> Result<bool, AllocError> {
+    let path = format!(in alloc; "/{n}")?;
+    let whole = Match {
+        servlet: n,
+        split: path.len(),
+        info: false,
+    };
+    Ok(mappings.find(&path) == Some(whole))
+}
+
+/// Each path is found, and no other.
+fn are_found(alloc: Global, mappings: &Mappings) -> Result<bool, AllocError> {
     for n in 0..MAX_PATTERNS {
-        let path = format!(in rt.alloc(); "/{n}")?;
-        let whole = Match {
-            servlet: n,
-            split: path.len(),
-            info: false,
-        };
-        assert_eq!(rt; mappings.find(&path), Some(whole));
+        if !is_found(alloc, mappings, n)? {
+            return Ok(false);
+        }
     }
-    assert_eq!(rt; mappings.find("/more"), None);
-    Ok(())
+    Ok(mappings.find("/more") == None)
+}
+
+pub fn finds_each_of_as_many_patterns_as_there_may_be(alloc: Global) -> bool {
+    match full(alloc) {
+        Ok(mappings) => are_found(alloc, &mappings) == Ok(true),
+        Err(_) => false,
+    }
 }
