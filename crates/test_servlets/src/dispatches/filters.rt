@@ -4,11 +4,10 @@
 
 ghost use Rattle.test_servlets.specs.Staged.{IsStaged};
 
-use super::{add_filters, add_servlets, dispatched, filter_of, then_of};
-use crate::dispatches::Row;
+use super::{Row, Scene, add_filters, add_servlets, filter_of, played, then_of};
 use crate::fault::RowFault;
 use crate::scripted::{Marking, Says, Scripted, Then};
-use crate::staged::{add_filter, empty_stage};
+use crate::staged::add_filter;
 use std::alloc::Global;
 use sv_dispatch::Stage;
 use sv_mapping::{Dispatcher, Dispatchers};
@@ -16,7 +15,11 @@ use sv_mapping::{Dispatcher, Dispatchers};
 static HELLO: [Row; 1] = [("/w", 200, Says::Text("Hello\n"), Then::Ends)];
 
 /// The servlet, and the two filters.
-fn furnish(alloc: Global, stage: &mut Stage<Scripted, Marking>, then: Then) -> Result<(), RowFault>
+pub(super) fn furnish(
+    alloc: Global,
+    stage: &mut Stage<Scripted, Marking>,
+    then: Then,
+) -> Result<(), RowFault>
     requires { IsStaged stage.old }
     ensures { IsStaged stage.new }
 {
@@ -26,10 +29,7 @@ fn furnish(alloc: Global, stage: &mut Stage<Scripted, Marking>, then: Then) -> R
 
 /// `before` runs in order of the mappings and `after` in reverse, of those that passed.
 pub fn chain(alloc: Global, word: &str) -> Result<String, RowFault> {
-    let then = then_of(word)?;
-    let mut stage: Stage<Scripted, Marking> = empty_stage(alloc);
-    furnish(alloc, &mut stage, then)?;
-    dispatched(alloc, stage, "/w")
+    played(alloc, Scene::Chained(then_of(word)?), "/w")
 }
 
 static INCLUDING: [Row; 2] = [
@@ -38,7 +38,10 @@ static INCLUDING: [Row; 2] = [
 ];
 
 /// A servlet, one that includes it, and a filter of includes.
-fn furnish_including(alloc: Global, stage: &mut Stage<Scripted, Marking>) -> Result<(), RowFault>
+pub(super) fn furnish_including(
+    alloc: Global,
+    stage: &mut Stage<Scripted, Marking>,
+) -> Result<(), RowFault>
     requires { IsStaged stage.old }
     ensures { IsStaged stage.new }
 {
@@ -54,7 +57,5 @@ fn furnish_including(alloc: Global, stage: &mut Stage<Scripted, Marking>) -> Res
 
 /// A filter runs in the dispatches that its mapping names, here those of includes.
 pub fn included(alloc: Global) -> Result<String, RowFault> {
-    let mut stage: Stage<Scripted, Marking> = empty_stage(alloc);
-    furnish_including(alloc, &mut stage)?;
-    dispatched(alloc, stage, "/iw")
+    played(alloc, Scene::Including, "/iw")
 }

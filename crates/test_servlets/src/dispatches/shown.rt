@@ -5,11 +5,11 @@
 
 ghost use Rattle.test_servlets.specs.Staged.{IsStaged};
 
-use super::{Row, add_servlets, dispatched, servlet_of};
+use super::{Row, Scene, add_servlets, played, servlet_of};
 use crate::fault::RowFault;
 use crate::row::first;
 use crate::scripted::{Marking, Says, Scripted, Then};
-use crate::staged::{add_servlet, empty_stage};
+use crate::staged::add_servlet;
 use std::alloc::Global;
 use sv_dispatch::Stage;
 
@@ -46,7 +46,11 @@ fn says_of(word: &str) -> Result<Says, RowFault> {
 }
 
 /// The servlet `/s`, and those that lead to it.
-fn furnish(alloc: Global, stage: &mut Stage<Scripted, Marking>, says: Says) -> Result<(), RowFault>
+pub(super) fn furnish(
+    alloc: Global,
+    stage: &mut Stage<Scripted, Marking>,
+    says: Says,
+) -> Result<(), RowFault>
     requires { IsStaged stage.old }
     ensures { IsStaged stage.new }
 {
@@ -59,8 +63,5 @@ fn furnish(alloc: Global, stage: &mut Stage<Scripted, Marking>, says: Says) -> R
 /// keeps the URI and has the innermost target's values in attributes.
 pub fn shown(alloc: Global, parts: &str) -> Result<String, RowFault> {
     let (path, word) = first(parts);
-    let says = says_of(word)?;
-    let mut stage: Stage<Scripted, Marking> = empty_stage(alloc);
-    furnish(alloc, &mut stage, says)?;
-    dispatched(alloc, stage, path)
+    played(alloc, Scene::Showing(says_of(word)?), path)
 }
