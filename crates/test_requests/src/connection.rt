@@ -1,7 +1,7 @@
 //! Messages, targets and parameters, a connection, and a node that stands alone: calls with the bytes that they have to write,
 //! readers and writers that fail, an engine whose meaning is its own, and inputs that a loop makes.
 //!
-//! Each thing that is tried is a function that tells whether it came as it has to, of an input by its number; one test calls them.
+//! Each thing that is tried is a function that tells whether it came as it has to, of an input by its number; a test calls those of a table.
 
 mod heads;
 mod pipelines;
@@ -9,6 +9,7 @@ mod targets;
 mod tests;
 
 use std::alloc::{AllocError, Global};
+use std::process::Abort;
 use std::test::Fail;
 use tests::{alone, parked, received};
 
@@ -41,8 +42,10 @@ enum Trial {
     ANodeAloneHasNoPeers,
 }
 
-/// How many inputs each has, and its name.
-static TRIALS: [(Trial, usize, &str); 24] = [
+/// What is tried, how many inputs it has, and its name.
+type Row = (Trial, usize, &'static str);
+
+static MESSAGES: [Row; 6] = [
     (Trial::AFaultClosesTheReader, 1, "a fault closes the reader"),
     (
         Trial::TwoHundredChunkedBodies,
@@ -57,6 +60,9 @@ static TRIALS: [(Trial, usize, &str); 24] = [
     ),
     (Trial::EveryByteOfAscii, 128, "every byte of ASCII"),
     (Trial::LongPaths, 1, "long paths"),
+];
+
+static CONNECTIONS: [Row; 16] = [
     (
         Trial::TheSiteIsAskedAsTheCallSays,
         1,
@@ -71,16 +77,6 @@ static TRIALS: [(Trial, usize, &str); 24] = [
     (Trial::AReaderThatFails, 29, "a reader that fails"),
     // Each of 11 writes fails, and the flush, and then none.
     (Trial::AWriterThatFails, 13, "a writer that fails"),
-    (
-        Trial::AReaderThatNeverEndsAHead,
-        1,
-        "a reader that never ends a head",
-    ),
-    (
-        Trial::AReaderThatNeverEndsABody,
-        1,
-        "a reader that never ends a body",
-    ),
     (Trial::Refusals, 7, "refusals"),
     (
         Trial::ARequestWaitsForItsAnswer,
@@ -127,6 +123,19 @@ static TRIALS: [(Trial, usize, &str); 24] = [
     (Trial::ANodeAloneHasNoPeers, 1, "a node alone has no peers"),
 ];
 
+static ENDLESS: [Row; 2] = [
+    (
+        Trial::AReaderThatNeverEndsAHead,
+        1,
+        "a reader that never ends a head",
+    ),
+    (
+        Trial::AReaderThatNeverEndsABody,
+        1,
+        "a reader that never ends a body",
+    ),
+];
+
 /// Whether an input comes as it has to.
 fn holds(alloc: Global, trial: Trial, input: usize) -> Result<bool, AllocError> {
     match trial {
@@ -163,12 +172,27 @@ fn holds(alloc: Global, trial: Trial, input: usize) -> Result<bool, AllocError> 
     }
 }
 
-#[test]
-fn a_connection_does_as_it_has_to(rt: HostRuntime) -> Result<(), Fail> {
-    for (trial, inputs, name) in &TRIALS {
+/// Each input of each row comes as it has to.
+fn expect_all(rt: &(impl Abort + AllocGlobal), rows: &[Row]) -> Result<(), Fail> {
+    for (trial, inputs, name) in rows {
         for input in 0..*inputs {
             assert!(rt; holds(rt.alloc(), *trial, input)?, "{name}, input {input}");
         }
     }
     Ok(())
+}
+
+#[test]
+fn messages_and_targets(rt: HostRuntime) -> Result<(), Fail> {
+    expect_all(&rt, &MESSAGES)
+}
+
+#[test]
+fn connections(rt: HostRuntime) -> Result<(), Fail> {
+    expect_all(&rt, &CONNECTIONS)
+}
+
+#[test]
+fn readers_that_never_end(rt: HostRuntime) -> Result<(), Fail> {
+    expect_all(&rt, &ENDLESS)
 }

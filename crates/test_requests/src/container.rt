@@ -5,7 +5,7 @@
 //! hear, no contract says, and these tests do. Expected notes are those of Jakarta Servlet 6.0, sections 2.3 ("Servlet Life
 //! Cycle"), 6.2.1 ("Filter Lifecycle") and 11.3.2 ("Listener Registration"), or are reasoned out beside each row.
 //!
-//! Each thing that is tried is a function that tells whether it came as it has to, of an input by its number; one test calls them.
+//! Each thing that is tried is a function that tells whether it came as it has to, of an input by its number; a test calls those of a table.
 
 mod boxed;
 mod cast;
@@ -18,6 +18,7 @@ mod noting;
 mod served;
 
 use std::alloc::{AllocError, Global};
+use std::process::Abort;
 use std::test::Fail;
 
 /// What is tried, each by a function of this name.
@@ -36,8 +37,10 @@ enum Trial {
     SaysWhatToLookFor,
 }
 
-/// How many inputs each has, and its name.
-static TRIALS: [(Trial, usize, &str); 11] = [
+/// What is tried, how many inputs it has, and its name.
+type Row = (Trial, usize, &'static str);
+
+static OBJECTS: [Row; 6] = [
     (Trial::LivesInOrder, 3, "lives in order"),
     (Trial::DropCallsNoObject, 1, "a drop calls no object"),
     (
@@ -56,6 +59,9 @@ static TRIALS: [(Trial, usize, &str); 11] = [
         12,
         "faults hand all objects back",
     ),
+];
+
+static LIMITS: [Row; 5] = [
     (
         Trial::SaysWhatToLookFor,
         8,
@@ -104,12 +110,22 @@ fn holds(alloc: Global, trial: Trial, input: usize) -> Result<bool, AllocError> 
     }
 }
 
-#[test]
-fn a_container_does_as_it_has_to(rt: HostRuntime) -> Result<(), Fail> {
-    for (trial, inputs, name) in &TRIALS {
+/// Each input of each row comes as it has to.
+fn expect_all(rt: &(impl Abort + AllocGlobal), rows: &[Row]) -> Result<(), Fail> {
+    for (trial, inputs, name) in rows {
         for input in 0..*inputs {
             assert!(rt; holds(rt.alloc(), *trial, input)?, "{name}, input {input}");
         }
     }
     Ok(())
+}
+
+#[test]
+fn lives_of_objects(rt: HostRuntime) -> Result<(), Fail> {
+    expect_all(&rt, &OBJECTS)
+}
+
+#[test]
+fn limits_and_faults(rt: HostRuntime) -> Result<(), Fail> {
+    expect_all(&rt, &LIMITS)
 }

@@ -8,3 +8,5 @@
 mod connection;
 #[cfg(test)]
 mod container;
+#[cfg(test)]
+mod requests;

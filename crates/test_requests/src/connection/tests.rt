@@ -26,13 +26,13 @@ const AT: Moment = Moment {
 };
 
 /// A response with status 200 and no body.
-fn late_answer(alloc: Global) -> Response {
+fn bare_answer(alloc: Global, head_only: bool, close: bool) -> Response {
     Response {
         status: StatusCode::OK,
         fields: Sequence::new(alloc),
         body: Sequence::new(alloc),
-        head_only: false,
-        close: false,
+        head_only,
+        close,
     }
 }
 
@@ -46,7 +46,7 @@ fn serve<R: Read, W: Write>(
     token: u64,
 ) -> Served {
     if connection.waiting() {
-        let _ = connection.answer(writer, &late_answer(site.alloc), AT.now);
+        let _ = connection.answer(writer, &bare_answer(site.alloc, false, false), AT.now);
     }
     connection.serve_next(reader, writer, site, AT, token)
 }

@@ -5,7 +5,9 @@
 
 ghost use Rattle.sv_container.specs.Life.{AreNamedNew};
 
-use crate::container::cast::{filter_of, has_end, has_notes, listener_of, new_diary, servlet_of};
+use crate::container::cast::{
+    filter_of, has_end, has_notes, named_listener, new_diary, servlet_of,
+};
 use crate::container::lives::{DESCRIPTOR, FILTERS, LISTENERS, SERVLETS, STARTED};
 use crate::container::noting::Diary;
 use crate::container::served::is_answered;
@@ -19,12 +21,9 @@ use sv_servlet::{Filter, Listener, Servlet};
 fn boxed_life(alloc: Global, diary: &Diary) -> Result<bool, AllocError> {
     let mut servlets: Vec<Named<Box<dyn Servlet>>> = Vec::new(alloc);
     for part in &SERVLETS {
-        let Named {
-            context,
-            name,
-            object,
-        } = servlet_of(alloc, diary, part, "")?;
-        let object: Box<dyn Servlet> = Box::new(alloc, object)?;
+        let (context, name) = *part;
+        let object: Box<dyn Servlet> = Box::new(alloc, servlet_of(alloc, diary, name, true)?)?;
+        let name = String::from_str(alloc, name)?;
         servlets.push(Named {
             context,
             name,
@@ -44,12 +43,9 @@ fn with_servlets<S: Servlet>(
 {
     let mut filters: Vec<Named<Box<dyn Filter>>> = Vec::new(alloc);
     for part in &FILTERS {
-        let Named {
-            context,
-            name,
-            object,
-        } = filter_of(alloc, diary, part, "")?;
-        let object: Box<dyn Filter> = Box::new(alloc, object)?;
+        let (context, name) = *part;
+        let object: Box<dyn Filter> = Box::new(alloc, filter_of(alloc, diary, name, true)?)?;
+        let name = String::from_str(alloc, name)?;
         filters.push(Named {
             context,
             name,
@@ -75,7 +71,7 @@ fn with_filters<S: Servlet, F: Filter>(
             context,
             name,
             object,
-        } = listener_of(alloc, diary, part)?;
+        } = named_listener(alloc, diary, part)?;
         let object: Box<dyn Listener> = Box::new(alloc, object)?;
         listeners.push(Named {
             context,

@@ -26,8 +26,40 @@ fn pen_of(alloc: Global, diary: &Diary, name: &str) -> Result<Pen, AllocError> {
     })
 }
 
-/// A servlet as it was made; the one that is called `unable` can't be initialised.
+/// A servlet as it was made.
 pub fn servlet_of(
+    alloc: Global,
+    diary: &Diary,
+    name: &str,
+    is_able: bool,
+) -> Result<NotingServlet, AllocError>
+    ensures { IfOk result (λ s. s.phase ≡ New) }
+{
+    Ok(NotingServlet {
+        pen: pen_of(alloc, diary, name)?,
+        is_able,
+        phase: Phase::New,
+    })
+}
+
+/// A filter as it was made.
+pub fn filter_of(
+    alloc: Global,
+    diary: &Diary,
+    name: &str,
+    is_able: bool,
+) -> Result<NotingFilter, AllocError>
+    ensures { IfOk result (λ f. f.phase ≡ New) }
+{
+    Ok(NotingFilter {
+        pen: pen_of(alloc, diary, name)?,
+        is_able,
+        phase: Phase::New,
+    })
+}
+
+/// A servlet with its context and its name; the one that is called `unable` can't be initialised.
+fn named_servlet(
     alloc: Global,
     diary: &Diary,
     part: &Part,
@@ -36,20 +68,17 @@ pub fn servlet_of(
     ensures { IfOk result (λ n. n.object.phase ≡ New) }
 {
     let (context, name) = *part;
-    let object = NotingServlet {
-        pen: pen_of(alloc, diary, name)?,
-        is_able: name != unable,
-        phase: Phase::New,
-    };
+    let object = servlet_of(alloc, diary, name, name != unable)?;
+    let name = String::from_str(alloc, name)?;
     Ok(Named {
         context,
-        name: String::from_str(alloc, name)?,
+        name,
         object,
     })
 }
 
-/// A filter as it was made; the one that is called `unable` can't be initialised.
-pub fn filter_of(
+/// A filter likewise.
+fn named_filter(
     alloc: Global,
     diary: &Diary,
     part: &Part,
@@ -58,20 +87,17 @@ pub fn filter_of(
     ensures { IfOk result (λ n. n.object.phase ≡ New) }
 {
     let (context, name) = *part;
-    let object = NotingFilter {
-        pen: pen_of(alloc, diary, name)?,
-        is_able: name != unable,
-        phase: Phase::New,
-    };
+    let object = filter_of(alloc, diary, name, name != unable)?;
+    let name = String::from_str(alloc, name)?;
     Ok(Named {
         context,
-        name: String::from_str(alloc, name)?,
+        name,
         object,
     })
 }
 
-/// A listener.
-pub fn listener_of(
+/// A listener likewise.
+pub fn named_listener(
     alloc: Global,
     diary: &Diary,
     part: &Part,
@@ -80,9 +106,10 @@ pub fn listener_of(
     let object = NotingListener {
         pen: pen_of(alloc, diary, name)?,
     };
+    let name = String::from_str(alloc, name)?;
     Ok(Named {
         context,
-        name: String::from_str(alloc, name)?,
+        name,
         object,
     })
 }
@@ -97,7 +124,7 @@ pub fn servlets_of(
 {
     let mut all = Vec::new(alloc);
     for part in parts {
-        let named = servlet_of(alloc, diary, part, unable)?;
+        let named = named_servlet(alloc, diary, part, unable)?;
         all.push(named)?;
     }
     Ok(all)
@@ -113,7 +140,7 @@ pub fn filters_of(
 {
     let mut all = Vec::new(alloc);
     for part in parts {
-        let named = filter_of(alloc, diary, part, unable)?;
+        let named = named_filter(alloc, diary, part, unable)?;
         all.push(named)?;
     }
     Ok(all)
@@ -126,7 +153,8 @@ pub fn listeners_of(
 ) -> Result<Vec<Named<NotingListener>>, AllocError> {
     let mut all = Vec::new(alloc);
     for part in parts {
-        all.push(listener_of(alloc, diary, part)?)?;
+        let named = named_listener(alloc, diary, part)?;
+        all.push(named)?;
     }
     Ok(all)
 }

@@ -29,17 +29,11 @@ static ROWS: [Row; 14] = [
     (2, 3, ""),
 ];
 
-/// The event of a number, from 1 on in the order of the variants.
-fn event_of(alloc: Global, number: u8) -> Result<Event, AllocError> {
+/// An event that has an attribute's name.
+fn named_event(alloc: Global, number: u8) -> Result<Event, AllocError> {
     let name = Text::from_str(alloc, "a")?;
     let old = Sequence::new(alloc);
     Ok(match number {
-        1 => Event::ContextUp,
-        2 => Event::ContextDown,
-        3 => Event::RequestIn,
-        4 => Event::RequestOut,
-        5 => Event::Created(KEY),
-        6 => Event::Destroyed(KEY),
         7 => Event::Added {
             key: KEY,
             name,
@@ -50,18 +44,38 @@ fn event_of(alloc: Global, number: u8) -> Result<Event, AllocError> {
             name,
             old,
         },
-        9 => Event::Replaced {
+        _ => Event::Replaced {
             key: KEY,
             name,
             old,
         },
+    })
+}
+
+/// Any other event.
+fn plain_event(number: u8) -> Event {
+    match number {
+        1 => Event::ContextUp,
+        2 => Event::ContextDown,
+        3 => Event::RequestIn,
+        4 => Event::RequestOut,
+        5 => Event::Created(KEY),
+        6 => Event::Destroyed(KEY),
         10 => Event::Passivate(KEY),
         11 => Event::Activate(KEY),
         _ => Event::IdChanged {
             key: KEY,
             old: Secret([7; 16]),
         },
-    })
+    }
+}
+
+/// The event of a number, from 1 on in the order of the variants.
+fn event_of(alloc: Global, number: u8) -> Result<Event, AllocError> {
+    match number {
+        7..=9 => named_event(alloc, number),
+        _ => Ok(plain_event(number)),
+    }
 }
 
 /// Tells an engine an event, by its number.

@@ -52,11 +52,22 @@ type Back = NotStarted<NotingServlet, NotingFilter, NotingListener>;
 /// What a start with the objects of a row, which note in a diary, hands back.
 fn back_from(alloc: Global, diary: &Diary, row: &Row) -> Option<Back> {
     let (servlets, filters, listeners, _) = *row;
-    let servlets = servlets_of(alloc, diary, servlets, "").ok()?;
-    let filters = filters_of(alloc, diary, filters, "").ok()?;
-    let listeners = listeners_of(alloc, diary, listeners).ok()?;
-    let deployment = Deployment::from_toml(alloc, DESCRIPTOR).ok()?;
-    Container::start(alloc, deployment, servlets, filters, listeners).err()
+    let Ok(servlets) = servlets_of(alloc, diary, servlets, "") else {
+        return None;
+    };
+    let Ok(filters) = filters_of(alloc, diary, filters, "") else {
+        return None;
+    };
+    let Ok(listeners) = listeners_of(alloc, diary, listeners) else {
+        return None;
+    };
+    let Ok(deployment) = Deployment::from_toml(alloc, DESCRIPTOR) else {
+        return None;
+    };
+    match Container::start(alloc, deployment, servlets, filters, listeners) {
+        Ok(_) => None,
+        Err(back) => Some(back),
+    }
 }
 
 /// The fault is that of a row, and all its objects are there.

@@ -44,11 +44,22 @@ pub const STARTED: &str =
 pub fn started(alloc: Global, diary: &Diary, unable: &str) -> Option<Noted>
     ensures { IfSome result (λ c. ⟦<Noted as Engine>⟧.valid c) }
 {
-    let servlets = servlets_of(alloc, diary, &SERVLETS, unable).ok()?;
-    let filters = filters_of(alloc, diary, &FILTERS, unable).ok()?;
-    let listeners = listeners_of(alloc, diary, &LISTENERS).ok()?;
-    let deployment = Deployment::from_toml(alloc, DESCRIPTOR).ok()?;
-    Container::start(alloc, deployment, servlets, filters, listeners).ok()
+    let Ok(servlets) = servlets_of(alloc, diary, &SERVLETS, unable) else {
+        return None;
+    };
+    let Ok(filters) = filters_of(alloc, diary, &FILTERS, unable) else {
+        return None;
+    };
+    let Ok(listeners) = listeners_of(alloc, diary, &LISTENERS) else {
+        return None;
+    };
+    let Ok(deployment) = Deployment::from_toml(alloc, DESCRIPTOR) else {
+        return None;
+    };
+    match Container::start(alloc, deployment, servlets, filters, listeners) {
+        Ok(container) => Some(container),
+        Err(_) => None,
+    }
 }
 
 /// The object that can't be initialised, how many servlets and filters are destroyed, and what is noted at the shutdown.

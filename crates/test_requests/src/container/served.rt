@@ -3,25 +3,11 @@
 use crate::container::cast::{clear_notes, has_notes, new_diary};
 use crate::container::lives::started;
 use crate::container::noting::Diary;
-use http::Method;
+use crate::requests::request_for;
 use std::alloc::{AllocError, Global};
-use sv_model::{Engine, Key, Request, Secret, Sequence, Text};
+use sv_model::{Engine, Key, Request, Secret};
 
 const FRESH: (Key, Secret) = (Key { home: 0, serial: 1 }, Secret([1; 16]));
-
-fn request_for(alloc: Global, path: &str) -> Result<Request, AllocError> {
-    Ok(Request {
-        method: Method::GET,
-        raw_path: Text::from_str(alloc, path)?,
-        path: Text::from_str(alloc, path)?,
-        query: None,
-        fields: Sequence::new(alloc),
-        cookies: Sequence::new(alloc),
-        params: Sequence::new(alloc),
-        body: Sequence::new(alloc),
-        close: false,
-    })
-}
 
 /// Serves a request, and tells what is to be told; whether it is answered with this status.
 fn serves<E: Engine>(engine: &mut E, request: &Request, status: u16) -> bool
@@ -47,7 +33,7 @@ pub fn is_answered<E: Engine>(
     requires { E.valid engine.old }
     ensures { E.valid engine.new }
 {
-    let request = request_for(alloc, path)?;
+    let request = request_for(alloc, path, path, false)?;
     Ok(serves(engine, &request, status))
 }
 

@@ -5,13 +5,10 @@ ghost use Rattle.sv_model.specs.Ranges.{IsInput};
 
 use super::AT;
 use super::engines::{Greeter, Turner};
-use http::Method;
+use crate::requests::request_for;
 use std::alloc::Global;
 use sv_connection::Solo;
-use sv_model::{
-    Input, Key, Moment, MoveRefusal, Output, Packet, Request, Secret, Sequence, Site, StepFault,
-    Text,
-};
+use sv_model::{Input, Key, Moment, MoveRefusal, Output, Packet, Secret, Site, StepFault};
 
 /// Steps a site as any caller of one does.
 fn step_at<S: Site>(site: &mut S, now: u64, input: Input) -> Result<Vec<Output>, StepFault>
@@ -31,17 +28,7 @@ fn ask_once<S: Site>(site: &mut S, alloc: Global, token: u64) -> Result<Vec<Outp
     requires { S.site_valid site.old }
     ensures { S.site_valid site.new }
 {
-    let request = Request {
-        method: Method::GET,
-        raw_path: Text::from_str(alloc, "/as/sent")?,
-        path: Text::from_str(alloc, "/as/read")?,
-        query: None,
-        fields: Sequence::new(alloc),
-        cookies: Sequence::new(alloc),
-        params: Sequence::new(alloc),
-        body: Sequence::new(alloc),
-        close: true,
-    };
+    let request = request_for(alloc, "/as/sent", "/as/read", true)?;
     step_at(site, AT.now, Input::Ask { token, request })
 }
 

@@ -27,18 +27,22 @@ impl Echo {
         }
     }
 
-    /// What is put out at a path.
-    fn outputs(&self, token: u64, request: &Request) -> Result<Vec<Output>, StepFault> {
+    /// What is put out at a path where the step succeeds.
+    fn put_out(&self, token: u64, request: &Request) -> Result<Vec<Output>, AllocError> {
         match request.path.as_str() {
-            "/full" => Err(StepFault::Full),
-            "/memory" => Err(StepFault::Memory),
-            "/device" => Err(StepFault::Device),
-            "/failed" => Err(StepFault::Failed),
-            "/other" => Ok(self.anothers(token, request)?),
-            "/params" => Ok(self.params(token, request)?),
-            "/park" => Ok(one(self.alloc, Output::Moved)?),
-            "/refuse" => Ok(one(self.alloc, refused(token, Cause::TableFull))?),
-            path => Ok(self.answers(token, request, path.as_bytes())?),
+            "/other" => self.anothers(token, request),
+            "/params" => self.params(token, request),
+            "/park" => one(self.alloc, Output::Moved),
+            "/refuse" => one(self.alloc, refused(token, Cause::TableFull)),
+            path => self.answers(token, request, path.as_bytes()),
+        }
+    }
+
+    /// What a step by a request answers.
+    fn outputs(&self, token: u64, request: &Request) -> Result<Vec<Output>, StepFault> {
+        match fault_at(request.path.as_str()) {
+            Some(fault) => Err(fault),
+            None => Ok(self.put_out(token, request)?),
         }
     }
 
@@ -66,8 +70,7 @@ impl Echo {
         request: &Request,
         text: &[u8],
     ) -> Result<(), AllocError> {
-        let answer = answer_to(self.alloc, token, request, text)?;
-        Ok(outputs.push(answer)?)
+        push(outputs, answer_to(self.alloc, token, request, text)?)
     }
 
     /// A refusal and an answer to another, and two to the one who asked.
@@ -78,7 +81,7 @@ impl Echo {
         request: &Request,
     ) -> Result<(), AllocError> {
         let other = token.wrapping_add(1);
-        outputs.push(refused(other, Cause::Deadline))?;
+        push(outputs, refused(other, Cause::Deadline))?;
         self.add(outputs, other, request, b"another's")?;
         self.add(outputs, token, request, b"its own")?;
         self.add(outputs, token, request, b"again")
@@ -93,11 +96,31 @@ impl Echo {
     }
 }
 
+/// The fault of a step at a path.
+fn fault_at(path: &str) -> Option<StepFault> {
+    match path {
+        "/full" => Some(StepFault::Full),
+        "/memory" => Some(StepFault::Memory),
+        "/device" => Some(StepFault::Device),
+        "/failed" => Some(StepFault::Failed),
+        _ => None,
+    }
+}
+
+fn push(outputs: &mut Vec<Output>, output: Output) -> Result<(), AllocError> {
+    match outputs.push(output) {
+        Ok(()) => Ok(()),
+        Err(_) => Err(AllocError),
+    }
+}
+
 /// One output.
 fn one(alloc: Global, output: Output) -> Result<Vec<Output>, AllocError> {
     let mut outputs = Vec::new(alloc);
-    outputs.push(output)?;
-    Ok(outputs)
+    match push(&mut outputs, output) {
+        Ok(()) => Ok(outputs),
+        Err(fault) => Err(fault),
+    }
 }
 
 fn refused(token: u64, cause: Cause) -> Output {

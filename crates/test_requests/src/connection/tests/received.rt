@@ -2,11 +2,10 @@
 //!
 //! The texts are written out from RFC 9112 (sections 3 to 6 and 9) and RFC 9110 (sections 6.6.1, 8.6 and 15.5.1).
 
-use super::AT;
-use http::StatusCode;
+use super::{AT, bare_answer};
 use std::alloc::{AllocError, Global};
-use sv_connection::{Connection, Outcome, Received};
-use sv_model::{Request, Response, Sequence, is_head};
+use sv_connection::{Connection, Received, RequestFault};
+use sv_model::{Request, is_head};
 
 /// A request with a body.
 const FIRST: &str = "POST /a HTTP/1.1\r\nHost: h\r\nContent-Length: 3\r\n\r\nxyz";
@@ -59,56 +58,43 @@ impl Caller {
         }
     }
 
+    /// Tells a word; whether more can be there.
+    fn say(&mut self, word: &str, is_request: bool) -> Result<bool, AllocError> {
+        self.told.push_str(word)?;
+        Ok(is_request)
+    }
+
     /// Tells of a request, and answers it with no body.
-    fn tell_request(&mut self, request: &Request) -> Result<(), AllocError> {
+    fn tell_request(&mut self, request: &Request) -> Result<bool, AllocError> {
         let head_only = is_head(&request.method);
         let close = request.close;
         let path = request.path.as_str();
         let text = format!(in self.alloc; "{path} {head_only} {close};")?;
-        self.told.push_str(&text)?;
         self.answer(head_only, close);
-        Ok(())
+        self.say(&text, true)
     }
 
     fn answer(&mut self, head_only: bool, close: bool) {
-        let response = Response {
-            status: StatusCode::OK,
-            fields: Sequence::new(self.alloc),
-            body: Sequence::new(self.alloc),
-            head_only,
-            close,
-        };
+        let response = bare_answer(self.alloc, head_only, close);
         let _ = self.connection.answer(&mut self.written, &response, AT.now);
     }
 
-    fn tell_refusal(&mut self, outcome: Outcome, head_only: bool) -> Result<(), AllocError> {
+    /// Writes the page of a fault, and tells of it.
+    fn tell_refusal(&mut self, fault: RequestFault, head_only: bool) -> Result<bool, AllocError> {
+        let outcome = self
+            .connection
+            .refuse(&mut self.written, fault, head_only, AT.now);
         let text = format!(in self.alloc; "{outcome:?} {head_only};")?;
-        Ok(self.told.push_str(&text)?)
+        self.say(&text, false)
     }
 
     /// Tells what was given; a request is answered, and the page of a fault is written. Whether more can be there.
     fn tell(&mut self, received: Received) -> Result<bool, AllocError> {
         match received {
-            Received::Request(request) => {
-                self.tell_request(&request)?;
-                Ok(true)
-            }
-            Received::Refused { fault, head_only } => {
-                let now = AT.now;
-                let outcome = self
-                    .connection
-                    .refuse(&mut self.written, fault, head_only, now);
-                self.tell_refusal(outcome, head_only)?;
-                Ok(false)
-            }
-            Received::More => {
-                self.told.push_str("more;")?;
-                Ok(false)
-            }
-            Received::Closed => {
-                self.told.push_str("closed;")?;
-                Ok(false)
-            }
+            Received::Request(request) => self.tell_request(&request),
+            Received::Refused { fault, head_only } => self.tell_refusal(fault, head_only),
+            Received::More => self.say("more;", false),
+            Received::Closed => self.say("closed;", false),
         }
     }
 
