@@ -1,9 +1,8 @@
 //! What a node's figures say once it has stopped.
 
-use crate::files::own_path;
+use crate::files::{own_path, taken};
 use crate::town::{HALT, Town, live};
 use std::alloc::{AllocError, Global};
-use std::fs;
 use std::net::TcpStream;
 use std::test::Fail;
 use sv_host::{Ended, Host};
@@ -54,32 +53,36 @@ fn served(rt: &HostRuntime, path: &str) -> Result<usize, Fail> {
     Ok(a.bytes().len())
 }
 
-/// The length of the journal, and the figures of the end.
-fn figures_of(rt: &HostRuntime, path: &str) -> Result<(usize, String), Fail> {
-    let bytes = served(rt, path)?;
-    let text = fs::read_to_string(rt, path)?;
-    fs::remove_file(rt, path)?;
-    Ok((bytes, text))
-}
-
 /// The text has this line.
 fn has_line(text: &str, wanted: &str) -> bool {
     text.lines().any(|line| line == wanted)
 }
 
-/// Whether a text has the line of a journal of this length.
-fn has_journal(alloc: Global, text: &str, bytes: usize) -> Result<bool, AllocError> {
-    let wanted = format!(in alloc; "kegbramble_journal_bytes{{node=\"0\"}} {bytes}")?;
-    Ok(has_line(text, &wanted))
+/// Adds the lines that a text hasn't got and should have, that of a journal of this length among them.
+fn push_missing(
+    alloc: Global,
+    missing: &mut String,
+    text: &str,
+    bytes: usize,
+) -> Result<(), AllocError> {
+    for wanted in &WANTED {
+        if !has_line(text, wanted) {
+            missing.push_str(wanted)?;
+        }
+    }
+    let journal = format!(in alloc; "kegbramble_journal_bytes{{node=\"0\"}} {bytes}")?;
+    if !has_line(text, &journal) {
+        missing.push_str(&journal)?;
+    }
+    Ok(())
 }
 
-#[test]
-fn figures_are_of_the_end(rt: HostRuntime) -> Result<(), Fail> {
-    let path = own_path(&rt, "figures")?;
-    let (bytes, text) = figures_of(&rt, &path)?;
-    for wanted in &WANTED {
-        assert!(rt; has_line(&text, wanted), "{wanted}");
-    }
-    assert!(rt; has_journal(rt.alloc(), &text, bytes)?, "{bytes}");
-    Ok(())
+/// What the figures of the end don't say, and should.
+pub fn missing(rt: &HostRuntime) -> Result<String, Fail> {
+    let path = own_path(rt, "figures")?;
+    let bytes = served(rt, &path)?;
+    let text = taken(rt, &path)?;
+    let mut missing = String::new(rt.alloc());
+    push_missing(rt.alloc(), &mut missing, &text, bytes)?;
+    Ok(missing)
 }

@@ -17,3 +17,10 @@ pub fn new_path(rt: &HostRuntime, name: &str) -> Result<String, Fail> {
     let _ = fs::remove_file(rt, &path);
     Ok(path)
 }
+
+/// What a file has, which is then gone.
+pub fn taken(rt: &HostRuntime, path: &String) -> Result<String, Fail> {
+    let text = fs::read_to_string(rt, path)?;
+    fs::remove_file(rt, path)?;
+    Ok(text)
+}

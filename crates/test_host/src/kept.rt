@@ -1,50 +1,53 @@
 //! Clients whose connections are kept.
 
-use crate::scene::{GRANT, Said, play};
-use crate::town::{HALT, Town};
-use std::test::Fail;
+use crate::scene::{GRANT, LONG, Said, Scene};
+use crate::town::HALT;
 use sv_net::Persistence;
-
-/// A node reads 16,384 bytes at once, so each large request comes in two pieces or three, the first of them with a part of the
-/// next. The first session has the first secret, as the piece behind which its request wasn't whole has used none. Each connection has
-/// one request a turn, and a turn lets in one who has come: so the node is told to stop only after eight others, who say nothing.
-#[test]
-fn requests_in_pieces_are_answered_once_and_in_order(rt: HostRuntime) -> Result<(), Fail> {
-    let all = [
-        Said::Pieces,
-        Said::Nothing,
-        Said::Nothing,
-        Said::Nothing,
-        Said::Nothing,
-        Said::Nothing,
-        Said::Nothing,
-        Said::Nothing,
-        Said::Nothing,
-        Said::Frame(HALT),
-    ];
-    let told = play(&rt, &Town::new(&rt)?, Persistence::Kept, &all)?;
-    assert_eq!(rt; told.as_slice(), b"121314|||||||||\0|".as_slice());
-    Ok(())
-}
 
 /// What node 1 answers to the third want, since each request that waits has its own: it has no second session.
 const NO: &[u8] = b"\xE1\0\0\0\x1D\x02\x04\x01\0\x01\0\0\0\0\0\0\0\x02\
     \0\0\0\0\0\0\0\x01\0\0\0\0\0\0\0\x03";
 
-/// Only a Poke serves those whose session a Grant has brought. The first of them has gone away, and is counted all the same; the
-/// second has sent one more request along, which waits behind it; and nobody else is held up.
-#[test]
-fn each_who_waits_is_told_their_own_answer(rt: HostRuntime) -> Result<(), Fail> {
-    let all = [
-        Said::Gone([1, 1]),
-        Said::Counts(&[[1, 1], [0, 9]]),
-        Said::Counts(&[[1, 2]]),
-        Said::Counts(&[[0, 9]]),
-        Said::Frame(NO),
-        Said::Frame(GRANT),
-        Said::Frame(HALT),
-    ];
-    let told = play(&rt, &Town::new(&rt)?, Persistence::Kept, &all)?;
-    assert_eq!(rt; told.as_slice(), b"|71|1|1|||\0|".as_slice());
-    Ok(())
-}
+pub static SCENES: [Scene; 2] = [
+    // A node reads 16,384 bytes at once, so each large request comes in two pieces or three, the first of them with a part of the
+    // next. The first session has the first secret, as the piece behind which its request wasn't whole has used none. Each
+    // connection has one request a turn, and a turn lets in one who has come: so the node is told to stop only after eight others,
+    // who say nothing.
+    Scene {
+        name: "requests in pieces are answered once and in order",
+        persistence: Persistence::Kept,
+        all: &[
+            Said::Pieces,
+            Said::Nothing,
+            Said::Nothing,
+            Said::Nothing,
+            Said::Nothing,
+            Said::Nothing,
+            Said::Nothing,
+            Said::Nothing,
+            Said::Nothing,
+            Said::Frame(HALT),
+        ],
+        connections: 0,
+        most: LONG,
+        told: "121314|||||||||\0|",
+    },
+    // Only a Poke serves those whose session a Grant has brought. The first of them has gone away, and is counted all the same; the
+    // second has sent one more request along, which waits behind it; and nobody else is held up.
+    Scene {
+        name: "each who waits is told their own answer",
+        persistence: Persistence::Kept,
+        all: &[
+            Said::Gone([1, 1]),
+            Said::Counts(&[[1, 1], [0, 9]]),
+            Said::Counts(&[[1, 2]]),
+            Said::Counts(&[[0, 9]]),
+            Said::Frame(NO),
+            Said::Frame(GRANT),
+            Said::Frame(HALT),
+        ],
+        connections: 0,
+        most: LONG,
+        told: "|71|1|1|||\0|",
+    },
+];

@@ -5,38 +5,46 @@
 //! Each answer is written out: by RFC 9112, sections 4 to 6, a status line, the Date of the moment (784111777 is the
 //! example date of RFC 9110, section 5.6.7), the fields of the page, Content-Length, Connection where it closes.
 
-mod descriptors;
+pub mod descriptors;
 mod dispatch;
 mod expiry;
 mod mapping;
 mod messages;
 mod nesting;
 mod overheard;
-mod renewing;
+pub mod renewing;
 mod sessions;
 mod streams;
 mod words;
 
-use std::alloc::Global;
-use std::io::{Read, Write};
+use crate::expect::expect;
+use std::alloc::{AllocError, Global};
 use std::process::Abort;
 use std::test::Fail;
-use sv_config::Deployment;
+use streams::{Input, Output, Way};
 use sv_launch::{Applications, Fault, Stream, deployment_in};
 use sv_showcase::showcase;
 
 const NOW: u64 = 784_111_777;
 
-/// What the stream shows, the stream, and all that is written for it.
-struct Row(&'static str, &'static str, &'static str);
+/// What the stream shows, the stream, and all that is written for it, with the fault that ends it and its exit status behind.
+pub struct Row(&'static str, &'static str, &'static str);
 
-/// Serves the reader's requests to their end by the samples of a deployment.
-fn serve<R: Read, W: Write>(
+/// Streams that the deployment of a descriptor serves, each by a container of its own.
+pub struct Table {
+    descriptor: &'static str,
+    way: Way,
+    rows: &'static [Row],
+}
+
+/// Serves a stream by the samples of a descriptor.
+fn serve(
     alloc: Global,
-    deployment: Deployment,
-    reader: &mut R,
-    writer: &mut W,
+    descriptor: &str,
+    reader: &mut Input,
+    writer: &mut Output,
 ) -> Result<(), Fault> {
+    let deployment = deployment_in(alloc, descriptor)?;
     let stream = Stream {
         now: NOW,
         reader,
@@ -45,30 +53,39 @@ fn serve<R: Read, W: Write>(
     showcase(alloc).start(alloc, deployment, stream)
 }
 
-/// What is written for a stream that the deployment of a descriptor serves.
-fn written(alloc: Global, descriptor: &str, input: &str) -> Result<Vec<u8>, Fault> {
-    let deployment = deployment_in(alloc, descriptor)?;
-    let mut reader = input.as_bytes();
-    let mut writer = Vec::new(alloc);
-    serve(alloc, deployment, &mut reader, &mut writer)?;
-    Ok(writer)
+/// All that is written for a stream that is served by a descriptor, and the fault that ends it.
+fn answered(alloc: Global, descriptor: &str, way: Way, input: &str) -> Result<String, AllocError> {
+    let mut reader = Input::new(input, way);
+    let mut writer = Output::new(alloc, way);
+    let end = serve(alloc, descriptor, &mut reader, &mut writer);
+    writer.ended(end)
 }
 
-fn expect_row(rt: &(impl Abort + AllocGlobal), descriptor: &str, row: &Row) -> Result<(), Fail> {
-    let Row(name, input, output) = row;
-    let text = written(rt.alloc(), descriptor, input)?;
-    assert_eq!(rt; str::from_utf8(text.as_slice()), Ok(*output), "{name}");
-    Ok(())
-}
-
-/// Each stream is answered as its row says, by a container of its own.
-fn expect_rows(
-    rt: &(impl Abort + AllocGlobal),
-    descriptor: &str,
-    rows: &[Row],
-) -> Result<(), Fail> {
-    for row in rows {
-        expect_row(rt, descriptor, row)?;
+/// Each stream of a table is answered as its row says.
+fn expect_table(rt: &(impl Abort + AllocGlobal), table: &Table) -> Result<(), Fail> {
+    for Row(name, input, output) in table.rows {
+        let text = answered(rt.alloc(), table.descriptor, table.way, input)?;
+        expect(rt, name, text.as_str(), output);
     }
     Ok(())
+}
+
+fn expect_tables(rt: &(impl Abort + AllocGlobal), tables: &[Table]) -> Result<(), Fail> {
+    for table in tables {
+        expect_table(rt, table)?;
+    }
+    Ok(())
+}
+
+#[test]
+fn streams_are_answered(rt: HostRuntime) -> Result<(), Fail> {
+    expect_tables(&rt, &mapping::TABLES)?;
+    expect_tables(&rt, &dispatch::TABLES)?;
+    expect_tables(&rt, &nesting::TABLES)?;
+    expect_tables(&rt, &messages::TABLES)?;
+    expect_tables(&rt, &sessions::TABLES)?;
+    expect_tables(&rt, &renewing::TABLES)?;
+    expect_tables(&rt, &streams::TABLES)?;
+    descriptors::expect_faults(&rt)?;
+    expiry::expect_rows(&rt)
 }

@@ -10,6 +10,10 @@
 #[cfg(test)]
 mod callers;
 #[cfg(test)]
+mod cases;
+#[cfg(test)]
+mod expect;
+#[cfg(test)]
 mod faults;
 #[cfg(test)]
 mod figures;

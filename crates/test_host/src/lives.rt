@@ -1,37 +1,56 @@
 //! A node that is stopped, and runs again over the disks that it left.
 
-use crate::town::{HALT, Town, answer, live};
+use crate::town::{HALT, Town, host_of, letter_of, live};
+use std::net::TcpStream;
 use std::test::Fail;
-use sv_host::{Ended, Host};
+use sv_host::Ended;
 use sv_journal::MemoryDisk;
 use sv_net::Persistence;
+use test_engine::Counter;
 
-/// A life in which the session of these two bytes is asked for once: the answer, and the disks.
+/// A client that asks for the session of these two bytes, and one who has the node stop.
+fn client_of(rt: &HostRuntime, town: &Town, named: [u8; 2]) -> Result<TcpStream, Fail> {
+    let client = town.ask(rt, named)?;
+    town.call(rt, HALT)?;
+    Ok(client)
+}
+
+/// A life in which the session of these two bytes is asked for once: the client, and what has come of the node.
 fn life(
     rt: &HostRuntime,
     town: &Town,
-    a: MemoryDisk,
-    b: MemoryDisk,
+    disks: (MemoryDisk, MemoryDisk),
     named: [u8; 2],
-) -> Result<(Option<char>, MemoryDisk, MemoryDisk), Fail> {
-    let host = Host::at(rt, town.place(rt)?, Persistence::Single)?;
-    let client = town.ask(rt, named)?;
-    town.call(rt, HALT)?;
-    let Ended { a, b, fault, .. } = live(rt, host, a, b)?;
-    if fault.is_some() {
-        return Err("ended by a fault".into());
-    }
-    Ok((answer(rt.alloc(), &client)?, a, b))
+) -> Result<(TcpStream, Ended<Counter, MemoryDisk>), Fail> {
+    let host = host_of(rt, town, Persistence::Single)?;
+    let client = client_of(rt, town, named)?;
+    let (a, b) = disks;
+    Ok((client, live(rt, host, a, b)?))
 }
 
-/// A session outlives the node that made it, whose port can be listened at again at once.
-#[test]
-fn a_session_outlives_its_node(rt: HostRuntime) -> Result<(), Fail> {
-    let town = Town::new(&rt)?;
-    let (a, b) = (MemoryDisk::new(rt.alloc()), MemoryDisk::new(rt.alloc()));
-    let (first, a, b) = life(&rt, &town, a, b, [0, 9])?;
-    assert_eq!(rt; first, Some('1'));
-    let (again, _, _) = life(&rt, &town, a, b, [0, 1])?;
-    assert_eq!(rt; again, Some('2'));
-    Ok(())
+/// The disks of such a life, whose answer is added.
+fn push_life(
+    rt: &HostRuntime,
+    town: &Town,
+    text: &mut String,
+    disks: (MemoryDisk, MemoryDisk),
+    named: [u8; 2],
+) -> Result<(MemoryDisk, MemoryDisk), Fail> {
+    let (client, ended) = life(rt, town, disks, named)?;
+    text.push(letter_of(rt.alloc(), &client))?;
+    let Ended { a, b, fault, .. } = ended;
+    match fault {
+        None => Ok((a, b)),
+        Some(_) => Err("ended by a fault".into()),
+    }
+}
+
+/// The answers of two lives, whose port can be listened at again at once. The first makes a session, which the second is asked for.
+pub fn told(rt: &HostRuntime) -> Result<String, Fail> {
+    let town = Town::new(rt)?;
+    let mut text = String::new(rt.alloc());
+    let disks = (MemoryDisk::new(rt.alloc()), MemoryDisk::new(rt.alloc()));
+    let disks = push_life(rt, &town, &mut text, disks, [0, 9])?;
+    push_life(rt, &town, &mut text, disks, [0, 1])?;
+    Ok(text)
 }

@@ -1,7 +1,6 @@
 //! Which of the packets of a tick are sent.
 
 use std::alloc::{AllocError, Global};
-use std::test::Fail;
 use sv_host::Round;
 use sv_model::{Key, Output, Packet};
 
@@ -61,12 +60,26 @@ fn sent(round: &mut Round, outputs: &[Output]) -> (u64, u64) {
     (count, sum)
 }
 
-#[test]
-fn the_packets_of_a_tick_are_sent_in_turn(rt: HostRuntime) -> Result<(), Fail> {
+/// The same of the wants of the numbers from the first to the last.
+fn sent_of(
+    alloc: Global,
+    round: &mut Round,
+    first: u64,
+    last: u64,
+) -> Result<(u64, u64), AllocError> {
+    let outputs = wants(alloc, first, last)?;
+    Ok(sent(round, outputs.as_slice()))
+}
+
+/// How many are sent, and their sum, tick by tick, where these aren't what they should be.
+pub fn told(alloc: Global) -> Result<String, AllocError> {
+    let mut text = String::new(alloc);
     let mut round = Round::START;
     for &(first, last, count, sum) in ROWS {
-        let outputs = wants(rt.alloc(), first, last)?;
-        assert_eq!(rt; sent(&mut round, &outputs), (count, sum));
+        let found = sent_of(alloc, &mut round, first, last)?;
+        if found != (count, sum) {
+            write!(text, "{found:?} in the place of {count} and {sum}, ")?;
+        }
     }
-    Ok(())
+    Ok(text)
 }

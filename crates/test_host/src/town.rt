@@ -9,6 +9,7 @@ use std::time::Duration;
 use sv_config::Cluster;
 use sv_host::{Ended, Host, HostFault, Place, secret_of};
 use sv_journal::MemoryDisk;
+use sv_net::Persistence;
 use test_engine::Counter;
 
 /// How long a test waits for what should be there already, in seconds.
@@ -57,15 +58,30 @@ pub fn counter(alloc: Global) -> Counter {
     }
 }
 
-/// The last byte of an answer with status 200 and a body of one byte; none of anything else.
-pub fn answer(alloc: Global, client: &TcpStream) -> io::Result<Option<char>> {
-    let bytes = heard(alloc, client)?;
-    Ok(
-        match bytes.as_slice().strip_prefix(b"HTTP/1.1 200 OK\r\n") {
-            Some([.., b'\r', b'\n', b'\r', b'\n', byte]) => Some(*byte as char),
-            _ => None,
-        },
-    )
+/// The last byte of an answer with status 200 and a body of one byte, `D` of the refusal of a request whose deadline has passed, and a
+/// dash of anything else.
+fn letter_in(bytes: &[u8]) -> char {
+    if bytes.starts_with(b"HTTP/1.1 503 ") && bytes.ends_with(b"\r\n\r\n503 Deadline\n") {
+        return 'D';
+    }
+    match bytes.strip_prefix(b"HTTP/1.1 200 OK\r\n") {
+        Some([.., b'\r', b'\n', b'\r', b'\n', byte]) => char::from(*byte),
+        _ => '-',
+    }
+}
+
+/// The letter of the answer on a connection; a dash where it was reset.
+pub fn letter_of(alloc: Global, client: &TcpStream) -> char {
+    match heard(alloc, client) {
+        Ok(bytes) => letter_in(bytes.as_slice()),
+        Err(_) => '-',
+    }
+}
+
+/// Node 0, listening.
+pub fn host_of(rt: &HostRuntime, town: &Town, persistence: Persistence) -> Result<Host, Fail> {
+    let place = town.place(rt)?;
+    Ok(Host::at(rt, place, persistence)?)
 }
 
 /// Has a node on two disks serve all who have connected, the last of whom has it stop.

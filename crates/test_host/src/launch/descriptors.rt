@@ -1,89 +1,60 @@
-//! Descriptors that nothing is served by.
+//! Descriptors that nothing is served by, and those that a program has built in.
 
-use super::written;
-use std::alloc::{AllocError, Global};
+use super::answered;
+use super::streams::Way;
+use crate::expect::expect;
+use std::alloc::Global;
+use std::process::Abort;
 use std::test::Fail;
-use sv_launch::{Application, Applications, Fault};
+use sv_launch::{Application, Applications};
 use sv_showcase::showcase;
 
-/// A descriptor, its fault, and the fault's name and exit status.
-struct Row(&'static str, Fault, &'static str, u8);
+/// A descriptor, and its fault with the exit status.
+struct Row(&'static str, &'static str);
 
 /// The smallest ones of `docs/CONFIGURING.md`, and then those that name what the program hasn't got. A descriptor's own
 /// fault is found first.
 static ROWS: [Row; 12] = [
-    Row("a = ", Fault::NotToml, "NotToml", 3),
-    Row("", Fault::MissingField, "MissingField", 3),
-    Row("context = 1", Fault::WrongKind, "WrongKind", 3),
-    Row(
-        "context = [{ path = \"\", x = 1 }]",
-        Fault::UnknownName,
-        "UnknownName",
-        3,
-    ),
-    Row(
-        "context = [{ path = \"/\" }]",
-        Fault::BadPattern,
-        "BadPattern",
-        3,
-    ),
+    Row("a = ", "NotToml 3"),
+    Row("", "MissingField 3"),
+    Row("context = 1", "WrongKind 3"),
+    Row("context = [{ path = \"\", x = 1 }]", "UnknownName 3"),
+    Row("context = [{ path = \"/\" }]", "BadPattern 3"),
     Row(
         "context = [{ path = \"\" }, { path = \"\" }]",
-        Fault::Duplicate,
-        "Duplicate",
-        3,
+        "Duplicate 3",
     ),
     Row(
         "context = [{ path = \"\", interval = 2147483648 }]",
-        Fault::LimitExceeded,
-        "LimitExceeded",
-        3,
+        "LimitExceeded 3",
     ),
     Row(
         "context = [{ path = \"\", servlet = [{ name = \"hullo\", patterns = [] }] }]",
-        Fault::MissingObject,
-        "MissingObject",
-        3,
+        "MissingObject 3",
     ),
     Row(
         "context = [{ path = \"/a\" }, { path = \"/b\", servlet = [{ name = \"hello\", patterns = [] }, { name = \"stamp-a\", patterns = [] }] }]",
-        Fault::MissingObject,
-        "MissingObject",
-        3,
+        "MissingObject 3",
     ),
     Row(
         "context = [{ path = \"\", filter = [{ name = \"gates\" }] }]",
-        Fault::MissingObject,
-        "MissingObject",
-        3,
+        "MissingObject 3",
     ),
     Row(
         "context = [{ path = \"\", listener = [{ name = \"hello\" }] }]",
-        Fault::MissingObject,
-        "MissingObject",
-        3,
+        "MissingObject 3",
     ),
     Row(
         "context = [{ path = \"/\", servlet = [{ name = \"hullo\", patterns = [] }] }]",
-        Fault::BadPattern,
-        "BadPattern",
-        3,
+        "BadPattern 3",
     ),
 ];
 
-/// The fault has this name, and ends a program with this status.
-fn is_named(alloc: Global, fault: Fault, name: &str, status: u8) -> Result<bool, AllocError> {
-    let text = format!(in alloc; "{fault}")?;
-    Ok(text.as_str() == name && fault.status() == status)
-}
-
-#[test]
-fn descriptors(rt: HostRuntime) -> Result<(), Fail> {
-    let alloc = rt.alloc();
-    for Row(descriptor, fault, name, status) in &ROWS {
-        let found = written(alloc, descriptor, "").err();
-        assert!(rt; found == Some(*fault), "{name}: {descriptor}");
-        assert!(rt; is_named(alloc, *fault, name, *status)?, "{name}");
+/// Each descriptor has its row's fault.
+pub fn expect_faults(rt: &(impl Abort + AllocGlobal)) -> Result<(), Fail> {
+    for Row(descriptor, wanted) in &ROWS {
+        let text = answered(rt.alloc(), descriptor, Way::Whole, "")?;
+        expect(rt, descriptor, text.as_str(), wanted);
     }
     Ok(())
 }
@@ -101,12 +72,13 @@ fn has_its_own(alloc: Global) -> bool {
     bare.built_in() == Some(DESCRIPTOR)
 }
 
+/// One that has another built in has it in the place of that one.
+fn has_another(alloc: Global) -> bool {
+    let samples = showcase(alloc).descriptor(DESCRIPTOR);
+    samples.built_in() == Some(DESCRIPTOR)
+}
+
 /// A program has a descriptor built in where it is given one, and another in the place of its own.
-#[test]
-fn a_descriptor_is_built_in(rt: HostRuntime) -> Result<(), Fail> {
-    let samples = showcase(rt.alloc()).descriptor(DESCRIPTOR);
-    assert_eq!(rt; samples.built_in(), Some(DESCRIPTOR));
-    assert!(rt; has_its_own(rt.alloc()));
-    assert!(rt; has_none(rt.alloc()));
-    Ok(())
+pub fn are_built_in(alloc: Global) -> bool {
+    has_none(alloc) && has_its_own(alloc) && has_another(alloc)
 }

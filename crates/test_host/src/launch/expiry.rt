@@ -1,15 +1,15 @@
 //! When a session expires: its interval in seconds behind its last request, and not before.
 
-use std::alloc::Global;
+use super::streams::{Input, Output, Way};
+use crate::expect::expect;
+use std::alloc::{AllocError, Global};
+use std::process::Abort;
 use std::test::Fail;
 use sv_connection::{Connection, Solo};
-use sv_container::{Container, Named};
 use sv_host::secret_of;
-use sv_launch::deployment_in;
-use sv_model::Moment;
-use sv_samples::{Count, Gate, Tally};
-use sv_servlet::{GenericFilter, GenericServlet};
-use sv_web::Web;
+use sv_launch::{Applications, Fault, Purpose, deployment_in};
+use sv_model::{Engine, Moment};
+use sv_showcase::showcase;
 
 /// A shop whose sessions expire after a minute.
 const SHORT: &str =
@@ -39,45 +39,68 @@ static ROWS: [Timed; 3] = [
     ),
 ];
 
-/// What is written for two requests at these moments.
-fn written(alloc: Global, moments: [u64; 2], input: &str) -> Result<Vec<u8>, Fail> {
-    let mut servlets = Vec::new(alloc);
-    servlets.push(Named {
-        context: 0,
-        name: String::from_str(alloc, "count")?,
-        object: GenericServlet::new(Web::new(alloc, Count)),
-    })?;
-    let filters: Vec<Named<GenericFilter<Web<Gate>>>> = Vec::new(alloc);
-    let listeners: Vec<Named<Tally>> = Vec::new(alloc);
-    let deployment = deployment_in(alloc, SHORT)?;
-    let Ok(container) = Container::start(alloc, deployment, servlets, filters, listeners) else {
-        return Err("the container has not started".into());
-    };
-    let mut site = Solo::new(alloc, container);
-    let mut connection = Connection::new(alloc, false);
-    let mut reader = input.as_bytes();
-    let mut writer = Vec::new(alloc);
-    let first = Moment {
-        now: moments[0],
-        secret: secret_of(1),
-    };
-    connection.serve_next(&mut reader, &mut writer, &mut site, first, 1);
-    if connection.waiting() {
-        return Err("a node that stands alone has no request wait".into());
-    }
-    let second = Moment {
-        now: moments[1],
-        secret: secret_of(2),
-    };
-    connection.serve_next(&mut reader, &mut writer, &mut site, second, 2);
-    Ok(writer)
+/// Two requests of a stream, at these moments.
+#[derive(Drop)]
+struct Two<'a, 'b> {
+    moments: [u64; 2],
+    reader: &'a mut Input<'b>,
+    writer: &'a mut Output,
 }
 
-#[test]
-fn expiry(rt: HostRuntime) -> Result<(), Fail> {
+/// The moment of a request, whose secret is its number.
+fn moment_of(now: u64, number: u64) -> Moment {
+    Moment {
+        now,
+        secret: secret_of(number),
+    }
+}
+
+impl Purpose for Two<'_, '_> {
+    fn serve<E: Engine + Drop>(self, alloc: Global, engine: E) -> Result<(), Fault> {
+        let Two {
+            moments: [first, second],
+            reader,
+            writer,
+        } = self;
+        let mut site = Solo::new(alloc, engine);
+        let mut connection = Connection::new(alloc, false);
+        connection.serve_next(reader, writer, &mut site, moment_of(first, 1), 1);
+        // At a node that stands alone no request waits.
+        if !connection.waiting() {
+            connection.serve_next(reader, writer, &mut site, moment_of(second, 2), 2);
+        }
+        Ok(())
+    }
+}
+
+fn serve(
+    alloc: Global,
+    moments: [u64; 2],
+    reader: &mut Input,
+    writer: &mut Output,
+) -> Result<(), Fault> {
+    let deployment = deployment_in(alloc, SHORT)?;
+    let two = Two {
+        moments,
+        reader,
+        writer,
+    };
+    showcase(alloc).start(alloc, deployment, two)
+}
+
+/// All that is written for two requests at these moments.
+fn written(alloc: Global, moments: [u64; 2], input: &str) -> Result<String, AllocError> {
+    let mut reader = Input::new(input, Way::Whole);
+    let mut writer = Output::new(alloc, Way::Whole);
+    let end = serve(alloc, moments, &mut reader, &mut writer);
+    writer.ended(end)
+}
+
+/// Each two requests are answered as their row says.
+pub fn expect_rows(rt: &(impl Abort + AllocGlobal)) -> Result<(), Fail> {
     for Timed(name, moments, input, output) in &ROWS {
         let text = written(rt.alloc(), *moments, input)?;
-        assert_eq!(rt; text.as_slice(), output.as_bytes(), "{name}");
+        expect(rt, name, text.as_str(), output);
     }
     Ok(())
 }

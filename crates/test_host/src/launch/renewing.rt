@@ -3,9 +3,9 @@
 //! The last 32 digits of a cookie are the secret, which is the number of the request that gave it to the session.
 
 use super::overheard::Overheard;
-use super::{NOW, Row, expect_rows};
+use super::streams::Way;
+use super::{NOW, Row, Table};
 use std::alloc::Global;
-use std::test::Fail;
 use sv_launch::{Applications, Fault, Purpose, deployment_in, once};
 use sv_model::Engine;
 use sv_showcase::showcase;
@@ -19,23 +19,26 @@ servlet = [
 ]
 "#;
 
-static ROWS: [Row; 2] = [
-    Row(
-        "the old secret is turned away, and the new one names the session",
-        "GET /shop/count HTTP/1.1\r\nHost: localhost\r\n\r\nGET /shop/renew HTTP/1.1\r\nHost: localhost\r\nCookie: JSESSIONID=0000000000000000000100000000000000000000000000000001\r\n\r\nGET /shop/count HTTP/1.1\r\nHost: localhost\r\nCookie: JSESSIONID=0000000000000000000100000000000000000000000000000001\r\n\r\nGET /shop/count HTTP/1.1\r\nHost: localhost\r\nCookie: JSESSIONID=0000000000000000000100000000000000000000000000000002\r\n\r\n",
-        "HTTP/1.1 200 OK\r\nDate: Sun, 06 Nov 1994 08:49:37 GMT\r\ncontent-type: text/plain\r\nset-cookie: JSESSIONID=0000000000000000000100000000000000000000000000000001; Path=/shop; HttpOnly\r\nContent-Length: 2\r\n\r\n1\nHTTP/1.1 200 OK\r\nDate: Sun, 06 Nov 1994 08:49:37 GMT\r\ncontent-type: text/plain\r\nset-cookie: JSESSIONID=0000000000000000000100000000000000000000000000000002; Path=/shop; HttpOnly\r\nContent-Length: 8\r\n\r\nrenewed\nHTTP/1.1 200 OK\r\nDate: Sun, 06 Nov 1994 08:49:37 GMT\r\ncontent-type: text/plain\r\nset-cookie: JSESSIONID=0000000000000000000200000000000000000000000000000003; Path=/shop; HttpOnly\r\nContent-Length: 2\r\n\r\n1\nHTTP/1.1 200 OK\r\nDate: Sun, 06 Nov 1994 08:49:37 GMT\r\ncontent-type: text/plain\r\nContent-Length: 2\r\n\r\n2\n",
-    ),
-    Row(
-        "an id is changed once in a request, and not where a session was made",
-        "GET /shop/count HTTP/1.1\r\nHost: localhost\r\n\r\nGET /shop/renew HTTP/1.1\r\nHost: localhost\r\nCookie: JSESSIONID=0000000000000000000100000000000000000000000000000001\r\n\r\nGET /shop/count HTTP/1.1\r\nHost: localhost\r\nCookie: JSESSIONID=0000000000000000000100000000000000000000000000000001\r\n\r\nGET /shop/count HTTP/1.1\r\nHost: localhost\r\nCookie: JSESSIONID=0000000000000000000100000000000000000000000000000002\r\n\r\nGET /shop/renew?twice=1 HTTP/1.1\r\nHost: localhost\r\nCookie: JSESSIONID=0000000000000000000100000000000000000000000000000002\r\n\r\nGET /shop/renew HTTP/1.1\r\nHost: localhost\r\n\r\nGET /shop/renew?make=1 HTTP/1.1\r\nHost: localhost\r\n\r\n",
-        "HTTP/1.1 200 OK\r\nDate: Sun, 06 Nov 1994 08:49:37 GMT\r\ncontent-type: text/plain\r\nset-cookie: JSESSIONID=0000000000000000000100000000000000000000000000000001; Path=/shop; HttpOnly\r\nContent-Length: 2\r\n\r\n1\nHTTP/1.1 200 OK\r\nDate: Sun, 06 Nov 1994 08:49:37 GMT\r\ncontent-type: text/plain\r\nset-cookie: JSESSIONID=0000000000000000000100000000000000000000000000000002; Path=/shop; HttpOnly\r\nContent-Length: 8\r\n\r\nrenewed\nHTTP/1.1 200 OK\r\nDate: Sun, 06 Nov 1994 08:49:37 GMT\r\ncontent-type: text/plain\r\nset-cookie: JSESSIONID=0000000000000000000200000000000000000000000000000003; Path=/shop; HttpOnly\r\nContent-Length: 2\r\n\r\n1\nHTTP/1.1 200 OK\r\nDate: Sun, 06 Nov 1994 08:49:37 GMT\r\ncontent-type: text/plain\r\nContent-Length: 2\r\n\r\n2\nHTTP/1.1 500 Internal Server Error\r\nDate: Sun, 06 Nov 1994 08:49:37 GMT\r\ncontent-type: text/plain\r\nset-cookie: JSESSIONID=0000000000000000000100000000000000000000000000000005; Path=/shop; HttpOnly\r\nContent-Length: 26\r\n\r\n500 Internal Server Error\nHTTP/1.1 500 Internal Server Error\r\nDate: Sun, 06 Nov 1994 08:49:37 GMT\r\ncontent-type: text/plain\r\nContent-Length: 26\r\n\r\n500 Internal Server Error\nHTTP/1.1 500 Internal Server Error\r\nDate: Sun, 06 Nov 1994 08:49:37 GMT\r\ncontent-type: text/plain\r\nset-cookie: JSESSIONID=0000000000000000000300000000000000000000000000000007; Path=/shop; HttpOnly\r\nContent-Length: 26\r\n\r\n500 Internal Server Error\n",
-    ),
-];
+/// Changes of an id, and what isn't one.
+const CHANGES: &str =
+    "GET /shop/count HTTP/1.1\r\nHost: localhost\r\n\r\nGET /shop/renew HTTP/1.1\r\nHost: localhost\r\nCookie: JSESSIONID=0000000000000000000100000000000000000000000000000001\r\n\r\nGET /shop/count HTTP/1.1\r\nHost: localhost\r\nCookie: JSESSIONID=0000000000000000000100000000000000000000000000000001\r\n\r\nGET /shop/count HTTP/1.1\r\nHost: localhost\r\nCookie: JSESSIONID=0000000000000000000100000000000000000000000000000002\r\n\r\nGET /shop/renew?twice=1 HTTP/1.1\r\nHost: localhost\r\nCookie: JSESSIONID=0000000000000000000100000000000000000000000000000002\r\n\r\nGET /shop/renew HTTP/1.1\r\nHost: localhost\r\n\r\nGET /shop/renew?make=1 HTTP/1.1\r\nHost: localhost\r\n\r\n";
 
-#[test]
-fn ids_change(rt: HostRuntime) -> Result<(), Fail> {
-    expect_rows(&rt, RENEWING, &ROWS)
-}
+pub static TABLES: [Table; 1] = [Table {
+    descriptor: RENEWING,
+    way: Way::Whole,
+    rows: &[
+        Row(
+            "the old secret is turned away, and the new one names the session",
+            "GET /shop/count HTTP/1.1\r\nHost: localhost\r\n\r\nGET /shop/renew HTTP/1.1\r\nHost: localhost\r\nCookie: JSESSIONID=0000000000000000000100000000000000000000000000000001\r\n\r\nGET /shop/count HTTP/1.1\r\nHost: localhost\r\nCookie: JSESSIONID=0000000000000000000100000000000000000000000000000001\r\n\r\nGET /shop/count HTTP/1.1\r\nHost: localhost\r\nCookie: JSESSIONID=0000000000000000000100000000000000000000000000000002\r\n\r\n",
+            "HTTP/1.1 200 OK\r\nDate: Sun, 06 Nov 1994 08:49:37 GMT\r\ncontent-type: text/plain\r\nset-cookie: JSESSIONID=0000000000000000000100000000000000000000000000000001; Path=/shop; HttpOnly\r\nContent-Length: 2\r\n\r\n1\nHTTP/1.1 200 OK\r\nDate: Sun, 06 Nov 1994 08:49:37 GMT\r\ncontent-type: text/plain\r\nset-cookie: JSESSIONID=0000000000000000000100000000000000000000000000000002; Path=/shop; HttpOnly\r\nContent-Length: 8\r\n\r\nrenewed\nHTTP/1.1 200 OK\r\nDate: Sun, 06 Nov 1994 08:49:37 GMT\r\ncontent-type: text/plain\r\nset-cookie: JSESSIONID=0000000000000000000200000000000000000000000000000003; Path=/shop; HttpOnly\r\nContent-Length: 2\r\n\r\n1\nHTTP/1.1 200 OK\r\nDate: Sun, 06 Nov 1994 08:49:37 GMT\r\ncontent-type: text/plain\r\nContent-Length: 2\r\n\r\n2\n",
+        ),
+        Row(
+            "an id is changed once in a request, and not where a session was made",
+            CHANGES,
+            "HTTP/1.1 200 OK\r\nDate: Sun, 06 Nov 1994 08:49:37 GMT\r\ncontent-type: text/plain\r\nset-cookie: JSESSIONID=0000000000000000000100000000000000000000000000000001; Path=/shop; HttpOnly\r\nContent-Length: 2\r\n\r\n1\nHTTP/1.1 200 OK\r\nDate: Sun, 06 Nov 1994 08:49:37 GMT\r\ncontent-type: text/plain\r\nset-cookie: JSESSIONID=0000000000000000000100000000000000000000000000000002; Path=/shop; HttpOnly\r\nContent-Length: 8\r\n\r\nrenewed\nHTTP/1.1 200 OK\r\nDate: Sun, 06 Nov 1994 08:49:37 GMT\r\ncontent-type: text/plain\r\nset-cookie: JSESSIONID=0000000000000000000200000000000000000000000000000003; Path=/shop; HttpOnly\r\nContent-Length: 2\r\n\r\n1\nHTTP/1.1 200 OK\r\nDate: Sun, 06 Nov 1994 08:49:37 GMT\r\ncontent-type: text/plain\r\nContent-Length: 2\r\n\r\n2\nHTTP/1.1 500 Internal Server Error\r\nDate: Sun, 06 Nov 1994 08:49:37 GMT\r\ncontent-type: text/plain\r\nset-cookie: JSESSIONID=0000000000000000000100000000000000000000000000000005; Path=/shop; HttpOnly\r\nContent-Length: 26\r\n\r\n500 Internal Server Error\nHTTP/1.1 500 Internal Server Error\r\nDate: Sun, 06 Nov 1994 08:49:37 GMT\r\ncontent-type: text/plain\r\nContent-Length: 26\r\n\r\n500 Internal Server Error\nHTTP/1.1 500 Internal Server Error\r\nDate: Sun, 06 Nov 1994 08:49:37 GMT\r\ncontent-type: text/plain\r\nset-cookie: JSESSIONID=0000000000000000000300000000000000000000000000000007; Path=/shop; HttpOnly\r\nContent-Length: 26\r\n\r\n500 Internal Server Error\n",
+        ),
+    ],
+}];
 
 /// A stream of requests, whose events are noted.
 #[derive(Drop)]
@@ -59,29 +62,19 @@ impl Purpose for Overhearing<'_> {
     }
 }
 
-/// What is noted of the events of a stream.
-fn overheard(alloc: Global, input: &str) -> Result<String, Fault> {
+/// What is noted of the events of those changes.
+pub fn told(alloc: Global) -> Result<String, Fault> {
     let mut noted = String::new(alloc);
     let deployment = deployment_in(alloc, RENEWING)?;
-    showcase(alloc).start(
-        alloc,
-        deployment,
-        Overhearing {
-            input,
-            noted: &mut noted,
-        },
-    )?;
+    let purpose = Overhearing {
+        input: CHANGES,
+        noted: &mut noted,
+    };
+    showcase(alloc).start(alloc, deployment, purpose)?;
     Ok(noted)
 }
 
 /// The events of the second row, request by request: the id of the session 1 is changed from the secret 1, then from the secret 2;
 /// one that is refused, and a second change, tell nothing.
-const EVENTS: &str =
+pub const EVENTS: &str =
     "in created:1 added:count out ;in changed:1/1 out ;in created:2 added:count out ;in replaced:count out ;in changed:1/2 out ;in out ;in created:3 out ;";
-
-#[test]
-fn a_change_is_told_once(rt: HostRuntime) -> Result<(), Fail> {
-    let Row(_, input, _) = &ROWS[1];
-    assert_eq!(rt; overheard(rt.alloc(), input)?.as_str(), EVENTS);
-    Ok(())
-}

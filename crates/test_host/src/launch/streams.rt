@@ -1,49 +1,89 @@
 //! Readers that give little or fail, and writers that fail.
 
-use super::serve;
-use std::alloc::Global;
+use super::{Row, Table};
+use crate::expect::push_bytes;
+use std::alloc::{AllocError, Global};
 use std::io;
 use std::io::{ErrorKind, Read, Write};
-use std::test::Fail;
-use sv_launch::{Fault, deployment_in};
+use sv_launch::Fault;
 use sv_showcase::BUILT_IN;
 
-const REQUEST: &str = "GET /shop/hello HTTP/1.1\r\nHost: localhost\r\n\r\n";
+/// How a stream is read and written.
+#[derive(Clone, Copy)]
+pub enum Way {
+    Whole,
+    /// A byte at a time is read.
+    Dribbling,
+    /// Reading fails behind the last byte.
+    Broken,
+    /// Nothing can be written.
+    Shut,
+}
 
-const HELLO: &str =
-    "HTTP/1.1 200 OK\r\nDate: Sun, 06 Nov 1994 08:49:37 GMT\r\ncontent-type: text/plain\r\nContent-Length: 6\r\n\r\nHello\n";
-
-/// Gives a byte at a time.
+/// A stream that is read.
 #[derive(Drop)]
-struct Dribbling<'a>(&'a [u8]);
+pub struct Input<'a> {
+    rest: &'a [u8],
+    /// So many bytes are given at once at most.
+    most: usize,
+    is_broken: bool,
+}
 
-impl Read for Dribbling<'_> {
-    fn read(&mut self, buf: &mut [u8]) -> io::Result<usize> {
-        let most = buf.len().min(1);
-        self.0.read(&mut buf[..most])
+impl<'a> Input<'a> {
+    pub fn new(text: &'a str, way: Way) -> Input<'a> {
+        Input {
+            rest: text.as_bytes(),
+            most: match way {
+                Way::Dribbling => 1,
+                _ => usize::MAX,
+            },
+            is_broken: matches!(way, Way::Broken),
+        }
     }
 }
 
-/// Gives its bytes and then fails.
-#[derive(Drop)]
-struct Failing<'a>(&'a [u8]);
-
-impl Read for Failing<'_> {
+impl Read for Input<'_> {
     fn read(&mut self, buf: &mut [u8]) -> io::Result<usize> {
-        if self.0.is_empty() {
+        if self.is_broken && self.rest.is_empty() {
             return Err(ErrorKind::ConnectionReset.into());
         }
-        self.0.read(buf)
+        let most = buf.len().min(self.most);
+        self.rest.read(&mut buf[..most])
     }
 }
 
-/// Takes nothing.
+/// What is written for a stream, as text.
 #[derive(Drop)]
-struct Shut;
+pub struct Output {
+    text: String,
+    is_shut: bool,
+}
 
-impl Write for Shut {
-    fn write(&mut self, _buf: &[u8]) -> io::Result<usize> {
-        Err(ErrorKind::BrokenPipe.into())
+impl Output {
+    pub fn new(alloc: Global, way: Way) -> Output {
+        Output {
+            text: String::new(alloc),
+            is_shut: matches!(way, Way::Shut),
+        }
+    }
+
+    /// All that was written, with the fault behind it that has ended the stream, and its exit status.
+    pub fn ended(self, end: Result<(), Fault>) -> Result<String, AllocError> {
+        let Output { mut text, .. } = self;
+        if let Err(fault) = end {
+            write!(text, "{fault} {}", fault.status())?;
+        }
+        Ok(text)
+    }
+}
+
+impl Write for Output {
+    fn write(&mut self, buf: &[u8]) -> io::Result<usize> {
+        if self.is_shut {
+            return Err(ErrorKind::BrokenPipe.into());
+        }
+        push_bytes(&mut self.text, buf)?;
+        Ok(buf.len())
     }
 
     fn flush(&mut self) -> io::Result<()> {
@@ -51,40 +91,32 @@ impl Write for Shut {
     }
 }
 
-/// Serves a stream by the built-in deployment.
-fn served<R: Read, W: Write>(alloc: Global, reader: &mut R, writer: &mut W) -> Result<(), Fault> {
-    let deployment = deployment_in(alloc, BUILT_IN)?;
-    serve(alloc, deployment, reader, writer)
-}
-
-/// How a stream ends, and whether just this was written for it.
-fn ended<R: Read>(alloc: Global, reader: &mut R, want: &str) -> (Result<(), Fault>, bool) {
-    let mut writer = Vec::new(alloc);
-    let ended = served(alloc, reader, &mut writer);
-    (ended, writer.as_slice() == want.as_bytes())
-}
-
-#[test]
-fn a_reader_that_gives_little(rt: HostRuntime) -> Result<(), Fail> {
-    let alloc = rt.alloc();
-    let two = format!(in alloc; "{REQUEST}{REQUEST}")?;
-    let answers = format!(in alloc; "{HELLO}{HELLO}")?;
-    let mut reader = Dribbling(two.as_bytes());
-    assert_eq!(rt; ended(alloc, &mut reader, &answers), (Ok(()), true));
-    Ok(())
-}
-
-#[test]
-fn a_reader_that_fails(rt: HostRuntime) -> Result<(), Fail> {
-    let mut reader = Failing(REQUEST.as_bytes());
-    let ended = ended(rt.alloc(), &mut reader, HELLO);
-    assert_eq!(rt; ended, (Err(Fault::Input), true));
-    Ok(())
-}
-
-#[test]
-fn a_writer_that_fails(rt: HostRuntime) -> Result<(), Fail> {
-    let ended = served(rt.alloc(), &mut REQUEST.as_bytes(), &mut Shut);
-    assert_eq!(rt; ended, Err(Fault::Output));
-    Ok(())
-}
+pub static TABLES: [Table; 3] = [
+    Table {
+        descriptor: BUILT_IN,
+        way: Way::Dribbling,
+        rows: &[Row(
+            "a reader that gives a byte at a time",
+            "GET /shop/hello HTTP/1.1\r\nHost: localhost\r\n\r\nGET /shop/hello HTTP/1.1\r\nHost: localhost\r\n\r\n",
+            "HTTP/1.1 200 OK\r\nDate: Sun, 06 Nov 1994 08:49:37 GMT\r\ncontent-type: text/plain\r\nContent-Length: 6\r\n\r\nHello\nHTTP/1.1 200 OK\r\nDate: Sun, 06 Nov 1994 08:49:37 GMT\r\ncontent-type: text/plain\r\nContent-Length: 6\r\n\r\nHello\n",
+        )],
+    },
+    Table {
+        descriptor: BUILT_IN,
+        way: Way::Broken,
+        rows: &[Row(
+            "a reader that fails",
+            "GET /shop/hello HTTP/1.1\r\nHost: localhost\r\n\r\n",
+            "HTTP/1.1 200 OK\r\nDate: Sun, 06 Nov 1994 08:49:37 GMT\r\ncontent-type: text/plain\r\nContent-Length: 6\r\n\r\nHello\nInput 5",
+        )],
+    },
+    Table {
+        descriptor: BUILT_IN,
+        way: Way::Shut,
+        rows: &[Row(
+            "a writer that fails",
+            "GET /shop/hello HTTP/1.1\r\nHost: localhost\r\n\r\n",
+            "Output 5",
+        )],
+    },
+];

@@ -1,209 +1,177 @@
 //! The words of the command line.
 
 use super::NOW;
-use std::alloc::Global;
+use std::alloc::{AllocError, Global};
+use std::process::Abort;
 use std::test::Fail;
 use sv_launch::{Arguments, NodeWords, Options, Words, read_words};
 use sv_net::Persistence;
 
-/// Three words, and what they ask for.
-struct Line([&'static str; 3], Result<Words<'static>, Arguments>);
+/// What words ask for.
+#[derive(Clone, Copy)]
+enum Meant {
+    Nothing,
+    Program(Words<'static>),
+    /// Node 7 with the config `c` and the journal `j`.
+    Node(Options<'static>),
+}
 
-static LINES: [Line; 8] = [
+/// Words, and what they ask for.
+struct Line(&'static [&'static str], Meant);
+
+/// What is asked of the program itself: with a word more it is nothing.
+static SINGLE: [Line; 12] = [
+    Line(&["--help"], Meant::Program(Words::Help)),
+    Line(&["--help", "-"], Meant::Nothing),
+    Line(&["-h"], Meant::Program(Words::Help)),
+    Line(&["-h", "-"], Meant::Nothing),
+    Line(&["--version"], Meant::Program(Words::Version)),
+    Line(&["--version", "-"], Meant::Nothing),
+    Line(&["-V"], Meant::Program(Words::Version)),
+    Line(&["-V", "-"], Meant::Nothing),
+    Line(&["-v"], Meant::Nothing),
+    Line(&["-v", "-"], Meant::Nothing),
+    Line(&["--once"], Meant::Nothing),
+    Line(&["--once", "-"], Meant::Nothing),
+];
+
+/// Three words, of which two are too few and five too many.
+static LINES: [Line; 14] = [
     Line(
-        ["--once", "-", "784111777"],
-        Ok(Words::Once {
+        &["--once", "-", "784111777"],
+        Meant::Program(Words::Once {
             config: "-",
             now: NOW,
         }),
     ),
     Line(
-        ["--once", "a.toml", "18446744073709551615"],
-        Ok(Words::Once {
+        &["--once", "a.toml", "18446744073709551615"],
+        Meant::Program(Words::Once {
             config: "a.toml",
             now: u64::MAX,
         }),
     ),
-    Line(["--once", "-", "18446744073709551616"], Err(Arguments)),
-    Line(["--once", "-", "+1"], Err(Arguments)),
-    Line(["--once", "-", ""], Err(Arguments)),
-    Line(["--once", "-", "1 "], Err(Arguments)),
-    Line(
-        ["c", "j", "7"],
-        Ok(Words::Node(NodeWords {
-            options: Options::NONE,
-            config: "c",
-            journal: "j",
-            number: 7,
-        })),
-    ),
-    Line(["c", "j", "256"], Err(Arguments)),
+    Line(&["--once", "a.toml"], Meant::Nothing),
+    Line(&["--once", "-", "18446744073709551616"], Meant::Nothing),
+    Line(&["--once", "-", "+1"], Meant::Nothing),
+    Line(&["--once", "-", ""], Meant::Nothing),
+    Line(&["--once", "-", "1 "], Meant::Nothing),
+    Line(&["c", "j"], Meant::Nothing),
+    Line(&["c", "j", "7"], Meant::Node(Options::NONE)),
+    Line(&["c", "j", "256"], Meant::Nothing),
+    Line(&["--keep-alive", "c", "j", "7"], Meant::Node(KEPT)),
+    Line(&["--keep-alive", "c", "j", "7", "8"], Meant::Nothing),
+    Line(&["--once", "c", "j", "7"], Meant::Nothing),
+    Line(&["--once", "c", "j", "7", "8"], Meant::Nothing),
 ];
 
-fn owned(alloc: Global, words: [&str; 3]) -> Result<Vec<String>, Fail> {
-    let mut list = Vec::new(alloc);
-    for word in words {
-        list.push(String::from_str(alloc, word)?)?;
-    }
-    Ok(list)
-}
+const KEPT: Options<'static> = Options {
+    persistence: Persistence::Kept,
+    log: None,
+    metrics: None,
+};
 
-#[test]
-fn words(rt: HostRuntime) -> Result<(), Fail> {
-    for Line(words, meant) in &LINES {
-        let mut list = owned(rt.alloc(), *words)?;
-        assert!(rt; read_words(list.as_slice()) == *meant, "{words:?}");
-        list.truncate(2);
-        assert!(rt; read_words(list.as_slice()) == Err(Arguments));
-    }
-    Ok(())
-}
-
-/// One word, and what it asks of the program itself.
-static SINGLE: [(&str, Result<Words<'static>, Arguments>); 6] = [
-    ("--help", Ok(Words::Help)),
-    ("-h", Ok(Words::Help)),
-    ("--version", Ok(Words::Version)),
-    ("-V", Ok(Words::Version)),
-    ("-v", Err(Arguments)),
-    ("--once", Err(Arguments)),
-];
-
-/// Whether words ask for this.
-fn ask_for(list: &[String], meant: Result<Words<'static>, Arguments>) -> bool {
-    read_words(list) == meant
-}
-
-/// One word more behind them.
-fn add_word(alloc: Global, list: &mut Vec<String>, word: &str) -> Result<(), Fail> {
-    let word = String::from_str(alloc, word)?;
-    Ok(list.push(word)?)
-}
-
-/// Whether a word asks for this, and with another one behind it for nothing.
-fn asks_alone(
-    alloc: Global,
-    list: &mut Vec<String>,
-    word: &str,
-    meant: Result<Words<'static>, Arguments>,
-) -> Result<bool, Fail> {
-    add_word(alloc, list, word)?;
-    let is_so = ask_for(list, meant);
-    add_word(alloc, list, "-")?;
-    Ok(is_so && ask_for(list, Err(Arguments)))
-}
-
-#[test]
-fn one_word(rt: HostRuntime) -> Result<(), Fail> {
-    for (word, meant) in &SINGLE {
-        let mut list = Vec::new(rt.alloc());
-        assert!(rt; asks_alone(rt.alloc(), &mut list, word, *meant)?, "{word}");
-    }
-    Ok(())
-}
-
-/// A fourth word in front, and what it has the words of a node ask for.
-static FRONTS: [(&str, Result<Words<'static>, Arguments>); 2] = [
-    (
-        "--keep-alive",
-        Ok(Words::Node(NodeWords {
-            options: Options {
-                persistence: Persistence::Kept,
-                log: None,
-                metrics: None,
-            },
-            config: "c",
-            journal: "j",
-            number: 7,
-        })),
-    ),
-    ("--once", Err(Arguments)),
-];
-
-/// Whether a word in front of them has words ask for this, and with one more behind them for nothing.
-fn asks_in_front(
-    alloc: Global,
-    list: &mut Vec<String>,
-    front: &str,
-    meant: Result<Words<'static>, Arguments>,
-) -> Result<bool, Fail> {
-    let front = String::from_str(alloc, front)?;
-    list.insert(0, front)?;
-    let is_so = ask_for(list, meant);
-    add_word(alloc, list, "8")?;
-    Ok(is_so && ask_for(list, Err(Arguments)))
-}
-
-#[test]
-fn a_word_in_front(rt: HostRuntime) -> Result<(), Fail> {
-    for (front, meant) in &FRONTS {
-        let mut list = owned(rt.alloc(), ["c", "j", "7"])?;
-        assert!(rt;
-            asks_in_front(rt.alloc(), &mut list, front, *meant)?,
-            "{front}"
-        );
-    }
-    Ok(())
-}
-
-/// Options before the words `c j 7`, and how the node then runs; none where the words ask for nothing.
-struct Before(&'static [&'static str], Option<Options<'static>>);
-
-const LOGGED: Option<Options<'static>> = Some(Options {
+const LOGGED: Options<'static> = Options {
     persistence: Persistence::Single,
     log: Some("l"),
     metrics: None,
-});
+};
 
-const COUNTED: Option<Options<'static>> = Some(Options {
+const COUNTED: Options<'static> = Options {
     persistence: Persistence::Single,
     log: None,
     metrics: Some("m"),
-});
+};
 
-const ALL: Option<Options<'static>> = Some(Options {
+const ALL: Options<'static> = Options {
     persistence: Persistence::Kept,
     log: Some("l"),
     metrics: Some("m"),
-});
+};
 
-/// In any order, three at most, and of two equal ones the last one counts. What stands behind `--log` and `--metrics` is a path,
-/// whatever it is.
-static OPTIONS: [Before; 8] = [
-    Before(&["--log", "l"], LOGGED),
-    Before(&["--metrics", "m"], COUNTED),
-    Before(&["--log", "l", "--metrics", "m", "--keep-alive"], ALL),
-    Before(&["--keep-alive", "--metrics", "m", "--log", "l"], ALL),
-    Before(&["--log", "--log", "--log", "l"], LOGGED),
-    Before(&["--log"], None),
-    Before(&["l", "--log"], None),
-    Before(
-        &["--log", "x", "--log", "x", "--log", "x", "--log", "l"],
-        None,
+/// Options in any order, three at most, and of two equal ones the last one counts. What stands behind `--log` and `--metrics` is a
+/// path, whatever it is.
+static OPTIONS: [Line; 8] = [
+    Line(&["--log", "l", "c", "j", "7"], Meant::Node(LOGGED)),
+    Line(&["--metrics", "m", "c", "j", "7"], Meant::Node(COUNTED)),
+    Line(
+        &[
+            "--log",
+            "l",
+            "--metrics",
+            "m",
+            "--keep-alive",
+            "c",
+            "j",
+            "7",
+        ],
+        Meant::Node(ALL),
+    ),
+    Line(
+        &[
+            "--keep-alive",
+            "--metrics",
+            "m",
+            "--log",
+            "l",
+            "c",
+            "j",
+            "7",
+        ],
+        Meant::Node(ALL),
+    ),
+    Line(
+        &["--log", "--log", "--log", "l", "c", "j", "7"],
+        Meant::Node(LOGGED),
+    ),
+    Line(&["--log", "c", "j", "7"], Meant::Nothing),
+    Line(&["l", "--log", "c", "j", "7"], Meant::Nothing),
+    Line(
+        &[
+            "--log", "x", "--log", "x", "--log", "x", "--log", "l", "c", "j", "7",
+        ],
+        Meant::Nothing,
     ),
 ];
 
-/// These words, and `c j 7` behind them.
-fn with_node(alloc: Global, before: &[&str]) -> Result<Vec<String>, Fail> {
-    let mut list = Vec::new(alloc);
-    for word in before {
-        list.push(String::from_str(alloc, *word)?)?;
+/// What is read of words that mean this.
+fn read_of(meant: Meant) -> Result<Words<'static>, Arguments> {
+    match meant {
+        Meant::Nothing => Err(Arguments),
+        Meant::Program(words) => Ok(words),
+        Meant::Node(options) => Ok(Words::Node(NodeWords {
+            options,
+            config: "c",
+            journal: "j",
+            number: 7,
+        })),
     }
-    for word in ["c", "j", "7"] {
-        list.push(String::from_str(alloc, word)?)?;
+}
+
+fn owned(alloc: Global, words: &[&str]) -> Result<Vec<String>, AllocError> {
+    let mut list = Vec::new(alloc);
+    for word in words {
+        list.push(String::from_str(alloc, *word)?)?;
     }
     Ok(list)
 }
 
-#[test]
-fn options(rt: HostRuntime) -> Result<(), Fail> {
-    for Before(before, meant) in &OPTIONS {
-        let list = with_node(rt.alloc(), *before)?;
-        let found = match read_words(list.as_slice()) {
-            Ok(Words::Node(node)) => Some(node.options),
-            _ => None,
-        };
-        assert!(rt; found == *meant, "{before:?}");
+/// Whether words ask for this.
+fn ask_for(alloc: Global, words: &[&str], meant: Meant) -> Result<bool, AllocError> {
+    let list = owned(alloc, words)?;
+    Ok(read_words(list.as_slice()) == read_of(meant))
+}
+
+fn expect_lines(rt: &(impl Abort + AllocGlobal), lines: &[Line]) -> Result<(), Fail> {
+    for Line(words, meant) in lines {
+        assert!(rt; ask_for(rt.alloc(), words, *meant)?, "{words:?}");
     }
     Ok(())
+}
+
+#[test]
+fn words_ask_for_what_they_should(rt: HostRuntime) -> Result<(), Fail> {
+    expect_lines(&rt, &SINGLE)?;
+    expect_lines(&rt, &LINES)?;
+    expect_lines(&rt, &OPTIONS)
 }

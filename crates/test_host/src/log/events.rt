@@ -1,202 +1,142 @@
-//! What each line says.
+//! What happens at a node: the line of each event behind the time.
 
-use std::alloc::Global;
-use std::test::Fail;
-use sv_log::{Event, Level, Loss, Phase};
+use super::texts::{Row, Said};
+use sv_log::{Event, Loss, Phase};
 use sv_model::{Cause, Key, MoveRefusal};
 
-/// An event, its level, and its line behind the level.
-struct Row(Event, Option<Level>, &'static str);
-
-const REFUSALS: [Row; 7] = [
+/// An event, and its level and its line; those that have no level happen all the time, and no log has them.
+pub static EVENTS: [Row; 27] = [
     Row(
-        Event::Refused {
+        Said::Event(Event::Refused {
             cause: Cause::ParkFull,
             number: 1,
-        },
-        Some(Level::Warn),
-        "request_refused cause=ParkFull number=1",
+        }),
+        "warn request_refused cause=ParkFull number=1",
     ),
     Row(
-        Event::Refused {
+        Said::Event(Event::Refused {
             cause: Cause::Deadline,
             number: u64::MAX,
-        },
-        Some(Level::Warn),
-        "request_refused cause=Deadline number=18446744073709551615",
+        }),
+        "warn request_refused cause=Deadline number=18446744073709551615",
     ),
     Row(
-        Event::Refused {
+        Said::Event(Event::Refused {
             cause: Cause::TableFull,
             number: 2,
-        },
-        Some(Level::Warn),
-        "request_refused cause=TableFull number=2",
+        }),
+        "warn request_refused cause=TableFull number=2",
     ),
     Row(
-        Event::Refused {
+        Said::Event(Event::Refused {
             cause: Cause::SerialsSpent,
             number: 2,
-        },
-        Some(Level::Warn),
-        "request_refused cause=SerialsSpent number=2",
+        }),
+        "warn request_refused cause=SerialsSpent number=2",
     ),
     Row(
-        Event::Refused {
+        Said::Event(Event::Refused {
             cause: Cause::WantsSpent,
             number: 2,
-        },
-        Some(Level::Warn),
-        "request_refused cause=WantsSpent number=2",
+        }),
+        "warn request_refused cause=WantsSpent number=2",
     ),
     Row(
-        Event::Refused {
+        Said::Event(Event::Refused {
             cause: Cause::JournalFull,
             number: 2,
-        },
-        Some(Level::Warn),
-        "request_refused cause=JournalFull number=2",
+        }),
+        "warn request_refused cause=JournalFull number=2",
     ),
     Row(
-        Event::Refused {
+        Said::Event(Event::Refused {
             cause: Cause::Memory,
             number: 2,
-        },
-        Some(Level::Warn),
-        "request_refused cause=Memory number=2",
+        }),
+        "warn request_refused cause=Memory number=2",
     ),
-];
-
-const CLIENTS: [Row; 6] = [
-    Row(Event::Accepted, None, "accepted"),
-    Row(Event::Answered { class: 2 }, None, "answered class=2"),
+    Row(Said::Event(Event::Accepted), "- accepted"),
     Row(
-        Event::BadRequest { fault: "BadHost" },
-        Some(Level::Warn),
-        "bad_request fault=BadHost",
+        Said::Event(Event::Answered { class: 2 }),
+        "- answered class=2",
     ),
     Row(
-        Event::GaveWay {
+        Said::Event(Event::BadRequest { fault: "BadHost" }),
+        "warn bad_request fault=BadHost",
+    ),
+    Row(
+        Said::Event(Event::GaveWay {
             phase: Phase::Resting,
-        },
-        Some(Level::Warn),
-        "client_gave_way phase=resting",
+        }),
+        "warn client_gave_way phase=resting",
     ),
     Row(
-        Event::Late {
+        Said::Event(Event::Late {
             phase: Phase::Asking,
-        },
-        Some(Level::Warn),
-        "client_late phase=asking",
+        }),
+        "warn client_late phase=asking",
     ),
-    Row(Event::NoRoom, Some(Level::Warn), "no_room"),
-];
-
-const PEERS: [Row; 9] = [
-    Row(Event::PacketSent { to: 7 }, None, "packet_sent to=7"),
+    Row(Said::Event(Event::NoRoom), "warn no_room"),
     Row(
-        Event::PacketLost {
+        Said::Event(Event::PacketSent { to: 7 }),
+        "- packet_sent to=7",
+    ),
+    Row(
+        Said::Event(Event::PacketLost {
             to: 1,
             why: Loss::Broken,
-        },
-        Some(Level::Warn),
-        "packet_lost to=1 why=Broken",
+        }),
+        "warn packet_lost to=1 why=Broken",
     ),
     Row(
-        Event::PeerSilent { node: 1 },
-        Some(Level::Warn),
-        "peer_silent node=1",
+        Said::Event(Event::PeerSilent { node: 1 }),
+        "warn peer_silent node=1",
     ),
     Row(
-        Event::PeerAnswers { node: 1 },
-        Some(Level::Info),
-        "peer_answers node=1",
+        Said::Event(Event::PeerAnswers { node: 1 }),
+        "info peer_answers node=1",
     ),
     Row(
-        Event::MoveOrdered {
+        Said::Event(Event::MoveOrdered {
             key: Key {
                 home: 3,
                 serial: 41,
             },
             to: 2,
-        },
-        Some(Level::Info),
-        "move_ordered key=3.41 to=2",
+        }),
+        "info move_ordered key=3.41 to=2",
     ),
-    Row(Event::Moved, Some(Level::Info), "moved"),
+    Row(Said::Event(Event::Moved), "info moved"),
     Row(
-        Event::MoveRefused {
+        Said::Event(Event::MoveRefused {
             why: MoveRefusal::NotActive,
-        },
-        Some(Level::Warn),
-        "move_refused why=NotActive",
+        }),
+        "warn move_refused why=NotActive",
     ),
-    Row(Event::HaltOrdered, Some(Level::Info), "halt_ordered"),
+    Row(Said::Event(Event::HaltOrdered), "info halt_ordered"),
     Row(
-        Event::OrderRefused {
+        Said::Event(Event::OrderRefused {
             cause: Cause::Memory,
-        },
-        Some(Level::Warn),
-        "order_refused cause=Memory",
+        }),
+        "warn order_refused cause=Memory",
     ),
-];
-
-const JOURNAL: [Row; 5] = [
     Row(
-        Event::LeftOut {
+        Said::Event(Event::LeftOut {
             cause: Cause::JournalFull,
-        },
-        Some(Level::Warn),
-        "input_left_out cause=JournalFull",
+        }),
+        "warn input_left_out cause=JournalFull",
     ),
-    Row(Event::Group { steps: 64 }, None, "group steps=64"),
+    Row(Said::Event(Event::Group { steps: 64 }), "- group steps=64"),
     Row(
-        Event::Compacted {
+        Said::Event(Event::Compacted {
             before: 4194305,
             after: 70,
-        },
-        Some(Level::Info),
-        "compacted before=4194305 after=70",
+        }),
+        "info compacted before=4194305 after=70",
     ),
     Row(
-        Event::NotCompacted { bytes: 4194305 },
-        Some(Level::Warn),
-        "not_compacted bytes=4194305",
+        Said::Event(Event::NotCompacted { bytes: 4194305 }),
+        "warn not_compacted bytes=4194305",
     ),
-    Row(Event::NoFigures, Some(Level::Warn), "figures_unwritten"),
+    Row(Said::Event(Event::NoFigures), "warn figures_unwritten"),
 ];
-
-/// The line of the first row that is shown otherwise, or with another level.
-fn wrong(alloc: Global, rows: &[Row]) -> Result<Option<&'static str>, Fail> {
-    for Row(event, level, text) in rows {
-        let line = event.to_string(alloc)?;
-        if line.as_str() != *text || event.level() != *level {
-            return Ok(Some(*text));
-        }
-    }
-    Ok(None)
-}
-
-#[test]
-fn refusals(rt: HostRuntime) -> Result<(), Fail> {
-    assert_eq!(rt; wrong(rt.alloc(), &REFUSALS)?, None);
-    Ok(())
-}
-
-#[test]
-fn clients(rt: HostRuntime) -> Result<(), Fail> {
-    assert_eq!(rt; wrong(rt.alloc(), &CLIENTS)?, None);
-    Ok(())
-}
-
-#[test]
-fn peers(rt: HostRuntime) -> Result<(), Fail> {
-    assert_eq!(rt; wrong(rt.alloc(), &PEERS)?, None);
-    Ok(())
-}
-
-#[test]
-fn journal(rt: HostRuntime) -> Result<(), Fail> {
-    assert_eq!(rt; wrong(rt.alloc(), &JOURNAL)?, None);
-    Ok(())
-}

@@ -1,120 +1,128 @@
 //! The text of the figures.
 
-use crate::files::new_path;
-use std::fs;
+use std::alloc::{AllocError, Global};
+use std::process::Abort;
 use std::test::Fail;
-use sv_log::{Census, Event, Figures, Gauges, Loss, Phase, Report};
+use sv_log::{Census, Event, Figures, Gauges, Loss, Phase};
 use sv_model::{Cause, Key};
 
-/// What has happened at a node, and the line of the figures that tells of it.
-const ROWS: [(Event, &str); 14] = [
-    (
-        Event::Answered { class: 5 },
-        "kegbramble_requests_total{node=\"3\",class=\"5xx\"} 1",
+/// What is counted.
+#[derive(Clone, Copy)]
+enum Counted {
+    Event(Event),
+    /// A write took so many nanoseconds.
+    Write(u64),
+}
+
+/// What has happened at a node, and the lines of the figures that tell of it.
+struct Row(&'static [Counted], &'static str);
+
+/// Each event counts in its own figure.
+static ROWS: [Row; 17] = [
+    Row(
+        &[Counted::Event(Event::Answered { class: 5 })],
+        "\nkegbramble_requests_total{node=\"3\",class=\"5xx\"} 1\n",
     ),
-    (
-        Event::Answered { class: 1 },
-        "kegbramble_requests_total{node=\"3\",class=\"1xx\"} 1",
+    Row(
+        &[Counted::Event(Event::Answered { class: 1 })],
+        "\nkegbramble_requests_total{node=\"3\",class=\"1xx\"} 1\n",
     ),
-    (
-        Event::Refused {
+    Row(
+        &[Counted::Event(Event::Refused {
             cause: Cause::ParkFull,
             number: 9,
-        },
-        "kegbramble_requests_refused_total{node=\"3\",cause=\"ParkFull\"} 1",
+        })],
+        "\nkegbramble_requests_refused_total{node=\"3\",cause=\"ParkFull\"} 1\n",
     ),
-    (
-        Event::Refused {
+    Row(
+        &[Counted::Event(Event::Refused {
             cause: Cause::Memory,
             number: 9,
-        },
-        "kegbramble_requests_refused_total{node=\"3\",cause=\"Memory\"} 1",
+        })],
+        "\nkegbramble_requests_refused_total{node=\"3\",cause=\"Memory\"} 1\n",
     ),
-    (
-        Event::PacketLost {
+    Row(
+        &[Counted::Event(Event::PacketLost {
             to: 1,
             why: Loss::GaveWay,
-        },
-        "kegbramble_packets_lost_total{node=\"3\",cause=\"GaveWay\"} 1",
+        })],
+        "\nkegbramble_packets_lost_total{node=\"3\",cause=\"GaveWay\"} 1\n",
     ),
-    (
-        Event::PacketSent { to: 1 },
-        "kegbramble_packets_sent_total{node=\"3\"} 1",
+    Row(
+        &[Counted::Event(Event::PacketSent { to: 1 })],
+        "\nkegbramble_packets_sent_total{node=\"3\"} 1\n",
     ),
-    (
-        Event::BadRequest { fault: "BadHost" },
-        "kegbramble_bad_requests_total{node=\"3\"} 1",
+    Row(
+        &[Counted::Event(Event::BadRequest { fault: "BadHost" })],
+        "\nkegbramble_bad_requests_total{node=\"3\"} 1\n",
     ),
-    (
-        Event::Accepted,
-        "kegbramble_connections_accepted_total{node=\"3\"} 1",
+    Row(
+        &[Counted::Event(Event::Accepted)],
+        "\nkegbramble_connections_accepted_total{node=\"3\"} 1\n",
     ),
-    (
-        Event::GaveWay { phase: Phase::New },
-        "kegbramble_connections_gave_way_total{node=\"3\"} 1",
+    Row(
+        &[Counted::Event(Event::GaveWay { phase: Phase::New })],
+        "\nkegbramble_connections_gave_way_total{node=\"3\"} 1\n",
     ),
-    (
-        Event::Late { phase: Phase::New },
-        "kegbramble_connections_late_total{node=\"3\"} 1",
+    Row(
+        &[Counted::Event(Event::Late { phase: Phase::New })],
+        "\nkegbramble_connections_late_total{node=\"3\"} 1\n",
     ),
-    (
-        Event::MoveOrdered {
+    Row(
+        &[Counted::Event(Event::MoveOrdered {
             key: Key { home: 0, serial: 1 },
             to: 2,
-        },
-        "kegbramble_moves_ordered_total{node=\"3\"} 1",
+        })],
+        "\nkegbramble_moves_ordered_total{node=\"3\"} 1\n",
     ),
-    (Event::Moved, "kegbramble_moves_total{node=\"3\"} 1"),
-    (
-        Event::Group { steps: 64 },
-        "kegbramble_steps_total{node=\"3\"} 64",
+    Row(
+        &[Counted::Event(Event::Moved)],
+        "\nkegbramble_moves_total{node=\"3\"} 1\n",
     ),
-    (
-        Event::Compacted {
+    Row(
+        &[Counted::Event(Event::Group { steps: 64 })],
+        "\nkegbramble_steps_total{node=\"3\"} 64\n",
+    ),
+    Row(
+        &[Counted::Event(Event::Compacted {
             before: 1,
             after: 1,
-        },
-        "kegbramble_compactions_total{node=\"3\"} 1",
+        })],
+        "\nkegbramble_compactions_total{node=\"3\"} 1\n",
     ),
+    // A second and a half and 4 thousandths and one billionth are 1.504000001 seconds together.
+    Row(
+        &[Counted::Write(1_500_000_000), Counted::Write(4_000_001)],
+        "
+# TYPE kegbramble_journal_write_seconds_total counter
+kegbramble_journal_write_seconds_total{node=\"3\"} 1.504000001
+",
+    ),
+    Row(
+        &[Counted::Write(1_500_000_000), Counted::Write(4_000_001)],
+        "\nkegbramble_journal_writes_total{node=\"3\"} 2\n",
+    ),
+    Row(&[Counted::Event(Event::Moved)], LAST),
 ];
 
-const NONE: Gauges = Gauges {
-    waiting: 0,
-    connections: 0,
-    journal: 0,
-    now: 0,
+/// What there is at a node.
+const GAUGES: Gauges = Gauges {
+    waiting: 4,
+    connections: 1000,
+    journal: 1_073_741_824,
+    now: 784_111_777,
     keys: Census {
-        active: 0,
-        sent: 0,
-        gone: 0,
-        ended: 0,
+        active: 3,
+        sent: 1,
+        gone: 2,
+        ended: 4,
     },
     limit: 65_536,
 };
 
-fn text_of(rt: &HostRuntime, event: Event, gauges: Gauges) -> Result<String, Fail> {
-    let mut figures = Figures::default();
-    figures.count(event);
-    let mut text = String::new(rt.alloc());
-    figures.write(&mut text, 3, gauges)?;
-    Ok(text)
-}
-
-/// Each event counts in its own figure.
-#[test]
-fn events_are_counted(rt: HostRuntime) -> Result<(), Fail> {
-    for (event, wanted) in &ROWS {
-        let text = text_of(&rt, *event, NONE)?;
-        assert!(rt;
-            text.as_str().lines().any(|line| line == *wanted),
-            "{wanted}"
-        );
-    }
-    Ok(())
-}
-
-/// What there is at a moment stands behind the counters, each name with its own two lines before it. All known keys are 3 and 1 and 2 and 4.
-const GAUGES: &str = "\
+/// That stands behind the counters, each name with its own two lines before it, and nothing but the full stop comes after it. All known
+/// keys are 3 and 1 and 2 and 4.
+const LAST: &str = "
 # HELP kegbramble_sessions Sessions that the node has: active here, or sent to another node that has not acknowledged them.
 # TYPE kegbramble_sessions gauge
 kegbramble_sessions{node=\"3\",state=\"active\"} 3
@@ -143,108 +151,37 @@ kegbramble_journal_bytes{node=\"3\"} 1073741824
 # HELP kegbramble_time_seconds What the node took for the time when it wrote this, in seconds since 1970.
 # TYPE kegbramble_time_seconds gauge
 kegbramble_time_seconds{node=\"3\"} 784111777
-";
+.";
 
-#[test]
-fn gauges_come_last(rt: HostRuntime) -> Result<(), Fail> {
-    let gauges = Gauges {
-        waiting: 4,
-        connections: 1000,
-        journal: 1_073_741_824,
-        now: 784_111_777,
-        keys: Census {
-            active: 3,
-            sent: 1,
-            gone: 2,
-            ended: 4,
-        },
-        limit: 65_536,
-    };
-    let text = text_of(&rt, Event::Moved, gauges)?;
-    assert!(rt; text.as_str().ends_with(GAUGES));
-    Ok(())
+/// Counts all of it.
+fn count_all(figures: &mut Figures, all: &[Counted]) {
+    for one in all {
+        match *one {
+            Counted::Event(event) => figures.count(event),
+            Counted::Write(nanoseconds) => figures.count_write(nanoseconds),
+        }
+    }
 }
 
-/// Two writes, of a second and a half and of 4 thousandths and one billionth, are 1.504000001 seconds together.
-const WRITES: &str = "\
-# TYPE kegbramble_journal_write_seconds_total counter
-kegbramble_journal_write_seconds_total{node=\"3\"} 1.504000001
-";
-
-#[test]
-fn writes_are_counted_and_timed(rt: HostRuntime) -> Result<(), Fail> {
+/// The figures of node 3 at which that has happened, and a full stop.
+fn text_of(alloc: Global, all: &[Counted]) -> Result<String, AllocError> {
     let mut figures = Figures::default();
-    figures.count_write(1_500_000_000);
-    figures.count_write(4_000_001);
-    let mut text = String::new(rt.alloc());
-    figures.write(&mut text, 3, NONE)?;
-    assert!(rt; text.contains(WRITES));
-    assert!(rt; text.contains("\nkegbramble_journal_writes_total{node=\"3\"} 2\n"));
-    Ok(())
+    count_all(&mut figures, all);
+    let mut text = String::new(alloc);
+    figures.write(&mut text, 3, GAUGES)?;
+    text.push('.')?;
+    Ok(text)
 }
 
-/// Keys are to be counted where the figures are due, 5 seconds after they were written.
+fn expect_lines(rt: &impl Abort, text: &str, lines: &str) {
+    assert!(rt; text.contains(lines), "{lines}");
+}
+
 #[test]
-fn keys_are_counted_for_the_figures(rt: HostRuntime) -> Result<(), Fail> {
-    let path = new_path(&rt, "keys")?;
-    let mut report = Report::none();
-    assert!(rt; !report.wants_census());
-    report.count_to(rt.alloc(), &rt, path.as_str(), 0).ok();
-    let mut seen = String::new(rt.alloc());
-    for second in [100, 104, 105] {
-        report.at(second);
-        if report.wants_census() {
-            report.census(second, 0, 0, 0);
-        }
-        report.turn(&rt, 0, 0);
-        write!(
-            seen,
-            "{} ",
-            active_in(fs::read_to_string(&rt, &path)?.as_str())
-        )?;
+fn each_figure_has_its_line(rt: HostRuntime) -> Result<(), Fail> {
+    for Row(all, lines) in &ROWS {
+        let text = text_of(rt.alloc(), all)?;
+        expect_lines(&rt, text.as_str(), lines);
     }
-    fs::remove_file(&rt, &path)?;
-    assert_eq!(rt; seen.as_str(), "100 100 105 ");
     Ok(())
-}
-
-/// The file is there from the start, is written anew where 5 seconds have passed, and at the end; the one beside it is gone.
-#[test]
-fn the_file_is_written_anew(rt: HostRuntime) -> Result<(), Fail> {
-    let path = new_path(&rt, "figures")?;
-    let mut report = Report::none();
-    report.count_to(rt.alloc(), &rt, path.as_str(), 0).ok();
-    let mut seen = String::new(rt.alloc());
-    for second in [100, 104, 105] {
-        report.at(second);
-        report.note(Event::Moved);
-        report.turn(&rt, 0, 0);
-        seen.push_str(moved_in(fs::read_to_string(&rt, &path)?.as_str()))?;
-    }
-    report.note(Event::Moved);
-    report.end(&rt, 0, 0);
-    seen.push_str(moved_in(fs::read_to_string(&rt, &path)?.as_str()))?;
-    fs::remove_file(&rt, &path)?;
-    assert_eq!(rt; seen.as_str(), "1134");
-    assert!(rt; fs::remove_file(&rt, format!(in rt.alloc(); "{path}.new")?).is_err());
-    Ok(())
-}
-
-/// The number behind these words in a text of figures.
-fn number_in<'a>(text: &'a str, words: &str) -> &'a str {
-    let mut found = "";
-    for line in text.lines() {
-        if let Some(number) = line.strip_prefix(words) {
-            found = number;
-        }
-    }
-    found
-}
-
-fn moved_in(text: &str) -> &str {
-    number_in(text, "kegbramble_moves_total{node=\"0\"} ")
-}
-
-fn active_in(text: &str) -> &str {
-    number_in(text, "kegbramble_sessions{node=\"0\",state=\"active\"} ")
 }

@@ -1,18 +1,183 @@
-//! Which lines are written, and when.
+//! When lines and figures are written.
 
-use crate::files::new_path;
+use crate::expect::expect;
+use crate::files::{new_path, taken};
+use std::alloc::AllocError;
 use std::fs;
 use std::os::unix::fs::PermissionsExt;
 use std::test::Fail;
-use sv_log::{Event, Level, Log, Loss, Quoted, Report, ReportFault};
+use sv_log::{Event, Level, Loss, Quoted, Report};
 use sv_model::{Cause, Key};
 
-/// What the log at a path has, which is then gone.
-fn written(rt: &HostRuntime, path: &String) -> Result<String, Fail> {
-    let text = fs::read_to_string(rt, path)?;
-    fs::remove_file(rt, path)?;
-    Ok(text)
+/// What happens at a node.
+#[derive(Clone, Copy)]
+enum Step {
+    /// The time is this, in seconds since 1970.
+    At(u64),
+    /// The request of this number is refused.
+    Refused(u64),
+    Accepted,
+    /// A session was handed to another node.
+    Moved,
+    /// A session is to be handed to each of so many nodes, from node 0 on.
+    Ordered(u8),
+    /// A packet was sent to node 1.
+    Sent,
+    /// A packet to node 1 was lost.
+    Lost(Loss),
+    /// A packet to node 1 was lost, and it isn't asked whether the node is silent.
+    LostAlone,
+    /// A text of somebody else is put down.
+    Said(&'static str),
+    /// Its keys are counted if the figures want them: so many sessions are active.
+    Counted(u64),
+    /// The end of a turn.
+    Turn,
+    End,
 }
+
+/// What is written.
+#[derive(Clone, Copy)]
+enum Written {
+    /// A log, which is opened anew for each part.
+    Log,
+    /// Figures, of which the number behind these words is read after each part.
+    Figures(&'static str),
+}
+
+/// What the row shows, what is written, what happens in each part, and all that is read.
+struct Row(
+    &'static str,
+    Written,
+    &'static [&'static [Step]],
+    &'static str,
+);
+
+static ROWS: [Row; 6] = [
+    Row(
+        "equal lines of a second are said once, and how many more there were in the next second, with the numbers of the last; what \
+         goes on has a line a second; what happens all the time has none",
+        Written::Log,
+        &[&[
+            Step::At(784_111_777),
+            Step::Refused(1),
+            Step::Refused(2),
+            Step::LostAlone,
+            Step::Accepted,
+            Step::Refused(3),
+            Step::At(784_111_778),
+            Step::Refused(4),
+            Step::At(784_111_779),
+            Step::LostAlone,
+            Step::At(784_111_780),
+            Step::At(784_111_781),
+            Step::Refused(5),
+            Step::Turn,
+        ]],
+        "\
+1994-11-06T08:49:37Z warn request_refused cause=Deadline number=1
+1994-11-06T08:49:37Z warn packet_lost to=1 why=Broken
+1994-11-06T08:49:38Z warn request_refused cause=Deadline number=3 times=2
+1994-11-06T08:49:39Z warn request_refused cause=Deadline number=4 times=1
+1994-11-06T08:49:39Z warn packet_lost to=1 why=Broken
+1994-11-06T08:49:41Z warn request_refused cause=Deadline number=5
+",
+    ),
+    Row(
+        "of more than 32 kinds in a second the rest are counted",
+        Written::Log,
+        &[&[
+            Step::At(784_111_777),
+            Step::Ordered(40),
+            Step::At(784_111_778),
+            Step::Turn,
+        ]],
+        "\
+1994-11-06T08:49:37Z info move_ordered key=0.1 to=0
+1994-11-06T08:49:37Z info move_ordered key=0.1 to=1
+1994-11-06T08:49:37Z info move_ordered key=0.1 to=2
+1994-11-06T08:49:37Z info move_ordered key=0.1 to=3
+1994-11-06T08:49:37Z info move_ordered key=0.1 to=4
+1994-11-06T08:49:37Z info move_ordered key=0.1 to=5
+1994-11-06T08:49:37Z info move_ordered key=0.1 to=6
+1994-11-06T08:49:37Z info move_ordered key=0.1 to=7
+1994-11-06T08:49:37Z info move_ordered key=0.1 to=8
+1994-11-06T08:49:37Z info move_ordered key=0.1 to=9
+1994-11-06T08:49:37Z info move_ordered key=0.1 to=10
+1994-11-06T08:49:37Z info move_ordered key=0.1 to=11
+1994-11-06T08:49:37Z info move_ordered key=0.1 to=12
+1994-11-06T08:49:37Z info move_ordered key=0.1 to=13
+1994-11-06T08:49:37Z info move_ordered key=0.1 to=14
+1994-11-06T08:49:37Z info move_ordered key=0.1 to=15
+1994-11-06T08:49:37Z info move_ordered key=0.1 to=16
+1994-11-06T08:49:37Z info move_ordered key=0.1 to=17
+1994-11-06T08:49:37Z info move_ordered key=0.1 to=18
+1994-11-06T08:49:37Z info move_ordered key=0.1 to=19
+1994-11-06T08:49:37Z info move_ordered key=0.1 to=20
+1994-11-06T08:49:37Z info move_ordered key=0.1 to=21
+1994-11-06T08:49:37Z info move_ordered key=0.1 to=22
+1994-11-06T08:49:37Z info move_ordered key=0.1 to=23
+1994-11-06T08:49:37Z info move_ordered key=0.1 to=24
+1994-11-06T08:49:37Z info move_ordered key=0.1 to=25
+1994-11-06T08:49:37Z info move_ordered key=0.1 to=26
+1994-11-06T08:49:37Z info move_ordered key=0.1 to=27
+1994-11-06T08:49:37Z info move_ordered key=0.1 to=28
+1994-11-06T08:49:37Z info move_ordered key=0.1 to=29
+1994-11-06T08:49:37Z info move_ordered key=0.1 to=30
+1994-11-06T08:49:37Z info move_ordered key=0.1 to=31
+1994-11-06T08:49:38Z warn events_skipped events=8
+",
+    ),
+    Row(
+        "a log goes on behind what its file has",
+        Written::Log,
+        &[
+            &[Step::At(784_111_777), Step::Said("x\ny"), Step::Turn],
+            &[Step::At(784_111_778), Step::Said("x\ny"), Step::Turn],
+        ],
+        "1994-11-06T08:49:37Z info \"x?y\"\n1994-11-06T08:49:38Z info \"x?y\"\n",
+    ),
+    Row(
+        "of a node that can't be reached a line says so once, and once that it is reached again",
+        Written::Log,
+        &[&[
+            Step::At(784_111_777),
+            Step::Sent,
+            Step::Lost(Loss::Broken),
+            Step::Lost(Loss::Late),
+            Step::Sent,
+            Step::Sent,
+            Step::End,
+        ]],
+        "\
+1994-11-06T08:49:37Z warn packet_lost to=1 why=Broken
+1994-11-06T08:49:37Z warn peer_silent node=1
+1994-11-06T08:49:37Z warn packet_lost to=1 why=Late
+1994-11-06T08:49:37Z info peer_answers node=1
+",
+    ),
+    Row(
+        "figures are written at the start, where 5 seconds have passed, and at the end",
+        Written::Figures("kegbramble_moves_total{node=\"0\"} "),
+        &[
+            &[Step::At(100), Step::Moved, Step::Turn],
+            &[Step::At(104), Step::Moved, Step::Turn],
+            &[Step::At(105), Step::Moved, Step::Turn],
+            &[Step::Moved, Step::End],
+        ],
+        "1 1 3 4 ",
+    ),
+    Row(
+        "keys are counted where the figures are due, 5 seconds after they were written",
+        Written::Figures("kegbramble_sessions{node=\"0\",state=\"active\"} "),
+        &[
+            &[Step::At(100), Step::Counted(100), Step::Turn],
+            &[Step::At(104), Step::Counted(104), Step::Turn],
+            &[Step::At(105), Step::Counted(105), Step::Turn],
+        ],
+        "100 100 105 ",
+    ),
+];
 
 fn refused(number: u64) -> Event {
     Event::Refused {
@@ -21,120 +186,169 @@ fn refused(number: u64) -> Event {
     }
 }
 
+/// Sessions are to be handed to so many nodes.
+fn order(report: &mut Report, nodes: u8) {
+    for to in 0..nodes {
+        let key = Key { home: 0, serial: 1 };
+        report.note(Event::MoveOrdered { key, to });
+    }
+}
+
+fn count_keys(report: &mut Report, active: u64) {
+    if report.wants_census() {
+        report.census(active, 0, 0, 0);
+    }
+}
+
 const LOST: Event = Event::PacketLost {
     to: 1,
     why: Loss::Broken,
 };
 
-/// Equal lines of a second are said once, and how many more there were in the next second, with the numbers of the last; what goes on
-/// has a line a second. What happens all the time has none.
-const COUNTED: &str = "\
-1994-11-06T08:49:37Z warn request_refused cause=Deadline number=1
-1994-11-06T08:49:37Z warn packet_lost to=1 why=Broken
-1994-11-06T08:49:38Z warn request_refused cause=Deadline number=3 times=2
-1994-11-06T08:49:39Z warn request_refused cause=Deadline number=4 times=1
-1994-11-06T08:49:39Z warn packet_lost to=1 why=Broken
-1994-11-06T08:49:41Z warn request_refused cause=Deadline number=5
-";
-
-#[test]
-fn equal_lines_are_counted(rt: HostRuntime) -> Result<(), Fail> {
-    let path = new_path(&rt, "counted")?;
-    let mut log = Log::open(rt.alloc(), &rt, path.as_str())?;
-    log.at(784_111_777);
-    for event in [refused(1), refused(2), LOST, Event::Accepted, refused(3)] {
-        log.note(event);
+fn happen(rt: &HostRuntime, report: &mut Report, step: Step) {
+    match step {
+        Step::At(second) => report.at(second),
+        Step::Refused(number) => report.note(refused(number)),
+        Step::Accepted => report.note(Event::Accepted),
+        Step::Moved => report.note(Event::Moved),
+        Step::Ordered(nodes) => order(report, nodes),
+        Step::Sent => report.sent(1),
+        Step::Lost(why) => report.lost(1, why),
+        Step::LostAlone => report.note(LOST),
+        Step::Said(text) => report.say(Level::Info, Quoted(text)),
+        Step::Counted(active) => count_keys(report, active),
+        Step::Turn => report.turn(rt, 0, 0),
+        Step::End => report.end(rt, 0, 0),
     }
-    log.at(784_111_778);
-    log.note(refused(4));
-    log.at(784_111_779);
-    log.note(LOST);
-    log.at(784_111_780);
-    log.at(784_111_781);
-    log.note(refused(5));
-    log.flush(&rt);
-    let text = written(&rt, &path)?;
-    assert_eq!(rt; text.as_str(), COUNTED);
-    Ok(())
 }
 
-/// Of more kinds than a second has lines for the rest are counted.
-#[test]
-fn a_second_has_32_kinds(rt: HostRuntime) -> Result<(), Fail> {
-    let path = new_path(&rt, "kinds")?;
-    let mut log = Log::open(rt.alloc(), &rt, path.as_str())?;
-    log.at(784_111_777);
-    for to in 0..40u8 {
-        let key = Key { home: 0, serial: 1 };
-        log.note(Event::MoveOrdered { key, to });
+fn happen_all(rt: &HostRuntime, report: &mut Report, steps: &[Step]) {
+    for step in steps {
+        happen(rt, report, *step);
     }
-    log.at(784_111_778);
-    log.flush(&rt);
-    let text = written(&rt, &path)?;
-    assert_eq!(rt; text.as_str().lines().count(), 33);
-    assert_eq!(rt;
-        text.as_str().lines().last(),
-        Some("1994-11-06T08:49:38Z warn events_skipped events=8")
-    );
-    Ok(())
 }
 
-/// A log goes on behind what its file has, which its owner alone may read.
-#[test]
-fn a_log_is_appended_to(rt: HostRuntime) -> Result<(), Fail> {
-    let path = new_path(&rt, "appended")?;
-    for second in [784_111_777, 784_111_778] {
-        let mut log = Log::open(rt.alloc(), &rt, path.as_str())?;
-        log.at(second);
-        log.say(Level::Info, Quoted("x\ny"));
-        log.flush(&rt);
-    }
-    assert_eq!(rt;
-        fs::metadata(&rt, &path)?.permissions().mode() & 0o777,
-        0o600
-    );
-    let text = written(&rt, &path)?;
-    assert_eq!(rt;
-        text.as_str(),
-        "1994-11-06T08:49:37Z info \"x?y\"\n1994-11-06T08:49:38Z info \"x?y\"\n"
-    );
-    Ok(())
-}
-
-/// Of a node that can't be reached a line says so once, and once that it is reached again.
-const SILENT: &str = "\
-1994-11-06T08:49:37Z warn packet_lost to=1 why=Broken
-1994-11-06T08:49:37Z warn peer_silent node=1
-1994-11-06T08:49:37Z warn packet_lost to=1 why=Late
-1994-11-06T08:49:37Z info peer_answers node=1
-";
-
-#[test]
-fn a_peer_is_silent_once(rt: HostRuntime) -> Result<(), Fail> {
-    let path = new_path(&rt, "silent")?;
+/// That happens while a log is written.
+fn log_all(rt: &HostRuntime, path: &str, steps: &[Step]) -> Result<(), Fail> {
     let mut report = Report::none();
-    report.log_to(rt.alloc(), &rt, path.as_str()).ok();
-    report.at(784_111_777);
-    report.sent(1);
-    report.lost(1, Loss::Broken);
-    report.lost(1, Loss::Late);
-    report.sent(1);
-    report.sent(1);
-    report.end(&rt, 0, 0);
-    let text = written(&rt, &path)?;
-    assert_eq!(rt; text.as_str(), SILENT);
+    let opened = report.log_to(rt.alloc(), rt, path);
+    happen_all(rt, &mut report, steps);
+    Ok(opened?)
+}
+
+/// A file's owner alone may read it.
+fn expect_own(rt: &HostRuntime, path: &String) -> Result<(), Fail> {
+    match fs::metadata(rt, path)?.permissions().mode() & 0o777 {
+        0o600 => Ok(()),
+        _ => Err("others may read the log".into()),
+    }
+}
+
+/// The log of all parts.
+fn logged(rt: &HostRuntime, parts: &[&[Step]]) -> Result<String, Fail> {
+    let path = new_path(rt, "log")?;
+    for steps in parts {
+        log_all(rt, path.as_str(), steps)?;
+    }
+    expect_own(rt, &path)?;
+    taken(rt, &path)
+}
+
+/// The number behind these words in a text of figures.
+fn number_in<'a>(text: &'a str, words: &str) -> &'a str {
+    let mut found = "";
+    for line in text.lines() {
+        if let Some(number) = line.strip_prefix(words) {
+            found = number;
+        }
+    }
+    found
+}
+
+fn push_number(seen: &mut String, text: &str, words: &str) -> Result<(), AllocError> {
+    seen.push_str(number_in(text, words))?;
+    seen.push_str(" ")
+}
+
+/// Adds the number that the figures have after each part.
+fn push_numbers(
+    rt: &HostRuntime,
+    report: &mut Report,
+    path: &String,
+    words: &str,
+    parts: &[&[Step]],
+    seen: &mut String,
+) -> Result<(), Fail> {
+    for steps in parts {
+        happen_all(rt, report, steps);
+        let text = fs::read_to_string(rt, path)?;
+        push_number(seen, text.as_str(), words)?;
+    }
     Ok(())
 }
 
-/// A folder is no log and no file of figures.
+/// Takes the figures away, beside which nothing is left.
+fn take_figures(rt: &HostRuntime, path: &String) -> Result<(), Fail> {
+    fs::remove_file(rt, path)?;
+    let beside = format!(in rt.alloc(); "{path}.new")?;
+    match fs::remove_file(rt, &beside) {
+        Ok(()) => Err("a file is left beside the figures".into()),
+        Err(_) => Ok(()),
+    }
+}
+
+/// Figures that are written to a file, for which keys are counted.
+fn figures_at(rt: &HostRuntime, path: &str) -> Result<Report, Fail> {
+    let mut report = Report::none();
+    if report.wants_census() {
+        return Err("keys are counted for no figures".into());
+    }
+    match report.count_to(rt.alloc(), rt, path, 0) {
+        Ok(()) => Ok(report),
+        Err(_) => Err("no figures".into()),
+    }
+}
+
+/// The numbers that the figures have after each part.
+fn counted(rt: &HostRuntime, words: &str, parts: &[&[Step]]) -> Result<String, Fail> {
+    let path = new_path(rt, "counted")?;
+    let mut seen = String::new(rt.alloc());
+    let mut report = figures_at(rt, path.as_str())?;
+    push_numbers(rt, &mut report, &path, words, parts, &mut seen)?;
+    take_figures(rt, &path)?;
+    Ok(seen)
+}
+
+fn read(rt: &HostRuntime, written: Written, parts: &[&[Step]]) -> Result<String, Fail> {
+    match written {
+        Written::Log => logged(rt, parts),
+        Written::Figures(words) => counted(rt, words, parts),
+    }
+}
+
+#[test]
+fn each_is_written_when_it_should_be(rt: HostRuntime) -> Result<(), Fail> {
+    for Row(name, written, parts, wanted) in &ROWS {
+        let text = read(&rt, *written, parts)?;
+        expect(&rt, name, text.as_str(), wanted);
+    }
+    Ok(())
+}
+
+/// Why a log at one path and figures at another aren't begun.
+fn begun(rt: &HostRuntime, log: &str, figures: &str) -> Result<String, AllocError> {
+    let mut report = Report::none();
+    let logged = report.log_to(rt.alloc(), rt, log);
+    let counted = report.count_to(rt.alloc(), rt, figures, 0);
+    format!(in rt.alloc(); "{logged:?} {counted:?}")
+}
+
+/// A folder is no log, a name is none, and no figures are in a folder that there is not.
 #[test]
 fn what_cannot_be_opened_is_a_fault(rt: HostRuntime) -> Result<(), Fail> {
-    let mut report = Report::none();
-    assert_eq!(rt; report.log_to(rt.alloc(), &rt, "/"), Err(ReportFault::Log));
-    assert_eq!(rt; report.log_to(rt.alloc(), &rt, ""), Err(ReportFault::Log));
-    assert_eq!(rt;
-        report.count_to(rt.alloc(), &rt, "/no/folder/x", 0),
-        Err(ReportFault::Metrics)
-    );
+    for log in ["/", ""] {
+        let text = begun(&rt, log, "/no/folder/x")?;
+        expect(&rt, log, text.as_str(), "Err(Log) Err(Metrics)");
+    }
     Ok(())
 }

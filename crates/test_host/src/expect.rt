@@ -1,0 +1,24 @@
+//! How each test compares what it has found.
+
+use std::alloc::{AllocError, Global};
+use std::process::Abort;
+
+/// In the row of this name, what was found is what was wanted.
+pub fn expect(rt: &impl Abort, name: &str, found: &str, wanted: &str) {
+    assert_eq!(rt; found, wanted, "{name}");
+}
+
+/// Adds a character for each byte, the one of its number.
+pub fn push_bytes(text: &mut String, bytes: &[u8]) -> Result<(), AllocError> {
+    for byte in bytes {
+        text.push(char::from(*byte))?;
+    }
+    Ok(())
+}
+
+/// A text with a character for each byte.
+pub fn text_of(alloc: Global, bytes: &[u8]) -> Result<String, AllocError> {
+    let mut text = String::new(alloc);
+    push_bytes(&mut text, bytes)?;
+    Ok(text)
+}
