@@ -11,7 +11,7 @@ use sv_record::Frame;
 const PATIENCE: u64 = 10;
 
 /// A client, which sends the cookie that it was given last.
-#[derive(Drop)]
+#[derive(Clone, Copy)]
 pub struct Client {
     session: Option<Session>,
 }

@@ -2,11 +2,14 @@
 
 use crate::trouble::Trouble;
 use std::alloc::{AllocError, Global};
+use std::fs;
 use std::net::{Ipv4Addr, SocketAddr, TcpListener};
-use std::{env, fs};
 
 /// The folder of all cases, in the one that the program runs in.
 pub const FOLDER: &str = "nodes";
+
+/// The path of this program, for whoever calls it.
+pub const PROGRAM: &str = "/proc/self/exe";
 
 /// The applications of each node.
 const APPLICATIONS: &str = r#"
@@ -20,16 +23,64 @@ servlet = [
 listener = [{ name = "tally" }]
 "#;
 
-/// A folder with a descriptor, in which the journal of node N is `jN`.
-#[derive(Drop)]
+/// The folder of a case, and the files in it.
+#[derive(Clone, Copy)]
+pub struct Place {
+    pub folder: &'static str,
+    /// The descriptor.
+    pub config: &'static str,
+    pub script: &'static str,
+    /// The journal of each node.
+    pub journals: [&'static str; 3],
+    /// Its second file.
+    pub others: [&'static str; 3],
+}
+
+/// The place of the case of a name.
+macro_rules! place {
+    ($name:literal) => {
+        Place {
+            folder: concat!("nodes/", $name),
+            config: concat!("nodes/", $name, "/c.toml"),
+            script: concat!("nodes/", $name, "/script"),
+            journals: [
+                concat!("nodes/", $name, "/j0"),
+                concat!("nodes/", $name, "/j1"),
+                concat!("nodes/", $name, "/j2"),
+            ],
+            others: [
+                concat!("nodes/", $name, "/j0.b"),
+                concat!("nodes/", $name, "/j1.b"),
+                concat!("nodes/", $name, "/j2.b"),
+            ],
+        }
+    };
+}
+
+pub const MOVED: Place = place!("moved");
+
+pub const IN_TURN: Place = place!("in-turn");
+
+pub const ABSENT: Place = place!("absent");
+
+pub const BETWEEN: Place = place!("between");
+
+pub const WITHIN: Place = place!("within");
+
+pub const WAITING: Place = place!("waiting");
+
+pub const FEW: Place = place!("few");
+
+pub const COMPACTED: Place = place!("compacted");
+
+pub const FAULTS: Place = place!("faults");
+
+/// A place whose descriptor is written.
+#[derive(Clone, Copy)]
 pub struct Cluster {
-    /// The path of this program.
-    pub program: String,
-    pub folder: String,
-    /// The path of the descriptor.
-    pub config: String,
-    /// The port of each node.
-    pub ports: Vec<u16>,
+    pub place: Place,
+    /// The port of each node; 0 where there is no such node.
+    ports: [u16; 3],
 }
 
 /// A port of the loopback address; 0 for one that is free.
@@ -46,30 +97,19 @@ fn listeners(rt: &HostRuntime, count: u8) -> Result<Vec<TcpListener>, Trouble> {
     Ok(listeners)
 }
 
-/// So many ports that are free.
-fn free_ports(rt: &HostRuntime, count: u8) -> Result<Vec<u16>, Trouble> {
-    let listeners = listeners(rt, count)?;
-    let mut ports = Vec::new(rt.alloc());
-    for listener in &listeners {
-        ports.push(listener.local_addr()?.port())?;
+/// The port of each of them, three at most.
+fn ports_of(listeners: &[TcpListener]) -> Result<[u16; 3], Trouble> {
+    let mut ports = [0; 3];
+    for (port, listener) in ports.iter_mut().zip(listeners) {
+        *port = listener.local_addr()?.port();
     }
     Ok(ports)
 }
 
-/// The path of this program.
-pub fn program(rt: &HostRuntime) -> Result<String, Trouble> {
-    let path = env::current_exe(rt)?;
-    match path.to_str() {
-        Some(path) => Ok(String::from_str(rt.alloc(), path)?),
-        None => Err(Trouble::NoProgram),
-    }
-}
-
-/// Makes the folder of a case.
-pub fn folder(rt: &HostRuntime, name: &str) -> Result<String, Trouble> {
-    let folder = format!(in rt.alloc(); "{FOLDER}/{name}")?;
-    fs::create_dir_all(rt, folder.as_str())?;
-    Ok(folder)
+/// So many ports that are free, three at most.
+fn free_ports(rt: &HostRuntime, count: u8) -> Result<[u16; 3], Trouble> {
+    let listeners = listeners(rt, count)?;
+    ports_of(listeners.as_slice())
 }
 
 /// A descriptor with these ports; `more` is what its cluster has beside them.
@@ -77,20 +117,30 @@ fn descriptor(alloc: Global, ports: &[u16], more: &str) -> Result<String, AllocE
     format!(in alloc; "[cluster]\nports = {ports:?}\n{more}\n{APPLICATIONS}")
 }
 
+/// Writes such a descriptor.
+fn write_descriptor(
+    rt: &HostRuntime,
+    path: &str,
+    ports: &[u16],
+    more: &str,
+) -> Result<(), Trouble> {
+    let text = descriptor(rt.alloc(), ports, more)?;
+    Ok(fs::write(rt, path, text.as_str())?)
+}
+
+/// The path of a node's file; nothing stands at the one of a node of no such number.
+fn path_in(paths: &[&'static str; 3], node: u8) -> &'static str {
+    paths.get(usize::from(node)).copied().unwrap_or("")
+}
+
 impl Cluster {
-    /// A cluster of so many nodes in a folder of this name; `more` is what its descriptor has of it beside the ports.
-    pub fn new(rt: &HostRuntime, name: &str, nodes: u8, more: &str) -> Result<Cluster, Trouble> {
-        let folder = folder(rt, name)?;
+    /// A cluster of so many nodes, three at most; `more` is what its descriptor has of it beside the ports.
+    pub fn new(rt: &HostRuntime, place: Place, nodes: u8, more: &str) -> Result<Cluster, Trouble> {
+        fs::create_dir_all(rt, place.folder)?;
         let ports = free_ports(rt, nodes)?;
-        let text = descriptor(rt.alloc(), ports.as_slice(), more)?;
-        let config = format!(in rt.alloc(); "{folder}/c.toml")?;
-        fs::write(rt, config.as_str(), text.as_str())?;
-        Ok(Cluster {
-            program: program(rt)?,
-            folder,
-            config,
-            ports,
-        })
+        let named = ports.get(..usize::from(nodes)).unwrap_or(&ports);
+        write_descriptor(rt, place.config, named, more)?;
+        Ok(Cluster { place, ports })
     }
 
     /// The port of a node; 0 where there is none of this number.
@@ -99,7 +149,12 @@ impl Cluster {
     }
 
     /// The path of a node's journal.
-    pub fn journal(&self, alloc: Global, node: u8) -> Result<String, AllocError> {
-        format!(in alloc; "{}/j{node}", self.folder)
+    pub fn journal(&self, node: u8) -> &'static str {
+        path_in(&self.place.journals, node)
+    }
+
+    /// The path of its second file.
+    pub fn other(&self, node: u8) -> &'static str {
+        path_in(&self.place.others, node)
     }
 }

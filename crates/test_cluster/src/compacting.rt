@@ -9,7 +9,7 @@
 //! 65,088 of the session: 65,128. One more start and count add 15 and 65,081: 130,224.
 
 use crate::client::{Client, tell_to_halt};
-use crate::cluster::Cluster;
+use crate::cluster::{COMPACTED, Cluster};
 use crate::running::{Running, start};
 use crate::trouble::Trouble;
 use std::alloc::{AllocError, Global};
@@ -77,13 +77,16 @@ fn log_in(rt: &HostRuntime, cluster: &Cluster, client: &mut Client) -> Result<()
     Ok(())
 }
 
+/// How long a file is, in bytes.
+fn length(rt: &HostRuntime, path: &str) -> Result<u64, Trouble> {
+    Ok(fs::metadata(rt, path)?.len())
+}
+
 /// How long the two files of the journal are.
-fn lengths(rt: &HostRuntime, cluster: &Cluster) -> Result<String, Trouble> {
-    let path = cluster.journal(rt.alloc(), 0)?;
-    let other = format!(in rt.alloc(); "{path}.b")?;
-    let a = fs::metadata(rt, path.as_str())?.len();
-    let b = fs::metadata(rt, other.as_str())?.len();
-    Ok(format!(in rt.alloc(); "{a} and {b} bytes")?)
+fn lengths(rt: &HostRuntime, cluster: &Cluster) -> Result<(u64, u64), Trouble> {
+    let a = length(rt, cluster.journal(0))?;
+    let b = length(rt, cluster.other(0))?;
+    Ok((a, b))
 }
 
 /// A node is started, a session is counted so often, and the node is halted: what the last answer says, and how long the files are.
@@ -94,8 +97,8 @@ fn run_and_measure(
     times: u32,
 ) -> Result<String, Trouble> {
     let said = run_for(rt, cluster, client, times)?;
-    let lengths = lengths(rt, cluster)?;
-    Ok(format!(in rt.alloc(); "{said}, {lengths}")?)
+    let (a, b) = lengths(rt, cluster)?;
+    Ok(format!(in rt.alloc(); "{said}, {a} and {b} bytes")?)
 }
 
 /// A count that is the first past the limit, and one more.
@@ -106,7 +109,7 @@ fn counts(rt: &HostRuntime, cluster: &Cluster, client: &mut Client) -> Result<St
 }
 
 pub fn compacted(rt: &HostRuntime) -> Result<String, Trouble> {
-    let cluster = Cluster::new(rt, "compacted", 1, "")?;
+    let cluster = Cluster::new(rt, COMPACTED, 1, "")?;
     let mut client = Client::new();
     log_in(rt, &cluster, &mut client)?;
     counts(rt, &cluster, &mut client)

@@ -1,7 +1,7 @@
 //! Each fault with which a node doesn't start, in the order in which they are found: what is started has the fault of its row and
 //! those of all rows behind it.
 
-use crate::cluster::{folder, loopback, program};
+use crate::cluster::{FAULTS, loopback};
 use crate::running::launch;
 use crate::trouble::Trouble;
 use std::alloc::{AllocError, Global};
@@ -170,12 +170,16 @@ fn with_port(alloc: Global, descriptor: &str, port: u16) -> Result<String, Alloc
     }
 }
 
+/// Writes a descriptor with the port where it stands.
+fn write_descriptor(rt: &HostRuntime, descriptor: &str, port: u16) -> Result<(), Trouble> {
+    let text = with_port(rt.alloc(), descriptor, port)?;
+    Ok(fs::write(rt, CONFIG, text.as_str())?)
+}
+
 /// How a node ends that is started as a row says.
 fn end(rt: &HostRuntime, row: &Row, port: u16) -> Result<String, Trouble> {
-    let text = with_port(rt.alloc(), row.descriptor, port)?;
-    fs::write(rt, CONFIG, text.as_str())?;
-    let program = program(rt)?;
-    launch(rt, program.as_str(), row.words)?.end(rt)
+    write_descriptor(rt, row.descriptor, port)?;
+    launch(rt, row.words)?.end(rt)
 }
 
 /// Prints how a node ends that is started as a row says.
@@ -204,7 +208,7 @@ fn at_a_taken_port(rt: &HostRuntime) -> Result<u16, Trouble> {
 
 /// Prints how a node ends, row by row.
 pub fn in_order(rt: &HostRuntime) -> Result<String, Trouble> {
-    let _ = folder(rt, "faults")?;
+    fs::create_dir_all(rt, FAULTS.folder)?;
     fs::write(
         rt,
         NONE,

@@ -11,23 +11,16 @@ use sv_model::{Key, KeyState, Record, Setting};
 /// The first session that node 0 makes.
 const FIRST: Key = Key { home: 0, serial: 1 };
 
-/// The second file beside the one at a path.
-fn other(rt: &HostRuntime, path: &str) -> Result<Vec<u8>, Trouble> {
-    let other = format!(in rt.alloc(); "{path}.b")?;
-    Ok(fs::read(rt, other.as_str())?)
-}
-
 /// The entries with which a journal opens from its two files.
-fn entries(rt: &HostRuntime, path: &str) -> Result<Vec<Vec<u8>>, Trouble> {
-    let a = fs::read(rt, path)?;
-    let b = other(rt, path)?;
+fn entries(rt: &HostRuntime, cluster: &Cluster, node: u8) -> Result<Vec<Vec<u8>>, Trouble> {
+    let a = fs::read(rt, cluster.journal(node))?;
+    let b = fs::read(rt, cluster.other(node))?;
     Ok(entries_of(rt.alloc(), a.as_slice(), b.as_slice())?)
 }
 
 /// The records of a node's journal.
 fn records(rt: &HostRuntime, cluster: &Cluster, node: u8) -> Result<Vec<Record>, Trouble> {
-    let path = cluster.journal(rt.alloc(), node)?;
-    let entries = entries(rt, path.as_str())?;
+    let entries = entries(rt, cluster, node)?;
     Ok(records_of(rt.alloc(), entries.as_slice())?)
 }
 
@@ -59,9 +52,14 @@ fn told(alloc: Global, core: &Core<()>) -> Result<String, AllocError> {
     format!(in alloc; "start {}, {known}", core.boot())
 }
 
+/// The same of a node of three that has these records.
+fn told_of(alloc: Global, node: u8, records: &[Record]) -> Result<String, Trouble> {
+    let core = recovered(alloc, node, records)?;
+    Ok(told(alloc, &core)?)
+}
+
 /// What a node's journal has of the first session of node 0, and how often the node was started.
 pub fn first_session(rt: &HostRuntime, cluster: &Cluster, node: u8) -> Result<String, Trouble> {
     let records = records(rt, cluster, node)?;
-    let core = recovered(rt.alloc(), node, records.as_slice())?;
-    Ok(told(rt.alloc(), &core)?)
+    told_of(rt.alloc(), node, records.as_slice())
 }

@@ -2,7 +2,7 @@
 //! when they are started again.
 
 use crate::client::Client;
-use crate::cluster::{Cluster, loopback};
+use crate::cluster::{BETWEEN, Cluster, WAITING, WITHIN, loopback};
 use crate::running::start;
 use crate::trouble::Trouble;
 use std::io::Write;
@@ -42,11 +42,20 @@ fn again(
 
 /// A node that is killed behind each answer.
 pub fn between(rt: &HostRuntime) -> Result<String, Trouble> {
-    let cluster = Cluster::new(rt, "between", 1, "")?;
+    let cluster = Cluster::new(rt, BETWEEN, 1, "")?;
     let mut client = Client::new();
     let mut said = asked_and_killed(rt, &cluster, 0, &mut client)?;
     said = again(rt, &cluster, 0, &mut client, said.as_str())?;
     again(rt, &cluster, 0, &mut client, said.as_str())
+}
+
+/// Sends a node all of a request but the last byte.
+fn ask_half(rt: &HostRuntime, port: u16, request: &[u8]) -> Result<(), Trouble> {
+    let mut stream = TcpStream::connect(rt, loopback(port))?;
+    if let Some((_, begun)) = request.split_last() {
+        stream.write_all(begun)?;
+    }
+    Ok(())
 }
 
 /// Starts a node, sends it all of a request but the last byte, and kills it.
@@ -56,18 +65,14 @@ fn half_asked_and_killed(
     node: u8,
     client: &Client,
 ) -> Result<(), Trouble> {
-    let _running = start(rt, cluster, node)?;
     let request = client.request(rt.alloc(), COUNT)?;
-    let mut stream = TcpStream::connect(rt, loopback(cluster.port(node)))?;
-    if let Some((_, begun)) = request.split_last() {
-        stream.write_all(begun)?;
-    }
-    Ok(())
+    let _running = start(rt, cluster, node)?;
+    ask_half(rt, cluster.port(node), request.as_slice())
 }
 
 /// A node that is killed while a request comes: it isn't counted.
 pub fn within(rt: &HostRuntime) -> Result<String, Trouble> {
-    let cluster = Cluster::new(rt, "within", 1, "")?;
+    let cluster = Cluster::new(rt, WITHIN, 1, "")?;
     let mut client = Client::new();
     let said = asked_and_killed(rt, &cluster, 0, &mut client)?;
     half_asked_and_killed(rt, &cluster, 0, &client)?;
@@ -86,6 +91,18 @@ fn await_call(rt: &HostRuntime, listener: &TcpListener) -> Result<(), Trouble> {
     Err(Trouble::NoCaller)
 }
 
+/// Sends a node a request, and waits until it calls somebody who listens.
+fn ask_and_await(
+    rt: &HostRuntime,
+    port: u16,
+    request: &[u8],
+    listener: &TcpListener,
+) -> Result<(), Trouble> {
+    let mut stream = TcpStream::connect(rt, loopback(port))?;
+    stream.write_all(request)?;
+    await_call(rt, listener)
+}
+
 /// Starts node 1, asks it for the session of node 0, in whose place this program listens, and kills it once it has called there: by
 /// then the client waits.
 fn killed_while_one_waits(
@@ -93,12 +110,10 @@ fn killed_while_one_waits(
     cluster: &Cluster,
     client: &Client,
 ) -> Result<(), Trouble> {
+    let request = client.request(rt.alloc(), COUNT)?;
     let peer = TcpListener::bind(rt, loopback(cluster.port(0)))?;
     let _running = start(rt, cluster, 1)?;
-    let request = client.request(rt.alloc(), COUNT)?;
-    let mut stream = TcpStream::connect(rt, loopback(cluster.port(1)))?;
-    stream.write_all(request.as_slice())?;
-    await_call(rt, &peer)
+    ask_and_await(rt, cluster.port(1), request.as_slice(), &peer)
 }
 
 /// Starts both nodes, asks node 1 for the session, and kills them.
@@ -114,7 +129,7 @@ fn found_at_the_other(
 
 /// A node that is killed while a client waits at it for a session of another node: the session is where it was, and isn't counted.
 pub fn waiting(rt: &HostRuntime) -> Result<String, Trouble> {
-    let cluster = Cluster::new(rt, "waiting", 2, "")?;
+    let cluster = Cluster::new(rt, WAITING, 2, "")?;
     let mut client = Client::new();
     let said = asked_and_killed(rt, &cluster, 0, &mut client)?;
     killed_while_one_waits(rt, &cluster, &client)?;

@@ -1,6 +1,6 @@
 //! A node that runs as a process.
 
-use crate::cluster::Cluster;
+use crate::cluster::{Cluster, PROGRAM};
 use crate::trouble::Trouble;
 use std::alloc::{AllocError, Global};
 use std::io::Read;
@@ -31,9 +31,9 @@ fn add_words(command: &mut Command, words: &[&str]) -> io::Result<()> {
     Ok(())
 }
 
-/// A program with these words.
-fn command_of(alloc: Global, program: &str, words: &[&str]) -> io::Result<Command> {
-    let mut command = Command::new(alloc, program)?;
+/// This program with these words.
+fn command_of(alloc: Global, words: &[&str]) -> io::Result<Command> {
+    let mut command = Command::new(alloc, PROGRAM)?;
     match add_words(&mut command, words) {
         Ok(()) => Ok(command),
         Err(error) => Err(error),
@@ -49,21 +49,19 @@ fn spawn(rt: &HostRuntime, mut command: Command) -> io::Result<Child> {
         .spawn(rt)
 }
 
-/// Starts a program with these words.
-pub fn launch(rt: &HostRuntime, program: &str, words: &[&str]) -> Result<Running, Trouble> {
-    let command = command_of(rt.alloc(), program, words)?;
+/// Starts this program with these words.
+pub fn launch(rt: &HostRuntime, words: &[&str]) -> Result<Running, Trouble> {
+    let command = command_of(rt.alloc(), words)?;
     let process = spawn(rt, command)?;
     Ok(Running { process })
 }
 
 /// Starts a node of a cluster.
 fn launch_node(rt: &HostRuntime, cluster: &Cluster, node: u8) -> Result<Running, Trouble> {
-    let journal = cluster.journal(rt.alloc(), node)?;
     let number = format!(in rt.alloc(); "{node}")?;
     launch(
         rt,
-        cluster.program.as_str(),
-        &[cluster.config.as_str(), journal.as_str(), number.as_str()],
+        &[cluster.place.config, cluster.journal(node), number.as_str()],
     )
 }
 

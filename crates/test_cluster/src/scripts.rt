@@ -1,7 +1,7 @@
 //! Clusters from a script, as the program `cluster_run` runs it, with this program as their nodes. Each line is printed with what
 //! came of it.
 
-use crate::cluster::Cluster;
+use crate::cluster::{self, Cluster, PROGRAM};
 use crate::journals::first_session;
 use crate::trouble::Trouble;
 use std::fs;
@@ -52,13 +52,13 @@ ask 1 /shop/count
 
 /// Runs a script over a cluster, up to its end or a fault.
 fn play(rt: &HostRuntime, cluster: &Cluster, script: &str) -> Result<String, Trouble> {
-    let path = format!(in rt.alloc(); "{}/script", cluster.folder)?;
-    fs::write(rt, path.as_str(), script)?;
+    let place = cluster.place;
+    fs::write(rt, place.script, script)?;
     let words = Words {
-        node: cluster.program.as_str(),
-        config: cluster.config.as_str(),
-        folder: cluster.folder.as_str(),
-        script: path.as_str(),
+        node: PROGRAM,
+        config: place.config,
+        folder: place.folder,
+        script: place.script,
     };
     match run_script(rt, words) {
         Ok(()) => Ok(String::from_str(rt.alloc(), "all lines are run")?),
@@ -77,18 +77,18 @@ fn first_sessions(rt: &HostRuntime, cluster: &Cluster) -> Result<String, Trouble
 /// It was made at node 0 in epoch 1, and was handed to 1, to 2, and back to 0. Each node is a process of its own, of which that of
 /// node 2 was started twice.
 pub fn moved(rt: &HostRuntime) -> Result<String, Trouble> {
-    let cluster = Cluster::new(rt, "moved", 3, DEADLINE)?;
+    let cluster = Cluster::new(rt, cluster::MOVED, 3, DEADLINE)?;
     let said = play(rt, &cluster, MOVED)?;
     let held = first_sessions(rt, &cluster)?;
     Ok(format!(in rt.alloc(); "{said}; {held}")?)
 }
 
 pub fn in_turn(rt: &HostRuntime) -> Result<String, Trouble> {
-    let cluster = Cluster::new(rt, "in-turn", 3, DEADLINE)?;
+    let cluster = Cluster::new(rt, cluster::IN_TURN, 3, DEADLINE)?;
     play(rt, &cluster, IN_TURN)
 }
 
 pub fn absent(rt: &HostRuntime) -> Result<String, Trouble> {
-    let cluster = Cluster::new(rt, "absent", 2, SHORT_DEADLINE)?;
+    let cluster = Cluster::new(rt, cluster::ABSENT, 2, SHORT_DEADLINE)?;
     play(rt, &cluster, ABSENT)
 }

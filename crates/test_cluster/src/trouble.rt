@@ -14,8 +14,6 @@ pub enum Trouble {
     Memory,
     #[error("the machine refuses a call")]
     Machine,
-    #[error("this program isn't found")]
-    NoProgram,
     #[error("a node doesn't say that it is ready")]
     NotReady,
     #[error("{0}")]
