@@ -45,13 +45,14 @@ enum Trial {
 /// What is tried, how many inputs it has, and its name.
 type Row = (Trial, usize, &'static str);
 
-static MESSAGES: [Row; 6] = [
+static PIPELINES: [Row; 1] = [(
+    Trial::TwoHundredChunkedBodies,
+    4,
+    "two hundred chunked bodies in pieces",
+)];
+
+static MESSAGES: [Row; 5] = [
     (Trial::AFaultClosesTheReader, 1, "a fault closes the reader"),
-    (
-        Trial::TwoHundredChunkedBodies,
-        4,
-        "two hundred chunked bodies in pieces",
-    ),
     (Trial::EveryEscapeOfOneByte, 256, "every escape of one byte"),
     (
         Trial::EveryEscapeOfOneByteInCapitals,
@@ -180,6 +181,11 @@ fn expect_all(rt: &(impl Abort + AllocGlobal), rows: &[Row]) -> Result<(), Fail>
         }
     }
     Ok(())
+}
+
+#[test]
+fn pipelined_requests(rt: HostRuntime) -> Result<(), Fail> {
+    expect_all(&rt, &PIPELINES)
 }
 
 #[test]

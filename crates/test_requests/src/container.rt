@@ -61,16 +61,17 @@ static OBJECTS: [Row; 6] = [
     ),
 ];
 
-static LIMITS: [Row; 5] = [
+static LARGE: [Row; 1] = [(
+    Trial::JudgesAMegabyte,
+    1,
+    "a descriptor of a megabyte is judged",
+)];
+
+static LIMITS: [Row; 4] = [
     (
         Trial::SaysWhatToLookFor,
         8,
         "a descriptor's fault says what to look for",
-    ),
-    (
-        Trial::JudgesAMegabyte,
-        1,
-        "a descriptor of a megabyte is judged",
     ),
     (
         Trial::SaysWhatIsAtFault,
@@ -123,6 +124,11 @@ fn expect_all(rt: &(impl Abort + AllocGlobal), rows: &[Row]) -> Result<(), Fail>
 #[test]
 fn lives_of_objects(rt: HostRuntime) -> Result<(), Fail> {
     expect_all(&rt, &OBJECTS)
+}
+
+#[test]
+fn a_large_descriptor(rt: HostRuntime) -> Result<(), Fail> {
+    expect_all(&rt, &LARGE)
 }
 
 #[test]
