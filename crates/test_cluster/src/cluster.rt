@@ -100,8 +100,11 @@ fn listeners(rt: &HostRuntime, count: u8) -> Result<Vec<TcpListener>, Trouble> {
 /// The port of each of them, three at most.
 fn ports_of(listeners: &[TcpListener]) -> Result<[u16; 3], Trouble> {
     let mut ports = [0; 3];
-    for (port, listener) in ports.iter_mut().zip(listeners) {
-        *port = listener.local_addr()?.port();
+    for (number, listener) in listeners.iter().enumerate() {
+        let port = listener.local_addr()?.port();
+        if let Some(place) = ports.get_mut(number) {
+            *place = port;
+        }
     }
     Ok(ports)
 }
