@@ -15,20 +15,30 @@ fn client_of(rt: &HostRuntime, town: &Town, named: [u8; 2]) -> Result<TcpStream,
     Ok(client)
 }
 
-/// A life in which the session of these two bytes is asked for once: the client, and what has come of the node.
+/// A life in which the session of these two bytes is asked for once: the letter of the answer, and what has come of the node.
 fn life(
     rt: &HostRuntime,
     town: &Town,
     disks: (MemoryDisk, MemoryDisk),
     named: [u8; 2],
-) -> Result<(TcpStream, Ended<Counter, MemoryDisk>), Fail> {
+) -> Result<(char, Ended<Counter, MemoryDisk>), Fail> {
     let host = host_of(rt, town, Persistence::Single)?;
     let client = client_of(rt, town, named)?;
     let (a, b) = disks;
-    Ok((client, live(rt, host, a, b)?))
+    let ended = live(rt, host, a, b)?;
+    Ok((letter_of(rt.alloc(), &client), ended))
 }
 
-/// The disks of such a life, whose answer is added.
+/// The disks of a node that was told to stop.
+fn disks_of(ended: Ended<Counter, MemoryDisk>) -> Result<(MemoryDisk, MemoryDisk), Fail> {
+    let Ended { a, b, fault, .. } = ended;
+    match fault {
+        None => Ok((a, b)),
+        Some(_) => Err("ended by a fault".into()),
+    }
+}
+
+/// The disks of such a life, whose letter is added.
 fn push_life(
     rt: &HostRuntime,
     town: &Town,
@@ -36,13 +46,9 @@ fn push_life(
     disks: (MemoryDisk, MemoryDisk),
     named: [u8; 2],
 ) -> Result<(MemoryDisk, MemoryDisk), Fail> {
-    let (client, ended) = life(rt, town, disks, named)?;
-    text.push(letter_of(rt.alloc(), &client))?;
-    let Ended { a, b, fault, .. } = ended;
-    match fault {
-        None => Ok((a, b)),
-        Some(_) => Err("ended by a fault".into()),
-    }
+    let (letter, ended) = life(rt, town, disks, named)?;
+    text.push(letter)?;
+    disks_of(ended)
 }
 
 /// The answers of two lives, whose port can be listened at again at once. The first makes a session, which the second is asked for.

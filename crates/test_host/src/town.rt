@@ -118,6 +118,15 @@ impl Town {
         self.place_with(rt, 30, None)
     }
 
+    /// The ports of both nodes.
+    fn ports(&self, alloc: Global) -> io::Result<Vec<u16>> {
+        let peer = self.peer.local_addr()?.port();
+        let mut ports = Vec::new(alloc);
+        ports.push(self.port)?;
+        ports.push(peer)?;
+        Ok(ports)
+    }
+
     /// The place of node 0, with a deadline in seconds, and with secrets of a file.
     pub fn place_with(
         &self,
@@ -125,9 +134,7 @@ impl Town {
         deadline: u32,
         secrets: Option<String>,
     ) -> Result<Place, Fail> {
-        let mut ports = Vec::new(rt.alloc());
-        ports.push(self.port)?;
-        ports.push(self.peer.local_addr()?.port())?;
+        let ports = self.ports(rt.alloc())?;
         let cluster = Cluster {
             ports,
             deadline,

@@ -65,10 +65,11 @@ impl Purpose for Two<'_, '_> {
         let mut site = Solo::new(alloc, engine);
         let mut connection = Connection::new(alloc, false);
         connection.serve_next(reader, writer, &mut site, moment_of(first, 1), 1);
-        // At a node that stands alone no request waits.
-        if !connection.waiting() {
-            connection.serve_next(reader, writer, &mut site, moment_of(second, 2), 2);
+        // At a node that stands alone no request waits; one that waited would have no second answer.
+        if connection.waiting() {
+            return Ok(());
         }
+        connection.serve_next(reader, writer, &mut site, moment_of(second, 2), 2);
         Ok(())
     }
 }
