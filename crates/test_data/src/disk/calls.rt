@@ -43,14 +43,24 @@ trait AnyRange: Disk {
 
 impl AnyRange for MemoryDisk {
     fn read_any(&mut self, at: u64, bytes: &mut [u8]) -> Result<(), Device> {
+        let len = self.bytes().len() as u64;
+        if at > len || bytes.len() as u64 > len - at {
+            return Err(Device);
+        }
         self.read(at, bytes)
     }
 
     fn write_any(&mut self, at: u64, bytes: &[u8]) -> Result<(), Device> {
+        if at > self.bytes().len() as u64 {
+            return Err(Device);
+        }
         self.write_at(at, bytes)
     }
 
     fn cut_any(&mut self, len: u64) -> Result<(), Device> {
+        if len > self.bytes().len() as u64 {
+            return Err(Device);
+        }
         self.cut(len)
     }
 }
