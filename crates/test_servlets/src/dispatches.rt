@@ -1,7 +1,6 @@
 //! Dispatches over small servlets: how they end, and the status and the body that come of them.
 //!
-//! The servlets stand in tables, so that a row names the path that is asked for, and what else differs. What stands on a stage is its
-//! scene, which each module makes of a kind of row.
+//! The servlets stand in tables, so that a row names the path that is asked for, and what else differs.
 
 ghost use Rattle.std.specs.Prelude.{◌≡◌};
 ghost use Rattle.sv_dispatch.specs.Stages.{IsSound, table_of};
@@ -17,29 +16,12 @@ pub mod shown;
 use crate::fault::RowFault;
 use crate::scripted::{Marking, Says, Scripted, Then};
 use crate::spelled::shown;
-use crate::staged::{add_filter, add_servlet, empty_stage};
+use crate::staged::{add_filter, add_servlet};
 use http::Method;
 use std::alloc::{AllocError, Global};
 use sv_dispatch::{Ended, Stage, run};
 use sv_mapping::{Dispatcher, Dispatchers};
 use sv_servlet::{Call, Filter, Phase, Replied, Reply, RequestAttributes, Servlet};
-
-/// What stands on a stage.
-#[derive(Clone, Copy)]
-enum Scene {
-    /// A servlet, and two filters, of which the second says this.
-    Chained(Then),
-    /// A servlet that includes another one, and a filter of includes.
-    Including,
-    /// Servlets and an error page, and two filters for a kind of dispatch, of which the second says this.
-    Filtered(Dispatcher, Then),
-    /// Servlets that lead to one another.
-    Nested,
-    /// Servlets that fail, and error pages.
-    Paged,
-    /// A servlet that writes this, and those that lead to it.
-    Showing(Says),
-}
 
 /// A servlet of a path: its status, what it writes, and what is to follow.
 type Row = (&'static str, u16, Says, Then);
@@ -180,30 +162,4 @@ fn dispatched<S: Servlet, F: Filter>(
     let ended = run_path(alloc, &mut stage, path)?;
     let replied = reply_of(stage).finish();
     Ok(ended_text(alloc, ended, &replied)?)
-}
-
-/// Sets up a scene.
-fn furnish(
-    alloc: Global,
-    stage: &mut Stage<Scripted, Marking>,
-    scene: Scene,
-) -> Result<(), RowFault>
-    requires { IsStaged stage.old }
-    ensures { IsStaged stage.new }
-{
-    match scene {
-        Scene::Chained(then) => filters::furnish(alloc, stage, then),
-        Scene::Including => filters::furnish_including(alloc, stage),
-        Scene::Filtered(kind, then) => kinds::furnish(alloc, stage, kind, then),
-        Scene::Nested => nesting::furnish(alloc, stage),
-        Scene::Paged => pages::furnish(alloc, stage),
-        Scene::Showing(says) => shown::furnish(alloc, stage, says),
-    }
-}
-
-/// Dispatches a request for a path of the context in a scene: what comes of it.
-fn played(alloc: Global, scene: Scene, path: &str) -> Result<String, RowFault> {
-    let mut stage: Stage<Scripted, Marking> = empty_stage(alloc);
-    furnish(alloc, &mut stage, scene)?;
-    dispatched(alloc, stage, path)
 }

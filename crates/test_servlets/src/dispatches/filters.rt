@@ -4,10 +4,11 @@
 
 ghost use Rattle.test_servlets.specs.Staged.{IsStaged};
 
-use super::{Row, Scene, add_filters, add_servlets, filter_of, played, then_of};
+use super::{add_filters, add_servlets, dispatched, filter_of, then_of};
+use crate::dispatches::Row;
 use crate::fault::RowFault;
 use crate::scripted::{Marking, Says, Scripted, Then};
-use crate::staged::add_filter;
+use crate::staged::{add_filter, empty_stage};
 use std::alloc::Global;
 use sv_dispatch::Stage;
 use sv_mapping::{Dispatcher, Dispatchers};
@@ -15,11 +16,7 @@ use sv_mapping::{Dispatcher, Dispatchers};
 static HELLO: [Row; 1] = [("/w", 200, Says::Text("Hello\n"), Then::Ends)];
 
 /// The servlet, and the two filters.
-pub(super) fn furnish(
-    alloc: Global,
-    stage: &mut Stage<Scripted, Marking>,
-    then: Then,
-) -> Result<(), RowFault>
+fn furnish(alloc: Global, stage: &mut Stage<Scripted, Marking>, then: Then) -> Result<(), RowFault>
     requires { IsStaged stage.old }
     ensures { IsStaged stage.new }
 {
@@ -29,7 +26,10 @@ pub(super) fn furnish(
 
 /// `before` runs in order of the mappings and `after` in reverse, of those that passed.
 pub fn chain(alloc: Global, word: &str) -> Result<String, RowFault> {
-    played(alloc, Scene::Chained(then_of(word)?), "/w")
+    let then = then_of(word)?;
+    let mut stage: Stage<Scripted, Marking> = empty_stage(alloc);
+    furnish(alloc, &mut stage, then)?;
+    dispatched(alloc, stage, "/w")
 }
 
 static INCLUDING: [Row; 2] = [
@@ -38,10 +38,7 @@ static INCLUDING: [Row; 2] = [
 ];
 
 /// A servlet, one that includes it, and a filter of includes.
-pub(super) fn furnish_including(
-    alloc: Global,
-    stage: &mut Stage<Scripted, Marking>,
-) -> Result<(), RowFault>
+fn furnish_including(alloc: Global, stage: &mut Stage<Scripted, Marking>) -> Result<(), RowFault>
     requires { IsStaged stage.old }
     ensures { IsStaged stage.new }
 {
@@ -57,5 +54,7 @@ pub(super) fn furnish_including(
 
 /// A filter runs in the dispatches that its mapping names, here those of includes.
 pub fn included(alloc: Global) -> Result<String, RowFault> {
-    played(alloc, Scene::Including, "/iw")
+    let mut stage: Stage<Scripted, Marking> = empty_stage(alloc);
+    furnish_including(alloc, &mut stage)?;
+    dispatched(alloc, stage, "/iw")
 }

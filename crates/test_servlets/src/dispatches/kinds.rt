@@ -6,11 +6,11 @@
 
 ghost use Rattle.test_servlets.specs.Staged.{IsStaged};
 
-use super::{Row, Scene, add_filters, add_servlets, played, then_of};
+use super::{Row, add_filters, add_servlets, dispatched, then_of};
 use crate::fault::RowFault;
 use crate::row::first;
 use crate::scripted::{Marking, Says, Scripted, Then};
-use crate::staged::add_page;
+use crate::staged::{add_page, empty_stage};
 use std::alloc::Global;
 use sv_dispatch::{PageFor, Stage};
 use sv_mapping::Dispatcher;
@@ -34,7 +34,7 @@ fn kind_of(word: &str) -> Result<Dispatcher, RowFault> {
 }
 
 /// The servlets, the filters of a kind of dispatch, and the page of every error.
-pub(super) fn furnish(
+fn furnish(
     alloc: Global,
     stage: &mut Stage<Scripted, Marking>,
     kind: Dispatcher,
@@ -52,6 +52,8 @@ pub(super) fn furnish(
 pub fn filtered(alloc: Global, parts: &str) -> Result<String, RowFault> {
     let (kind, rest) = first(parts);
     let (path, word) = first(rest);
-    let scene = Scene::Filtered(kind_of(kind)?, then_of(word)?);
-    played(alloc, scene, path)
+    let (kind, then) = (kind_of(kind)?, then_of(word)?);
+    let mut stage: Stage<Scripted, Marking> = empty_stage(alloc);
+    furnish(alloc, &mut stage, kind, then)?;
+    dispatched(alloc, stage, path)
 }

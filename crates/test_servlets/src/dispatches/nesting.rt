@@ -4,7 +4,7 @@
 
 ghost use Rattle.test_servlets.specs.Staged.{IsStaged};
 
-use super::{Row, Scene, add_servlets, played, run_path};
+use super::{Row, add_servlets, dispatched, run_path};
 use crate::fault::RowFault;
 use crate::scripted::{Marking, Says, Scripted, Then};
 use crate::staged::empty_stage;
@@ -35,19 +35,14 @@ static SERVLETS: [Row; 16] = [
     ("/relative", 202, Says::Text("["), Then::Includes("w")),
 ];
 
-pub(super) fn furnish(alloc: Global, stage: &mut Stage<Scripted, Marking>) -> Result<(), RowFault>
-    requires { IsStaged stage.old }
-    ensures { IsStaged stage.new }
-{
-    add_servlets(alloc, stage, &SERVLETS)
-}
-
 /// A forward empties the body, also that of the includer, and keeps its target's status. Below an include the status
 /// stands still, and an error that is sent is an end; a fault isn't, and no more is a dispatch that is 17 deep. A dispatch
 /// path is read as a target: with a query, an escape, a dot segment; one above the root, one with an escaped slash and one
 /// that doesn't begin with a slash is a fault.
 pub fn nested(alloc: Global, path: &str) -> Result<String, RowFault> {
-    played(alloc, Scene::Nested, path)
+    let mut stage: Stage<Scripted, Marking> = empty_stage(alloc);
+    add_servlets(alloc, &mut stage, &SERVLETS)?;
+    dispatched(alloc, stage, path)
 }
 
 /// The calls of the first servlet.

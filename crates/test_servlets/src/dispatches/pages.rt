@@ -2,10 +2,10 @@
 
 ghost use Rattle.test_servlets.specs.Staged.{IsStaged};
 
-use super::{Row, Scene, add_servlets, played};
+use super::{Row, add_servlets, dispatched};
 use crate::fault::RowFault;
 use crate::scripted::{Marking, Says, Scripted, Then};
-use crate::staged::add_page;
+use crate::staged::{add_page, empty_stage};
 use std::alloc::Global;
 use sv_dispatch::{PageFor, Stage};
 use sv_model::Text;
@@ -40,17 +40,11 @@ fn add_pages(alloc: Global, stage: &mut Stage<Scripted, Marking>) -> Result<(), 
     add_page(alloc, stage, fault, "/message")
 }
 
-/// The servlets and the pages.
-pub(super) fn furnish(alloc: Global, stage: &mut Stage<Scripted, Marking>) -> Result<(), RowFault>
-    requires { IsStaged stage.old }
-    ensures { IsStaged stage.new }
-{
-    add_servlets(alloc, stage, &SERVLETS)?;
-    add_pages(alloc, stage)
-}
-
 /// A page by its status or its fault before the default; a code outside 400 to 599 has status 500, and so has a fault;
 /// an error in an error page gives the plain page of 500. A page that sets a status has it.
 pub fn page(alloc: Global, path: &str) -> Result<String, RowFault> {
-    played(alloc, Scene::Paged, path)
+    let mut stage: Stage<Scripted, Marking> = empty_stage(alloc);
+    add_servlets(alloc, &mut stage, &SERVLETS)?;
+    add_pages(alloc, &mut stage)?;
+    dispatched(alloc, stage, path)
 }

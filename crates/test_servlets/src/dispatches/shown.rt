@@ -5,11 +5,11 @@
 
 ghost use Rattle.test_servlets.specs.Staged.{IsStaged};
 
-use super::{Row, Scene, add_servlets, played, servlet_of};
+use super::{Row, add_servlets, dispatched, servlet_of};
 use crate::fault::RowFault;
 use crate::row::first;
 use crate::scripted::{Marking, Says, Scripted, Then};
-use crate::staged::add_servlet;
+use crate::staged::{add_servlet, empty_stage};
 use std::alloc::Global;
 use sv_dispatch::Stage;
 
@@ -46,11 +46,7 @@ fn says_of(word: &str) -> Result<Says, RowFault> {
 }
 
 /// The servlet `/s`, and those that lead to it.
-pub(super) fn furnish(
-    alloc: Global,
-    stage: &mut Stage<Scripted, Marking>,
-    says: Says,
-) -> Result<(), RowFault>
+fn furnish(alloc: Global, stage: &mut Stage<Scripted, Marking>, says: Says) -> Result<(), RowFault>
     requires { IsStaged stage.old }
     ensures { IsStaged stage.new }
 {
@@ -63,5 +59,8 @@ pub(super) fn furnish(
 /// keeps the URI and has the innermost target's values in attributes.
 pub fn shown(alloc: Global, parts: &str) -> Result<String, RowFault> {
     let (path, word) = first(parts);
-    played(alloc, Scene::Showing(says_of(word)?), path)
+    let says = says_of(word)?;
+    let mut stage: Stage<Scripted, Marking> = empty_stage(alloc);
+    furnish(alloc, &mut stage, says)?;
+    dispatched(alloc, stage, path)
 }
