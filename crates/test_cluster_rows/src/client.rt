@@ -42,9 +42,9 @@ const NO: Packet = Packet::No {
     want: 1,
 };
 
-fn node(alloc: Global, number: u8) -> Result<Own<Node<Shop, MemoryDisk>>, RowFault>
+fn node(alloc: Global, number: u8) -> Result<Node<Shop, MemoryDisk>, RowFault>
     requires { number < 2 }
-    ensures { IfOk result (λ n. ⟦<Node<Shop, MemoryDisk> as Site>⟧.site_valid n.value) }
+    ensures { IfOk result (λ n. ⟦<Node<Shop, MemoryDisk> as Site>⟧.site_valid n) }
 {
     let setting = Setting::of(number, 2, 30);
     let shop = shop(alloc, "built-in")?;
@@ -55,7 +55,7 @@ fn node(alloc: Global, number: u8) -> Result<Own<Node<Shop, MemoryDisk>>, RowFau
         MemoryDisk::new(alloc),
         setting,
     ) {
-        Ok(node) => Ok(Own::new(node)),
+        Ok(node) => Ok(node),
         Err(_) => Err(RowFault::Start),
     }
 }
@@ -186,7 +186,7 @@ fn hears<S: Site>(
 
 /// Node 0 hears of the want.
 fn home(told: &mut String, alloc: Global) -> Result<(), RowFault> {
-    let mut home = node(alloc, 0)?;
+    let mut home = Own::new(node(alloc, 0)?);
     hears(told, alloc, &mut home.value, "node 0", WANT)?;
     Ok(())
 }
@@ -207,7 +207,7 @@ fn ends<S: Site>(
 
 /// A client sends a GET with a cookie to node 1, waits, and is answered.
 pub fn play(alloc: Global, words: &str, told: &mut String) -> Result<(), RowFault> {
-    let mut asked = node(alloc, 1)?;
+    let mut asked = Own::new(node(alloc, 1)?);
     let mut connection = asks(told, alloc, &mut asked.value, words)?;
     ends(told, alloc, &mut asked.value, &mut connection)
 }
