@@ -16,7 +16,6 @@ use sv_connection::{Connection, Outcome, Served};
 use sv_journal::MemoryDisk;
 use sv_model::{Input, Key, Output, Packet, Setting, Site};
 use sv_node::Node;
-use test_engine::Own;
 
 /// The number of the client's request.
 const TOKEN: u64 = 7;
@@ -186,8 +185,8 @@ fn hears<S: Site>(
 
 /// Node 0 hears of the want.
 fn home(told: &mut String, alloc: Global) -> Result<(), RowFault> {
-    let mut home = Own::new(node(alloc, 0)?);
-    hears(told, alloc, &mut home.value, "node 0", WANT)?;
+    let mut home = node(alloc, 0)?;
+    hears(told, alloc, &mut home, "node 0", WANT)?;
     Ok(())
 }
 
@@ -207,7 +206,7 @@ fn ends<S: Site>(
 
 /// A client sends a GET with a cookie to node 1, waits, and is answered.
 pub fn play(alloc: Global, words: &str, told: &mut String) -> Result<(), RowFault> {
-    let mut asked = Own::new(node(alloc, 1)?);
-    let mut connection = asks(told, alloc, &mut asked.value, words)?;
-    ends(told, alloc, &mut asked.value, &mut connection)
+    let mut asked = node(alloc, 1)?;
+    let mut connection = asks(told, alloc, &mut asked, words)?;
+    ends(told, alloc, &mut asked, &mut connection)
 }
