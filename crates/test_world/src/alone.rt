@@ -1,6 +1,6 @@
 //! A core by itself, node 0 of three: what it is recovered from, what it is given, and what it puts out.
 
-use crate::member::{NOW, SECRET};
+use crate::act::{NOW, SECRET};
 use crate::{forgets, limits, room};
 use std::alloc::{AllocError, Global};
 use std::process::Abort;
@@ -373,6 +373,18 @@ fn expect_part(
     Ok(())
 }
 
+/// The snapshot of a core behind a part.
+fn snapshot_behind(
+    rt: &impl Abort,
+    core: &mut Core<Counter>,
+    alloc: Global,
+    name: &str,
+    part: &Part,
+) -> Result<Vec<Record>, Fail> {
+    expect_part(rt, core, alloc, name, part)?;
+    Ok(core.snapshot()?)
+}
+
 /// The snapshot of a core that was recovered from these records, behind a part.
 fn left_by(
     rt: &impl Abort,
@@ -382,8 +394,7 @@ fn left_by(
     part: &Part,
 ) -> Result<Vec<Record>, Fail> {
     let mut core = recovered(alloc, setting(story.keys, story.forget), records)?;
-    expect_part(rt, &mut core, alloc, story.name, part)?;
-    Ok(core.snapshot()?)
+    snapshot_behind(rt, &mut core, alloc, story.name, part)
 }
 
 fn is_head(record: Option<&Record>, its_boot: u64, its_next: u64) -> bool {
@@ -492,14 +503,18 @@ fn start_of(entry: Option<&Record>) -> Start {
     }
 }
 
-/// The next start of a node that forgets or not, behind these records.
-fn next_start(alloc: Global, forget: bool, entries: &[Entry]) -> Result<Start, Fail> {
-    let records = records_of(alloc, entries)?;
-    let mut core = recovered(alloc, setting(10, forget), &records)?;
+fn decided_start(core: &mut Core<Counter>) -> Result<Start, AllocError> {
     match core.decide_start()? {
         Some(decision) => Ok(start_of(decision.entry())),
         None => Ok(Start::None),
     }
+}
+
+/// The next start of a node that forgets or not, behind these records.
+fn next_start(alloc: Global, forget: bool, entries: &[Entry]) -> Result<Start, Fail> {
+    let records = records_of(alloc, entries)?;
+    let mut core = recovered(alloc, setting(10, forget), &records)?;
+    Ok(decided_start(&mut core)?)
 }
 
 /// Whether a node forgets, its records, and its next start.

@@ -1,38 +1,71 @@
 //! Events that can't happen, as they were never sent or have used their number.
 
+ghost use Rattle.test_world.specs.Stage.{IsStaged};
+
 use crate::act::{Act, K1, KEPT, NOW, ask, key, torn};
 use crate::stage::{Row, expect_rows, nodes};
+use std::alloc::{AllocError, Global};
+use std::process::Abort;
 use std::test::Fail;
 use sv_model::{Input, Packet, Token};
-use sv_world::{WorldEvent, WorldFault};
+use sv_world::{World, WorldEvent, WorldFault};
+use test_engine::Counter;
 
-/// Requests under one number: the node that is asked, and the fault.
-const ONE_NUMBER: [(u8, Option<WorldFault>); 3] = [
-    (0, None),
-    (0, Some(WorldFault::TokenUsed)),
-    (1, None),
-];
+/// What happens to nodes; each request has the number 7.
+#[derive(Clone, Copy)]
+enum Event {
+    Ask(u8),
+    Crash(u8),
+    Restart(u8),
+}
 
 /// A number is used once at a node, and again behind its next start.
+static ONE_NUMBER: [(Event, Option<WorldFault>); 6] = [
+    (Event::Ask(0), None),
+    (Event::Ask(0), Some(WorldFault::TokenUsed)),
+    (Event::Ask(1), None),
+    (Event::Crash(0), None),
+    (Event::Restart(0), None),
+    (Event::Ask(0), None),
+];
+
+fn numbered(alloc: Global, event: Event) -> Result<WorldEvent, AllocError> {
+    match event {
+        Event::Ask(node) => ask(alloc, 7, node, NOW, &[]),
+        Event::Crash(node) => Ok(WorldEvent::Crash(node)),
+        Event::Restart(node) => Ok(WorldEvent::Restart(node)),
+    }
+}
+
+fn expect_events(
+    rt: &impl Abort,
+    alloc: Global,
+    world: &mut World<Counter>,
+) -> Result<(), AllocError>
+    requires { IsStaged world.old }
+    ensures { IsStaged world.new }
+{
+    for (place, (event, fault)) in ONE_NUMBER.iter().enumerate() {
+        let event = numbered(alloc, *event)?;
+        assert_eq!(rt; world.step(event).err(), *fault, "event {place}");
+    }
+    Ok(())
+}
+
+fn last_asked(world: &World<Counter>) -> Option<Token> {
+    world.trace().last()?.asked
+}
+
 #[test]
 fn a_token_is_used_once_a_start(rt: HostRuntime) -> Result<(), Fail> {
-    let alloc = rt.alloc();
-    let mut world = nodes(alloc, 3)?;
-    for (node, fault) in ONE_NUMBER {
-        assert_eq!(rt; world.step(ask(alloc, 7, node, NOW, &[])?).err(), fault);
-    }
-    assert_eq!(rt; world.step(WorldEvent::Crash(0)), Ok(()));
-    assert_eq!(rt; world.step(WorldEvent::Restart(0)), Ok(()));
-    assert_eq!(rt; world.step(ask(alloc, 7, 0, NOW, &[])?), Ok(()));
+    let mut world = nodes(rt.alloc(), 3)?;
+    expect_events(&rt, rt.alloc(), &mut world)?;
     let token = Token {
         number: 7,
         node: 0,
         boot: 2,
     };
-    assert_eq!(rt;
-        world.trace().last().and_then(|line| line.asked),
-        Some(token)
-    );
+    assert_eq!(rt; last_asked(&world), Some(token));
     Ok(())
 }
 
@@ -59,19 +92,34 @@ static ACKNOWLEDGED: [Row; 3] = [
     ),
 ];
 
-/// A packet at which a node stops is one that was sent. Of several faults that which stands first is answered.
+/// The node that stops, the epoch of the packet that it stops at, and the fault. A packet at which a node stops is one that was
+/// sent. Of several faults that which stands first is answered.
+static TORN: [(u8, u64, Option<WorldFault>); 4] = [
+    (0, 3, Some(WorldFault::NoPacket)),
+    (3, 3, Some(WorldFault::NoNode)),
+    (0, 2, None),
+    (0, 3, Some(WorldFault::NotRunning)),
+];
+
+fn expect_torn(rt: &impl Abort, world: &mut World<Counter>)
+    requires { IsStaged world.old }
+    ensures { IsStaged world.new }
+{
+    for (node, epoch, fault) in &TORN {
+        let stopped = torn(*node, acknowledgement(*epoch), KEPT);
+        assert_eq!(rt;
+            world.step(stopped).err(),
+            *fault,
+            "node {node}, epoch {epoch}"
+        );
+    }
+}
+
 #[test]
 fn a_torn_packet_was_sent(rt: HostRuntime) -> Result<(), Fail> {
     let alloc = rt.alloc();
     let mut world = nodes(alloc, 3)?;
     expect_rows(&rt, alloc, &mut world, ("acknowledged", &ACKNOWLEDGED))?;
-    let never = torn(0, acknowledgement(3), KEPT);
-    assert_eq!(rt; world.step(never), Err(WorldFault::NoPacket));
-    let nowhere = torn(3, acknowledgement(3), KEPT);
-    assert_eq!(rt; world.step(nowhere), Err(WorldFault::NoNode));
-    let sent = torn(0, acknowledgement(2), KEPT);
-    assert_eq!(rt; world.step(sent), Ok(()));
-    let stopped = torn(0, acknowledgement(3), KEPT);
-    assert_eq!(rt; world.step(stopped), Err(WorldFault::NotRunning));
+    expect_torn(&rt, &mut world);
     Ok(())
 }

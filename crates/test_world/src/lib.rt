@@ -1,8 +1,7 @@
-//! Tests of the core of a node, a few of them, with packets carried by hand; and of a world of nodes: how it starts, lists of events
-//! in one run, and tokens.
+//! Tests of the core of a node by itself, and of a world of nodes: how it starts, lists of events in one run, and tokens.
 //!
 //! The top of the world's floor: it stands on `sv_core` and `sv_world` and proves nothing of its own. What is expected is written
-//! out by hand beside each step and event, from the table of the node's step. What worlds do event by event is told by
+//! out by hand beside each row and event, from the table of the node's step. What worlds do event by event is told by
 //! `test_cluster_rows`, whose nodes serve by real applications.
 #![tactic(auto)]
 
@@ -11,19 +10,13 @@ mod act;
 #[cfg(test)]
 mod alone;
 #[cfg(test)]
-mod cluster;
-#[cfg(test)]
 mod faults;
 #[cfg(test)]
 mod forgets;
 #[cfg(test)]
 mod limits;
 #[cfg(test)]
-mod member;
-#[cfg(test)]
 mod room;
-#[cfg(test)]
-mod rows;
 #[cfg(test)]
 mod runs;
 #[cfg(test)]
@@ -32,5 +25,3 @@ mod said;
 mod stage;
 #[cfg(test)]
 mod starts;
-#[cfg(test)]
-mod step;

@@ -35,7 +35,7 @@ const NO_EPOCH: [Row; 3] = [
     (Given::Want((1, 1)), ""),
 ];
 
-pub static STORIES: [Story; 5] = [
+pub static STORIES: [Story; 6] = [
     Story {
         name: "no key is known",
         keys: 65_536,
@@ -46,6 +46,30 @@ pub static STORIES: [Story; 5] = [
             rows: &[(Given::Census, "0 0 0 0")],
             left: Left::Any,
         }],
+    },
+    Story {
+        name: "what has gone stays gone behind a snapshot, and its Grant is acknowledged once more",
+        keys: 65_536,
+        forget: false,
+        records: &[Entry::Counters(1, 2), Entry::Active((0, 1))],
+        parts: &[
+            Part {
+                times: 1,
+                rows: &[
+                    (Given::Move((0, 1)), "+Grant 0 to 1 epoch 2;moved;"),
+                    (Given::Ack((0, 1), 2), "+"),
+                ],
+                left: Left::Any,
+            },
+            Part {
+                times: 1,
+                rows: &[
+                    (Given::Known((0, 1)), "Gone 2"),
+                    (Given::Grant((0, 1), 2), "Ack 0 to 1 epoch 2;"),
+                ],
+                left: Left::Any,
+            },
+        ],
     },
     Story {
         name: "keys are counted by what is known of them",

@@ -1,5 +1,7 @@
 //! Lists of events.
 
+ghost use Rattle.test_world.specs.Stage.{IsStaged};
+
 use crate::act::{Act, K1, KEPT, NOW, event};
 use crate::stage::{Row, line_text, nodes};
 use std::alloc::{AllocError, Global};
@@ -87,18 +89,39 @@ static FAULTY: [Row; 5] = [
     (Act::Restart(0), "Running"),
 ];
 
-/// A run stops at the first event that can't happen, and says which that is; those before it have happened.
-#[test]
-fn a_run_stops_at_the_first_fault(rt: HostRuntime) -> Result<(), Fail> {
-    let alloc = rt.alloc();
-    let mut world = nodes(alloc, 3)?;
-    let events = events(alloc, &FAULTY)?;
-    let fault = world.run(&events).err().ok_or("no fault")?;
+/// The event at which these stop is the third.
+fn expect_fault(
+    rt: &impl Abort,
+    alloc: Global,
+    world: &mut World<Counter>,
+    events: &[WorldEvent],
+) -> Result<(), Fail>
+    requires { IsStaged world.old }
+    ensures { IsStaged world.new }
+{
+    let fault = world.run(events).err().ok_or("no fault")?;
     assert_eq!(rt; (fault.place, fault.fault), (2, WorldFault::NotRunning));
     assert_eq!(rt;
         format!(in alloc; "{fault}")?.as_str(),
         "the event at place 2: the node doesn't run"
     );
+    Ok(())
+}
+
+fn run_to_the_fault(rt: &impl Abort, alloc: Global, world: &mut World<Counter>) -> Result<(), Fail>
+    requires { IsStaged world.old }
+    ensures { IsStaged world.new }
+{
+    let events = events(alloc, &FAULTY)?;
+    expect_fault(rt, alloc, world, &events)
+}
+
+/// A run stops at the first event that can't happen, and says which that is; those before it have happened.
+#[test]
+fn a_run_stops_at_the_first_fault(rt: HostRuntime) -> Result<(), Fail> {
+    let alloc = rt.alloc();
+    let mut world = nodes(alloc, 3)?;
+    run_to_the_fault(&rt, alloc, &mut world)?;
     assert_eq!(rt; world.trace().len(), 5);
     expect_lines(&rt, alloc, &world, &FAULTY[..2])
 }

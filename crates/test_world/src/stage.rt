@@ -8,7 +8,7 @@ use crate::said::{said, sent};
 use std::alloc::{AllocError, Global};
 use std::process::Abort;
 use std::test::Fail;
-use sv_world::World;
+use sv_world::{World, WorldEvent, WorldFault};
 use test_engine::Counter;
 
 /// The seconds for which a request waits for its session.
@@ -59,6 +59,14 @@ pub fn line_text(
     }
 }
 
+/// An event happens; its fault, if it can't.
+fn happen(world: &mut World<Counter>, event: WorldEvent) -> Option<WorldFault>
+    requires { IsStaged world.old }
+    ensures { IsStaged world.new }
+{
+    world.step(event).err()
+}
+
 /// An event happens; what it has done, or its fault's name. It adds a line where it has happened, and only there. A
 /// request's token is the number of lines before it.
 pub fn take(
@@ -72,17 +80,12 @@ pub fn take(
 {
     let before = world.trace().len();
     let event = event(alloc, before as u64, act)?;
-    let fault = world.step(event).err();
+    let fault = happen(world, event);
     let lines = world.trace().len() - before;
+    assert_eq!(rt; lines, usize::from(fault.is_none()));
     match fault {
-        None => {
-            assert_eq!(rt; lines, 1);
-            Ok(line_text(alloc, world, before)?)
-        }
-        Some(fault) => {
-            assert_eq!(rt; lines, 0);
-            Ok(format!(in alloc; "{fault:?}")?)
-        }
+        None => Ok(line_text(alloc, world, before)?),
+        Some(fault) => Ok(format!(in alloc; "{fault:?}")?),
     }
 }
 

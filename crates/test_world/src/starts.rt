@@ -1,5 +1,7 @@
 //! Worlds in which nothing has happened but that each node has started.
 
+ghost use Rattle.test_world.specs.Stage.{IsStaged};
+
 use crate::act::Act;
 use crate::stage::{line_text, nodes, take};
 use std::alloc::Global;
@@ -34,14 +36,28 @@ const WORLDS: [(u8, &str); 3] = [
     ),
 ];
 
+fn expect_world(
+    rt: &impl Abort,
+    alloc: Global,
+    world: &mut World<Counter>,
+    count: u8,
+    want: &str,
+) -> Result<(), Fail>
+    requires { IsStaged world.old }
+    ensures { IsStaged world.new }
+{
+    expect_starts(rt, alloc, world, usize::from(count))?;
+    let said = take(rt, alloc, world, Act::Again(0, (1, 1)))?;
+    assert_eq!(rt; said.as_str(), want, "of {count} nodes");
+    Ok(())
+}
+
 #[test]
 fn one_to_eight_nodes_start(rt: HostRuntime) -> Result<(), Fail> {
     let alloc = rt.alloc();
     for (count, want) in WORLDS {
         let mut world = nodes(alloc, count)?;
-        expect_starts(&rt, alloc, &world, usize::from(count))?;
-        let said = take(&rt, alloc, &mut world, Act::Again(0, (1, 1)))?;
-        assert_eq!(rt; said.as_str(), want, "of {count} nodes");
+        expect_world(&rt, alloc, &mut world, count, want)?;
     }
     Ok(())
 }
