@@ -204,9 +204,21 @@ fn ends<S: Site>(
     answered(told, alloc, connection, outputs.as_slice())
 }
 
+/// The client's request waits at node 1, and is answered.
+fn waits<S: Site>(
+    told: &mut String,
+    alloc: Global,
+    site: &mut S,
+    words: &str,
+) -> Result<(), RowFault>
+    requires { S.site_valid site.old }
+{
+    let mut connection = asks(told, alloc, site, words)?;
+    ends(told, alloc, site, &mut connection)
+}
+
 /// A client sends a GET with a cookie to node 1, waits, and is answered.
 pub fn play(alloc: Global, words: &str, told: &mut String) -> Result<(), RowFault> {
     let mut asked = node(alloc, 1)?;
-    let mut connection = asks(told, alloc, &mut asked, words)?;
-    ends(told, alloc, &mut asked, &mut connection)
+    waits(told, alloc, &mut asked, words)
 }

@@ -82,10 +82,19 @@ fn push_kept(text: &mut String, key: Key, state: &KeyState) -> Result<(), AllocE
     push_state(text, state)
 }
 
+/// Adds a record of numbers alone.
+fn push_numbers(text: &mut String, kind: &str, numbers: &[u64]) -> Result<(), AllocError> {
+    text.push_str(kind)?;
+    for number in numbers {
+        write!(text, " {number}")?;
+    }
+    Ok(())
+}
+
 /// Adds a record: its kind, and its fields.
 pub fn push_record(text: &mut String, record: &Record) -> Result<(), AllocError> {
     match record {
-        Record::Boot(boot) => write!(text, "Boot {boot}"),
+        Record::Boot(boot) => push_numbers(text, "Boot", &[*boot]),
         Record::Commit { named, born } => push_commit(text, named, born),
         Record::Expired(key) => push_kind(text, "Expired", *key),
         Record::Sent {
@@ -102,8 +111,10 @@ pub fn push_record(text: &mut String, record: &Record) -> Result<(), AllocError>
         } => push_handed(text, "Taken", *key, *epoch, "from", *from, session),
         Record::Gone { key, epoch } => push_gone(text, *key, *epoch),
         Record::State { key, state } => push_kept(text, *key, state),
-        Record::Counters { boot, next } => write!(text, "Counters {boot} {next}"),
-        Record::Forgets { home, boot } => write!(text, "Forgets {home} {boot}"),
-        Record::Counted { home, boot, next } => write!(text, "Counted {home} {boot} {next}"),
+        Record::Counters { boot, next } => push_numbers(text, "Counters", &[*boot, *next]),
+        Record::Forgets { home, boot } => push_numbers(text, "Forgets", &[u64::from(*home), *boot]),
+        Record::Counted { home, boot, next } => {
+            push_numbers(text, "Counted", &[u64::from(*home), *boot, *next])
+        }
     }
 }

@@ -136,10 +136,15 @@ fn started(alloc: Global, deployment: Deployment) -> Result<Shop, RowFault>
     }
 }
 
+/// The deployment of a name.
+fn deployment(alloc: Global, name: &str) -> Result<Deployment, RowFault> {
+    let text = descriptor(alloc, name)?;
+    Ok(Deployment::from_toml(alloc, text.as_str())?)
+}
+
 /// The applications of a name, started.
 pub fn shop(alloc: Global, name: &str) -> Result<Shop, RowFault>
     ensures { IfOk result (λ c. ⟦<Shop as Engine>⟧.valid c) }
 {
-    let text = descriptor(alloc, name)?;
-    started(alloc, Deployment::from_toml(alloc, text.as_str())?)
+    started(alloc, deployment(alloc, name)?)
 }

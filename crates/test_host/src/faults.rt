@@ -34,6 +34,11 @@ fn name_of(fault: Option<HostFault>) -> &'static str {
     }
 }
 
+/// Why a node has ended.
+fn fault_of(rt: &HostRuntime, host: Host) -> Result<&'static str, Fail> {
+    Ok(name_of(serve_all(rt, host)?))
+}
+
 /// Why a node with a deadline in seconds and so many secrets has ended, and the clients who had asked for the sessions of these two
 /// bytes.
 fn ended(
@@ -46,7 +51,8 @@ fn ended(
     let place = place_of(rt, &town, deadline, secrets)?;
     let host = Host::at(rt, place, Persistence::Single)?;
     let clients = clients_of(rt, &town, named)?;
-    Ok((name_of(serve_all(rt, host)?), clients))
+    let fault = fault_of(rt, host)?;
+    Ok((fault, clients))
 }
 
 /// What has ended such a node, and the letter of each answer.

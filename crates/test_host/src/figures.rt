@@ -42,15 +42,20 @@ fn callers(rt: &HostRuntime, town: &Town) -> Result<Vec<TcpStream>, Fail> {
     Ok(callers)
 }
 
+/// The length of the journal of a node that has served all who have connected.
+fn journal_of(rt: &HostRuntime, host: Host) -> Result<usize, Fail> {
+    let (a, b) = (MemoryDisk::new(rt.alloc()), MemoryDisk::new(rt.alloc()));
+    let Ended { a, .. } = live(rt, host, a, b)?;
+    Ok(a.bytes().len())
+}
+
 /// The length of the journal of a node that has served them, whose figures are written to a file.
 fn served(rt: &HostRuntime, path: &str) -> Result<usize, Fail> {
     let town = Town::new(rt)?;
     let report = figures_in(rt, path)?;
     let host = Host::at(rt, town.place(rt)?, Persistence::Single)?.reporting(report);
     let _callers = callers(rt, &town)?;
-    let (a, b) = (MemoryDisk::new(rt.alloc()), MemoryDisk::new(rt.alloc()));
-    let Ended { a, .. } = live(rt, host, a, b)?;
-    Ok(a.bytes().len())
+    journal_of(rt, host)
 }
 
 /// The text has this line.

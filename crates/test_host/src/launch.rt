@@ -77,26 +77,54 @@ fn expect_tables(rt: &(impl Abort + AllocGlobal), tables: &[Table]) -> Result<()
     Ok(())
 }
 
-// Each lends one module's tables: a proof grows with all the text that a body lends.
+// Each lends few tables: a proof grows with the square of the text that a body lends.
 
-fn expect_mapping(rt: &(impl Abort + AllocGlobal)) -> Result<(), Fail> {
-    expect_tables(rt, &mapping::TABLES)
+fn expect_built_in_paths(rt: &(impl Abort + AllocGlobal)) -> Result<(), Fail> {
+    expect_tables(rt, &mapping::BUILT)
+}
+
+fn expect_paths(rt: &(impl Abort + AllocGlobal)) -> Result<(), Fail> {
+    expect_tables(rt, &mapping::WRITTEN)
 }
 
 fn expect_dispatch(rt: &(impl Abort + AllocGlobal)) -> Result<(), Fail> {
     expect_tables(rt, &dispatch::TABLES)
 }
 
-fn expect_nesting(rt: &(impl Abort + AllocGlobal)) -> Result<(), Fail> {
-    expect_tables(rt, &nesting::TABLES)
+fn expect_includes(rt: &(impl Abort + AllocGlobal)) -> Result<(), Fail> {
+    expect_tables(rt, &nesting::INCLUDES)
+}
+
+fn expect_forwards(rt: &(impl Abort + AllocGlobal)) -> Result<(), Fail> {
+    expect_tables(rt, &nesting::FORWARDS)
+}
+
+fn expect_both(rt: &(impl Abort + AllocGlobal)) -> Result<(), Fail> {
+    expect_tables(rt, &nesting::MIXED)
+}
+
+fn expect_pages(rt: &(impl Abort + AllocGlobal)) -> Result<(), Fail> {
+    expect_tables(rt, &nesting::PAGES)
+}
+
+fn expect_filters(rt: &(impl Abort + AllocGlobal)) -> Result<(), Fail> {
+    expect_tables(rt, &nesting::FILTERED)
 }
 
 fn expect_messages(rt: &(impl Abort + AllocGlobal)) -> Result<(), Fail> {
-    expect_tables(rt, &messages::TABLES)
+    expect_tables(rt, &messages::SERVED)
+}
+
+fn expect_refusals(rt: &(impl Abort + AllocGlobal)) -> Result<(), Fail> {
+    expect_tables(rt, &messages::REFUSED)
+}
+
+fn expect_named_sessions(rt: &(impl Abort + AllocGlobal)) -> Result<(), Fail> {
+    expect_tables(rt, &sessions::NAMED)
 }
 
 fn expect_sessions(rt: &(impl Abort + AllocGlobal)) -> Result<(), Fail> {
-    expect_tables(rt, &sessions::TABLES)
+    expect_tables(rt, &sessions::GIVEN)
 }
 
 fn expect_renewing(rt: &(impl Abort + AllocGlobal)) -> Result<(), Fail> {
@@ -109,10 +137,17 @@ fn expect_streams(rt: &(impl Abort + AllocGlobal)) -> Result<(), Fail> {
 
 #[test]
 fn streams_are_answered(rt: HostRuntime) -> Result<(), Fail> {
-    expect_mapping(&rt)?;
+    expect_built_in_paths(&rt)?;
+    expect_paths(&rt)?;
     expect_dispatch(&rt)?;
-    expect_nesting(&rt)?;
+    expect_includes(&rt)?;
+    expect_forwards(&rt)?;
+    expect_both(&rt)?;
+    expect_pages(&rt)?;
+    expect_filters(&rt)?;
     expect_messages(&rt)?;
+    expect_refusals(&rt)?;
+    expect_named_sessions(&rt)?;
     expect_sessions(&rt)?;
     expect_renewing(&rt)?;
     expect_streams(&rt)?;

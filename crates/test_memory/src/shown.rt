@@ -10,17 +10,23 @@ fn add(line: &mut String, text: &str) -> Result<(), AllocError> {
     Ok(())
 }
 
+/// Adds a name and its value.
+fn add_both(line: &mut String, name: &str, value: &str) -> Result<(), AllocError> {
+    add(line, name)?;
+    add(line, value)
+}
+
+fn add_number(line: &mut String, number: usize) -> Result<(), AllocError> {
+    write!(line, "{number} ")
+}
+
 /// Names and values in order.
 pub fn attributes(alloc: Global, attributes: &Attributes) -> Result<String, AllocError> {
     let mut line = String::new(alloc);
     for (name, value) in attributes.iter() {
-        add(&mut line, name)?;
-        add(&mut line, str::from_utf8(value).unwrap_or("?"))?;
+        add_both(&mut line, name, text(value))?;
     }
-    add(
-        &mut line,
-        format!(in alloc; "{}", attributes.size())?.as_str(),
-    )?;
+    add_number(&mut line, attributes.size())?;
     Ok(line)
 }
 
@@ -42,8 +48,11 @@ pub fn session(alloc: Global, session: &Session) -> Result<String, AllocError> {
 pub fn fields(alloc: Global, fields: &[Field]) -> Result<String, AllocError> {
     let mut line = String::new(alloc);
     for field in fields {
-        add(&mut line, field.name.as_str())?;
-        add(&mut line, field.value.to_str().unwrap_or("?"))?;
+        add_both(
+            &mut line,
+            field.name.as_str(),
+            field.value.to_str().unwrap_or("?"),
+        )?;
     }
     Ok(line)
 }

@@ -8,8 +8,8 @@ mod pipelines;
 mod targets;
 mod tests;
 
+use crate::cases::{Case, Row, expect_all};
 use std::alloc::{AllocError, Global};
-use std::process::Abort;
 use std::test::Fail;
 use tests::{alone, parked, received};
 
@@ -42,16 +42,13 @@ enum Trial {
     ANodeAloneHasNoPeers,
 }
 
-/// What is tried, how many inputs it has, and its name.
-type Row = (Trial, usize, &'static str);
-
-static PIPELINES: [Row; 1] = [(
+static PIPELINES: [Row<Trial>; 1] = [(
     Trial::TwoHundredChunkedBodies,
     4,
     "two hundred chunked bodies in pieces",
 )];
 
-static MESSAGES: [Row; 5] = [
+static MESSAGES: [Row<Trial>; 5] = [
     (Trial::AFaultClosesTheReader, 1, "a fault closes the reader"),
     (Trial::EveryEscapeOfOneByte, 256, "every escape of one byte"),
     (
@@ -63,7 +60,7 @@ static MESSAGES: [Row; 5] = [
     (Trial::LongPaths, 1, "long paths"),
 ];
 
-static CONNECTIONS: [Row; 16] = [
+static CONNECTIONS: [Row<Trial>; 16] = [
     (
         Trial::TheSiteIsAskedAsTheCallSays,
         1,
@@ -124,7 +121,7 @@ static CONNECTIONS: [Row; 16] = [
     (Trial::ANodeAloneHasNoPeers, 1, "a node alone has no peers"),
 ];
 
-static ENDLESS: [Row; 2] = [
+static ENDLESS: [Row<Trial>; 2] = [
     (
         Trial::AReaderThatNeverEndsAHead,
         1,
@@ -137,50 +134,49 @@ static ENDLESS: [Row; 2] = [
     ),
 ];
 
-/// Whether an input comes as it has to.
-fn holds(alloc: Global, trial: Trial, input: usize) -> Result<bool, AllocError> {
-    match trial {
-        Trial::AFaultClosesTheReader => Ok(heads::a_fault_closes_the_reader(alloc)),
-        Trial::TwoHundredChunkedBodies => pipelines::two_hundred_chunked_bodies(alloc, input),
-        Trial::EveryEscapeOfOneByte => targets::every_escape_of_one_byte(alloc, input),
-        Trial::EveryEscapeOfOneByteInCapitals => {
-            targets::every_escape_of_one_byte_in_capitals(alloc, input)
+impl Case for Trial {
+    fn holds(self, alloc: Global, input: usize) -> Result<bool, AllocError> {
+        match self {
+            Trial::AFaultClosesTheReader => Ok(heads::a_fault_closes_the_reader(alloc)),
+            Trial::TwoHundredChunkedBodies => pipelines::two_hundred_chunked_bodies(alloc, input),
+            Trial::EveryEscapeOfOneByte => targets::every_escape_of_one_byte(alloc, input),
+            Trial::EveryEscapeOfOneByteInCapitals => {
+                targets::every_escape_of_one_byte_in_capitals(alloc, input)
+            }
+            Trial::EveryByteOfAscii => targets::every_byte_of_ascii(alloc, input),
+            Trial::LongPaths => Ok(targets::long_paths(alloc)),
+            Trial::TheSiteIsAskedAsTheCallSays => Ok(tests::the_site_is_asked_as_the_call_says(
+                alloc,
+            )),
+            Trial::WhatFollowsACloseIsNotRead => Ok(tests::what_follows_a_close_is_not_read(alloc)),
+            Trial::AReaderThatFails => Ok(tests::a_reader_that_fails(alloc, input)),
+            Trial::AWriterThatFails => Ok(tests::a_writer_that_fails(alloc, input)),
+            Trial::AReaderThatNeverEndsAHead => Ok(tests::a_reader_that_never_ends_a_head(alloc)),
+            Trial::AReaderThatNeverEndsABody => Ok(tests::a_reader_that_never_ends_a_body(alloc)),
+            Trial::Refusals => tests::refusals(alloc, input),
+            Trial::ARequestWaitsForItsAnswer => parked::a_request_waits_for_its_answer(
+                alloc, input,
+            ),
+            Trial::ALateAnswerThatIsNotWritten => parked::a_late_answer_that_is_not_written(alloc),
+            Trial::TwoRequestsCutAnywhere => received::two_requests_cut_anywhere(alloc, input),
+            Trial::AFaultInTheSecondCutAnywhere => {
+                received::a_fault_in_the_second_cut_anywhere(alloc, input)
+            }
+            Trial::TheInputEndsInsideARequest => received::the_input_ends_inside_a_request(
+                alloc, input,
+            ),
+            Trial::TheInputEndsBehindTwoRequests => received::the_input_ends_behind_two_requests(
+                alloc,
+            ),
+            Trial::AFaultyTarget => received::a_faulty_target(alloc, input),
+            Trial::ANodeAloneAnswers => Ok(alone::a_node_alone_answers(alloc)),
+            Trial::ANodeAloneKeepsItsSessions => Ok(alone::a_node_alone_keeps_its_sessions(alloc)),
+            Trial::ANodeAloneEndsWhatHasExpired => Ok(alone::a_node_alone_ends_what_has_expired(
+                alloc,
+            )),
+            Trial::ANodeAloneHasNoPeers => Ok(alone::a_node_alone_has_no_peers(alloc)),
         }
-        Trial::EveryByteOfAscii => targets::every_byte_of_ascii(alloc, input),
-        Trial::LongPaths => Ok(targets::long_paths(alloc)),
-        Trial::TheSiteIsAskedAsTheCallSays => Ok(tests::the_site_is_asked_as_the_call_says(alloc)),
-        Trial::WhatFollowsACloseIsNotRead => Ok(tests::what_follows_a_close_is_not_read(alloc)),
-        Trial::AReaderThatFails => Ok(tests::a_reader_that_fails(alloc, input)),
-        Trial::AWriterThatFails => Ok(tests::a_writer_that_fails(alloc, input)),
-        Trial::AReaderThatNeverEndsAHead => Ok(tests::a_reader_that_never_ends_a_head(alloc)),
-        Trial::AReaderThatNeverEndsABody => Ok(tests::a_reader_that_never_ends_a_body(alloc)),
-        Trial::Refusals => tests::refusals(alloc, input),
-        Trial::ARequestWaitsForItsAnswer => parked::a_request_waits_for_its_answer(alloc, input),
-        Trial::ALateAnswerThatIsNotWritten => parked::a_late_answer_that_is_not_written(alloc),
-        Trial::TwoRequestsCutAnywhere => received::two_requests_cut_anywhere(alloc, input),
-        Trial::AFaultInTheSecondCutAnywhere => {
-            received::a_fault_in_the_second_cut_anywhere(alloc, input)
-        }
-        Trial::TheInputEndsInsideARequest => received::the_input_ends_inside_a_request(
-            alloc, input,
-        ),
-        Trial::TheInputEndsBehindTwoRequests => received::the_input_ends_behind_two_requests(alloc),
-        Trial::AFaultyTarget => received::a_faulty_target(alloc, input),
-        Trial::ANodeAloneAnswers => Ok(alone::a_node_alone_answers(alloc)),
-        Trial::ANodeAloneKeepsItsSessions => Ok(alone::a_node_alone_keeps_its_sessions(alloc)),
-        Trial::ANodeAloneEndsWhatHasExpired => Ok(alone::a_node_alone_ends_what_has_expired(alloc)),
-        Trial::ANodeAloneHasNoPeers => Ok(alone::a_node_alone_has_no_peers(alloc)),
     }
-}
-
-/// Each input of each row comes as it has to.
-fn expect_all(rt: &(impl Abort + AllocGlobal), rows: &[Row]) -> Result<(), Fail> {
-    for (trial, inputs, name) in rows {
-        for input in 0..*inputs {
-            assert!(rt; holds(rt.alloc(), *trial, input)?, "{name}, input {input}");
-        }
-    }
-    Ok(())
 }
 
 #[test]

@@ -17,8 +17,8 @@ mod mapping;
 mod noting;
 mod served;
 
+use crate::cases::{Case, Row, expect_all};
 use std::alloc::{AllocError, Global};
-use std::process::Abort;
 use std::test::Fail;
 
 /// What is tried, each by a function of this name.
@@ -37,10 +37,7 @@ enum Trial {
     SaysWhatToLookFor,
 }
 
-/// What is tried, how many inputs it has, and its name.
-type Row = (Trial, usize, &'static str);
-
-static OBJECTS: [Row; 6] = [
+static OBJECTS: [Row<Trial>; 6] = [
     (Trial::LivesInOrder, 3, "lives in order"),
     (Trial::DropCallsNoObject, 1, "a drop calls no object"),
     (
@@ -61,13 +58,13 @@ static OBJECTS: [Row; 6] = [
     ),
 ];
 
-static LARGE: [Row; 1] = [(
+static LARGE: [Row<Trial>; 1] = [(
     Trial::JudgesAMegabyte,
     1,
     "a descriptor of a megabyte is judged",
 )];
 
-static LIMITS: [Row; 4] = [
+static LIMITS: [Row<Trial>; 4] = [
     (
         Trial::SaysWhatToLookFor,
         8,
@@ -90,35 +87,26 @@ static LIMITS: [Row; 4] = [
     ),
 ];
 
-/// Whether an input comes as it has to.
-fn holds(alloc: Global, trial: Trial, input: usize) -> Result<bool, AllocError> {
-    match trial {
-        Trial::BoxesLiveAsTheirObjectsDo => boxed::boxes_live_as_their_objects_do(alloc),
-        Trial::DropCallsNoObject => lives::drop_calls_no_object(alloc),
-        Trial::FaultsHandAllObjectsBack => faults::faults_hand_all_objects_back(alloc, input),
-        Trial::FindsEachOfAsManyPatternsAsThereMayBe => {
-            Ok(mapping::servlets::finds_each_of_as_many_patterns_as_there_may_be(alloc))
-        }
-        Trial::JudgesAMegabyte => descriptor::size::judges_a_megabyte(alloc),
-        Trial::ListenersHearInOrder => events::listeners_hear_in_order(alloc, input),
-        Trial::LivesInOrder => lives::lives_in_order(alloc, input),
-        Trial::RefusesPatternsPastTheLimit => {
-            Ok(mapping::servlets::refuses_patterns_past_the_limit(alloc))
-        }
-        Trial::RequestsReachTheirObjects => served::requests_reach_their_objects(alloc, input),
-        Trial::SaysWhatIsAtFault => mapping::patterns::says_what_is_at_fault(alloc, input),
-        Trial::SaysWhatToLookFor => descriptor::texts::says_what_to_look_for(alloc, input),
-    }
-}
-
-/// Each input of each row comes as it has to.
-fn expect_all(rt: &(impl Abort + AllocGlobal), rows: &[Row]) -> Result<(), Fail> {
-    for (trial, inputs, name) in rows {
-        for input in 0..*inputs {
-            assert!(rt; holds(rt.alloc(), *trial, input)?, "{name}, input {input}");
+impl Case for Trial {
+    fn holds(self, alloc: Global, input: usize) -> Result<bool, AllocError> {
+        match self {
+            Trial::BoxesLiveAsTheirObjectsDo => boxed::boxes_live_as_their_objects_do(alloc),
+            Trial::DropCallsNoObject => lives::drop_calls_no_object(alloc),
+            Trial::FaultsHandAllObjectsBack => faults::faults_hand_all_objects_back(alloc, input),
+            Trial::FindsEachOfAsManyPatternsAsThereMayBe => {
+                Ok(mapping::servlets::finds_each_of_as_many_patterns_as_there_may_be(alloc))
+            }
+            Trial::JudgesAMegabyte => descriptor::size::judges_a_megabyte(alloc),
+            Trial::ListenersHearInOrder => events::listeners_hear_in_order(alloc, input),
+            Trial::LivesInOrder => lives::lives_in_order(alloc, input),
+            Trial::RefusesPatternsPastTheLimit => {
+                Ok(mapping::servlets::refuses_patterns_past_the_limit(alloc))
+            }
+            Trial::RequestsReachTheirObjects => served::requests_reach_their_objects(alloc, input),
+            Trial::SaysWhatIsAtFault => mapping::patterns::says_what_is_at_fault(alloc, input),
+            Trial::SaysWhatToLookFor => descriptor::texts::says_what_to_look_for(alloc, input),
         }
     }
-    Ok(())
 }
 
 #[test]

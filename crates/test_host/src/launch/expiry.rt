@@ -8,7 +8,7 @@ use std::test::Fail;
 use sv_connection::{Connection, Solo};
 use sv_host::secret_of;
 use sv_launch::{Applications, Fault, Purpose, deployment_in};
-use sv_model::{Engine, Moment};
+use sv_model::{Engine, Moment, Site};
 use sv_showcase::showcase;
 
 /// A shop whose sessions expire after a minute.
@@ -55,21 +55,27 @@ fn moment_of(now: u64, number: u64) -> Moment {
     }
 }
 
+/// Serves both on one connection.
+fn serve_both<S: Site>(alloc: Global, two: Two, site: &mut S)
+    requires { S.site_valid site.old }
+{
+    let Two {
+        moments: [first, second],
+        reader,
+        writer,
+    } = two;
+    let mut connection = Connection::new(alloc, false);
+    connection.serve_next(reader, writer, site, moment_of(first, 1), 1);
+    // At a node that stands alone no request waits; one that waited would have no second answer.
+    if !connection.waiting() {
+        connection.serve_next(reader, writer, site, moment_of(second, 2), 2);
+    }
+}
+
 impl Purpose for Two<'_, '_> {
     fn serve<E: Engine + Drop>(self, alloc: Global, engine: E) -> Result<(), Fault> {
-        let Two {
-            moments: [first, second],
-            reader,
-            writer,
-        } = self;
         let mut site = Solo::new(alloc, engine);
-        let mut connection = Connection::new(alloc, false);
-        connection.serve_next(reader, writer, &mut site, moment_of(first, 1), 1);
-        // At a node that stands alone no request waits; one that waited would have no second answer.
-        if connection.waiting() {
-            return Ok(());
-        }
-        connection.serve_next(reader, writer, &mut site, moment_of(second, 2), 2);
+        serve_both(alloc, self, &mut site);
         Ok(())
     }
 }

@@ -27,43 +27,44 @@ path = "/a/b"
 servlet = [{ name = "snoop", patterns = ["/"] }]
 "#;
 
-pub static TABLES: [Table; 3] = [
-    Table {
-        descriptor: BUILT_IN,
-        way: Way::Whole,
-        rows: &[
-            Row(
-                "the context's root",
-                "GET /shop/ HTTP/1.1\r\nHost: localhost\r\n\r\n",
-                "HTTP/1.1 200 OK\r\nDate: Sun, 06 Nov 1994 08:49:37 GMT\r\ncontent-type: text/plain\r\nContent-Length: 83\r\n\r\nmethod=GET\nrequest_uri=/shop/\ncontext_path=/shop\nservlet_path=\npath_info=/\nquery=-\n",
-            ),
-            Row(
-                "the context's path alone",
-                "GET /shop HTTP/1.1\r\nHost: localhost\r\n\r\n",
-                "HTTP/1.1 200 OK\r\nDate: Sun, 06 Nov 1994 08:49:37 GMT\r\ncontent-type: text/plain\r\nContent-Length: 82\r\n\r\nmethod=GET\nrequest_uri=/shop\ncontext_path=/shop\nservlet_path=\npath_info=/\nquery=-\n",
-            ),
-            Row(
-                "an exact pattern",
-                "GET /shop/snoop?a=b HTTP/1.1\r\nHost: localhost\r\n\r\n",
-                "HTTP/1.1 200 OK\r\nDate: Sun, 06 Nov 1994 08:49:37 GMT\r\ncontent-type: text/plain\r\nContent-Length: 102\r\n\r\nmethod=GET\nrequest_uri=/shop/snoop\ncontext_path=/shop\nservlet_path=/snoop\npath_info=-\nquery=a=b\np a=b\n",
-            ),
-            Row(
-                "a path of no context",
-                "GET /elsewhere HTTP/1.1\r\nHost: localhost\r\n\r\n",
-                "HTTP/1.1 404 Not Found\r\nDate: Sun, 06 Nov 1994 08:49:37 GMT\r\ncontent-type: text/plain\r\nContent-Length: 14\r\n\r\n404 Not Found\n",
-            ),
-            Row(
-                "a path that only begins like the context's",
-                "GET /shopping HTTP/1.1\r\nHost: localhost\r\n\r\n",
-                "HTTP/1.1 404 Not Found\r\nDate: Sun, 06 Nov 1994 08:49:37 GMT\r\ncontent-type: text/plain\r\nContent-Length: 14\r\n\r\n404 Not Found\n",
-            ),
-            Row(
-                "a path of no servlet",
-                "GET /shop/none HTTP/1.1\r\nHost: localhost\r\n\r\n",
-                "HTTP/1.1 404 Not Found\r\nDate: Sun, 06 Nov 1994 08:49:37 GMT\r\ncontent-type: text/plain\r\nContent-Length: 14\r\n\r\n404 Not Found\n",
-            ),
-        ],
-    },
+pub static BUILT: [Table; 1] = [Table {
+    descriptor: BUILT_IN,
+    way: Way::Whole,
+    rows: &[
+        Row(
+            "the context's root",
+            "GET /shop/ HTTP/1.1\r\nHost: localhost\r\n\r\n",
+            "HTTP/1.1 200 OK\r\nDate: Sun, 06 Nov 1994 08:49:37 GMT\r\ncontent-type: text/plain\r\nContent-Length: 83\r\n\r\nmethod=GET\nrequest_uri=/shop/\ncontext_path=/shop\nservlet_path=\npath_info=/\nquery=-\n",
+        ),
+        Row(
+            "the context's path alone",
+            "GET /shop HTTP/1.1\r\nHost: localhost\r\n\r\n",
+            "HTTP/1.1 200 OK\r\nDate: Sun, 06 Nov 1994 08:49:37 GMT\r\ncontent-type: text/plain\r\nContent-Length: 82\r\n\r\nmethod=GET\nrequest_uri=/shop\ncontext_path=/shop\nservlet_path=\npath_info=/\nquery=-\n",
+        ),
+        Row(
+            "an exact pattern",
+            "GET /shop/snoop?a=b HTTP/1.1\r\nHost: localhost\r\n\r\n",
+            "HTTP/1.1 200 OK\r\nDate: Sun, 06 Nov 1994 08:49:37 GMT\r\ncontent-type: text/plain\r\nContent-Length: 102\r\n\r\nmethod=GET\nrequest_uri=/shop/snoop\ncontext_path=/shop\nservlet_path=/snoop\npath_info=-\nquery=a=b\np a=b\n",
+        ),
+        Row(
+            "a path of no context",
+            "GET /elsewhere HTTP/1.1\r\nHost: localhost\r\n\r\n",
+            "HTTP/1.1 404 Not Found\r\nDate: Sun, 06 Nov 1994 08:49:37 GMT\r\ncontent-type: text/plain\r\nContent-Length: 14\r\n\r\n404 Not Found\n",
+        ),
+        Row(
+            "a path that only begins like the context's",
+            "GET /shopping HTTP/1.1\r\nHost: localhost\r\n\r\n",
+            "HTTP/1.1 404 Not Found\r\nDate: Sun, 06 Nov 1994 08:49:37 GMT\r\ncontent-type: text/plain\r\nContent-Length: 14\r\n\r\n404 Not Found\n",
+        ),
+        Row(
+            "a path of no servlet",
+            "GET /shop/none HTTP/1.1\r\nHost: localhost\r\n\r\n",
+            "HTTP/1.1 404 Not Found\r\nDate: Sun, 06 Nov 1994 08:49:37 GMT\r\ncontent-type: text/plain\r\nContent-Length: 14\r\n\r\n404 Not Found\n",
+        ),
+    ],
+}];
+
+pub static WRITTEN: [Table; 2] = [
     Table {
         descriptor: PATTERNS,
         way: Way::Whole,

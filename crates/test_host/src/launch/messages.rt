@@ -3,7 +3,7 @@
 use super::{Row, Table, Way};
 use sv_showcase::BUILT_IN;
 
-pub static TABLES: [Table; 1] = [Table {
+pub static SERVED: [Table; 1] = [Table {
     descriptor: BUILT_IN,
     way: Way::Whole,
     rows: &[
@@ -58,6 +58,13 @@ pub static TABLES: [Table; 1] = [Table {
             "GET /shop/hello HTTP/1.1\r\nHost: localhost\r\nExpect: 100-continue\r\n\r\n",
             "HTTP/1.1 417 Expectation Failed\r\nDate: Sun, 06 Nov 1994 08:49:37 GMT\r\ncontent-type: text/plain\r\nContent-Length: 23\r\nConnection: close\r\n\r\n417 Expectation Failed\n",
         ),
+    ],
+}];
+
+pub static REFUSED: [Table; 1] = [Table {
+    descriptor: BUILT_IN,
+    way: Way::Whole,
+    rows: &[
         Row(
             "no head",
             "GET\x01/ HTTP/1.1\r\n\r\n",

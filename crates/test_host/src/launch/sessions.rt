@@ -6,7 +6,7 @@
 use super::{Row, Table, Way};
 use sv_showcase::BUILT_IN;
 
-pub static TABLES: [Table; 1] = [Table {
+pub static NAMED: [Table; 1] = [Table {
     descriptor: BUILT_IN,
     way: Way::Whole,
     rows: &[
@@ -30,6 +30,13 @@ pub static TABLES: [Table; 1] = [Table {
             "GET /shop/count HTTP/1.1\r\nHost: localhost\r\n\r\nGET /shop/count HTTP/1.1\r\nHost: localhost\r\nCookie: JSESSIONID=000000000000000000010000000000000000000000000000000\r\n\r\n",
             "HTTP/1.1 200 OK\r\nDate: Sun, 06 Nov 1994 08:49:37 GMT\r\ncontent-type: text/plain\r\nset-cookie: JSESSIONID=0000000000000000000100000000000000000000000000000001; Path=/shop; HttpOnly\r\nContent-Length: 2\r\n\r\n1\nHTTP/1.1 200 OK\r\nDate: Sun, 06 Nov 1994 08:49:37 GMT\r\ncontent-type: text/plain\r\nset-cookie: JSESSIONID=0000000000000000000200000000000000000000000000000002; Path=/shop; HttpOnly\r\nContent-Length: 2\r\n\r\n1\n",
         ),
+    ],
+}];
+
+pub static GIVEN: [Table; 1] = [Table {
+    descriptor: BUILT_IN,
+    way: Way::Whole,
+    rows: &[
         Row(
             "with another secret the session is turned away",
             "GET /shop/count HTTP/1.1\r\nHost: localhost\r\n\r\nGET /shop/count HTTP/1.1\r\nHost: localhost\r\nCookie: JSESSIONID=0000000000000000000100000000000000000000000000000009\r\n\r\n",

@@ -1,6 +1,6 @@
 //! The core of a node: each row of its step that takes memory, its records and its snapshot.
 
-use crate::again::{Refusals, Unshown, done};
+use crate::again::{Refusals, Unshown, again, done};
 use crate::given;
 use std::alloc::{AllocError, Global};
 use sv_core::{ApplyFault, Core};
@@ -181,13 +181,16 @@ fn add_steps(
     Ok(())
 }
 
+/// What a core puts out, step by step.
+fn put_out(alloc: Global, refusals: &mut Refusals, core: &mut Core<Counter>) -> Shown {
+    let mut line = String::new(alloc);
+    add_steps(alloc, refusals, core, &mut line)?;
+    Ok(line)
+}
+
 pub fn decide(alloc: Global, refusals: &mut Refusals) -> Shown {
     let mut core = core_of(alloc, &[Record::Forgets { home: 0, boot: 1 }])?;
-    let mut line = String::new(alloc);
-    match add_steps(alloc, refusals, &mut core, &mut line) {
-        Ok(()) => Ok(line),
-        Err(AllocError) => Err(Unshown::Memory),
-    }
+    put_out(alloc, refusals, &mut core)
 }
 
 fn start(core: &mut Core<Counter>) -> Result<(), AllocError> {
@@ -201,13 +204,15 @@ fn start(core: &mut Core<Counter>) -> Result<(), AllocError> {
     }
 }
 
+/// The number of a core's start, which is made once more where memory is refused.
+fn started(alloc: Global, refusals: &mut Refusals, core: &mut Core<Counter>) -> Shown {
+    again!(refusals, start(core))?;
+    done(format!(in alloc; "{}", core.boot()))
+}
+
 pub fn decide_start(alloc: Global, refusals: &mut Refusals) -> Shown {
     let mut core = core_of(alloc, &[])?;
-    if start(&mut core).is_err() {
-        refusals.add();
-        start(&mut core)?;
-    }
-    done(format!(in alloc; "{}", core.boot()))
+    started(alloc, refusals, &mut core)
 }
 
 fn state_of(alloc: Global, number: u8) -> Result<Record, AllocError> {
@@ -243,17 +248,22 @@ fn known(alloc: Global, core: &Core<Counter>) -> Result<String, AllocError> {
     format!(in alloc; "{first} {second}")
 }
 
-pub fn recover(alloc: Global, refusals: &mut Refusals) -> Shown {
-    let records = records(alloc)?;
-    let refused = match Core::recover(alloc, engine(alloc), SETTING, &records) {
+/// A core of these records, recovered once more by the engine that was handed back where memory is refused.
+fn recovered(alloc: Global, refusals: &mut Refusals, records: &[Record]) -> Shown {
+    let refused = match Core::recover(alloc, engine(alloc), SETTING, records) {
         Ok(core) => return done(known(alloc, &core)),
         Err(refused) => refused,
     };
     refusals.add();
-    match Core::recover(alloc, refused.engine, SETTING, &records) {
+    match Core::recover(alloc, refused.engine, SETTING, records) {
         Ok(core) => done(known(alloc, &core)),
         Err(_) => Err(Unshown::Other),
     }
+}
+
+pub fn recover(alloc: Global, refusals: &mut Refusals) -> Shown {
+    let records = records(alloc)?;
+    recovered(alloc, refusals, &records)
 }
 
 fn apply(alloc: Global, core: &mut Core<Counter>, number: u8) -> Result<(), ApplyFault> {
@@ -278,12 +288,17 @@ fn apply_twice(
     }
 }
 
+/// What a core knows of both keys, whose records it takes one behind the other.
+fn applied(alloc: Global, refusals: &mut Refusals, core: &mut Core<Counter>) -> Shown {
+    for number in 1..3 {
+        apply_twice(alloc, refusals, core, number)?;
+    }
+    done(known(alloc, core))
+}
+
 pub fn apply_again(alloc: Global, refusals: &mut Refusals) -> Shown {
     let mut core = core_of(alloc, &[Record::Counters { boot: 1, next: 1 }])?;
-    for number in 1..3 {
-        apply_twice(alloc, refusals, &mut core, number)?;
-    }
-    done(known(alloc, &core))
+    applied(alloc, refusals, &mut core)
 }
 
 /// A snapshot of a core, taken once more where memory is refused.

@@ -62,26 +62,39 @@ fn serve<S: Servlet>(
     let mut edit = SessionEdit::begin(alloc, held, 0, 600, given::NOW, fresh);
     let mut reply = Reply::new(alloc);
     let method = Method::GET;
-    servlet.service(&call(&method, params, attributes), &mut edit, &mut reply)?;
-    told(alloc, edit, reply)
+    match servlet.service(&call(&method, params, attributes), &mut edit, &mut reply) {
+        Ok(()) => told(alloc, edit, reply),
+        Err(AllocError) => Err(AllocError),
+    }
+}
+
+/// The same, once more where memory is refused.
+fn serve_again<S: Servlet>(
+    alloc: Global,
+    refusals: &mut Refusals,
+    servlet: &mut S,
+    params: &[Param],
+) -> Result<String, AllocError>
+    requires { S.servlet_phase servlet.old ≡ Ready }
+{
+    let attributes = RequestAttributes::new(alloc);
+    match serve(alloc, servlet, params, &attributes) {
+        Ok(first) => Ok(first),
+        Err(AllocError) => {
+            refusals.add();
+            serve(alloc, servlet, params, &attributes)
+        }
+    }
 }
 
 /// A servlet that was just made serves twice.
 fn served<S: HttpServlet>(alloc: Global, refusals: &mut Refusals, sample: S) -> Shown {
     let mut servlet = GenericServlet::new(Web::new(alloc, sample));
-    let params = given::params(alloc)?;
-    let attributes = RequestAttributes::new(alloc);
     if servlet.init().is_err() {
         return Err(Unshown::Other);
     }
-    let first = match serve(alloc, &mut servlet, params.as_slice(), &attributes) {
-        Ok(first) => first,
-        Err(AllocError) => {
-            refusals.add();
-            serve(alloc, &mut servlet, params.as_slice(), &attributes)?
-        }
-    };
-    Ok(first)
+    let params = given::params(alloc)?;
+    done(serve_again(alloc, refusals, &mut servlet, params.as_slice()))
 }
 
 /// A filter comes before a servlet and behind it.

@@ -9,7 +9,7 @@ use sv_mapping::{
     Dispatcher, Dispatchers, FilterMapping, FilterTarget, Mappings, Pattern, filters_for,
 };
 use sv_message::{RawRequest, RequestReader, write_response};
-use sv_model::Field;
+use sv_model::{Cookie, Field, Response};
 use sv_target::{Target, cookies, params};
 
 type Shown = Result<String, Unshown>;
@@ -72,14 +72,19 @@ pub fn reader(alloc: Global, refusals: &mut Refusals) -> Shown {
     }
 }
 
-pub fn response(alloc: Global, refusals: &mut Refusals) -> Shown {
-    let response = given::response(alloc)?;
+/// Writes a response behind what stands there.
+fn written(alloc: Global, refusals: &mut Refusals, response: &Response) -> Shown {
     let mut out = Vec::from_slice(alloc, b"before ")?;
     again!(
         refusals,
-        write_response(alloc, &response, given::NOW, &mut out)
+        write_response(alloc, response, given::NOW, &mut out)
     )?;
     done(String::from_str(alloc, str::from_utf8(out.as_slice()).unwrap_or("?")))
+}
+
+pub fn response(alloc: Global, refusals: &mut Refusals) -> Shown {
+    let response = given::response(alloc)?;
+    written(alloc, refusals, &response)
 }
 
 fn shown_target(alloc: Global, target: &Target) -> Result<String, AllocError> {
@@ -123,15 +128,24 @@ fn cookie_field(alloc: Global) -> Result<Field, AllocError> {
     Ok(Field { name, value })
 }
 
-pub fn cookie_pairs(alloc: Global, refusals: &mut Refusals) -> Shown {
-    let fields = [cookie_field(alloc)?];
-    let cookies = again!(refusals, cookies(alloc, &fields))?;
+/// Names and values in order.
+fn shown_cookies(alloc: Global, cookies: &[Cookie]) -> Result<String, AllocError> {
     let mut line = String::new(alloc);
-    for cookie in cookies.as_slice() {
+    for cookie in cookies {
         line.push_str(str::from_utf8(cookie.name.as_slice()).unwrap_or("?"))?;
         line.push_str(str::from_utf8(cookie.value.as_slice()).unwrap_or("?"))?;
     }
     Ok(line)
+}
+
+fn cookies_in(alloc: Global, refusals: &mut Refusals, fields: &[Field]) -> Shown {
+    let cookies = again!(refusals, cookies(alloc, fields))?;
+    done(shown_cookies(alloc, cookies.as_slice()))
+}
+
+pub fn cookie_pairs(alloc: Global, refusals: &mut Refusals) -> Shown {
+    let field = cookie_field(alloc)?;
+    cookies_in(alloc, refusals, &[field])
 }
 
 pub fn pattern(alloc: Global, refusals: &mut Refusals) -> Shown {
@@ -150,11 +164,17 @@ fn add(
     mappings.add(pattern, servlet)
 }
 
+/// Maps three patterns.
+fn add_all(alloc: Global, refusals: &mut Refusals, mappings: &mut Mappings) -> Result<(), Unshown> {
+    for (servlet, pattern) in ["/foo/*", "*.bop", "/catalog"].iter().enumerate() {
+        again!(refusals, add(alloc, mappings, pattern, servlet))?;
+    }
+    Ok(())
+}
+
 pub fn mappings(alloc: Global, refusals: &mut Refusals) -> Shown {
     let mut mappings = Mappings::new(alloc);
-    for (servlet, pattern) in ["/foo/*", "*.bop", "/catalog"].iter().enumerate() {
-        again!(refusals, add(alloc, &mut mappings, pattern, servlet))?;
-    }
+    add_all(alloc, refusals, &mut mappings)?;
     let found = mappings.find("/catalog").map(|found| found.servlet);
     done(format!(in alloc; "{} {}", mappings.len(), found.unwrap_or(9)))
 }

@@ -93,10 +93,14 @@ fn torn_body(alloc: Global, event: &WorldEvent) -> Shown {
     }
 }
 
-pub fn event_copy(alloc: Global, refusals: &mut Refusals) -> Shown {
-    let event = torn(alloc)?;
+fn copied_body(alloc: Global, refusals: &mut Refusals, event: &WorldEvent) -> Shown {
     let copy = again!(refusals, event.copy(alloc))?;
     torn_body(alloc, &copy)
+}
+
+pub fn event_copy(alloc: Global, refusals: &mut Refusals) -> Shown {
+    let event = torn(alloc)?;
+    copied_body(alloc, refusals, &event)
 }
 
 fn engines(alloc: Global) -> Result<Vec<Counter>, AllocError>

@@ -5,11 +5,17 @@ use crate::row::first;
 use std::alloc::{AllocError, Global};
 use sv_mapping::{choose_context, is_at_or_below, path_in_context};
 
+/// Adds a context path.
+fn add_path(paths: &mut Vec<String>, alloc: Global, path: &str) -> Result<(), AllocError> {
+    paths.push(String::from_str(alloc, path)?)?;
+    Ok(())
+}
+
 /// The context paths that the parts are.
 fn paths_of(alloc: Global, parts: &str) -> Result<Vec<String>, AllocError> {
     let mut paths = Vec::new(alloc);
     for part in parts.split('|') {
-        paths.push(String::from_str(alloc, part)?)?;
+        add_path(&mut paths, alloc, part)?;
     }
     Ok(paths)
 }

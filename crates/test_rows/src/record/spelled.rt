@@ -11,13 +11,27 @@ use std::alloc::{AllocError, Global};
 use sv_model::{Packet, Record};
 use sv_record::{RecordFault, read_packet, read_record, write_packet, write_record};
 
+fn spelled_record(alloc: Global, entry: &Record) -> Result<Vec<u8>, RecordFault>
+    requires { IsRecord entry.now }
+{
+    let mut spelled = Vec::new(alloc);
+    write_record(entry, &mut spelled)?;
+    Ok(spelled)
+}
+
 /// The spelling of a copy of a record.
 fn copied_record(alloc: Global, entry: &Record) -> Result<Vec<u8>, RecordFault>
     requires { IsRecord entry.now }
 {
     let copy = entry.copy(alloc)?;
+    spelled_record(alloc, &copy)
+}
+
+fn spelled_packet(alloc: Global, packet: &Packet) -> Result<Vec<u8>, RecordFault>
+    requires { IsPacket packet.now }
+{
     let mut spelled = Vec::new(alloc);
-    write_record(&copy, &mut spelled)?;
+    write_packet(packet, &mut spelled)?;
     Ok(spelled)
 }
 
@@ -26,9 +40,7 @@ fn copied_packet(alloc: Global, packet: &Packet) -> Result<Vec<u8>, RecordFault>
     requires { IsPacket packet.now }
 {
     let copy = packet.copy(alloc)?;
-    let mut spelled = Vec::new(alloc);
-    write_packet(&copy, &mut spelled)?;
-    Ok(spelled)
+    spelled_packet(alloc, &copy)
 }
 
 /// What has a spelling in bytes.

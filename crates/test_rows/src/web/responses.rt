@@ -37,6 +37,12 @@ fn written(alloc: Global, response: &Response, now: u64) -> Result<String, Alloc
     }
 }
 
+/// The text of a copy.
+fn written_again(alloc: Global, response: &Response, now: u64) -> Result<String, AllocError> {
+    let copy = response.copy(alloc)?;
+    written(alloc, &copy, now)
+}
+
 /// A copy of the response `Hello` of a status, to `HEAD` or another method, which `closes` or `stays`, at a moment in seconds
 /// since 1970.
 pub fn response(alloc: Global, parts: &str) -> Result<String, RowFault> {
@@ -48,5 +54,5 @@ pub fn response(alloc: Global, parts: &str) -> Result<String, RowFault> {
         return Err(RowFault::Part);
     };
     let response = hello(alloc, status, method == "HEAD", fate == "closes")?;
-    Ok(written(alloc, &response.copy(alloc)?, now)?)
+    Ok(written_again(alloc, &response, now)?)
 }
