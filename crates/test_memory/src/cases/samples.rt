@@ -63,7 +63,7 @@ fn serve<S: Servlet>(
     let mut reply = Reply::new(alloc);
     let method = Method::GET;
     match servlet.service(&call(&method, params, attributes), &mut edit, &mut reply) {
-        Ok(()) => told(alloc, edit, reply),
+        Ok(_) => told(alloc, edit, reply),
         Err(AllocError) => Err(AllocError),
     }
 }
