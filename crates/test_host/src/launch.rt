@@ -123,7 +123,7 @@ fn expect_named_sessions(rt: &(impl Abort + AllocGlobal)) -> Result<(), Fail> {
     expect_tables(rt, &sessions::NAMED)
 }
 
-fn expect_sessions(rt: &(impl Abort + AllocGlobal)) -> Result<(), Fail> {
+fn expect_given_sessions(rt: &(impl Abort + AllocGlobal)) -> Result<(), Fail> {
     expect_tables(rt, &sessions::GIVEN)
 }
 
@@ -135,21 +135,29 @@ fn expect_streams(rt: &(impl Abort + AllocGlobal)) -> Result<(), Fail> {
     expect_tables(rt, &streams::TABLES)
 }
 
+fn expect_dispatches(rt: &(impl Abort + AllocGlobal)) -> Result<(), Fail> {
+    expect_dispatch(rt)?;
+    expect_includes(rt)?;
+    expect_forwards(rt)?;
+    expect_both(rt)?;
+    expect_pages(rt)?;
+    expect_filters(rt)
+}
+
+fn expect_sessions(rt: &(impl Abort + AllocGlobal)) -> Result<(), Fail> {
+    expect_named_sessions(rt)?;
+    expect_given_sessions(rt)?;
+    expect_renewing(rt)
+}
+
 #[test]
 fn streams_are_answered(rt: HostRuntime) -> Result<(), Fail> {
     expect_built_in_paths(&rt)?;
     expect_paths(&rt)?;
-    expect_dispatch(&rt)?;
-    expect_includes(&rt)?;
-    expect_forwards(&rt)?;
-    expect_both(&rt)?;
-    expect_pages(&rt)?;
-    expect_filters(&rt)?;
+    expect_dispatches(&rt)?;
     expect_messages(&rt)?;
     expect_refusals(&rt)?;
-    expect_named_sessions(&rt)?;
     expect_sessions(&rt)?;
-    expect_renewing(&rt)?;
     expect_streams(&rt)?;
     descriptors::expect_faults(&rt)?;
     expiry::expect_rows(&rt)
