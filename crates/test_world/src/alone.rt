@@ -503,7 +503,7 @@ fn start_of(entry: Option<&Record>) -> Start {
     }
 }
 
-fn decided_start(core: &mut Core<Counter>) -> Result<Start, AllocError> {
+fn decided_start(core: &mut Core<Counter>) -> Result<Start, Fail> {
     match core.decide_start()? {
         Some(decision) => Ok(start_of(decision.entry())),
         None => Ok(Start::None),
@@ -514,7 +514,7 @@ fn decided_start(core: &mut Core<Counter>) -> Result<Start, AllocError> {
 fn next_start(alloc: Global, forget: bool, entries: &[Entry]) -> Result<Start, Fail> {
     let records = records_of(alloc, entries)?;
     let mut core = recovered(alloc, setting(10, forget), &records)?;
-    Ok(decided_start(&mut core)?)
+    decided_start(&mut core)
 }
 
 /// Whether a node forgets, its records, and its next start.

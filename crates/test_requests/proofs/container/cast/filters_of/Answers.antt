@@ -6,4 +6,4 @@ use Rattle.sv_container.specs.declared.named.Named.{Named}
 use Rattle.test_requests.proofs.container.cast.filters_of.Goals as goal
 
 pub loop-part-preserved : goal.loop-part-preserved
-loop-part-preserved c = rw c.in_ok-push.ensures.items (All-push (λ (n : Named NotingFilter). n.object.phase ≡ New) _ _ c.loop-part.invariant c.in_ok-named_filter.ensures)
+loop-part-preserved c = rw c.in_ok-push.ensures.items (All-push (λ (n : Named NotingFilter). n.object.phase ≡ New) _ _ c.loop-part.invariant c.in_ok-named.ensures)
