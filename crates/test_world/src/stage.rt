@@ -81,7 +81,7 @@ pub fn take(
     let before = world.trace().len();
     let event = event(alloc, before as u64, act)?;
     let fault = happen(world, event);
-    let lines = world.trace().len() - before;
+    let lines = world.trace().len().saturating_sub(before);
     assert_eq!(rt; lines, usize::from(fault.is_none()));
     match fault {
         None => Ok(line_text(alloc, world, before)?),
