@@ -2,6 +2,7 @@
 
 use crate::dispatches::{filters, kinds, nesting, pages, shown};
 use crate::fault::RowFault;
+use crate::row::named;
 use crate::servlets::{self, attributes, lives, replies};
 use crate::sessions::{self, expiry, faults};
 use crate::web;
@@ -43,9 +44,9 @@ fn tried(alloc: Global, kind: &str, parts: &str) -> Result<String, RowFault> {
     }
 }
 
-/// A row's name, and after a colon what came of it. A row without a bar is named by its line.
-fn of_row(alloc: Global, line: &str, kind: &str, row: &str) -> Result<String, AllocError> {
-    let (name, parts) = row.split_once('|').unwrap_or((line, row));
+/// A row's name, and after a colon what came of it.
+fn of_row(alloc: Global, kind: &str, row: &str) -> Result<String, AllocError> {
+    let (name, parts) = named(row);
     match tried(alloc, kind, parts) {
         Ok(text) => format!(in alloc; "{name}: {text}"),
         Err(fault) => format!(in alloc; "{name}: {fault}"),
@@ -56,7 +57,7 @@ fn of_row(alloc: Global, line: &str, kind: &str, row: &str) -> Result<String, Al
 pub fn answer(alloc: Global, line: &str) -> Result<String, AllocError> {
     match line.split_once(' ') {
         Some(("#", _)) => String::from_str(alloc, line),
-        Some((kind, row)) => of_row(alloc, line, kind, row),
-        None => of_row(alloc, line, line, ""),
+        Some((kind, row)) => of_row(alloc, kind, row),
+        None => String::from_str(alloc, line),
     }
 }

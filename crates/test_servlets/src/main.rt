@@ -1,8 +1,8 @@
 //! Rows of tests of sessions, servlets and dispatches from outside, as their users call them, and of what authors share: reads a table
 //! from standard input, a row a line, and prints of each row its name and what came of it.
 //!
-//! A line is a kind, a blank, the row's name and its parts, with a bar `|` before each part; a row without a bar is named by its line,
-//! and what follows the kind is its part. A line that begins with `#` is a heading, and printed as it stands. In the value of a reply's
+//! A line is a kind, a blank, the row's name and its parts, with a bar `|` before each part; a row without a bar is the one part that it
+//! is named for. A line that begins with `#` is a heading, and printed as it stands. In the value of a reply's
 //! field `\r`, `\n` and `\0` stand for a character; in what is printed `\n` does. What the file `stdout` expects is that of Jakarta
 //! Servlet 6.0 and RFC 9110, or is reasoned out, and never taken from the program.
 //!

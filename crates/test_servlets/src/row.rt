@@ -2,6 +2,11 @@
 
 use crate::fault::RowFault;
 
+/// A row's name, and the parts behind its first bar. A row without a bar is its own part.
+pub fn named(row: &str) -> (&str, &str) {
+    row.split_once('|').unwrap_or((row, row))
+}
+
 /// The first part, and the parts behind it.
 pub fn first(parts: &str) -> (&str, &str) {
     parts.split_once('|').unwrap_or((parts, ""))
