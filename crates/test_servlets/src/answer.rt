@@ -25,7 +25,7 @@ fn of_servlet(alloc: Global, kind: &str, parts: &str) -> Result<String, RowFault
     match kind {
         "reply" => replies::reply(alloc, parts),
         "reply-fault" => replies::fault(alloc, parts),
-        "attributes" => attributes::attributes(alloc, parts),
+        "request-attributes" => attributes::attributes(alloc, parts),
         "init" => attributes::init_text(alloc),
         "lives" => lives::lives(alloc),
         "filter" => servlets::filters::boxed(alloc),

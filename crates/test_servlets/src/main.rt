@@ -9,10 +9,10 @@
 //! Each module says what the parts of its kinds are:
 //!
 //! - `sessions`: `edit`, `expired`, `joined` and `session-fault`;
-//! - `servlets`: `reply`, `reply-fault`, `attributes`, `init`, `lives` and `filter`;
+//! - `servlets`: `reply`, `reply-fault`, `request-attributes`, `init`, `lives` and `filter`;
 //! - `dispatches`: `chain`, `included`, `filtered`, `nested`, `looped`, `page` and `shown`;
 //! - `web`, what authors share: `u8`, `u16`, `u64`, `post`, `parameter`, `parameter-or`, `escaped`, `written`, `error`, `head`, `value`,
-//!   `session`, `text`, `count`, `status` and `echo`.
+//!   `has-session`, `text`, `number`, `status` and `echo`.
 //!
 //! The servlet and the filter of a dispatch do as a row of a table says, with a proved meaning.
 #![tactic(auto)]

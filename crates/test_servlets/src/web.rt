@@ -14,9 +14,9 @@ use std::alloc::Global;
 fn of_session(alloc: Global, kind: &str, words: &str) -> Result<String, RowFault> {
     match kind {
         "value" => attributes::value(alloc, words),
-        "session" => attributes::session(alloc, words),
+        "has-session" => attributes::session(alloc, words),
         "text" => attributes::text(alloc, words),
-        "count" => attributes::count(alloc, words),
+        "number" => attributes::number(alloc, words),
         "status" => served::status(alloc, words),
         "echo" => served::echo(alloc, words),
         _ => Err(RowFault::Kind),

@@ -1,7 +1,7 @@
 //! The attributes of a request, in two copies of which one changes.
 //!
-//! The parts of `attributes` are what is set, `NAME=VALUE` with blanks between; the names that are then removed from the one; and the
-//! names whose values are read of it. `init` has no parts: an object whose initialisation wants memory says so by `?`.
+//! The parts of `request-attributes` are what is set, `NAME=VALUE` with blanks between; the names that are then removed from the one; and
+//! the names whose values are read of it. `init` has no parts: an object whose initialisation wants memory says so by `?`.
 
 use crate::fault::RowFault;
 use crate::row::first;

@@ -1,7 +1,7 @@
 //! The attributes of a session.
 //!
-//! `value` has a text that is an attribute's value, or no word for no value; `session` has `made` or `none`; `text` has whether a
-//! session is made, and the text that the attribute `note` gets; `count` likewise the number that it gets, or `kept` for none.
+//! `value` has a text that is an attribute's value, or no word for no value; `has-session` has `made` or `none`; `text` has whether a
+//! session is made, and the text that the attribute `note` gets; `number` likewise the number that it gets, or `kept` for none.
 
 use crate::fault::RowFault;
 use crate::web::requests::{answered, shown};
@@ -50,7 +50,7 @@ pub fn text(alloc: Global, words: &str) -> Result<String, RowFault> {
     note(alloc, &edit)
 }
 
-pub fn count(alloc: Global, words: &str) -> Result<String, RowFault> {
+pub fn number(alloc: Global, words: &str) -> Result<String, RowFault> {
     let (word, number) = words.split_once(' ').unwrap_or((words, ""));
     let mut edit = edit_of(alloc, word)?;
     if let Some(number) = read_u64(number) {
