@@ -1,11 +1,11 @@
 //! What is printed of a line.
 
+use crate::authors;
 use crate::dispatches::{filters, kinds, nesting, pages, shown};
 use crate::fault::RowFault;
 use crate::row::named;
 use crate::servlets::{self, attributes, lives, replies};
 use crate::sessions::{self, expiry, faults};
-use crate::web;
 use std::alloc::{AllocError, Global};
 
 fn of_dispatch(alloc: Global, kind: &str, parts: &str) -> Result<String, RowFault> {
@@ -17,7 +17,7 @@ fn of_dispatch(alloc: Global, kind: &str, parts: &str) -> Result<String, RowFaul
         "looped" => nesting::looped(alloc),
         "page" => pages::page(alloc, parts),
         "shown" => shown::shown(alloc, parts),
-        _ => web::tried(alloc, kind, parts),
+        _ => authors::tried(alloc, kind, parts),
     }
 }
 

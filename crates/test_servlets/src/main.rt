@@ -11,13 +11,14 @@
 //! - `sessions`: `edit`, `expired`, `joined` and `session-fault`;
 //! - `servlets`: `reply`, `reply-fault`, `request-attributes`, `init`, `lives` and `filter`;
 //! - `dispatches`: `chain`, `included`, `filtered`, `nested`, `looped`, `page` and `shown`;
-//! - `web`, what authors share: `u8`, `u16`, `u64`, `post`, `parameter`, `parameter-or`, `escaped`, `written`, `error`, `head`, `value`,
+//! - `authors`, what they share: `u8`, `u16`, `u64`, `post`, `parameter`, `parameter-or`, `escaped`, `written`, `error`, `head`, `value`,
 //!   `has-session`, `text`, `number`, `status` and `echo`.
 //!
 //! The servlet and the filter of a dispatch do as a row of a table says, with a proved meaning.
 #![tactic(auto)]
 
 mod answer;
+mod authors;
 mod dispatches;
 mod fault;
 mod row;
@@ -26,7 +27,6 @@ mod servlets;
 mod sessions;
 mod spelled;
 mod staged;
-mod web;
 
 use std::io;
 

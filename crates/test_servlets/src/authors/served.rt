@@ -3,11 +3,11 @@
 //! `status` has the status that the servlet sets; `echo` has how many bytes stand in the reply's body, and the text that the filter
 //! writes before a servlet, and after it where it passed.
 
+use crate::authors::attributes::edit_of;
+use crate::authors::echo::Echo;
+use crate::authors::pages::{next_text, reply_of};
+use crate::authors::status::Status;
 use crate::fault::RowFault;
-use crate::web::attributes::edit_of;
-use crate::web::echo::Echo;
-use crate::web::pages::{next_text, reply_of};
-use crate::web::status::Status;
 use http::Method;
 use std::alloc::{AllocError, Global};
 use sv_servlet::{Answers, Before, Call, Next, Reply, RequestAttributes, Surrounds};

@@ -3,8 +3,8 @@
 //! `value` has a text that is an attribute's value, or no word for no value; `has-session` has `made` or `none`; `text` has whether a
 //! session is made, and the text that the attribute `note` gets; `number` likewise the number that it gets, or `kept` for none.
 
+use crate::authors::requests::{answered, shown};
 use crate::fault::RowFault;
-use crate::web::requests::{answered, shown};
 use std::alloc::Global;
 use sv_model::{Key, Secret};
 use sv_session::SessionEdit;
