@@ -1,11 +1,14 @@
-//! Why a row isn't tried.
+//! Why nothing came of a row.
 
 use std::alloc::{AllocError, AllocFailed};
 use sv_control::FoundFault;
+use sv_mapping::MappingFault;
+use sv_servlet::{InitFault, ReplyFault};
+use sv_session::SessionFault;
 use thiserror::Error;
 
 /// Why nothing came of a row: it is printed in the row's line, which then differs from what is expected, unless the row is to show how
-/// a journal is refused.
+/// a journal, an edit or a reply refuses something.
 #[derive(Clone, Copy, Debug, PartialEq, Eq, Error)]
 pub enum RowFault {
     #[error("there is no such kind of row")]
@@ -16,8 +19,17 @@ pub enum RowFault {
     Spelling,
     #[error("memory was refused")]
     Memory,
+    #[error("a call was refused that has to succeed")]
+    Call,
+    /// The journal isn't read.
     #[error("{0}")]
     Journal(FoundFault),
+    /// The edit refused a call.
+    #[error("{0:?}")]
+    Session(SessionFault),
+    /// The reply refused a call.
+    #[error("{0:?}")]
+    Reply(ReplyFault),
 }
 
 impl From<AllocError> for RowFault {
@@ -35,5 +47,29 @@ impl<T: Drop> From<AllocFailed<T>> for RowFault {
 impl From<FoundFault> for RowFault {
     fn from(fault: FoundFault) -> Self {
         RowFault::Journal(fault)
+    }
+}
+
+impl From<MappingFault> for RowFault {
+    fn from(_: MappingFault) -> Self {
+        RowFault::Call
+    }
+}
+
+impl From<InitFault> for RowFault {
+    fn from(_: InitFault) -> Self {
+        RowFault::Call
+    }
+}
+
+impl From<SessionFault> for RowFault {
+    fn from(fault: SessionFault) -> Self {
+        RowFault::Session(fault)
+    }
+}
+
+impl From<ReplyFault> for RowFault {
+    fn from(fault: ReplyFault) -> Self {
+        RowFault::Reply(fault)
     }
 }

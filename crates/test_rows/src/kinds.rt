@@ -1,5 +1,7 @@
 //! What came of a row, by its kind: where none of a function's kinds is meant, the next one is asked.
 
+mod calls;
+
 use crate::application::{contexts, deployed, descriptors, filters, patterns, servlets};
 use crate::fault::RowFault;
 use crate::record::{self, attributes, changed, frames, keys, spelled};
@@ -17,7 +19,7 @@ fn of_figures(alloc: Global, kind: &str, parts: &str) -> Result<String, RowFault
         "known-keys" => watched::keys(alloc, parts),
         "table" => watched::plain(alloc, parts),
         "screen" => watched::drawn(alloc, parts),
-        _ => Err(RowFault::Kind),
+        _ => calls::tried(alloc, kind, parts),
     }
 }
 

@@ -2,8 +2,9 @@
 //!
 //! A line is a kind, a blank, the row's name and its parts, with a bar `|` before each part; a row without a bar is the one
 //! part that it is named for. A line that begins with `#` is a heading, and printed as it stands. In a part, `\r`, `\n`,
-//! `\t`, `\0`, `\\` and `\x` with two hexadecimal digits stand for a byte, and so they do in what is printed. What the file
-//! `stdout` expects is taken from the standards, and never from the program.
+//! `\t`, `\0`, `\\` and `\x` with two hexadecimal digits stand for a byte, and so they do in what is printed; of `sessions`,
+//! `servlets`, `dispatches` and `authors` in the value of a reply's field alone, and in what is printed `\n`. What the file
+//! `stdout` expects is taken from the standards or reasoned out, and never taken from the program.
 //!
 //! Each module says what the parts of its kinds are:
 //!
@@ -15,18 +16,31 @@
 //! - `application`, paths: `context`, `below`, `servlet`, `pattern`, `long-pattern`, `filters` and `dispatcher`;
 //! - `record`: `record`, `old-record`, `packet`, `old-packet`, `frame`, `old-frame`, `attributes`, `changed`, `count`,
 //!   `journal-keys` and `journal-keys-json`, whose bytes are in hexadecimal;
-//! - `watched`, figures: `figures`, `cut-figures`, `figure`, `rate`, `known-keys`, `table` and `screen`.
+//! - `watched`, figures: `figures`, `cut-figures`, `figure`, `rate`, `known-keys`, `table` and `screen`;
+//! - `sessions`, whose parts are calls: `edit`, `expired`, `joined` and `session-fault`;
+//! - `servlets`, likewise: `reply`, `reply-fault`, `request-attributes`, `init`, `lives` and `filter`;
+//! - `dispatches`, whose servlet and filter do as a row of a table says, with a proved meaning: `chain`, `included`, `filtered`,
+//!   `nested`, `looped`, `page` and `shown`;
+//! - `authors`, what they share: `u8`, `u16`, `u64`, `post`, `parameter`, `parameter-or`, `escaped`, `written`, `error`, `head`,
+//!   `value`, `has-session`, `text`, `number`, `status` and `echo`.
 #![tactic(auto)]
 
 mod answer;
 mod application;
+mod authors;
 mod digits;
+mod dispatches;
 mod escape;
 mod fault;
 mod kinds;
 mod record;
 mod repeat;
 mod row;
+mod scripted;
+mod servlets;
+mod sessions;
+mod spelled;
+mod staged;
 mod watched;
 mod web;
 

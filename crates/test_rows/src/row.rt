@@ -4,18 +4,17 @@ use crate::fault::RowFault;
 
 /// A row's name, and the parts behind its first bar. A row without a bar is its own part.
 pub fn named(row: &str) -> (&str, &str) {
-    match row.split_once('|') {
-        Some((name, parts)) => (name, parts),
-        None => (row, row),
-    }
+    row.split_once('|').unwrap_or((row, row))
 }
 
 /// The first part, and the parts behind it.
 pub fn first(parts: &str) -> (&str, &str) {
-    match parts.split_once('|') {
-        Some((part, rest)) => (part, rest),
-        None => (parts, ""),
-    }
+    parts.split_once('|').unwrap_or((parts, ""))
+}
+
+/// A call's first word, and what stands behind its blank.
+pub fn called(part: &str) -> (&str, &str) {
+    part.split_once(' ').unwrap_or((part, ""))
 }
 
 /// The number that a part is.
@@ -34,10 +33,26 @@ pub fn small(part: &str) -> Result<u8, RowFault> {
     }
 }
 
-/// The place in a list that a part is.
-pub fn place(part: &str) -> Result<usize, RowFault> {
+/// The length, the count or the place in a list that a part is.
+pub fn size(part: &str) -> Result<usize, RowFault> {
     match part.parse::<usize>() {
-        Ok(place) => Ok(place),
+        Ok(size) => Ok(size),
+        Err(_) => Err(RowFault::Part),
+    }
+}
+
+/// The interval that a part is.
+pub fn interval(part: &str) -> Result<i32, RowFault> {
+    match part.parse::<i32>() {
+        Ok(number) => Ok(number),
+        Err(_) => Err(RowFault::Part),
+    }
+}
+
+/// The status that a part is.
+pub fn status(part: &str) -> Result<u16, RowFault> {
+    match part.parse::<u16>() {
+        Ok(number) => Ok(number),
         Err(_) => Err(RowFault::Part),
     }
 }

@@ -2,7 +2,7 @@
 
 use crate::escape::bytes_of;
 use crate::fault::RowFault;
-use crate::row::{first, place};
+use crate::row::{first, size};
 use std::alloc::{AllocError, Global};
 use sv_mapping::{Dispatcher, Dispatchers, FilterMapping, FilterTarget, Pattern, filters_for};
 
@@ -28,7 +28,7 @@ fn dispatchers_of(alloc: Global, words: &str) -> Result<Dispatchers, RowFault> {
 /// What a filter is mapped to: `servlet=` and the number of one, or a pattern.
 fn target_of(alloc: Global, text: &str) -> Result<FilterTarget, RowFault> {
     if let Some(servlet) = text.strip_prefix("servlet=") {
-        return Ok(FilterTarget::Servlet(place(servlet)?));
+        return Ok(FilterTarget::Servlet(size(servlet)?));
     }
     match Pattern::read(alloc, text) {
         Ok(pattern) => Ok(FilterTarget::Pattern(pattern)),
@@ -42,7 +42,7 @@ fn mapping_of(alloc: Global, part: &str) -> Result<FilterMapping, RowFault> {
         return Err(RowFault::Part);
     };
     let (target, words) = rest.split_once(' ').unwrap_or((rest, ""));
-    let filter = place(filter)?;
+    let filter = size(filter)?;
     let dispatchers = dispatchers_of(alloc, words)?;
     let target = target_of(alloc, target)?;
     Ok(FilterMapping {
@@ -91,7 +91,7 @@ fn servlet_of(text: &str) -> Result<Option<usize>, RowFault> {
     if text == "-" {
         return Ok(None);
     }
-    Ok(Some(place(text)?))
+    Ok(Some(size(text)?))
 }
 
 /// The filters of a dispatch: the path, the servlet, the dispatcher's word, and the filter mappings in order.

@@ -3,7 +3,7 @@
 use crate::digits::bytes_of_digits;
 use crate::fault::RowFault;
 use crate::record::spelled::Spelled;
-use crate::row::{first, place};
+use crate::row::{first, size};
 use std::alloc::{AllocError, Global};
 use sv_model::Record;
 use sv_record::RecordFault;
@@ -68,7 +68,7 @@ fn numbers_text(
 pub fn changed(alloc: Global, parts: &str) -> Result<String, RowFault> {
     let (start, rest) = first(parts);
     let (places, digits) = first(rest);
-    let (start, places) = (place(start)?, place(places)?);
+    let (start, places) = (size(start)?, size(places)?);
     let bytes = bytes_of_digits(alloc, digits)?;
     numbers_text(alloc, &bytes, start, places)
 }

@@ -2,7 +2,7 @@
 
 use crate::digits::bytes_of_digits;
 use crate::fault::RowFault;
-use crate::row::{first, place};
+use crate::row::{first, size};
 use std::alloc::Global;
 use sv_control::{FoundFault, KeysLine, Replayed, records_of, replay};
 
@@ -23,7 +23,7 @@ fn replayed(alloc: Global, payloads: &[Vec<u8>]) -> Result<Replayed, FoundFault>
 /// Of a node that may know as many keys as the first part says. Each other part is a record.
 fn line_of(alloc: Global, parts: &str) -> Result<KeysLine, RowFault> {
     let (limit, records) = first(parts);
-    let limit = place(limit)?;
+    let limit = size(limit)?;
     let payloads = payloads_of(alloc, records)?;
     match replayed(alloc, &payloads) {
         Ok(found) => Ok(KeysLine::of(&found, limit)),

@@ -1,5 +1,0 @@
-use Rattle.test_servlets.proofs.StageLemmas.{servlet_added}
-use Rattle.test_servlets.proofs.staged.add_servlet.Goals as goal
-
-pub returns : goal.returns
-returns g c = servlet_added _ _ _ _ _ _ _ _ _ _ _ _ c.in_ok-push.ensures.items c.requires.ready c.requires.sound
