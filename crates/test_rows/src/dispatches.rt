@@ -13,9 +13,9 @@ pub mod nesting;
 pub mod pages;
 pub mod shown;
 
+use crate::escape::shown_briefly;
 use crate::fault::RowFault;
 use crate::scripted::{Marking, Says, Scripted, Then};
-use crate::spelled::shown;
 use crate::staged::{add_filter, add_servlet};
 use http::Method;
 use std::alloc::{AllocError, Global};
@@ -146,7 +146,7 @@ fn reply_of<S: Servlet, F: Filter>(stage: Stage<S, F>) -> Reply {
 
 /// How a dispatch ended, the status, and the body between angle brackets.
 fn ended_text(alloc: Global, ended: Ended, replied: &Replied) -> Result<String, AllocError> {
-    let body = shown(alloc, replied.body.as_slice())?;
+    let body = shown_briefly(alloc, replied.body.as_slice())?;
     format!(in alloc; "{ended:?} {} <{body}>", replied.status.as_u16())
 }
 

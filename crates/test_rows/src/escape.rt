@@ -1,6 +1,7 @@
 //! Bytes in a line: what can't stand there, or couldn't be seen, is spelled behind a backslash.
 
 use crate::digits::{digit, push_digits};
+use crate::fault::RowFault;
 use std::alloc::{AllocError, Global};
 
 /// How far an escape has been read.
@@ -55,6 +56,15 @@ pub fn bytes_of(alloc: Global, part: &str) -> Result<Vec<u8>, AllocError> {
     Ok(bytes)
 }
 
+/// The text that a part spells.
+pub fn text_of(alloc: Global, part: &str) -> Result<String, RowFault> {
+    let bytes = bytes_of(alloc, part)?;
+    match str::from_utf8(&bytes) {
+        Ok(text) => Ok(String::from_str(alloc, text)?),
+        Err(_) => Err(RowFault::Part),
+    }
+}
+
 fn push_byte(text: &mut String, byte: u8) -> Result<(), AllocError> {
     match byte {
         b'\r' => text.push_str("\\r")?,
@@ -84,6 +94,16 @@ pub fn shown(alloc: Global, bytes: &[u8]) -> Result<String, AllocError> {
     let mut text = String::new(alloc);
     push_shown(&mut text, bytes)?;
     Ok(text)
+}
+
+/// The spelling of bytes; of more than 100 the last one, behind how many they are.
+pub fn shown_briefly(alloc: Global, bytes: &[u8]) -> Result<String, AllocError> {
+    match bytes.last() {
+        Some(last) if bytes.len() > 100 => {
+            format!(in alloc; "{} bytes, the last {}", bytes.len(), char::from(*last))
+        }
+        _ => shown(alloc, bytes),
+    }
 }
 
 /// Adds a name and a value with a bar between them, between angle brackets.

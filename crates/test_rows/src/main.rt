@@ -2,9 +2,9 @@
 //!
 //! A line is a kind, a blank, the row's name and its parts, with a bar `|` before each part; a row without a bar is the one
 //! part that it is named for. A line that begins with `#` is a heading, and printed as it stands. In a part, `\r`, `\n`,
-//! `\t`, `\0`, `\\` and `\x` with two hexadecimal digits stand for a byte, and so they do in what is printed; of `sessions`,
-//! `servlets`, `dispatches` and `authors` in the value of a reply's field alone, and in what is printed `\n`. What the file
-//! `stdout` expects is taken from the standards or reasoned out, and never taken from the program.
+//! `\t`, `\0`, `\\` and `\x` with two hexadecimal digits stand for a byte, and so they do in what is printed. Of `sessions`,
+//! `servlets` and `dispatches` only the value of a reply's field is read so, and only bodies and a session's values are printed so;
+//! of `authors` nothing is. What the file `stdout` expects is taken from the standards or reasoned out, and never from the program.
 //!
 //! Each module says what the parts of its kinds are:
 //!
@@ -33,13 +33,13 @@ mod dispatches;
 mod escape;
 mod fault;
 mod kinds;
+mod listed;
 mod record;
 mod repeat;
 mod row;
 mod scripted;
 mod servlets;
 mod sessions;
-mod spelled;
 mod staged;
 mod watched;
 mod web;

@@ -5,7 +5,7 @@ pub mod filters;
 pub mod lives;
 pub mod replies;
 
-use crate::spelled::shown;
+use crate::escape::shown_briefly;
 use http::Method;
 use std::alloc::{AllocError, Global};
 use sv_model::{Field, Key, Secret};
@@ -31,7 +31,7 @@ fn fields_text(alloc: Global, fields: &[Field]) -> Result<String, AllocError> {
 /// The status, the fields and the body of what a reply has come to.
 fn replied_text(alloc: Global, replied: &Replied) -> Result<String, AllocError> {
     let fields = fields_text(alloc, replied.fields.as_slice())?;
-    let body = shown(alloc, replied.body.as_slice())?;
+    let body = shown_briefly(alloc, replied.body.as_slice())?;
     format!(in alloc; "{} {fields}<{body}>", replied.status.as_u16())
 }
 

@@ -11,8 +11,8 @@ mod left;
 mod told;
 
 use crate::fault::RowFault;
+use crate::listed::push_listed;
 use crate::row::first;
-use crate::spelled::push_listed;
 use calls::answer;
 use left::left_text;
 use std::alloc::Global;

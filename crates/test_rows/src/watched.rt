@@ -1,20 +1,11 @@
 //! Files of figures, as an operator looks at them. What is expected is that of Prometheus's text format, version 0.0.4, and of
 //! `docs/OPERATING.md`.
 
-use crate::escape::{bytes_of, shown};
+use crate::escape::{shown, text_of};
 use crate::fault::RowFault;
 use crate::row::{first, number};
 use std::alloc::{AllocError, Global};
 use sv_watch::{Column, Figures, FiguresFault, Medium, rate_of, screen_of, table_of};
-
-/// The text that a part spells.
-fn text_of(alloc: Global, part: &str) -> Result<String, RowFault> {
-    let bytes = bytes_of(alloc, part)?;
-    match str::from_utf8(&bytes) {
-        Ok(text) => Ok(String::from_str(alloc, text)?),
-        Err(_) => Err(RowFault::Part),
-    }
-}
 
 /// What a text of figures says, or why it isn't taken.
 fn read(alloc: Global, text: &str) -> Result<Figures, FiguresFault> {

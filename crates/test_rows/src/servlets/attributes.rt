@@ -4,8 +4,8 @@
 //! the names whose values are read of it. `init` has no parts: an object whose initialisation wants memory says so by `?`.
 
 use crate::fault::RowFault;
+use crate::listed::push_listed;
 use crate::row::first;
-use crate::spelled::push_listed;
 use std::alloc::{AllocError, Global};
 use sv_servlet::{InitFault, RequestAttributes};
 

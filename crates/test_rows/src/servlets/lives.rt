@@ -8,7 +8,7 @@ ghost use Rattle.sv_servlet.specs.declared.servlet.Phase.TheVariants.{New, Ready
 
 use super::{call_of, fresh_edit, reply_text, written};
 use crate::fault::RowFault;
-use crate::spelled::push_listed;
+use crate::listed::push_listed;
 use http::Method;
 use std::alloc::{AllocError, Global};
 use std::cell::RefCell;

@@ -5,9 +5,10 @@
 //! `nothing` is no call. The part of `reply-fault` is the fault's number.
 
 use super::reply_text;
+use crate::escape::text_of;
 use crate::fault::RowFault;
+use crate::listed::push_listed;
 use crate::row;
-use crate::spelled::{push_listed, text_of};
 use http_header::{HeaderName, HeaderValue};
 use std::alloc::{AllocError, Global};
 use sv_model::Field;

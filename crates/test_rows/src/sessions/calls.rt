@@ -2,9 +2,10 @@
 //! `long NAME=LENGTH` for a value of so many bytes, `many COUNT` for attributes from `k0` on, `remove NAME`; and what is read: `get NAME`,
 //! `names`, `count`, `key`, `new`. `nothing` is no call.
 
+use crate::escape::shown_briefly;
 use crate::fault::RowFault;
+use crate::listed::push_listed;
 use crate::row;
-use crate::spelled::{push_listed, shown};
 use std::alloc::{AllocError, Global};
 use sv_model::{Key, Text};
 use sv_session::{SessionEdit, SessionFault};
@@ -88,7 +89,7 @@ fn key_text(alloc: Global, answer: Result<Key, SessionFault>) -> Result<String, 
 }
 
 fn bytes_text(alloc: Global, bytes: &[u8]) -> Result<String, AllocError> {
-    let text = shown(alloc, bytes)?;
+    let text = shown_briefly(alloc, bytes)?;
     format!(in alloc; "<{text}>")
 }
 

@@ -1,7 +1,7 @@
 //! What an edit leaves.
 
 use super::told::events_text;
-use crate::spelled::shown;
+use crate::escape::shown_briefly;
 use std::alloc::{AllocError, Global};
 use sv_model::{Birth, Fate, Secret, Session};
 use sv_session::{Edited, SessionEdit};
@@ -35,7 +35,7 @@ fn push_attribute(
     name: &str,
     value: &[u8],
 ) -> Result<(), AllocError> {
-    let value = shown(alloc, value)?;
+    let value = shown_briefly(alloc, value)?;
     text.push_str(&format!(in alloc; " {name}={value}")?)?;
     Ok(())
 }

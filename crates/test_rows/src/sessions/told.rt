@@ -1,7 +1,8 @@
 //! What an edit tells.
 
 use super::left::secret_byte;
-use crate::spelled::{push_listed, shown};
+use crate::escape::shown_briefly;
+use crate::listed::push_listed;
 use std::alloc::{AllocError, Global};
 use sv_model::{Event, Key, Told};
 
@@ -12,7 +13,7 @@ fn of_key(alloc: Global, word: &str, context: u8, key: Key) -> Result<String, Al
 
 /// The same, and a name with its value.
 fn of_value(alloc: Global, front: &str, name: &str, value: &[u8]) -> Result<String, AllocError> {
-    let value = shown(alloc, value)?;
+    let value = shown_briefly(alloc, value)?;
     format!(in alloc; "{front} {name}={value}")
 }
 
