@@ -7,6 +7,7 @@
 ghost use Rattle.test_rows.specs.Staged.{IsStaged};
 
 use super::{Row, add_filters, add_servlets, dispatched, then_of};
+use crate::application::filters::dispatcher_of;
 use crate::fault::RowFault;
 use crate::row::first;
 use crate::scripted::{Marking, Says, Scripted, Then};
@@ -25,13 +26,6 @@ static SERVLETS: [Row; 5] = [
     ("/fail", 200, Says::Text("f"), Then::Fails(404)),
     ("/page", 503, MESSAGE, Then::Ends),
 ];
-
-fn kind_of(word: &str) -> Result<Dispatcher, RowFault> {
-    match word.parse::<Dispatcher>() {
-        Ok(kind) => Ok(kind),
-        Err(_) => Err(RowFault::Part),
-    }
-}
 
 /// The servlets, the filters of a kind of dispatch, and the page of every error.
 fn furnish(
@@ -52,7 +46,7 @@ fn furnish(
 pub fn filtered(alloc: Global, parts: &str) -> Result<String, RowFault> {
     let (kind, rest) = first(parts);
     let (path, word) = first(rest);
-    let (kind, then) = (kind_of(kind)?, then_of(word)?);
+    let (kind, then) = (dispatcher_of(kind)?, then_of(word)?);
     let mut stage: Stage<Scripted, Marking> = empty_stage(alloc);
     furnish(alloc, &mut stage, kind, then)?;
     dispatched(alloc, stage, path)

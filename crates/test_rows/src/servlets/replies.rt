@@ -9,9 +9,8 @@ use crate::escape::text_of;
 use crate::fault::RowFault;
 use crate::listed::push_listed;
 use crate::row;
-use http_header::{HeaderName, HeaderValue};
+use crate::web::fields::field_of;
 use std::alloc::{AllocError, Global};
-use sv_model::Field;
 use sv_servlet::{Reply, ReplyFault};
 
 /// What a call answers.
@@ -32,19 +31,9 @@ fn header(alloc: Global, reply: &mut Reply, words: &str) -> Result<Answer, RowFa
     Ok(reply.header(name, value.as_str()))
 }
 
-fn field_of(alloc: Global, words: &str) -> Result<Field, RowFault> {
-    let (name, value) = pair_of(words);
-    let Ok(name) = HeaderName::from_bytes(alloc, name.as_bytes()) else {
-        return Err(RowFault::Part);
-    };
-    let Ok(value) = HeaderValue::from_str(alloc, value) else {
-        return Err(RowFault::Part);
-    };
-    Ok(Field { name, value })
-}
-
 fn set(alloc: Global, reply: &mut Reply, words: &str) -> Result<Answer, RowFault> {
-    Ok(reply.set(field_of(alloc, words)?))
+    let (name, value) = pair_of(words);
+    Ok(reply.set(field_of(alloc, name, value)?))
 }
 
 /// Sets so many fields, up to the first one that is refused.

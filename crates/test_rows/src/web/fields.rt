@@ -40,7 +40,8 @@ pub fn fields(alloc: Global, parts: &str) -> Result<String, RowFault> {
     Ok(told(alloc, &stream)?)
 }
 
-fn field_of(alloc: Global, name: &str, value: &str) -> Result<Field, RowFault> {
+/// The field of a name and a value.
+pub fn field_of(alloc: Global, name: &str, value: &str) -> Result<Field, RowFault> {
     let value = bytes_of(alloc, value)?;
     let Ok(name) = HeaderName::from_bytes(alloc, name.as_bytes()) else {
         return Err(RowFault::Part);
