@@ -12,9 +12,14 @@ pub fn first(parts: &str) -> (&str, &str) {
     parts.split_once('|').unwrap_or((parts, ""))
 }
 
-/// A call's first word, and what stands behind its blank.
-pub fn called(part: &str) -> (&str, &str) {
+/// The first word of a part, and what stands behind its blank.
+pub fn first_word(part: &str) -> (&str, &str) {
     part.split_once(' ').unwrap_or((part, ""))
+}
+
+/// A name, and a value behind an equals sign.
+pub fn pair(part: &str) -> (&str, &str) {
+    part.split_once('=').unwrap_or((part, ""))
 }
 
 /// The number that a part is.

@@ -2,7 +2,7 @@
 
 use crate::escape::bytes_of;
 use crate::fault::RowFault;
-use crate::row::{first, size};
+use crate::row::{first, first_word, size};
 use std::alloc::{AllocError, Global};
 use sv_mapping::{Dispatcher, Dispatchers, FilterMapping, FilterTarget, Pattern, filters_for};
 
@@ -41,7 +41,7 @@ fn mapping_of(alloc: Global, part: &str) -> Result<FilterMapping, RowFault> {
     let Some((filter, rest)) = part.split_once(' ') else {
         return Err(RowFault::Part);
     };
-    let (target, words) = rest.split_once(' ').unwrap_or((rest, ""));
+    let (target, words) = first_word(rest);
     let filter = size(filter)?;
     let dispatchers = dispatchers_of(alloc, words)?;
     let target = target_of(alloc, target)?;

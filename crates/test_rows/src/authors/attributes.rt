@@ -5,6 +5,7 @@
 
 use crate::authors::requests::{answered, shown};
 use crate::fault::RowFault;
+use crate::row::first_word;
 use std::alloc::Global;
 use sv_model::{Key, Secret};
 use sv_session::SessionEdit;
@@ -44,14 +45,14 @@ fn note(alloc: Global, edit: &SessionEdit) -> Result<String, RowFault> {
 }
 
 pub fn text(alloc: Global, words: &str) -> Result<String, RowFault> {
-    let (word, text) = words.split_once(' ').unwrap_or((words, ""));
+    let (word, text) = first_word(words);
     let mut edit = edit_of(alloc, word)?;
     set_text(&mut edit, NOTE, text)?;
     note(alloc, &edit)
 }
 
 pub fn number(alloc: Global, words: &str) -> Result<String, RowFault> {
-    let (word, number) = words.split_once(' ').unwrap_or((words, ""));
+    let (word, number) = first_word(words);
     let mut edit = edit_of(alloc, word)?;
     if let Some(number) = read_u64(number) {
         set_number(alloc, &mut edit, NOTE, number)?;

@@ -4,6 +4,7 @@
 //! `held` or `free` for the reply, and what is set.
 
 use crate::fault::RowFault;
+use crate::row::first_word;
 use std::alloc::{AllocError, Global};
 use sv_model::Field;
 use sv_servlet::{Next, Replied, Reply};
@@ -116,7 +117,7 @@ fn set(reply: &mut Reply, word: &str) -> Result<(), RowFault> {
 }
 
 pub fn head(alloc: Global, words: &str) -> Result<String, RowFault> {
-    let (hold, word) = words.split_once(' ').unwrap_or((words, ""));
+    let (hold, word) = first_word(words);
     let mut reply = Reply::new(alloc);
     reply.hold(hold == "held");
     set(&mut reply, word)?;

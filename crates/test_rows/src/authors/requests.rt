@@ -4,6 +4,7 @@
 //! parameters as `a=1&b=2`, of which nothing is decoded. `parameter-or` has `other` where there is no such parameter.
 
 use crate::fault::RowFault;
+use crate::row;
 use http::Method;
 use std::alloc::{AllocError, Global};
 use sv_model::{Param, Text};
@@ -42,7 +43,7 @@ pub fn post(alloc: Global, word: &str) -> Result<String, RowFault> {
 }
 
 fn param(alloc: Global, pair: &str) -> Result<Param, AllocError> {
-    let (name, value) = pair.split_once('=').unwrap_or((pair, ""));
+    let (name, value) = row::pair(pair);
     Ok(Param {
         name: Text::from_str(alloc, name)?,
         value: Text::from_str(alloc, value)?,
@@ -59,7 +60,7 @@ fn params(alloc: Global, query: &str) -> Result<Vec<Param>, RowFault> {
 
 /// The value between angle brackets, or `none`.
 pub fn parameter(alloc: Global, words: &str) -> Result<String, RowFault> {
-    let (name, query) = words.split_once(' ').unwrap_or((words, ""));
+    let (name, query) = row::first_word(words);
     let params = params(alloc, query)?;
     match sv_web::parameter(&params, name) {
         Some(value) => Ok(format!(in alloc; "<{value}>")?),
@@ -69,7 +70,7 @@ pub fn parameter(alloc: Global, words: &str) -> Result<String, RowFault> {
 
 /// The value between angle brackets.
 pub fn parameter_or(alloc: Global, words: &str) -> Result<String, RowFault> {
-    let (name, query) = words.split_once(' ').unwrap_or((words, ""));
+    let (name, query) = row::first_word(words);
     let params = params(alloc, query)?;
     let value = sv_web::parameter_or(alloc, &params, name, "other")?;
     Ok(format!(in alloc; "<{}>", value.as_str())?)

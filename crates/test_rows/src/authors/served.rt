@@ -8,6 +8,7 @@ use crate::authors::echo::Echo;
 use crate::authors::pages::{next_text, reply_of};
 use crate::authors::status::Status;
 use crate::fault::RowFault;
+use crate::row::first_word;
 use http::Method;
 use std::alloc::{AllocError, Global};
 use sv_servlet::{Answers, Before, Call, Next, Reply, RequestAttributes, Surrounds};
@@ -91,7 +92,7 @@ fn echo_text(alloc: Global, body: &[u8], reply: &mut Reply) -> Result<String, Ro
 }
 
 pub fn echo(alloc: Global, words: &str) -> Result<String, RowFault> {
-    let (count, text) = words.split_once(' ').unwrap_or((words, ""));
+    let (count, text) = first_word(words);
     let mut reply = reply_of(alloc, read_u64(count).unwrap_or(0))?;
     let said = echo_text(alloc, text.as_bytes(), &mut reply)?;
     Ok(format!(in alloc; "{said}, {} bytes", reply.finish().body.len())?)

@@ -5,13 +5,13 @@
 
 use crate::fault::RowFault;
 use crate::listed::push_listed;
-use crate::row::first;
+use crate::row;
 use std::alloc::{AllocError, Global};
 use sv_servlet::{InitFault, RequestAttributes};
 
 fn set_all(attributes: &mut RequestAttributes, pairs: &str) -> Result<(), AllocError> {
     for pair in pairs.split(' ') {
-        let (name, value) = pair.split_once('=').unwrap_or((pair, ""));
+        let (name, value) = row::pair(pair);
         attributes.insert(name, value)?;
     }
     Ok(())
@@ -68,7 +68,7 @@ fn both_text(
     copy: &RequestAttributes,
     parts: &str,
 ) -> Result<String, AllocError> {
-    let (removed, read) = first(parts);
+    let (removed, read) = row::first(parts);
     remove_all(attributes, removed);
     let changed = changed_text(alloc, attributes, read)?;
     let whole = listed(alloc, copy)?;
@@ -76,7 +76,7 @@ fn both_text(
 }
 
 pub fn attributes(alloc: Global, parts: &str) -> Result<String, RowFault> {
-    let (pairs, rest) = first(parts);
+    let (pairs, rest) = row::first(parts);
     let mut attributes = RequestAttributes::new(alloc);
     set_all(&mut attributes, pairs)?;
     let copy = attributes.copy()?;

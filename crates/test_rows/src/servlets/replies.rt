@@ -16,23 +16,18 @@ use sv_servlet::{Reply, ReplyFault};
 /// What a call answers.
 type Answer = Result<(), ReplyFault>;
 
-/// A name, and a value behind an equals sign.
-fn pair_of(words: &str) -> (&str, &str) {
-    words.split_once('=').unwrap_or((words, ""))
-}
-
 fn status(reply: &mut Reply, code: &str) -> Result<Answer, RowFault> {
     Ok(reply.status(row::status(code)?))
 }
 
 fn header(alloc: Global, reply: &mut Reply, words: &str) -> Result<Answer, RowFault> {
-    let (name, value) = pair_of(words);
+    let (name, value) = row::pair(words);
     let value = text_of(alloc, value)?;
     Ok(reply.header(name, value.as_str()))
 }
 
 fn set(alloc: Global, reply: &mut Reply, words: &str) -> Result<Answer, RowFault> {
-    let (name, value) = pair_of(words);
+    let (name, value) = row::pair(words);
     Ok(reply.set(field_of(alloc, name, value)?))
 }
 
@@ -88,7 +83,7 @@ fn is_made(reply: &mut Reply, call: &str) -> bool {
 
 /// Makes a call, and says what it answers; of one that answers nothing its name.
 fn answer(alloc: Global, reply: &mut Reply, part: &str) -> Result<String, RowFault> {
-    let (call, words) = row::called(part);
+    let (call, words) = row::first_word(part);
     if is_made(reply, call) {
         return Ok(String::from_str(alloc, call)?);
     }

@@ -23,7 +23,7 @@ fn set(edit: &mut SessionEdit, words: &str) -> Answer {
 }
 
 fn set_long(edit: &mut SessionEdit, words: &str) -> Result<Answer, RowFault> {
-    let (name, length) = words.split_once('=').unwrap_or((words, ""));
+    let (name, length) = row::pair(words);
     let length = row::size(length)?;
     Ok(edit.set(name, Some(&BYTES[..length.min(65_537)])))
 }
@@ -146,7 +146,7 @@ fn given_text(
 
 /// Makes a call, and says what it answers.
 pub fn answer(alloc: Global, edit: &mut SessionEdit, part: &str) -> Result<String, RowFault> {
-    let (call, words) = row::called(part);
+    let (call, words) = row::first_word(part);
     match change(alloc, edit, call, words)? {
         Some(answer) => Ok(done_text(alloc, answer)?),
         None => Ok(given_text(alloc, edit, call, words)?),
