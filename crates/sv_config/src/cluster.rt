@@ -7,7 +7,8 @@ ghost use Rattle.sv_config.specs.Document.{table_at, text_at};
 ghost use Rattle.sv_config.specs.Values as spec;
 
 use crate::deployment::Cluster;
-use crate::document::{boolean_at, integer_at, table_at, text_at, values_at};
+use crate::columns::integers_at;
+use crate::document::{boolean_at, integer_at, table_at, text_at};
 use crate::limits::{MAX_KEYS, is_outside};
 use std::alloc::{AllocError, Global};
 use toml::Table;
@@ -59,12 +60,11 @@ fn cluster_of(alloc: Global, table: &Table) -> Result<Cluster, AllocError>
 fn ports_of(alloc: Global, table: &Table) -> Result<Vec<u16>, AllocError>
     ensures { IfOk result (λ ports. map pos ports.items ≡ spec.ports_of (table_view table.now)) }
 {
+    let integers = integers_at(alloc, table, "ports")?;
     let mut ports = Vec::new(alloc);
-    for value in values_at(table, "ports") {
-        if let Some(integer) = value.as_integer() {
-            if !is_outside(integer, 1, 65535) {
-                ports.push(integer as u16)?;
-            }
+    for integer in &integers {
+        if !is_outside(*integer, 1, 65535) {
+            ports.push(*integer as u16)?;
         }
     }
     Ok(ports)
