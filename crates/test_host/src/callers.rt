@@ -11,7 +11,7 @@ const NO: &[u8] = b"\xE1\0\0\0\x1D\x02\x04\x01\0\x01\0\0\0\0\0\0\0\x01\
 pub static SCENES: [Scene; 5] = [
     // No session has the key of the two bytes of the first and the third.
     Scene {
-        name: "a session's first two requests, and one of its own for another client",
+        name: "one request a connection, answered before it is left: a session's first two, and another client's",
         persistence: Persistence::Single,
         all: &[
             Said::Counts(&[[0, 9]]),

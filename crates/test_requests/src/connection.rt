@@ -89,7 +89,7 @@ static CONNECTIONS: [Row<Trial>; 16] = [
     (
         Trial::TwoRequestsCutAnywhere,
         received::CUTS_OF_TWO,
-        "two requests cut anywhere",
+        "two requests cut anywhere: a part isn't closed, a whole one isn't dropped",
     ),
     (
         Trial::AFaultInTheSecondCutAnywhere,
