@@ -1,7 +1,8 @@
 //! The container as an engine.
 
-ghost use Rattle.std.specs.Prelude.{◌≡◌};
-ghost use Rattle.sv_container.specs.Serving.{deployed, place_for};
+ghost use Rattle.std.specs.Prelude.{◌≡◌, slice_get};
+ghost use Rattle.sv_container.specs.Application.{apps_of};
+ghost use Rattle.sv_container.specs.Serving.{deployed, in_service, place_for};
 
 use crate::container::Container;
 use crate::outcome::served_outside;
@@ -12,18 +13,26 @@ use sv_servlet::{Filter, Listener, Servlet};
 use sv_target::session_cookie;
 
 impl<S: Servlet, F: Filter, L: Listener> Container<S, F, L> {
-    /// The place of the application of a path, where it is in service.
-    #[tactic(auto, unfolding(crate::specs::Serving::place_for, crate::specs::Application::apps_of))]
-    fn place_of(&self, path: &str) -> Option<usize>
-        ensures { result ≡ place_for (deployed S.serves S.servlet_phase F.filtering F.filter_phase L.hears self.now) path.now }
+    /// The place, where there is an application in service.
+    #[tactic(auto, unfolding(crate::specs::Application::apps_of))]
+    fn in_service(&self, place: usize) -> Option<usize>
+        ensures { result ≡ in_service place (slice_get (apps_of S.serves S.servlet_phase F.filtering F.filter_phase self.now.applications.items) place) }
     {
-        let place = choose_context(self.paths.as_slice(), path)?;
         let application = self.applications.get(place)?;
         if application.is_in_service {
             Some(place)
         } else {
             None
         }
+    }
+
+    /// The place of the application of a path, where it is in service.
+    #[tactic(auto, unfolding(crate::specs::Serving::place_for))]
+    fn place_of(&self, path: &str) -> Option<usize>
+        ensures { result ≡ place_for (deployed S.serves S.servlet_phase F.filtering F.filter_phase L.hears self.now) path.now }
+    {
+        let place = choose_context(self.paths.as_slice(), path)?;
+        self.in_service(place)
     }
 }
 
