@@ -76,6 +76,12 @@ added entries payload bytes put gate_at is size put_is =
     ∙ sym (append_assoc f (entry payload) (0 ∷ []))
     ∙ ap (λ (l : List ℕ). l ++ 0 ∷ []) (sym (flat_map-append entry entries (payload ∷ []) ∙ ap (λ (l : List ℕ). f ++ l) (append-nil (entry payload))))
 
+-- a batch of no more than a gate has no entries
+pub none_staged : (batch : Batch) (entries : List (List ℕ)) → Stages batch entries → length (drop 1 (bytes_in batch)) ≡ 0 → entries ≡ []
+none_staged batch [] s few = refl
+none_staged batch (p ∷ es) s few =
+    absurd (omega (arith, few, ap length s.bytes, length-drop 1 (bytes_in batch), length-append (flat_map entry (p ∷ es)) (0 ∷ [])))
+
 -- a batch that has entries, without its first gate
 pub behind_gate : (batch : Batch) (entries : List (List ℕ)) (bytes : List ℕ) → Stages batch entries → bytes ≡ drop 1 (bytes_in batch) → 0 < length bytes → IsStaged entries bytes
 behind_gate batch [] bytes stages is some = let none : bytes ≡ [] = is ∙ ap (λ (l : List ℕ). drop 1 l) stages.bytes in absurd (omega (arith, some, ap length none))

@@ -1,7 +1,8 @@
-use Rattle.std.proofs.Common.{◌+◌, ◌<◌, ◌++◌, length, true, refl, sym, arith, rules}
+use Rattle.std.proofs.Common.{◌≡◌, ◌+◌, ◌<◌, List, ℕ, ◌++◌, length, true, refl, sym, ◌∙◌, ap, subst, arith, rules}
+use Rattle.std.proofs.lemmas.List.{append-nil}
 use Rattle.sv_journal.specs.Journal.{JournalView, Keeps, Holds}
 use Rattle.sv_journal.specs.Format.{front}
-use Rattle.sv_journal.proofs.Appending.{rests, gate_within, kept, grown, behind_gate, moments}
+use Rattle.sv_journal.proofs.Appending.{none_staged, rests, gate_within, kept, grown, behind_gate, moments}
 use Rattle.sv_journal.proofs.journal.Journal.append_all.Goals as goal
 
 pub commit-requires-clause-within : goal.commit-requires-clause-within
@@ -11,6 +12,16 @@ commit-requires-clause-within g c = λ told.
     let old : JournalView g.row.D.Denot = record { current = i.current; other = i.other; on_a = i.on_a; generation = i.generation; end = i.end; len = i.len; live = i.is_live } in
     let some = c.self.invariant.keeps (search rules) told in
     gate_within d.seen d.may_leave old some.0 some.1
+
+pub returns-then-is_empty-clause-added : goal.returns-then-is_empty-clause-added
+returns-then-is_empty-clause-added g c = λ before entries told holds stages.
+    let d = g.D.Disk in
+    let few : length c.behind_gate-bytes.result.now ≡ 0 = search (rules, arith) in
+    let none = none_staged c.args.batch.now entries stages (ap length (sym c.behind_gate-bytes.ensures.bytes) ∙ few) in
+    subst (λ (es : List (List ℕ)). Holds d.seen d.may_leave c.args.self.now es) (sym (ap (λ (es : List (List ℕ)). before ++ es) none ∙ append-nil before)) holds
+
+pub returns-in_err-commit-clause-added : goal.returns-in_err-commit-clause-added
+returns-in_err-commit-clause-added g c = search rules
 
 pub returns-in_err-commit-clause-any_moment : goal.returns-in_err-commit-clause-any_moment
 returns-in_err-commit-clause-any_moment g c = rw (← c.self.view_is) (λ before entries told holds stages.
