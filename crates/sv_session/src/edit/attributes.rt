@@ -49,6 +49,15 @@ fn set_event(key: Key, name: Text, value: Sequence<u8>, old: Option<Sequence<u8>
     }
 }
 
+/// A name and a value in memory of their own.
+fn copied(alloc: Global, name: &str, value: &[u8]) -> Result<(Text, Sequence<u8>), AllocError>
+    ensures { IfOk result (λ copy. copy ≡ (name.now, value.now)) }
+{
+    let name = Text::from_str(alloc, name)?;
+    let value = Vec::from_slice(alloc, value)?;
+    Ok((name, Sequence::from_vec(value)))
+}
+
 /// Puts a value at a name, and makes what is told of it.
 fn put(
     alloc: Global,
@@ -62,16 +71,15 @@ fn put(
     ensures ok { OnOk result (session.new ≡ record session.old { attributes = with_attribute session.old.attributes name.now value.now }) }
     ensures err { OnErr result (session.new ≡ session.old) }
 {
-    let told = Text::from_str(alloc, name)?;
     // Of a value that is replaced the old one is shown.
-    let shown = match session.attributes.get(name) {
-        Some(_) => Vec::new(alloc),
-        None => Vec::from_slice(alloc, value)?,
+    let shown: &[u8] = match session.attributes.get(name) {
+        Some(_) => &[],
+        None => value,
     };
-    let name = Text::from_str(alloc, name)?;
-    let value = Vec::from_slice(alloc, value)?;
-    let old = session.attributes.insert(name, Sequence::from_vec(value))?;
-    Ok(set_event(key, told, Sequence::from_vec(shown), old))
+    let (told, shown) = copied(alloc, name, shown)?;
+    let (name, value) = copied(alloc, name, value)?;
+    let old = session.attributes.insert(name, value)?;
+    Ok(set_event(key, told, shown, old))
 }
 
 impl SessionEdit {
@@ -80,7 +88,9 @@ impl SessionEdit {
     pub fn get(&self, name: &str) -> Result<Option<&[u8]>, SessionFault>
         ensures { seen_value result ≡ get_result self.entry.now name.now }
     {
-        let (_, session) = self.holding.held().ok_or(SessionFault::NoSession)?;
+        let Some((_, session)) = self.holding.held() else {
+            return Err(SessionFault::NoSession);
+        };
         Ok(session.attributes.get(name))
     }
 
@@ -89,7 +99,9 @@ impl SessionEdit {
     pub fn names(&self) -> Result<Sequence<Text>, SessionFault>
         ensures { Gives (names_result self.entry.now) result }
     {
-        let (_, session) = self.holding.held().ok_or(SessionFault::NoSession)?;
+        let Some((_, session)) = self.holding.held() else {
+            return Err(SessionFault::NoSession);
+        };
         Ok(session.attributes.names(self.alloc)?)
     }
 
@@ -98,7 +110,9 @@ impl SessionEdit {
     fn admits(&self, name: &str, value: &[u8]) -> Result<(), SessionFault>
         ensures { Admits (value_result self.entry.now name.now value.now) result }
     {
-        let (_, session) = self.holding.held().ok_or(SessionFault::NoSession)?;
+        let Some((_, session)) = self.holding.held() else {
+            return Err(SessionFault::NoSession);
+        };
         if !is_name(name) {
             return Err(SessionFault::BadName);
         }
@@ -120,8 +134,12 @@ impl SessionEdit {
         // The event's place comes first: behind the change nothing may fail.
         self.events.reserve(1)?;
         let alloc = self.alloc;
-        let (key, _) = self.holding.held().ok_or(SessionFault::NoSession)?;
-        let session = self.holding.held_mut().ok_or(SessionFault::NoSession)?;
+        let Some((key, _)) = self.holding.held() else {
+            return Err(SessionFault::NoSession);
+        };
+        let Some(session) = self.holding.held_mut() else {
+            return Err(SessionFault::NoSession);
+        };
         let event = put(alloc, key, session, name, value)?;
         let context = self.context;
         self.events.push(Told { context, event }).unwrap();
@@ -149,13 +167,17 @@ impl SessionEdit {
     pub fn remove(&mut self, name: &str) -> Result<(), SessionFault>
         ensures { Answers self.old (remove_result self.old name.now) result self.new }
     {
-        let (key, session) = self.holding.held().ok_or(SessionFault::NoSession)?;
+        let Some((key, session)) = self.holding.held() else {
+            return Err(SessionFault::NoSession);
+        };
         if session.attributes.get(name).is_none() {
             return Ok(());
         }
         self.events.reserve(1)?;
         let told = Text::from_str(self.alloc, name)?;
-        let session = self.holding.held_mut().ok_or(SessionFault::NoSession)?;
+        let Some(session) = self.holding.held_mut() else {
+            return Err(SessionFault::NoSession);
+        };
         if let Some(old) = session.attributes.remove(name) {
             let context = self.context;
             let event = Event::Removed {

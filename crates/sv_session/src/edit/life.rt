@@ -39,7 +39,9 @@ impl SessionEdit {
         ensures answer { Answers self.old (interval_result self.old seconds) result self.new }
         ensures takes_no_memory { result ≢ Err Memory }
     {
-        let session = self.holding.held_mut().ok_or(SessionFault::NoSession)?;
+        let Some(session) = self.holding.held_mut() else {
+            return Err(SessionFault::NoSession);
+        };
         session.interval = seconds;
         Ok(())
     }
@@ -49,7 +51,9 @@ impl SessionEdit {
     pub fn invalidate(&mut self) -> Result<(), SessionFault>
         ensures { Answers self.old (invalidate_result self.old) result self.new }
     {
-        let (key, _) = self.holding.held().ok_or(SessionFault::NoSession)?;
+        let Some((key, _)) = self.holding.held() else {
+            return Err(SessionFault::NoSession);
+        };
         self.tell(Event::Destroyed(key))?;
         match self.holding.birth {
             Birth::Alive(_) => self.holding.birth = Birth::Ended,
