@@ -142,7 +142,7 @@ impl SessionEdit {
         };
         let event = put(alloc, key, session, name, value)?;
         let context = self.context;
-        self.events.push(Told { context, event }).unwrap();
+        self.events.push_reserved(Told { context, event });
         Ok(())
     }
 
@@ -185,7 +185,7 @@ impl SessionEdit {
                 name: told,
                 old,
             };
-            self.events.push(Told { context, event }).unwrap();
+            self.events.push_reserved(Told { context, event });
         }
         Ok(())
     }
