@@ -6,8 +6,8 @@ ghost use Rattle.toml.specs.View.{table_view};
 ghost use Rattle.sv_config.specs.Document.{table_at, text_at};
 ghost use Rattle.sv_config.specs.Values as spec;
 
-use crate::deployment::Cluster;
 use crate::columns::integers_at;
+use crate::deployment::Cluster;
 use crate::document::{boolean_at, integer_at, table_at, text_at};
 use crate::limits::{MAX_KEYS, is_outside};
 use std::alloc::{AllocError, Global};
