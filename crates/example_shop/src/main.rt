@@ -34,6 +34,8 @@ fn main(rt: HostRuntime) -> ExitCode {
         node,
     };
     let shop = Application::new(alloc)
+        .filter("guard", Guard { node })
+        .listener("orders", Orders::new())
         .servlet("catalogue", Catalogue { store })
         .servlet("cart", Basket { store })
         .servlet("login", Login)
@@ -41,8 +43,6 @@ fn main(rt: HostRuntime) -> ExitCode {
         .servlet("checkout", Checkout { store })
         .servlet("style", LOOK)
         .servlet("icon", MARK)
-        .servlet("error", ErrorPage { store })
-        .filter("guard", Guard { node })
-        .listener("orders", Orders::new());
+        .servlet("error", ErrorPage { store });
     launch(&rt, "example_shop", &shop)
 }

@@ -2,7 +2,6 @@
 
 ghost use Rattle.std.specs.Prelude.{◌≡◌, IfOk, None, Some};
 ghost use Rattle.sv_container.specs.Life.{AreNamedNew};
-ghost use Rattle.sv_launch.specs.Objects.{or_else};
 ghost use Rattle.sv_web.specs.Work.{serving, surrounding};
 
 use crate::fault::Fault;
@@ -34,7 +33,6 @@ pub trait Applications {
 /// An application: its servlets, its filters and its listeners, each by the name that a descriptor gives it.
 ///
 /// It begins with no name, and each call adds one. A name that is there already is the new object's from then on.
-#[derive(Clone, Copy)]
 pub struct Application<'a, S, F, L> {
     pub alloc: Global,
     /// The descriptor that is built in, where there is one.
@@ -72,9 +70,7 @@ impl<'a, S, F, L> Application<'a, S, F, L> {
             ..self
         }
     }
-}
 
-impl<'a, S: ServletTable, F, L> Application<'a, S, F, L> {
     /// The application with a servlet.
     pub fn servlet<T: HttpServlet + Copy>(
         self,
@@ -82,8 +78,9 @@ impl<'a, S: ServletTable, F, L> Application<'a, S, F, L> {
         servlet: T,
     ) -> Application<'a, With<'a, Web<T>, S>, F, L>
         ensures built_in { result.built_in ≡ self.entry.built_in }
-        ensures servlets { ⟦<With<'a, Web<T>, S> as ServletTable>⟧.servlets result.servlets
-            ≡ or_else name.now (serving (T.work servlet)) (S.servlets self.entry.servlets) }
+        ensures named { result.servlets.name.now ≡ name.now }
+        ensures servlet { ⟦<Web<T> as Answers>⟧.answers result.servlets.object ≡ serving (T.work servlet) }
+        ensures others { result.servlets.rest ≡ self.entry.servlets }
         ensures filters { result.filters ≡ self.entry.filters }
         ensures listeners { result.listeners ≡ self.entry.listeners }
     {
@@ -98,7 +95,9 @@ impl<'a, S: ServletTable, F, L> Application<'a, S, F, L> {
         object: T,
     ) -> Application<'a, With<'a, T, S>, F, L>
         ensures built_in { result.built_in ≡ self.entry.built_in }
-        ensures servlets { ⟦<With<'a, T, S> as ServletTable>⟧.servlets result.servlets ≡ or_else name.now (T.answers object) (S.servlets self.entry.servlets) }
+        ensures named { result.servlets.name.now ≡ name.now }
+        ensures object { result.servlets.object ≡ object }
+        ensures others { result.servlets.rest ≡ self.entry.servlets }
         ensures filters { result.filters ≡ self.entry.filters }
         ensures listeners { result.listeners ≡ self.entry.listeners }
     {
@@ -114,9 +113,7 @@ impl<'a, S: ServletTable, F, L> Application<'a, S, F, L> {
             listeners: self.listeners,
         }
     }
-}
 
-impl<'a, S, F: FilterTable, L> Application<'a, S, F, L> {
     /// The application with a filter.
     pub fn filter<T: HttpFilter + Copy>(
         self,
@@ -125,8 +122,9 @@ impl<'a, S, F: FilterTable, L> Application<'a, S, F, L> {
     ) -> Application<'a, S, With<'a, Web<T>, F>, L>
         ensures built_in { result.built_in ≡ self.entry.built_in }
         ensures servlets { result.servlets ≡ self.entry.servlets }
-        ensures filters { ⟦<With<'a, Web<T>, F> as FilterTable>⟧.filters result.filters
-            ≡ or_else name.now (surrounding (T.work filter)) (F.filters self.entry.filters) }
+        ensures named { result.filters.name.now ≡ name.now }
+        ensures filter { ⟦<Web<T> as Surrounds>⟧.surrounds result.filters.object ≡ surrounding (T.work filter) }
+        ensures others { result.filters.rest ≡ self.entry.filters }
         ensures listeners { result.listeners ≡ self.entry.listeners }
     {
         let alloc = self.alloc;
@@ -141,7 +139,9 @@ impl<'a, S, F: FilterTable, L> Application<'a, S, F, L> {
     ) -> Application<'a, S, With<'a, T, F>, L>
         ensures built_in { result.built_in ≡ self.entry.built_in }
         ensures servlets { result.servlets ≡ self.entry.servlets }
-        ensures filters { ⟦<With<'a, T, F> as FilterTable>⟧.filters result.filters ≡ or_else name.now (T.surrounds object) (F.filters self.entry.filters) }
+        ensures named { result.filters.name.now ≡ name.now }
+        ensures object { result.filters.object ≡ object }
+        ensures others { result.filters.rest ≡ self.entry.filters }
         ensures listeners { result.listeners ≡ self.entry.listeners }
     {
         Application {
@@ -156,9 +156,7 @@ impl<'a, S, F: FilterTable, L> Application<'a, S, F, L> {
             listeners: self.listeners,
         }
     }
-}
 
-impl<'a, S, F, L: ListenerTable> Application<'a, S, F, L> {
     /// The application with a listener.
     pub fn listener<T: Listener + Copy>(
         self,
@@ -168,8 +166,9 @@ impl<'a, S, F, L: ListenerTable> Application<'a, S, F, L> {
         ensures built_in { result.built_in ≡ self.entry.built_in }
         ensures servlets { result.servlets ≡ self.entry.servlets }
         ensures filters { result.filters ≡ self.entry.filters }
-        ensures listeners { ⟦<With<'a, T, L> as ListenerTable>⟧.listeners result.listeners
-            ≡ or_else name.now (T.hears object) (L.listeners self.entry.listeners) }
+        ensures named { result.listeners.name.now ≡ name.now }
+        ensures object { result.listeners.object ≡ object }
+        ensures others { result.listeners.rest ≡ self.entry.listeners }
     {
         Application {
             alloc: self.alloc,
