@@ -4,7 +4,6 @@ ghost use Rattle.sv_model.specs.Keys.{IsKey};
 ghost use Rattle.sv_record.specs.Frame.{IsFrame};
 
 use crate::fault::Fault;
-use crate::machine::Machine;
 use sv_client::{Address, command};
 use sv_model::Key;
 use sv_record::Frame;
@@ -35,7 +34,7 @@ pub fn told(answer: u8) -> &'static str {
 }
 
 /// Gives a command to the node at an address; its answer.
-fn give<M: Machine>(machine: &M, address: Address, frame: &Frame) -> Result<u8, Fault>
+fn give(machine: &HostRuntime, address: Address, frame: &Frame) -> Result<u8, Fault>
     requires { IsFrame frame.now }
 {
     match command(machine, address, frame) {
@@ -45,8 +44,8 @@ fn give<M: Machine>(machine: &M, address: Address, frame: &Frame) -> Result<u8, 
 }
 
 /// Has the node at an address hand a session over to another; its answer.
-pub fn hand_over<M: Machine>(
-    machine: &M,
+pub fn hand_over(
+    machine: &HostRuntime,
     address: Address,
     key: Key,
     to: NodeNumber,
@@ -57,11 +56,11 @@ pub fn hand_over<M: Machine>(
 }
 
 /// Has the node at an address do what is due; its answer.
-pub fn tick<M: Machine>(machine: &M, address: Address) -> Result<u8, Fault> {
+pub fn tick(machine: &HostRuntime, address: Address) -> Result<u8, Fault> {
     give(machine, address, &Frame::Tick)
 }
 
 /// Halts the node at an address; its answer.
-pub fn halt<M: Machine>(machine: &M, address: Address) -> Result<u8, Fault> {
+pub fn halt(machine: &HostRuntime, address: Address) -> Result<u8, Fault> {
     give(machine, address, &Frame::Halt)
 }

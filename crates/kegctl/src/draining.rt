@@ -11,7 +11,6 @@ use crate::commands::{PATIENCE, halt, hand_over, tick, told};
 use crate::fault::Fault;
 use crate::journal::kept;
 use crate::limit::Limit;
-use crate::machine::Machine;
 use crate::route::{Moved, Route, route_of};
 use crate::words::Drain;
 use std::thread;
@@ -26,7 +25,7 @@ use sv_script::NodeNumber;
 const PAUSE: u64 = 250;
 
 /// Says why a session stays.
-fn say_stays<M: Machine>(machine: &M, key: Key, answer: u8) -> Result<(), Fault> {
+fn say_stays(machine: &HostRuntime, key: Key, answer: u8) -> Result<(), Fault> {
     let text = key_text(machine.alloc(), key)?;
     let why = told(answer);
     match println!(machine; "{text} stays: {why}") {
@@ -37,7 +36,7 @@ fn say_stays<M: Machine>(machine: &M, key: Key, answer: u8) -> Result<(), Fault>
 
 /// Whether a session was handed over, by the answer of its node. One that has gone or ended meanwhile is none of ours any more; of one
 /// that stays it is said why.
-fn is_moved<M: Machine>(machine: &M, key: Key, answer: u8) -> Result<bool, Fault> {
+fn is_moved(machine: &HostRuntime, key: Key, answer: u8) -> Result<bool, Fault> {
     match answer {
         0 => Ok(true),
         1 | 2 => Ok(false),
@@ -49,8 +48,8 @@ fn is_moved<M: Machine>(machine: &M, key: Key, answer: u8) -> Result<bool, Fault
 }
 
 /// Hands one session over to the node at a place of the list; whether it was.
-fn move_to<M: Machine>(
-    machine: &M,
+fn move_to(
+    machine: &HostRuntime,
     address: Address,
     key: Key,
     to: NodeNumber,
@@ -75,7 +74,7 @@ fn next_taker(route: &Route) -> Option<(usize, NodeNumber)> {
 }
 
 /// Hands one session over to the next node; whether it was.
-fn move_one<M: Machine>(machine: &M, route: &mut Route, key: Key) -> Result<bool, Fault> {
+fn move_one(machine: &HostRuntime, route: &mut Route, key: Key) -> Result<bool, Fault> {
     let Some((at, to)) = next_taker(route) else {
         return Ok(false);
     };
@@ -108,8 +107,8 @@ fn movable(route: &Route, entry: &Record) -> Option<Moved> {
 }
 
 /// Hands over the session of a record of a snapshot, if it is active and wasn't called back.
-fn move_at<M: Machine>(
-    machine: &M,
+fn move_at(
+    machine: &HostRuntime,
     route: &mut Route,
     fresh: &mut Vec<Moved>,
     entry: &Record,
@@ -124,8 +123,8 @@ fn move_at<M: Machine>(
 }
 
 /// Hands over what is active by a snapshot, for as long as there is time. What is moved is added to `fresh`.
-fn move_each<M: Machine>(
-    machine: &M,
+fn move_each(
+    machine: &HostRuntime,
     route: &mut Route,
     fresh: &mut Vec<Moved>,
     kept: &[Record],
@@ -156,7 +155,7 @@ fn keep_in_mind(known: &mut Vec<Moved>, fresh: &[Moved]) -> Result<(), Fault> {
 }
 
 /// Hands over what is active by a snapshot, for as long as there is time, and keeps in mind what was moved.
-fn move_all<M: Machine>(machine: &M, route: &mut Route, kept: &[Record]) -> Result<(), Fault> {
+fn move_all(machine: &HostRuntime, route: &mut Route, kept: &[Record]) -> Result<(), Fault> {
     let mut fresh = Vec::new(machine.alloc());
     match move_each(machine, route, &mut fresh, kept) {
         Ok(()) => keep_in_mind(&mut route.moved, &fresh),
@@ -165,7 +164,7 @@ fn move_all<M: Machine>(machine: &M, route: &mut Route, kept: &[Record]) -> Resu
 }
 
 /// Has the node send again what was lost on its way, and gives that time to arrive.
-fn wait<M: Machine>(machine: &M, route: &Route) -> Result<(), Fault> {
+fn wait(machine: &HostRuntime, route: &Route) -> Result<(), Fault> {
     tick(machine, route.address(machine))?;
     thread::sleep(machine, Duration::from_millis(PAUSE));
     Ok(())
@@ -173,8 +172,8 @@ fn wait<M: Machine>(machine: &M, route: &Route) -> Result<(), Fault> {
 
 /// Moves what is active by a snapshot, and waits behind the first time. A node that doesn't answer before the time is over is
 /// none that doesn't answer.
-fn go_on<M: Machine>(
-    machine: &M,
+fn go_on(
+    machine: &HostRuntime,
     route: &mut Route,
     kept: &[Record],
     is_first: bool,
@@ -190,14 +189,14 @@ fn go_on<M: Machine>(
 }
 
 /// Nothing is left by a snapshot, or the time is over.
-fn is_over<M: Machine>(machine: &M, limit: Limit, kept: &[Record]) -> Result<bool, Fault> {
+fn is_over(machine: &HostRuntime, limit: Limit, kept: &[Record]) -> Result<bool, Fault> {
     let left = left_in(machine.alloc(), kept)?;
     Ok(left.is_nothing() || limit.is_over(machine))
 }
 
 /// Whether the drain is over by a snapshot; else what is active is moved.
-fn look_at<M: Machine>(
-    machine: &M,
+fn look_at(
+    machine: &HostRuntime,
     route: &mut Route,
     kept: &[Record],
     is_first: bool,
@@ -212,8 +211,8 @@ fn look_at<M: Machine>(
 }
 
 /// The same by what was read of a node's journal, which is given back if the drain is over.
-fn look_through<M: Machine>(
-    machine: &M,
+fn look_through(
+    machine: &HostRuntime,
     route: &mut Route,
     found: Replayed,
     is_first: bool,
@@ -226,8 +225,8 @@ fn look_through<M: Machine>(
 }
 
 /// The same by a node's journal.
-fn look<M: Machine>(
-    machine: &M,
+fn look(
+    machine: &HostRuntime,
     route: &mut Route,
     journal: &str,
     is_first: bool,
@@ -239,7 +238,7 @@ fn look<M: Machine>(
 }
 
 /// Moves what is active at a node, until nothing is left, or the time is over; what the node keeps then.
-fn empty<M: Machine>(machine: &M, route: &mut Route, journal: &str) -> Result<Replayed, Fault> {
+fn empty(machine: &HostRuntime, route: &mut Route, journal: &str) -> Result<Replayed, Fault> {
     let mut is_first = true;
     for _ in 0..u64::MAX {
         if let Some(found) = look(machine, route, journal, is_first)? {
@@ -251,7 +250,7 @@ fn empty<M: Machine>(machine: &M, route: &mut Route, journal: &str) -> Result<Re
 }
 
 /// Says how many sessions went to a node.
-fn say_count<M: Machine>(machine: &M, to: NodeNumber, count: u64) -> Result<(), Fault> {
+fn say_count(machine: &HostRuntime, to: NodeNumber, count: u64) -> Result<(), Fault> {
     match println!(machine; "node {}: {count} sessions", to.value) {
         Ok(()) => Ok(()),
         Err(_) => Err(Fault::Output),
@@ -259,7 +258,7 @@ fn say_count<M: Machine>(machine: &M, to: NodeNumber, count: u64) -> Result<(), 
 }
 
 /// Says how many sessions went where.
-fn say_moved<M: Machine>(machine: &M, route: &Route) -> Result<(), Fault> {
+fn say_moved(machine: &HostRuntime, route: &Route) -> Result<(), Fault> {
     for (to, count) in route.to.iter().zip(&route.counts) {
         say_count(machine, *to, *count)?;
     }
@@ -267,7 +266,7 @@ fn say_moved<M: Machine>(machine: &M, route: &Route) -> Result<(), Fault> {
 }
 
 /// Says what is left of a drain, which isn't done then.
-fn say_left<M: Machine>(machine: &M, left: Left) -> Fault {
+fn say_left(machine: &HostRuntime, left: Left) -> Fault {
     match println!(machine;
         "{} sessions stay, and {} are not acknowledged",
         left.active, left.sent
@@ -278,14 +277,14 @@ fn say_left<M: Machine>(machine: &M, left: Left) -> Fault {
 }
 
 /// Halts the node at a port.
-fn halt_at<M: Machine>(machine: &M, port: u16) -> Result<(), Fault> {
+fn halt_at(machine: &HostRuntime, port: u16) -> Result<(), Fault> {
     let patience = PATIENCE;
     halt(machine, Address { port, patience })?;
     Ok(())
 }
 
 /// Ends a drain by what the node keeps: says what is left by that, or halts the node if nothing is, and if that was asked for.
-fn end<M: Machine>(machine: &M, port: u16, kept: &[Record], halts: bool) -> Result<(), Fault>
+fn end(machine: &HostRuntime, port: u16, kept: &[Record], halts: bool) -> Result<(), Fault>
     ensures done { OnOk result (left_of kept.now ≡ (0, 0)) }
 {
     let left = left_in(machine.alloc(), kept)?;
@@ -299,7 +298,7 @@ fn end<M: Machine>(machine: &M, port: u16, kept: &[Record], halts: bool) -> Resu
 }
 
 /// Moves what is active at a node, and says how much went where; what the node keeps then.
-fn emptied<M: Machine>(machine: &M, route: &mut Route, journal: &str) -> Result<Replayed, Fault> {
+fn emptied(machine: &HostRuntime, route: &mut Route, journal: &str) -> Result<Replayed, Fault> {
     match empty(machine, route, journal) {
         Ok(found) => match say_moved(machine, route) {
             Ok(()) => Ok(found),
@@ -310,7 +309,7 @@ fn emptied<M: Machine>(machine: &M, route: &mut Route, journal: &str) -> Result<
 }
 
 /// Moves what is active at a node, warns if its keys get scarce, and ends the drain.
-fn take_out_by<M: Machine>(machine: &M, route: &mut Route, drain: Drain<'_>) -> Result<(), Fault> {
+fn take_out_by(machine: &HostRuntime, route: &mut Route, drain: Drain<'_>) -> Result<(), Fault> {
     match emptied(machine, route, drain.journal) {
         Ok(found) => {
             route.keys.warn(machine, &found.kept);
@@ -321,7 +320,7 @@ fn take_out_by<M: Machine>(machine: &M, route: &mut Route, drain: Drain<'_>) -> 
 }
 
 /// Takes a node out of use, and warns if its keys get scarce.
-pub fn take_out<M: Machine>(machine: &M, drain: Drain<'_>) -> Result<(), Fault> {
+pub fn take_out(machine: &HostRuntime, drain: Drain<'_>) -> Result<(), Fault> {
     match route_of(machine, drain) {
         Ok(mut route) => take_out_by(machine, &mut route, drain),
         Err(fault) => Err(fault),

@@ -1,7 +1,7 @@
 //! How long a drain takes.
 
 use crate::commands::PATIENCE;
-use crate::machine::Machine;
+use std::rt::Clock;
 use std::time::Duration;
 
 /// When a drain is to end, by the clock that nobody sets.
@@ -11,7 +11,7 @@ pub struct Limit {
 }
 
 /// What the clock that nobody sets shows; its end where it can't be read.
-pub fn clock<M: Machine>(machine: &M) -> Duration {
+pub fn clock(machine: &HostRuntime) -> Duration {
     match machine.monotonic() {
         Ok(now) => now,
         Err(_) => Duration::MAX,
@@ -20,18 +20,18 @@ pub fn clock<M: Machine>(machine: &M) -> Duration {
 
 impl Limit {
     /// So many seconds from now on.
-    pub fn new<M: Machine>(machine: &M, seconds: u64) -> Limit {
+    pub fn new(machine: &HostRuntime, seconds: u64) -> Limit {
         Limit {
             end: clock(machine).saturating_add(Duration::from_secs(seconds)),
         }
     }
 
-    pub fn is_over<M: Machine>(self, machine: &M) -> bool {
+    pub fn is_over(self, machine: &HostRuntime) -> bool {
         clock(machine) >= self.end
     }
 
     /// How long a node may take for a command, in seconds: a second longer than the drain at most.
-    pub fn patience<M: Machine>(self, machine: &M) -> u64 {
+    pub fn patience(self, machine: &HostRuntime) -> u64 {
         let left = self.end.saturating_sub(clock(machine)).as_secs();
         if left < PATIENCE { left + 1 } else { PATIENCE }
     }

@@ -11,7 +11,6 @@ mod fault;
 mod health;
 mod journal;
 mod limit;
-mod machine;
 mod offered;
 mod orders;
 mod program;

@@ -8,7 +8,6 @@ use crate::commands::{address, halt, hand_over, tick, told};
 use crate::draining::take_out;
 use crate::fault::{DescriptorFault, Fault};
 use crate::journal::{entries, kept, records};
-use crate::machine::Machine;
 use crate::program::ask_program;
 use crate::room::Keys;
 use crate::status::show_status;
@@ -28,7 +27,7 @@ use sv_model::{Key, Record};
 use sv_script::NodeNumber;
 
 /// A line on standard output.
-fn say<M: Machine>(machine: &M, text: &str) -> Result<(), Fault> {
+fn say(machine: &HostRuntime, text: &str) -> Result<(), Fault> {
     match println!(machine; "{text}") {
         Ok(()) => Ok(()),
         Err(_) => Err(Fault::Output),
@@ -36,7 +35,7 @@ fn say<M: Machine>(machine: &M, text: &str) -> Result<(), Fault> {
 }
 
 /// Says what is told of a descriptor.
-fn tell<M: Machine>(machine: &M, look: &Look) -> Result<(), Fault> {
+fn tell(machine: &HostRuntime, look: &Look) -> Result<(), Fault> {
     say(machine, look.text.as_str())?;
     match look.fault {
         None => Ok(()),
@@ -44,19 +43,19 @@ fn tell<M: Machine>(machine: &M, look: &Look) -> Result<(), Fault> {
     }
 }
 
-fn check_text<M: Machine>(machine: &M, text: &str) -> Result<(), Fault> {
+fn check_text(machine: &HostRuntime, text: &str) -> Result<(), Fault> {
     let look = look_at(machine.alloc(), text)?;
     tell(machine, &look)
 }
 
 /// Says what a descriptor has, or where it is at fault.
-fn check_config<M: Machine>(machine: &M, config: &str) -> Result<(), Fault> {
+fn check_config(machine: &HostRuntime, config: &str) -> Result<(), Fault> {
     let text = read_config(machine, config)?;
     check_text(machine, text.as_str())
 }
 
 /// What the descriptor at a path says of keys.
-fn keys_in<M: Machine>(machine: &M, config: &str) -> Result<Keys, Fault> {
+fn keys_in(machine: &HostRuntime, config: &str) -> Result<Keys, Fault> {
     match read_deployment(machine, config) {
         Ok(deployment) => Ok(Keys::of(&deployment.cluster)),
         Err(fault) => Err(fault),
@@ -64,7 +63,7 @@ fn keys_in<M: Machine>(machine: &M, config: &str) -> Result<Keys, Fault> {
 }
 
 /// The same, where a descriptor is named.
-fn keys_by<M: Machine>(machine: &M, config: Option<&str>) -> Result<Option<Keys>, Fault> {
+fn keys_by(machine: &HostRuntime, config: Option<&str>) -> Result<Option<Keys>, Fault> {
     match config {
         Some(config) => Ok(Some(keys_in(machine, config)?)),
         None => Ok(None),
@@ -72,7 +71,7 @@ fn keys_by<M: Machine>(machine: &M, config: Option<&str>) -> Result<Option<Keys>
 }
 
 /// Says what a descriptor has, whether a program would start with it, and whether a journal can be a node's.
-fn check<M: Machine>(machine: &M, order: Check<'_>) -> Result<(), Fault> {
+fn check(machine: &HostRuntime, order: Check<'_>) -> Result<(), Fault> {
     check_config(machine, order.config)?;
     if let Some(program) = order.program {
         ask_program(machine, program, order.config)?;
@@ -84,7 +83,7 @@ fn check<M: Machine>(machine: &M, order: Check<'_>) -> Result<(), Fault> {
 }
 
 /// Says which sessions are lost, where any are.
-fn say_lost<M: Machine>(machine: &M, lost: &str) -> Result<(), Fault> {
+fn say_lost(machine: &HostRuntime, lost: &str) -> Result<(), Fault> {
     if lost.is_empty() {
         return say(machine, "no session is lost");
     }
@@ -92,14 +91,14 @@ fn say_lost<M: Machine>(machine: &M, lost: &str) -> Result<(), Fault> {
     Err(Fault::Descriptor(DescriptorFault::Loses))
 }
 
-fn compare<M: Machine>(machine: &M, old: &Deployment, new: &Deployment) -> Result<(), Fault> {
+fn compare(machine: &HostRuntime, old: &Deployment, new: &Deployment) -> Result<(), Fault> {
     match losses(machine.alloc(), old, new) {
         Ok(lost) => say_lost(machine, lost.as_str()),
         Err(_) => Err(Fault::Memory),
     }
 }
 
-fn compare_with<M: Machine>(machine: &M, old: &Deployment, new: &str) -> Result<(), Fault> {
+fn compare_with(machine: &HostRuntime, old: &Deployment, new: &str) -> Result<(), Fault> {
     match read_deployment(machine, new) {
         Ok(new) => compare(machine, old, &new),
         Err(fault) => Err(fault),
@@ -107,7 +106,7 @@ fn compare_with<M: Machine>(machine: &M, old: &Deployment, new: &str) -> Result<
 }
 
 /// Says which sessions of a descriptor another one loses.
-fn compare_configs<M: Machine>(machine: &M, old: &str, new: &str) -> Result<(), Fault> {
+fn compare_configs(machine: &HostRuntime, old: &str, new: &str) -> Result<(), Fault> {
     match read_deployment(machine, old) {
         Ok(old) => compare_with(machine, &old, new),
         Err(fault) => Err(fault),
@@ -115,8 +114,8 @@ fn compare_configs<M: Machine>(machine: &M, old: &str, new: &str) -> Result<(), 
 }
 
 /// A line in the form that is asked for.
-fn text_of<M: Machine, L: Display + Serialize>(
-    machine: &M,
+fn text_of<L: Display + Serialize>(
+    machine: &HostRuntime,
     line: &L,
     form: Form,
 ) -> Result<String, Fault> {
@@ -131,8 +130,8 @@ fn text_of<M: Machine, L: Display + Serialize>(
 }
 
 /// What a snapshot has of a session.
-fn line_of<M: Machine>(
-    machine: &M,
+fn line_of(
+    machine: &HostRuntime,
     record: &Record,
     shown: Shown,
 ) -> Result<Option<SessionLine>, Fault> {
@@ -143,8 +142,8 @@ fn line_of<M: Machine>(
 }
 
 /// A line for a session, where a snapshot has one.
-fn show_session<M: Machine>(
-    machine: &M,
+fn show_session(
+    machine: &HostRuntime,
     record: &Record,
     shown: Shown,
     form: Form,
@@ -158,12 +157,7 @@ fn show_session<M: Machine>(
     }
 }
 
-fn show_all<M: Machine>(
-    machine: &M,
-    kept: &[Record],
-    shown: Shown,
-    form: Form,
-) -> Result<(), Fault> {
+fn show_all(machine: &HostRuntime, kept: &[Record], shown: Shown, form: Form) -> Result<(), Fault> {
     for record in kept {
         show_session(machine, record, shown, form)?;
     }
@@ -171,12 +165,7 @@ fn show_all<M: Machine>(
 }
 
 /// A line of how many keys a node knows that keeps this, and a warning if they get scarce.
-fn show_keys<M: Machine>(
-    machine: &M,
-    keys: Keys,
-    found: &Replayed,
-    form: Form,
-) -> Result<(), Fault> {
+fn show_keys(machine: &HostRuntime, keys: Keys, found: &Replayed, form: Form) -> Result<(), Fault> {
     match text_of(machine, &keys.line(found), form) {
         Ok(text) => say(machine, text.as_str())?,
         Err(fault) => return Err(fault),
@@ -186,8 +175,8 @@ fn show_keys<M: Machine>(
 }
 
 /// A line for each session of what a node keeps, and behind them one of its keys, where that is asked for.
-fn show_found<M: Machine>(
-    machine: &M,
+fn show_found(
+    machine: &HostRuntime,
     found: &Replayed,
     keys: Option<Keys>,
     shown: Shown,
@@ -200,8 +189,8 @@ fn show_found<M: Machine>(
     }
 }
 
-fn show_sessions<M: Machine>(
-    machine: &M,
+fn show_sessions(
+    machine: &HostRuntime,
     listing: Listing<'_>,
     shown: Shown,
     form: Form,
@@ -212,15 +201,15 @@ fn show_sessions<M: Machine>(
 }
 
 /// A line for a record, behind its place.
-fn show_record<M: Machine>(machine: &M, place: RecordPlace, record: &Record) -> Result<(), Fault> {
+fn show_record(machine: &HostRuntime, place: RecordPlace, record: &Record) -> Result<(), Fault> {
     match format!(in machine.alloc(); "{place} {}", ShownRecord(record)) {
         Ok(text) => say(machine, text.as_str()),
         Err(_) => Err(Fault::Memory),
     }
 }
 
-fn show_placed<M: Machine>(
-    machine: &M,
+fn show_placed(
+    machine: &HostRuntime,
     places: &[RecordPlace],
     records: &[Record],
 ) -> Result<(), Fault> {
@@ -233,7 +222,7 @@ fn show_placed<M: Machine>(
 }
 
 /// A line of how many keys are known by records.
-fn show_known<M: Machine>(machine: &M, keys: Keys, records: &[Record]) -> Result<(), Fault> {
+fn show_known(machine: &HostRuntime, keys: Keys, records: &[Record]) -> Result<(), Fault> {
     match replay(machine.alloc(), records) {
         Ok(found) => show_keys(machine, keys, &found, Form::Text),
         Err(fault) => Err(fault.into()),
@@ -241,8 +230,8 @@ fn show_known<M: Machine>(machine: &M, keys: Keys, records: &[Record]) -> Result
 }
 
 /// A line for each record, and behind them one of the keys, where that is asked for.
-fn show_entries<M: Machine>(
-    machine: &M,
+fn show_entries(
+    machine: &HostRuntime,
     entries: &[Vec<u8>],
     keys: Option<Keys>,
 ) -> Result<(), Fault> {
@@ -255,14 +244,14 @@ fn show_entries<M: Machine>(
     }
 }
 
-fn show_records<M: Machine>(machine: &M, listing: Listing<'_>) -> Result<(), Fault> {
+fn show_records(machine: &HostRuntime, listing: Listing<'_>) -> Result<(), Fault> {
     let keys = keys_by(machine, listing.keys)?;
     let entries = entries(machine, listing.journal)?;
     show_entries(machine, &entries, keys)
 }
 
 /// Says what a node's answer means.
-fn say_answer<M: Machine>(machine: &M, answer: u8) -> Result<(), Fault> {
+fn say_answer(machine: &HostRuntime, answer: u8) -> Result<(), Fault> {
     say(machine, told(answer))?;
     match answer {
         0 => Ok(()),
@@ -271,7 +260,7 @@ fn say_answer<M: Machine>(machine: &M, answer: u8) -> Result<(), Fault> {
 }
 
 /// The key of the session that a word names: the value of its cookie, or its `HOME.SERIAL`.
-fn key_of<M: Machine>(machine: &M, word: &str) -> Result<Key, Fault>
+fn key_of(machine: &HostRuntime, word: &str) -> Result<Key, Fault>
     ensures { IfOk result IsKey }
 {
     if let Some(key) = shown_key(word) {
@@ -285,8 +274,8 @@ fn key_of<M: Machine>(machine: &M, word: &str) -> Result<Key, Fault>
     }
 }
 
-fn move_session<M: Machine>(
-    machine: &M,
+fn move_session(
+    machine: &HostRuntime,
     port: u16,
     session: &str,
     to: NodeNumber,
@@ -295,16 +284,16 @@ fn move_session<M: Machine>(
     say_answer(machine, hand_over(machine, address(port), key, to)?)
 }
 
-fn tick_node<M: Machine>(machine: &M, port: u16) -> Result<(), Fault> {
+fn tick_node(machine: &HostRuntime, port: u16) -> Result<(), Fault> {
     say_answer(machine, tick(machine, address(port))?)
 }
 
-fn halt_node<M: Machine>(machine: &M, port: u16) -> Result<(), Fault> {
+fn halt_node(machine: &HostRuntime, port: u16) -> Result<(), Fault> {
     say_answer(machine, halt(machine, address(port))?)
 }
 
 /// Does what is asked for.
-pub fn carry_out<M: Machine>(machine: &M, order: Order<'_>) -> Result<(), Fault> {
+pub fn carry_out(machine: &HostRuntime, order: Order<'_>) -> Result<(), Fault> {
     match order {
         Order::Check(order) => check(machine, order),
         Order::Compare { old, new } => compare_configs(machine, old, new),

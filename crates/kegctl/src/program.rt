@@ -1,11 +1,10 @@
 //! Asks a node's program whether it would start with a descriptor: it alone knows which servlets, filters and listeners it has.
 
 use crate::fault::{DescriptorFault, Fault};
-use crate::machine::Machine;
 use std::alloc::Global;
 use std::io;
 use std::io::Write;
-use std::process::{Child, Command, OpenProcess, Output, Stdio};
+use std::process::{Child, Command, OpenProcess, Output, Processes, Stdio};
 
 /// No request that is served, so that no servlet is called; whoever answers it is a node.
 const NO_REQUEST: &[u8] = b"?\r\n\r\n";
@@ -22,7 +21,10 @@ fn command_of(alloc: Global, program: &str, config: &str) -> io::Result<Command>
     Ok(command)
 }
 
-fn start<M: Machine>(machine: &M, mut command: Command) -> io::Result<Child<M::Started>> {
+fn start(
+    machine: &HostRuntime,
+    mut command: Command,
+) -> io::Result<Child<<HostRuntime as Processes>::Started>> {
     command
         .stdin(Stdio::piped())
         .stdout(Stdio::piped())
@@ -38,14 +40,14 @@ fn hear<P: OpenProcess + Drop>(alloc: Global, mut child: Child<P>) -> io::Result
     child.wait_with_output(alloc)
 }
 
-fn asked<M: Machine>(machine: &M, program: &str, config: &str) -> io::Result<Output> {
+fn asked(machine: &HostRuntime, program: &str, config: &str) -> io::Result<Output> {
     let command = command_of(machine.alloc(), program, config)?;
     let child = start(machine, command)?;
     hear(machine.alloc(), child)
 }
 
 /// Says why the program refuses the descriptor, in its words.
-fn say_refusal<M: Machine>(machine: &M, said: &[u8]) -> Result<(), Fault> {
+fn say_refusal(machine: &HostRuntime, said: &[u8]) -> Result<(), Fault> {
     let Ok(text) = str::from_utf8(said) else {
         return Err(Fault::Program);
     };
@@ -56,7 +58,7 @@ fn say_refusal<M: Machine>(machine: &M, said: &[u8]) -> Result<(), Fault> {
 }
 
 /// Says what came of it.
-fn tell<M: Machine>(machine: &M, output: &Output) -> Result<(), Fault> {
+fn tell(machine: &HostRuntime, output: &Output) -> Result<(), Fault> {
     if output.stdout.starts_with(ANSWER) {
         return match println!(machine; "the program has all that it names") {
             Ok(()) => Ok(()),
@@ -70,7 +72,7 @@ fn tell<M: Machine>(machine: &M, output: &Output) -> Result<(), Fault> {
 }
 
 /// Says whether a node's program would start with the descriptor at a path.
-pub fn ask_program<M: Machine>(machine: &M, program: &str, config: &str) -> Result<(), Fault> {
+pub fn ask_program(machine: &HostRuntime, program: &str, config: &str) -> Result<(), Fault> {
     match asked(machine, program, config) {
         Ok(output) => tell(machine, &output),
         Err(_) => Err(Fault::Program),

@@ -1,7 +1,6 @@
 //! Says how full a node's table of keys is.
 
 use crate::fault::Fault;
-use crate::machine::Machine;
 use sv_config::Cluster;
 use sv_control::{KeysLine, Replayed, Room, known_in};
 use sv_model::{KEY_MOST, Record};
@@ -56,7 +55,7 @@ impl Keys {
     }
 
     /// Warns on standard error of a node that keeps this, if its keys get scarce.
-    pub fn warn<M: Machine>(self, machine: &M, kept: &[Record]) {
+    pub fn warn(self, machine: &HostRuntime, kept: &[Record]) {
         let room = self.room(kept);
         let remedy = self.remedy(kept);
         if room.is_full() {
@@ -69,7 +68,7 @@ impl Keys {
     }
 
     /// Says how many keys a node knows that keeps this, and warns if they get scarce.
-    pub fn say<M: Machine>(self, machine: &M, kept: &[Record]) -> Result<(), Fault> {
+    pub fn say(self, machine: &HostRuntime, kept: &[Record]) -> Result<(), Fault> {
         let room = self.room(kept);
         if println!(machine; "{room}").is_err() {
             return Err(Fault::Output);

@@ -3,7 +3,6 @@
 use crate::cluster::{port_of, read_cluster, takers};
 use crate::fault::Fault;
 use crate::limit::Limit;
-use crate::machine::Machine;
 use crate::room::Keys;
 use crate::words::Drain;
 use std::alloc::Global;
@@ -33,7 +32,7 @@ pub struct Route {
 
 impl Route {
     /// Where the node is called.
-    pub fn address<M: Machine>(&self, machine: &M) -> Address {
+    pub fn address(&self, machine: &HostRuntime) -> Address {
         Address {
             port: self.port,
             patience: self.limit.patience(machine),
@@ -98,7 +97,7 @@ fn route_in(
 }
 
 /// The same, of the cluster that the descriptor has.
-pub fn route_of<M: Machine>(machine: &M, drain: Drain<'_>) -> Result<Route, Fault> {
+pub fn route_of(machine: &HostRuntime, drain: Drain<'_>) -> Result<Route, Fault> {
     let limit = Limit::new(machine, drain.seconds);
     let cluster = read_cluster(machine, drain.config)?;
     route_in(machine.alloc(), &cluster, drain, limit)

@@ -5,11 +5,10 @@ use crate::commands::{address, tick};
 use crate::fault::Fault;
 use crate::health::Health;
 use crate::limit::clock;
-use crate::machine::Machine;
 use std::net::{Ipv4Addr, SocketAddr, TcpStream};
 
 /// How a node is whose port gave no answer, by another connection to it.
-fn silence_of<M: Machine>(machine: &M, port: u16) -> Health {
+fn silence_of(machine: &HostRuntime, port: u16) -> Health {
     match TcpStream::connect(machine, SocketAddr::from((Ipv4Addr::LOCALHOST, port))) {
         Ok(_) => Health::Silent,
         Err(refused) => Health::Unreached(refused),
@@ -17,7 +16,7 @@ fn silence_of<M: Machine>(machine: &M, port: u16) -> Health {
 }
 
 /// How a node is; it is asked to do what is due, which it would do by itself.
-fn health_of<M: Machine>(machine: &M, port: u16) -> Health {
+fn health_of(machine: &HostRuntime, port: u16) -> Health {
     let begun = clock(machine);
     match tick(machine, address(port)) {
         Ok(0) => Health::Well(clock(machine).saturating_sub(begun)),
@@ -27,7 +26,7 @@ fn health_of<M: Machine>(machine: &M, port: u16) -> Health {
 }
 
 /// Says how a node is; whether all is well with it.
-fn show_node<M: Machine>(machine: &M, node: usize, port: u16) -> Result<bool, Fault> {
+fn show_node(machine: &HostRuntime, node: usize, port: u16) -> Result<bool, Fault> {
     let health = health_of(machine, port);
     match println!(machine; "node {node}, port {port}: {health}") {
         Ok(()) => Ok(health.is_well()),
@@ -35,7 +34,7 @@ fn show_node<M: Machine>(machine: &M, node: usize, port: u16) -> Result<bool, Fa
     }
 }
 
-fn show_nodes<M: Machine>(machine: &M, ports: &[u16]) -> Result<(), Fault> {
+fn show_nodes(machine: &HostRuntime, ports: &[u16]) -> Result<(), Fault> {
     let mut is_well = true;
     for (node, port) in ports.iter().enumerate() {
         is_well = show_node(machine, node, *port)? && is_well;
@@ -44,7 +43,7 @@ fn show_nodes<M: Machine>(machine: &M, ports: &[u16]) -> Result<(), Fault> {
 }
 
 /// Says which nodes of a cluster answer, and how long that took.
-pub fn show_status<M: Machine>(machine: &M, config: &str) -> Result<(), Fault> {
+pub fn show_status(machine: &HostRuntime, config: &str) -> Result<(), Fault> {
     let cluster = read_cluster(machine, config)?;
     show_nodes(machine, &cluster.ports)
 }

@@ -4,14 +4,13 @@
 use crate::cluster::read_cluster;
 use crate::commands::halt;
 use crate::fault::Fault;
-use crate::machine::Machine;
 use sv_client::Address;
 
 /// How long a node may take for it, in seconds: it answers at once, or hangs.
 const PATIENCE: u64 = 2;
 
 /// What came of a node that was told to halt.
-fn state_of<M: Machine>(machine: &M, port: u16) -> &'static str {
+fn state_of(machine: &HostRuntime, port: u16) -> &'static str {
     let address = Address {
         port,
         patience: PATIENCE,
@@ -24,7 +23,7 @@ fn state_of<M: Machine>(machine: &M, port: u16) -> &'static str {
 }
 
 /// Halts a node, and says so; whether it was halted.
-fn stop_node<M: Machine>(machine: &M, node: usize, port: u16) -> Result<bool, Fault> {
+fn stop_node(machine: &HostRuntime, node: usize, port: u16) -> Result<bool, Fault> {
     let state = state_of(machine, port);
     match println!(machine; "node {node}, port {port}: {state}") {
         Ok(()) => Ok(state == "halted"),
@@ -32,7 +31,7 @@ fn stop_node<M: Machine>(machine: &M, node: usize, port: u16) -> Result<bool, Fa
     }
 }
 
-fn stop_nodes<M: Machine>(machine: &M, ports: &[u16]) -> Result<(), Fault> {
+fn stop_nodes(machine: &HostRuntime, ports: &[u16]) -> Result<(), Fault> {
     let mut is_well = true;
     for (node, port) in ports.iter().enumerate() {
         is_well = stop_node(machine, node, *port)? && is_well;
@@ -41,7 +40,7 @@ fn stop_nodes<M: Machine>(machine: &M, ports: &[u16]) -> Result<(), Fault> {
 }
 
 /// Halts all nodes of the descriptor at a path.
-pub fn stop<M: Machine>(machine: &M, config: &str) -> Result<(), Fault> {
+pub fn stop(machine: &HostRuntime, config: &str) -> Result<(), Fault> {
     let cluster = read_cluster(machine, config)?;
     stop_nodes(machine, &cluster.ports)
 }

@@ -2,10 +2,9 @@
 
 use crate::cluster::read_cluster;
 use crate::fault::Fault;
-use crate::machine::Machine;
 use crate::words::Watch;
 use std::alloc::Global;
-use std::io::ErrorKind;
+use std::io::{ErrorKind, IsTerminal};
 use std::rt::Files;
 use std::time::{Duration, SystemTime, UNIX_EPOCH};
 use std::{fs, thread};
@@ -38,7 +37,7 @@ fn figures_of<R: Files + AllocGlobal>(
 }
 
 /// Reads each file once more.
-fn look<M: Machine>(machine: &M, columns: &mut [Column<'_>], nodes: usize) {
+fn look(machine: &HostRuntime, columns: &mut [Column<'_>], nodes: usize) {
     for column in columns {
         let found = figures_of(machine, column.path, nodes);
         column.look(found);
@@ -46,7 +45,7 @@ fn look<M: Machine>(machine: &M, columns: &mut [Column<'_>], nodes: usize) {
 }
 
 /// The time in seconds since 1970; the first where the clock can't be read.
-fn now<M: Machine>(machine: &M) -> u64 {
+fn now(machine: &HostRuntime) -> u64 {
     match SystemTime::now(machine) {
         Ok(now) => match now.duration_since(UNIX_EPOCH) {
             Ok(now) => now.as_secs(),
@@ -57,11 +56,7 @@ fn now<M: Machine>(machine: &M) -> u64 {
 }
 
 /// The text of a table as it is written.
-fn text_of<M: Machine>(
-    machine: &M,
-    columns: &[Column<'_>],
-    medium: Medium,
-) -> Result<String, Fault> {
+fn text_of(machine: &HostRuntime, columns: &[Column<'_>], medium: Medium) -> Result<String, Fault> {
     let table = table_of(machine.alloc(), columns, now(machine), medium)?;
     match medium {
         Medium::Plain => Ok(table),
@@ -69,7 +64,7 @@ fn text_of<M: Machine>(
     }
 }
 
-fn draw<M: Machine>(machine: &M, columns: &[Column<'_>], medium: Medium) -> Result<(), Fault> {
+fn draw(machine: &HostRuntime, columns: &[Column<'_>], medium: Medium) -> Result<(), Fault> {
     let text = text_of(machine, columns, medium)?;
     match print!(machine; "{text}") {
         Ok(()) => Ok(()),
@@ -78,13 +73,13 @@ fn draw<M: Machine>(machine: &M, columns: &[Column<'_>], medium: Medium) -> Resu
 }
 
 /// Draws so many tables.
-fn draw_all<M: Machine>(
-    machine: &M,
+fn draw_all(
+    machine: &HostRuntime,
     columns: &mut [Column<'_>],
     nodes: usize,
     count: u64,
 ) -> Result<(), Fault> {
-    let medium = if machine.is_terminal() {
+    let medium = if machine.stdout().is_terminal() {
         Medium::Terminal
     } else {
         Medium::Plain
@@ -119,8 +114,8 @@ fn columns_of<'a>(alloc: Global, files: &[&'a str]) -> Result<Vec<Column<'a>>, F
 }
 
 /// Shows the figures of so many nodes in files, so many times.
-fn watch_files<M: Machine>(
-    machine: &M,
+fn watch_files(
+    machine: &HostRuntime,
     files: &[&str],
     nodes: usize,
     count: u64,
@@ -133,7 +128,7 @@ fn watch_files<M: Machine>(
 }
 
 /// How many nodes the descriptor at a path has.
-fn nodes_in<M: Machine>(machine: &M, config: &str) -> Result<usize, Fault> {
+fn nodes_in(machine: &HostRuntime, config: &str) -> Result<usize, Fault> {
     match read_cluster(machine, config) {
         Ok(cluster) => Ok(cluster.ports.len()),
         Err(fault) => Err(fault),
@@ -141,8 +136,12 @@ fn nodes_in<M: Machine>(machine: &M, config: &str) -> Result<usize, Fault> {
 }
 
 /// Shows figures of nodes: on a terminal without end, else once, where it isn't said how often.
-pub fn watch<M: Machine>(machine: &M, order: Watch<'_>) -> Result<(), Fault> {
-    let often = if machine.is_terminal() { u64::MAX } else { 1 };
+pub fn watch(machine: &HostRuntime, order: Watch<'_>) -> Result<(), Fault> {
+    let often = if machine.stdout().is_terminal() {
+        u64::MAX
+    } else {
+        1
+    };
     match nodes_in(machine, order.config) {
         Ok(nodes) => watch_files(machine, &order.files, nodes, order.count.unwrap_or(often)),
         Err(fault) => Err(fault),

@@ -2,7 +2,6 @@
 
 use crate::fault::Fault;
 use crate::journal::{entries, records};
-use crate::machine::Machine;
 use crate::room::Keys;
 use sv_control::{RecordPlace, ShownRecord, is_anothers, is_own, places_of, replay};
 use sv_model::Record;
@@ -24,8 +23,8 @@ struct Owner {
 }
 
 /// Says by which record the journal is another node's.
-fn say_not<M: Machine>(
-    machine: &M,
+fn say_not(
+    machine: &HostRuntime,
     node: NodeNumber,
     place: RecordPlace,
     record: &Record,
@@ -41,8 +40,8 @@ fn say_not<M: Machine>(
 }
 
 /// Looks for a record that no journal of the node has.
-fn look_for_anothers<M: Machine>(
-    machine: &M,
+fn look_for_anothers(
+    machine: &HostRuntime,
     node: NodeNumber,
     places: &[RecordPlace],
     records: &[Record],
@@ -66,7 +65,7 @@ fn has_own(node: NodeNumber, records: &[Record]) -> bool {
 }
 
 /// Says that the journal is the node's, or may be.
-fn say_may<M: Machine>(machine: &M, node: NodeNumber, records: &[Record]) -> Result<(), Fault> {
+fn say_may(machine: &HostRuntime, node: NodeNumber, records: &[Record]) -> Result<(), Fault> {
     let number = node.value;
     let said = if has_own(node, records) {
         println!(machine; "the journal is node {number}'s")
@@ -80,15 +79,15 @@ fn say_may<M: Machine>(machine: &M, node: NodeNumber, records: &[Record]) -> Res
 }
 
 /// Says how many keys are known by records.
-fn say_room<M: Machine>(machine: &M, keys: Keys, records: &[Record]) -> Result<(), Fault> {
+fn say_room(machine: &HostRuntime, keys: Keys, records: &[Record]) -> Result<(), Fault> {
     match replay(machine.alloc(), records) {
         Ok(found) => keys.say(machine, &found.kept),
         Err(fault) => Err(fault.into()),
     }
 }
 
-fn look_at<M: Machine>(
-    machine: &M,
+fn look_at(
+    machine: &HostRuntime,
     owner: Owner,
     entries: &[Vec<u8>],
     records: &[Record],
@@ -100,7 +99,7 @@ fn look_at<M: Machine>(
 }
 
 /// The same of payloads of a journal.
-fn look_through<M: Machine>(machine: &M, owner: Owner, entries: &[Vec<u8>]) -> Result<(), Fault> {
+fn look_through(machine: &HostRuntime, owner: Owner, entries: &[Vec<u8>]) -> Result<(), Fault> {
     match records(machine, entries) {
         Ok(records) => look_at(machine, owner, entries, &records),
         Err(fault) => Err(fault),
@@ -108,7 +107,7 @@ fn look_through<M: Machine>(machine: &M, owner: Owner, entries: &[Vec<u8>]) -> R
 }
 
 /// Says whether a journal can be a node's, by its records, and how many keys the node knows then.
-pub fn check_claim<M: Machine>(machine: &M, claim: Claim<'_>, keys: Keys) -> Result<(), Fault> {
+pub fn check_claim(machine: &HostRuntime, claim: Claim<'_>, keys: Keys) -> Result<(), Fault> {
     let node = claim.node;
     match entries(machine, claim.journal) {
         Ok(entries) => look_through(machine, Owner { node, keys }, &entries),

@@ -1,12 +1,11 @@
 //! The files that are read before the script runs.
 
 use crate::fault::Fault;
-use crate::machine::Machine;
 use std::fs;
 use sv_config::{Cluster, Deployment};
 
 /// The text of a file.
-pub fn read_text(machine: &impl Machine, path: &str) -> Result<String, Fault> {
+pub fn read_text(machine: &HostRuntime, path: &str) -> Result<String, Fault> {
     match fs::read_to_string(machine, path) {
         Ok(text) => Ok(text),
         Err(_) => Err(Fault::Script),
@@ -14,7 +13,7 @@ pub fn read_text(machine: &impl Machine, path: &str) -> Result<String, Fault> {
 }
 
 /// The cluster of the descriptor at a path; it has ports.
-pub fn read_cluster(machine: &impl Machine, path: &str) -> Result<Cluster, Fault> {
+pub fn read_cluster(machine: &HostRuntime, path: &str) -> Result<Cluster, Fault> {
     let text = read_text(machine, path)?;
     let deployment = Deployment::from_toml(machine.alloc(), text.as_str())?;
     let cluster = deployment.cluster;

@@ -7,7 +7,6 @@
 
 mod fault;
 mod files;
-mod machine;
 mod nodes;
 mod perform;
 mod process;
@@ -16,7 +15,6 @@ mod request;
 mod words;
 
 pub use fault::Fault;
-pub use machine::Machine;
 pub use perform::run_script;
 pub use reply::{Reply, read_reply};
 pub use request::write_request;

@@ -3,12 +3,10 @@
 ghost use Rattle.std.specs.Prelude.{◌<◌, IfSome, vec_len};
 
 use crate::fault::Fault;
-use crate::machine::Machine;
-use crate::process::{await_end, kill, start};
+use crate::process::{Process, await_end, kill, start};
 use crate::reply::read_reply;
 use crate::request::write_request;
 use crate::words::Words;
-use std::process::Child;
 use sv_client::{Address, Session, command, exchange};
 use sv_config::Cluster as Described;
 use sv_record::Frame;
@@ -19,18 +17,18 @@ const SLACK: u64 = 10;
 
 /// A node that runs.
 #[derive(Drop)]
-struct Running<M: Machine> {
+struct Running {
     node: NodeNumber,
-    process: Child<M::Started>,
+    process: Process,
 }
 
 /// The nodes that a script runs, and the session that it follows.
 #[derive(Drop)]
-pub struct Nodes<'a, M: Machine> {
-    machine: &'a M,
+pub struct Nodes<'a> {
+    machine: &'a HostRuntime,
     words: Words<'a>,
     described: Described,
-    running: Vec<Running<M>>,
+    running: Vec<Running>,
     session: Option<Session>,
 }
 
@@ -47,7 +45,7 @@ fn address_of(described: &Described, node: NodeNumber) -> Result<Address, Fault>
 
 /// Tells a node to halt.
 fn tell_to_halt(
-    machine: &impl Machine,
+    machine: &HostRuntime,
     described: &Described,
     node: NodeNumber,
 ) -> Result<(), Fault> {
@@ -57,9 +55,9 @@ fn tell_to_halt(
     }
 }
 
-impl<'a, M: Machine> Nodes<'a, M> {
+impl<'a> Nodes<'a> {
     /// The cluster that is described, of which no node runs yet.
-    pub fn new(machine: &'a M, words: Words<'a>, described: Described) -> Nodes<'a, M> {
+    pub fn new(machine: &'a HostRuntime, words: Words<'a>, described: Described) -> Nodes<'a> {
         Nodes {
             machine,
             words,

@@ -2,7 +2,6 @@
 
 use crate::fault::Fault;
 use crate::files::{read_cluster, read_text};
-use crate::machine::Machine;
 use crate::nodes::Nodes;
 use crate::words::Words;
 use std::alloc::{AllocError, Global};
@@ -42,19 +41,15 @@ fn printed(said: Result<Vec<u8>, AllocError>) -> Result<Vec<u8>, Fault> {
 }
 
 /// `start N`.
-fn start<M: Machine>(
-    alloc: Global,
-    nodes: &mut Nodes<'_, M>,
-    node: NodeNumber,
-) -> Result<Vec<u8>, Fault> {
+fn start(alloc: Global, nodes: &mut Nodes<'_>, node: NodeNumber) -> Result<Vec<u8>, Fault> {
     nodes.start(node)?;
     printed(text(alloc, "ready"))
 }
 
 /// `ask N PATH`.
-fn ask<M: Machine>(
+fn ask(
     alloc: Global,
-    nodes: &mut Nodes<'_, M>,
+    nodes: &mut Nodes<'_>,
     node: NodeNumber,
     path: &str,
 ) -> Result<Vec<u8>, Fault> {
@@ -63,9 +58,9 @@ fn ask<M: Machine>(
 }
 
 /// `move N TO`.
-fn hand_over<M: Machine>(
+fn hand_over(
     alloc: Global,
-    nodes: &Nodes<'_, M>,
+    nodes: &Nodes<'_>,
     node: NodeNumber,
     to: NodeNumber,
 ) -> Result<Vec<u8>, Fault> {
@@ -74,31 +69,19 @@ fn hand_over<M: Machine>(
 }
 
 /// `tick N`.
-fn tick<M: Machine>(
-    alloc: Global,
-    nodes: &Nodes<'_, M>,
-    node: NodeNumber,
-) -> Result<Vec<u8>, Fault> {
+fn tick(alloc: Global, nodes: &Nodes<'_>, node: NodeNumber) -> Result<Vec<u8>, Fault> {
     let byte = nodes.tick(node)?;
     printed(verdict(alloc, byte, "done"))
 }
 
 /// `halt N`.
-fn halt<M: Machine>(
-    alloc: Global,
-    nodes: &mut Nodes<'_, M>,
-    node: NodeNumber,
-) -> Result<Vec<u8>, Fault> {
+fn halt(alloc: Global, nodes: &mut Nodes<'_>, node: NodeNumber) -> Result<Vec<u8>, Fault> {
     nodes.halt(node)?;
     printed(text(alloc, "done"))
 }
 
 /// Does what a line asks for. What is to be printed of it is given.
-fn perform<M: Machine>(
-    alloc: Global,
-    nodes: &mut Nodes<'_, M>,
-    act: Act<'_>,
-) -> Result<Vec<u8>, Fault> {
+fn perform(alloc: Global, nodes: &mut Nodes<'_>, act: Act<'_>) -> Result<Vec<u8>, Fault> {
     match act {
         Act::Start(node) => start(alloc, nodes, node),
         Act::Ask { node, path } => ask(alloc, nodes, node, path),
@@ -118,7 +101,7 @@ fn report(alloc: Global, line: &str, said: &[u8]) -> Result<Vec<u8>, AllocError>
 }
 
 /// Prints a line of the script, and what came of it.
-fn print_report(machine: &impl Machine, line: &str, said: &[u8]) -> Result<(), Fault> {
+fn print_report(machine: &HostRuntime, line: &str, said: &[u8]) -> Result<(), Fault> {
     let report = printed(report(machine.alloc(), line, said))?;
     match io::writer(machine).write_all(report.as_slice()) {
         Ok(()) => Ok(()),
@@ -127,9 +110,9 @@ fn print_report(machine: &impl Machine, line: &str, said: &[u8]) -> Result<(), F
 }
 
 /// Runs the lines of a script in order, and prints each with what came of it, up to the first fault.
-fn run_lines<M: Machine>(
-    machine: &M,
-    nodes: &mut Nodes<'_, M>,
+fn run_lines(
+    machine: &HostRuntime,
+    nodes: &mut Nodes<'_>,
     lines: &[Line<'_>],
 ) -> Result<(), Fault> {
     for line in lines {
@@ -141,7 +124,7 @@ fn run_lines<M: Machine>(
 
 /// Runs these lines over a cluster. Nodes that still run behind the last line, or behind a fault, are halted.
 fn run_over(
-    machine: &impl Machine,
+    machine: &HostRuntime,
     words: Words<'_>,
     described: Cluster,
     lines: &[Line<'_>],
@@ -153,14 +136,14 @@ fn run_over(
 }
 
 /// What CONFIG describes, and the text of SCRIPT.
-fn read_files(machine: &impl Machine, words: Words<'_>) -> Result<(Cluster, String), Fault> {
+fn read_files(machine: &HostRuntime, words: Words<'_>) -> Result<(Cluster, String), Fault> {
     let described = read_cluster(machine, words.config)?;
     let text = read_text(machine, words.script)?;
     Ok((described, text))
 }
 
 /// Runs a script over the cluster of a descriptor.
-pub fn run_script(machine: &impl Machine, words: Words<'_>) -> Result<(), Fault> {
+pub fn run_script(machine: &HostRuntime, words: Words<'_>) -> Result<(), Fault> {
     let (described, text) = read_files(machine, words)?;
     let lines = read_script(machine.alloc(), text.as_str())?;
     run_over(machine, words, described, lines.as_slice())

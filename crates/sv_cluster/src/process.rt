@@ -1,13 +1,15 @@
 //! The processes of nodes.
 
 use crate::fault::Fault;
-use crate::machine::Machine;
 use crate::words::Words;
 use std::alloc::Global;
 use std::io;
 use std::io::{ErrorKind, Read};
-use std::process::{Child, Command, OpenProcess, Stdio};
+use std::process::{Child, Command, Processes, Stdio};
 use sv_script::NodeNumber;
+
+/// A node that was started.
+pub type Process = Child<<HostRuntime as Processes>::Started>;
 
 /// Adds words behind those of a command.
 fn add_words(command: &mut Command, words: &[&str]) -> io::Result<()> {
@@ -27,7 +29,7 @@ fn command_of(alloc: Global, program: &str, words: &[&str]) -> io::Result<Comman
 }
 
 /// Starts a command, with nothing to read; what it prints is heard.
-fn launch<M: Machine>(machine: &M, mut command: Command) -> io::Result<Child<M::Started>> {
+fn launch(machine: &HostRuntime, mut command: Command) -> io::Result<Process> {
     command
         .stdin(Stdio::null())
         .stdout(Stdio::piped())
@@ -35,11 +37,7 @@ fn launch<M: Machine>(machine: &M, mut command: Command) -> io::Result<Child<M::
 }
 
 /// Starts the program as a node.
-fn spawn<M: Machine>(
-    machine: &M,
-    words: Words<'_>,
-    node: NodeNumber,
-) -> io::Result<Child<M::Started>> {
+fn spawn(machine: &HostRuntime, words: Words<'_>, node: NodeNumber) -> io::Result<Process> {
     let alloc = machine.alloc();
     let number = node.value;
     let journal = format!(in alloc; "{}/j{number}", words.folder)?;
@@ -53,7 +51,7 @@ fn spawn<M: Machine>(
 }
 
 /// Waits for the line `ready` with the node's number.
-fn hear_ready<P: OpenProcess>(process: &mut Child<P>, node: NodeNumber) -> io::Result<()> {
+fn hear_ready(process: &mut Process, node: NodeNumber) -> io::Result<()> {
     let Some(output) = process.stdout.as_mut() else {
         return Err(ErrorKind::NotFound.into());
     };
@@ -67,17 +65,13 @@ fn hear_ready<P: OpenProcess>(process: &mut Child<P>, node: NodeNumber) -> io::R
 }
 
 /// Ends a process that goes on by itself.
-pub fn kill<P: OpenProcess>(process: &mut Child<P>) {
+pub fn kill(process: &mut Process) {
     let _ = process.kill();
     let _ = process.wait();
 }
 
 /// Starts a node, and waits until it is ready. Its standard output stays open as long as the answer is kept.
-pub fn start<M: Machine>(
-    machine: &M,
-    words: Words<'_>,
-    node: NodeNumber,
-) -> Result<Child<M::Started>, Fault> {
+pub fn start(machine: &HostRuntime, words: Words<'_>, node: NodeNumber) -> Result<Process, Fault> {
     let Ok(mut process) = spawn(machine, words, node) else {
         return Err(Fault::Process);
     };
@@ -89,7 +83,7 @@ pub fn start<M: Machine>(
 }
 
 /// Waits for the end of a node that was told to halt.
-pub fn await_end<P: OpenProcess>(process: &mut Child<P>) -> Result<(), Fault> {
+pub fn await_end(process: &mut Process) -> Result<(), Fault> {
     match process.wait() {
         Ok(status) if status.success() => Ok(()),
         _ => Err(Fault::Process),

@@ -33,6 +33,7 @@ pub trait Applications {
 /// An application: its servlets, its filters and its listeners, each by the name that a descriptor gives it.
 ///
 /// It begins with no name, and each call adds one. A name that is there already is the new object's from then on.
+#[derive(Clone, Copy)]
 pub struct Application<'a, S, F, L> {
     pub alloc: Global,
     /// The descriptor that is built in, where there is one.
