@@ -1,6 +1,6 @@
 //! How each test compares what it has found.
 
-use std::alloc::{AllocError, Global};
+use std::alloc::AllocError;
 use std::process::Abort;
 
 /// In the row of this name, what was found is what was wanted.
@@ -14,11 +14,4 @@ pub fn push_bytes(text: &mut String, bytes: &[u8]) -> Result<(), AllocError> {
         text.push(char::from(*byte))?;
     }
     Ok(())
-}
-
-/// A text with a character for each byte.
-pub fn text_of(alloc: Global, bytes: &[u8]) -> Result<String, AllocError> {
-    let mut text = String::new(alloc);
-    push_bytes(&mut text, bytes)?;
-    Ok(text)
 }

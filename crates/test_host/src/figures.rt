@@ -1,12 +1,12 @@
 //! What a node's figures say once it has stopped.
 
 use crate::files::{own_path, taken};
-use crate::town::{HALT, Town, live};
-use std::alloc::{AllocError, Global};
+use crate::fixtures::{add, push};
+use crate::town::{HALT, Town, host_of, live_anew};
+use std::alloc::Global;
 use std::net::TcpStream;
-use std::test::Fail;
-use sv_host::{Ended, Host};
-use sv_journal::MemoryDisk;
+use std::process::Abort;
+use sv_host::Host;
 use sv_log::Report;
 use sv_net::Persistence;
 
@@ -24,38 +24,35 @@ static WANTED: [&str; 5] = [
 ];
 
 /// Figures that are written to a file.
-fn figures_in(rt: &HostRuntime, path: &str) -> Result<Report, Fail> {
+fn figures_in(rt: &impl Abort, machine: &HostRuntime, path: &str) -> Report {
     let mut report = Report::none();
-    match report.count_to(rt.alloc(), rt, path, 0) {
-        Ok(()) => Ok(report),
-        Err(_) => Err("no figures".into()),
-    }
+    let counted = report.count_to(machine.alloc(), machine, path, 0);
+    counted.expect(rt, "figures");
+    report
 }
 
 /// All who ask, and one who has the node stop.
-fn callers(rt: &HostRuntime, town: &Town) -> Result<Vec<TcpStream>, Fail> {
-    let mut callers = Vec::new(rt.alloc());
+fn callers(rt: &impl Abort, machine: &HostRuntime, town: &Town) -> Vec<TcpStream> {
+    let mut callers = Vec::new(machine.alloc());
     for named in &ASKED {
-        callers.push(town.ask(rt, *named)?)?;
+        push(rt, &mut callers, town.ask(rt, machine, *named));
     }
-    callers.push(town.call(rt, HALT)?)?;
-    Ok(callers)
+    push(rt, &mut callers, town.call(rt, machine, HALT));
+    callers
 }
 
 /// The length of the journal of a node that has served all who have connected.
-fn journal_of(rt: &HostRuntime, host: Host) -> Result<usize, Fail> {
-    let (a, b) = (MemoryDisk::new(rt.alloc()), MemoryDisk::new(rt.alloc()));
-    let Ended { a, .. } = live(rt, host, a, b)?;
-    Ok(a.bytes().len())
+fn journal_of(rt: &impl Abort, machine: &HostRuntime, host: Host) -> usize {
+    live_anew(rt, machine, host).a.bytes().len()
 }
 
 /// The length of the journal of a node that has served them, whose figures are written to a file.
-fn served(rt: &HostRuntime, path: &str) -> Result<usize, Fail> {
-    let town = Town::new(rt)?;
-    let report = figures_in(rt, path)?;
-    let host = Host::at(rt, town.place(rt)?, Persistence::Single)?.reporting(report);
-    let _callers = callers(rt, &town)?;
-    journal_of(rt, host)
+fn served(rt: &impl Abort, machine: &HostRuntime, path: &str) -> usize {
+    let town = Town::new(rt, machine);
+    let report = figures_in(rt, machine, path);
+    let host = host_of(rt, machine, &town, Persistence::Single).reporting(report);
+    let _callers = callers(rt, machine, &town);
+    journal_of(rt, machine, host)
 }
 
 /// The text has this line.
@@ -63,31 +60,32 @@ fn has_line(text: &str, wanted: &str) -> bool {
     text.lines().any(|line| line == wanted)
 }
 
+/// Adds a line that a text hasn't got.
+fn push_if_missing(rt: &impl Abort, missing: &mut String, text: &str, wanted: &str) {
+    if !has_line(text, wanted) {
+        add(rt, missing, wanted);
+    }
+}
+
+/// The line of a journal of this length.
+fn journal_line(rt: &impl Abort, alloc: Global, bytes: usize) -> String {
+    format!(in alloc; "kegbramble_journal_bytes{{node=\"0\"}} {bytes}").expect(rt, "memory")
+}
+
 /// Adds the lines that a text hasn't got and should have, that of a journal of this length among them.
-fn push_missing(
-    alloc: Global,
-    missing: &mut String,
-    text: &str,
-    bytes: usize,
-) -> Result<(), AllocError> {
+fn push_missing(rt: &impl Abort, alloc: Global, missing: &mut String, text: &str, bytes: usize) {
     for wanted in &WANTED {
-        if !has_line(text, wanted) {
-            missing.push_str(wanted)?;
-        }
+        push_if_missing(rt, missing, text, wanted);
     }
-    let journal = format!(in alloc; "kegbramble_journal_bytes{{node=\"0\"}} {bytes}")?;
-    if !has_line(text, &journal) {
-        missing.push_str(&journal)?;
-    }
-    Ok(())
+    push_if_missing(rt, missing, text, &journal_line(rt, alloc, bytes));
 }
 
 /// What the figures of the end don't say, and should.
-pub fn missing(rt: &HostRuntime) -> Result<String, Fail> {
-    let path = own_path(rt, "figures")?;
-    let bytes = served(rt, &path)?;
-    let text = taken(rt, &path)?;
-    let mut missing = String::new(rt.alloc());
-    push_missing(rt.alloc(), &mut missing, &text, bytes)?;
-    Ok(missing)
+pub fn missing(rt: &impl Abort, machine: &HostRuntime) -> String {
+    let path = own_path(rt, machine, "figures");
+    let bytes = served(rt, machine, &path);
+    let text = taken(rt, machine, &path);
+    let mut missing = String::new(machine.alloc());
+    push_missing(rt, machine.alloc(), &mut missing, &text, bytes);
+    missing
 }

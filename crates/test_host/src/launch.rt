@@ -18,9 +18,8 @@ mod streams;
 mod words;
 
 use crate::expect::expect;
-use std::alloc::{AllocError, Global};
+use std::alloc::Global;
 use std::process::Abort;
-use std::test::Fail;
 use streams::{Input, Output, Way};
 use sv_launch::{Applications, Fault, Stream, deployment_in};
 use sv_showcase::showcase;
@@ -54,111 +53,109 @@ fn serve(
 }
 
 /// All that is written for a stream that is served by a descriptor, and the fault that ends it.
-fn answered(alloc: Global, descriptor: &str, way: Way, input: &str) -> Result<String, AllocError> {
+fn answered(rt: &impl Abort, alloc: Global, descriptor: &str, way: Way, input: &str) -> String {
     let mut reader = Input::new(input, way);
     let mut writer = Output::new(alloc, way);
     let end = serve(alloc, descriptor, &mut reader, &mut writer);
-    writer.ended(end)
+    writer.ended(rt, end)
 }
 
 /// Each stream of a table is answered as its row says.
-fn expect_table(rt: &(impl Abort + AllocGlobal), table: &Table) -> Result<(), Fail> {
+fn expect_table(rt: &(impl Abort + AllocGlobal), table: &Table) {
     for Row(name, input, output) in table.rows {
-        let text = answered(rt.alloc(), table.descriptor, table.way, input)?;
+        let text = answered(rt, rt.alloc(), table.descriptor, table.way, input);
         expect(rt, name, text.as_str(), output);
     }
-    Ok(())
 }
 
-fn expect_tables(rt: &(impl Abort + AllocGlobal), tables: &[Table]) -> Result<(), Fail> {
+fn expect_tables(rt: &(impl Abort + AllocGlobal), tables: &[Table]) {
     for table in tables {
-        expect_table(rt, table)?;
+        expect_table(rt, table);
     }
-    Ok(())
 }
 
 // Each lends few tables: a proof grows with the square of the text that a body lends.
 
-fn expect_built_in_paths(rt: &(impl Abort + AllocGlobal)) -> Result<(), Fail> {
-    expect_tables(rt, &mapping::BUILT)
+fn expect_built_in_paths(rt: &(impl Abort + AllocGlobal)) {
+    expect_tables(rt, &mapping::BUILT);
 }
 
-fn expect_paths(rt: &(impl Abort + AllocGlobal)) -> Result<(), Fail> {
-    expect_tables(rt, &mapping::WRITTEN)
+fn expect_paths(rt: &(impl Abort + AllocGlobal)) {
+    expect_tables(rt, &mapping::WRITTEN);
 }
 
-fn expect_dispatch(rt: &(impl Abort + AllocGlobal)) -> Result<(), Fail> {
-    expect_tables(rt, &dispatch::TABLES)
+fn expect_dispatch(rt: &(impl Abort + AllocGlobal)) {
+    expect_tables(rt, &dispatch::TABLES);
 }
 
-fn expect_includes(rt: &(impl Abort + AllocGlobal)) -> Result<(), Fail> {
-    expect_tables(rt, &nesting::INCLUDES)
+fn expect_includes(rt: &(impl Abort + AllocGlobal)) {
+    expect_tables(rt, &nesting::INCLUDES);
 }
 
-fn expect_forwards(rt: &(impl Abort + AllocGlobal)) -> Result<(), Fail> {
-    expect_tables(rt, &nesting::FORWARDS)
+fn expect_forwards(rt: &(impl Abort + AllocGlobal)) {
+    expect_tables(rt, &nesting::FORWARDS);
 }
 
-fn expect_both(rt: &(impl Abort + AllocGlobal)) -> Result<(), Fail> {
-    expect_tables(rt, &nesting::MIXED)
+fn expect_both(rt: &(impl Abort + AllocGlobal)) {
+    expect_tables(rt, &nesting::MIXED);
 }
 
-fn expect_pages(rt: &(impl Abort + AllocGlobal)) -> Result<(), Fail> {
-    expect_tables(rt, &nesting::PAGES)
+fn expect_pages(rt: &(impl Abort + AllocGlobal)) {
+    expect_tables(rt, &nesting::PAGES);
 }
 
-fn expect_filters(rt: &(impl Abort + AllocGlobal)) -> Result<(), Fail> {
-    expect_tables(rt, &nesting::FILTERED)
+fn expect_filters(rt: &(impl Abort + AllocGlobal)) {
+    expect_tables(rt, &nesting::FILTERED);
 }
 
-fn expect_messages(rt: &(impl Abort + AllocGlobal)) -> Result<(), Fail> {
-    expect_tables(rt, &messages::SERVED)
+fn expect_messages(rt: &(impl Abort + AllocGlobal)) {
+    expect_tables(rt, &messages::SERVED);
 }
 
-fn expect_refusals(rt: &(impl Abort + AllocGlobal)) -> Result<(), Fail> {
-    expect_tables(rt, &messages::REFUSED)
+fn expect_refusals(rt: &(impl Abort + AllocGlobal)) {
+    expect_tables(rt, &messages::REFUSED);
 }
 
-fn expect_named_sessions(rt: &(impl Abort + AllocGlobal)) -> Result<(), Fail> {
-    expect_tables(rt, &sessions::NAMED)
+fn expect_named_sessions(rt: &(impl Abort + AllocGlobal)) {
+    expect_tables(rt, &sessions::NAMED);
 }
 
-fn expect_given_sessions(rt: &(impl Abort + AllocGlobal)) -> Result<(), Fail> {
-    expect_tables(rt, &sessions::GIVEN)
+fn expect_given_sessions(rt: &(impl Abort + AllocGlobal)) {
+    expect_tables(rt, &sessions::GIVEN);
 }
 
-fn expect_renewing(rt: &(impl Abort + AllocGlobal)) -> Result<(), Fail> {
-    expect_tables(rt, &renewing::TABLES)
+fn expect_renewing(rt: &(impl Abort + AllocGlobal)) {
+    expect_tables(rt, &renewing::TABLES);
 }
 
-fn expect_streams(rt: &(impl Abort + AllocGlobal)) -> Result<(), Fail> {
-    expect_tables(rt, &streams::TABLES)
+fn expect_streams(rt: &(impl Abort + AllocGlobal)) {
+    expect_tables(rt, &streams::TABLES);
 }
 
-fn expect_dispatches(rt: &(impl Abort + AllocGlobal)) -> Result<(), Fail> {
-    expect_dispatch(rt)?;
-    expect_includes(rt)?;
-    expect_forwards(rt)?;
-    expect_both(rt)?;
-    expect_pages(rt)?;
-    expect_filters(rt)
+fn expect_dispatches(rt: &(impl Abort + AllocGlobal)) {
+    expect_dispatch(rt);
+    expect_includes(rt);
+    expect_forwards(rt);
+    expect_both(rt);
+    expect_pages(rt);
+    expect_filters(rt);
 }
 
-fn expect_sessions(rt: &(impl Abort + AllocGlobal)) -> Result<(), Fail> {
-    expect_named_sessions(rt)?;
-    expect_given_sessions(rt)?;
-    expect_renewing(rt)
+fn expect_sessions(rt: &(impl Abort + AllocGlobal)) {
+    expect_named_sessions(rt);
+    expect_given_sessions(rt);
+    expect_renewing(rt);
 }
 
 #[test]
-fn streams_are_answered(rt: HostRuntime) -> Result<(), Fail> {
-    expect_built_in_paths(&rt)?;
-    expect_paths(&rt)?;
-    expect_dispatches(&rt)?;
-    expect_messages(&rt)?;
-    expect_refusals(&rt)?;
-    expect_sessions(&rt)?;
-    expect_streams(&rt)?;
-    descriptors::expect_faults(&rt)?;
-    expiry::expect_rows(&rt)
+fn streams_are_answered(rt: HostRuntime) {
+    expect_built_in_paths(&rt);
+    expect_paths(&rt);
+    expect_dispatches(&rt);
+    expect_messages(&rt);
+    expect_refusals(&rt);
+    expect_sessions(&rt);
+    expect_streams(&rt);
+    descriptors::expect_faults(&rt);
+    expiry::expect_rows(&rt);
 }

@@ -20,6 +20,8 @@ mod figures;
 #[cfg(test)]
 mod files;
 #[cfg(test)]
+mod fixtures;
+#[cfg(test)]
 mod kept;
 #[cfg(test)]
 mod launch;

@@ -1,6 +1,8 @@
 //! Which of the packets of a tick are sent.
 
-use std::alloc::{AllocError, Global};
+use crate::fixtures::push;
+use std::alloc::Global;
+use std::process::Abort;
 use sv_host::Round;
 use sv_model::{Key, Output, Packet};
 
@@ -30,12 +32,12 @@ fn want(number: u64) -> Output {
 }
 
 /// The wants of the numbers from the first to the last.
-fn wants(alloc: Global, first: u64, last: u64) -> Result<Vec<Output>, AllocError> {
+fn wants(rt: &impl Abort, alloc: Global, first: u64, last: u64) -> Vec<Output> {
     let mut outputs = Vec::new(alloc);
     for number in first..=last {
-        outputs.push(want(number))?;
+        push(rt, &mut outputs, want(number));
     }
-    Ok(outputs)
+    outputs
 }
 
 /// The number of a want.
@@ -61,25 +63,20 @@ fn sent(round: &mut Round, outputs: &[Output]) -> (u64, u64) {
 }
 
 /// The same of the wants of the numbers from the first to the last.
-fn sent_of(
-    alloc: Global,
-    round: &mut Round,
-    first: u64,
-    last: u64,
-) -> Result<(u64, u64), AllocError> {
-    let outputs = wants(alloc, first, last)?;
-    Ok(sent(round, outputs.as_slice()))
+fn sent_of(rt: &impl Abort, alloc: Global, round: &mut Round, first: u64, last: u64) -> (u64, u64) {
+    let outputs = wants(rt, alloc, first, last);
+    sent(round, outputs.as_slice())
 }
 
 /// How many are sent, and their sum, tick by tick, where these aren't what they should be.
-pub fn told(alloc: Global) -> Result<String, AllocError> {
+pub fn told(rt: &impl Abort, alloc: Global) -> String {
     let mut text = String::new(alloc);
     let mut round = Round::START;
     for &(first, last, count, sum) in ROWS {
-        let found = sent_of(alloc, &mut round, first, last)?;
+        let found = sent_of(rt, alloc, &mut round, first, last);
         if found != (count, sum) {
-            write!(text, "{found:?} in the place of {count} and {sum}, ")?;
+            write!(text, "{found:?} in the place of {count} and {sum}, ").expect(rt, "memory");
         }
     }
-    Ok(text)
+    text
 }

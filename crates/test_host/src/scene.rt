@@ -1,15 +1,13 @@
 //! Callers of a node, and what each of them is told.
 
-use crate::expect::{expect, push_bytes};
-use crate::town::{Town, heard, host_of, serve_all};
+use crate::expect::expect;
+use crate::fixtures::{add, add_bytes, add_letter, push, repeated};
+use crate::town::{Town, heard, host_of, say, serve_all};
 use crate::{callers, kept, peers};
-use std::alloc::{AllocError, Global};
-use std::io;
-use std::io::Write;
+use std::alloc::Global;
 use std::net::{OpenStream, Shutdown, TcpStream};
 use std::process::Abort;
 use std::rt::Clock;
-use std::test::Fail;
 use std::time::Duration;
 use sv_host::Host;
 use sv_net::Persistence;
@@ -59,171 +57,179 @@ pub enum Said {
     Pieces,
 }
 
-/// A large request and one that is counted.
-fn say_large(mut writer: &TcpStream, body: &[u8]) -> io::Result<()> {
-    writer.write_all(LARGE)?;
-    writer.write_all(body)
+/// A large request and one that is counted, three times.
+fn say_pieces(rt: &impl Abort, machine: &HostRuntime, town: &Town) -> TcpStream {
+    let body = repeated(rt, machine.alloc(), b"x", 20_000);
+    let caller = town.call(rt, machine, b"");
+    for _ in 0..3 {
+        say(rt, &caller, LARGE);
+        say(rt, &caller, body.as_slice());
+        town.count(rt, &caller, &[[0, 1]]);
+    }
+    caller
 }
 
-/// Three times both.
-fn say_pieces(rt: &HostRuntime, town: &Town) -> Result<TcpStream, Fail> {
-    let body = b"x".repeat(rt.alloc(), 20_000)?;
-    let caller = town.call(rt, b"")?;
-    for _ in 0..3 {
-        say_large(&caller, body.as_slice())?;
-        town.count(&caller, &[[0, 1]])?;
-    }
-    Ok(caller)
+/// Has somebody say no more.
+fn end(rt: &impl Abort, caller: &TcpStream) {
+    caller
+        .shutdown(Shutdown::Write)
+        .expect(rt, "a connection to close");
 }
 
 /// A frame, behind which nothing is said.
-fn say_frame(rt: &HostRuntime, town: &Town, frame: &[u8]) -> io::Result<TcpStream> {
-    let caller = town.call(rt, frame)?;
-    caller.shutdown(Shutdown::Write)?;
-    Ok(caller)
+fn say_frame(rt: &impl Abort, machine: &HostRuntime, town: &Town, frame: &[u8]) -> TcpStream {
+    let caller = town.call(rt, machine, frame);
+    end(rt, &caller);
+    caller
 }
 
 /// Packets that change nothing, and one that brings a session.
-fn say_packets(rt: &HostRuntime, town: &Town, count: usize) -> Result<TcpStream, Fail> {
-    let caller = town.call(rt, NO.repeat(rt.alloc(), count)?.as_slice())?;
-    let mut writer = &caller;
-    writer.write_all(GRANT)?;
-    caller.shutdown(Shutdown::Write)?;
-    Ok(caller)
+fn say_packets(rt: &impl Abort, machine: &HostRuntime, town: &Town, count: usize) -> TcpStream {
+    let caller = town.call(rt, machine, &repeated(rt, machine.alloc(), NO, count));
+    say(rt, &caller, GRANT);
+    end(rt, &caller);
+    caller
 }
 
 /// Somebody who has said that; none who has gone away.
-fn caller_of(rt: &HostRuntime, town: &Town, said: Said) -> Result<Option<TcpStream>, Fail> {
+fn caller_of(rt: &impl Abort, machine: &HostRuntime, town: &Town, said: Said) -> Option<TcpStream> {
     match said {
-        Said::Nothing => Ok(Some(town.call(rt, b"")?)),
-        Said::Frame(frame) => Ok(Some(say_frame(rt, town, frame)?)),
-        Said::Packets(count) => Ok(Some(say_packets(rt, town, count)?)),
-        Said::Counts(named) => Ok(Some(town.ask_all(rt, named)?)),
+        Said::Nothing => Some(town.call(rt, machine, b"")),
+        Said::Frame(frame) => Some(say_frame(rt, machine, town, frame)),
+        Said::Packets(count) => Some(say_packets(rt, machine, town, count)),
+        Said::Counts(named) => Some(town.ask_all(rt, machine, named)),
         Said::Gone(named) => {
-            town.ask_all(rt, &[named])?;
-            Ok(None)
+            town.ask_all(rt, machine, &[named]);
+            None
         }
-        Said::Pieces => Ok(Some(say_pieces(rt, town)?)),
+        Said::Pieces => Some(say_pieces(rt, machine, town)),
     }
 }
 
 /// Adds the first byte of each body among these bytes.
-fn push_answers(text: &mut String, bytes: &[u8]) -> Result<(), AllocError> {
+fn push_answers(rt: &impl Abort, text: &mut String, bytes: &[u8]) {
     for window in bytes.windows(5) {
         if let [b'\r', b'\n', b'\r', b'\n', byte] = window {
-            text.push(char::from(*byte))?;
+            add_letter(rt, text, char::from(*byte));
         }
     }
-    Ok(())
 }
 
 /// Adds what a caller was told: the first byte of each answer, or all bytes where no request was said.
-fn push_told(text: &mut String, said: Said, bytes: &[u8]) -> Result<(), AllocError> {
+fn push_told(rt: &impl Abort, text: &mut String, said: Said, bytes: &[u8]) {
     match said {
-        Said::Nothing | Said::Frame(_) | Said::Packets(_) => push_bytes(text, bytes),
-        Said::Counts(_) | Said::Gone(_) | Said::Pieces => push_answers(text, bytes),
+        Said::Nothing | Said::Frame(_) | Said::Packets(_) => add_bytes(rt, text, bytes),
+        Said::Counts(_) | Said::Gone(_) | Said::Pieces => push_answers(rt, text, bytes),
     }
 }
 
 /// The same, read of the caller's connection.
-fn push_heard(
-    alloc: Global,
-    text: &mut String,
-    said: Said,
-    caller: &TcpStream,
-) -> Result<(), Fail> {
-    let bytes = heard(alloc, caller)?;
-    Ok(push_told(text, said, bytes.as_slice())?)
+fn push_heard(rt: &impl Abort, alloc: Global, text: &mut String, said: Said, caller: &TcpStream) {
+    let bytes = heard(alloc, caller).expect(rt, "what the caller is told");
+    push_told(rt, text, said, bytes.as_slice());
 }
 
 /// Adds what each caller was told, with a bar behind.
 fn push_all(
+    rt: &impl Abort,
     alloc: Global,
     text: &mut String,
     all: &[Said],
     callers: &[Option<TcpStream>],
-) -> Result<(), Fail> {
+) {
     for (said, caller) in all.iter().zip(callers) {
         if let Some(caller) = caller {
-            push_heard(alloc, text, *said, caller)?;
+            push_heard(rt, alloc, text, *said, caller);
         }
-        text.push('|')?;
+        add(rt, text, "|");
     }
-    Ok(())
 }
 
 /// Adds what came on the connections that the node has made to the other one, with a bar behind each.
-fn push_sent(alloc: Global, text: &mut String, town: &Town, connections: u32) -> Result<(), Fail> {
+fn push_sent(rt: &impl Abort, alloc: Global, text: &mut String, town: &Town, connections: u32) {
     for _ in 0..connections {
-        push_bytes(text, town.asked(alloc)?.as_slice())?;
-        text.push('|')?;
+        add_bytes(rt, text, &town.asked(rt, alloc));
+        add(rt, text, "|");
     }
-    Ok(())
 }
 
 /// All who have said that, in this order.
-fn callers_of(rt: &HostRuntime, town: &Town, all: &[Said]) -> Result<Vec<Option<TcpStream>>, Fail> {
-    let mut callers = Vec::new(rt.alloc());
+fn callers_of(
+    rt: &impl Abort,
+    machine: &HostRuntime,
+    town: &Town,
+    all: &[Said],
+) -> Vec<Option<TcpStream>> {
+    let mut callers = Vec::new(machine.alloc());
     for said in all {
-        callers.push(caller_of(rt, town, *said)?)?;
+        push(rt, &mut callers, caller_of(rt, machine, town, *said));
     }
-    Ok(callers)
+    callers
 }
 
 /// Has a node serve until it is told to stop.
-fn serve_to_the_end(rt: &HostRuntime, host: Host) -> Result<(), Fail> {
-    match serve_all(rt, host)? {
-        None => Ok(()),
-        Some(_) => Err("ended by a fault".into()),
-    }
+fn serve_to_the_end(rt: &impl Abort, machine: &HostRuntime, host: Host) {
+    let fault = serve_all(rt, machine, host);
+    assert_eq!(rt; fault, None, "ended by a fault");
 }
 
 /// The same, once the node has run.
 fn run(
-    rt: &HostRuntime,
+    rt: &impl Abort,
+    machine: &HostRuntime,
     town: &Town,
     persistence: Persistence,
     all: &[Said],
-) -> Result<Vec<Option<TcpStream>>, Fail> {
-    let host = host_of(rt, town, persistence)?;
-    let callers = callers_of(rt, town, all)?;
-    serve_to_the_end(rt, host)?;
-    Ok(callers)
+) -> Vec<Option<TcpStream>> {
+    let host = host_of(rt, machine, town, persistence);
+    let callers = callers_of(rt, machine, town, all);
+    serve_to_the_end(rt, machine, host);
+    callers
 }
 
 /// What each caller was told, and what the node has sent.
-fn play(rt: &HostRuntime, scene: &Scene) -> Result<String, Fail> {
-    let town = Town::new(rt)?;
-    let mut text = String::new(rt.alloc());
-    let callers = run(rt, &town, scene.persistence, scene.all)?;
-    push_all(rt.alloc(), &mut text, scene.all, callers.as_slice())?;
-    push_sent(rt.alloc(), &mut text, &town, scene.connections)?;
-    Ok(text)
+fn play(rt: &impl Abort, machine: &HostRuntime, scene: &Scene) -> String {
+    let town = Town::new(rt, machine);
+    let mut text = String::new(machine.alloc());
+    let callers = run(rt, machine, &town, scene.persistence, scene.all);
+    push_all(
+        rt,
+        machine.alloc(),
+        &mut text,
+        scene.all,
+        callers.as_slice(),
+    );
+    push_sent(rt, machine.alloc(), &mut text, &town, scene.connections);
+    text
+}
+
+/// What is read of the clock that nobody sets.
+fn read_clock(rt: &impl Abort, machine: &HostRuntime) -> Duration {
+    machine.monotonic().expect(rt, "a clock")
 }
 
 /// The same, with a word more where that took too long.
-fn timed(rt: &HostRuntime, scene: &Scene) -> Result<String, Fail> {
-    let begun = rt.monotonic()?;
-    let mut text = play(rt, scene)?;
-    let taken = rt.monotonic()?.saturating_sub(begun);
+fn timed(rt: &impl Abort, machine: &HostRuntime, scene: &Scene) -> String {
+    let begun = read_clock(rt, machine);
+    let mut text = play(rt, machine, scene);
+    let taken = read_clock(rt, machine).saturating_sub(begun);
     if taken >= Duration::from_millis(scene.most) {
-        text.push_str("late")?;
+        add(rt, &mut text, "late");
     }
-    Ok(text)
+    text
 }
 
 /// In each scene callers are told what they should be.
-fn expect_scenes(rt: &impl Abort, machine: &HostRuntime, scenes: &[Scene]) -> Result<(), Fail> {
+fn expect_scenes(rt: &impl Abort, machine: &HostRuntime, scenes: &[Scene]) {
     for scene in scenes {
-        let text = timed(machine, scene)?;
+        let text = timed(rt, machine, scene);
         expect(rt, scene.name, text.as_str(), scene.told);
     }
-    Ok(())
 }
 
 #[test]
-fn callers_are_told_what_they_should_be(rt: HostRuntime) -> Result<(), Fail> {
-    expect_scenes(&rt, &rt, &callers::SCENES)?;
-    expect_scenes(&rt, &rt, &peers::SCENES)?;
-    expect_scenes(&rt, &rt, &kept::SCENES)
+fn callers_are_told_what_they_should_be(rt: HostRuntime) {
+    expect_scenes(&rt, &rt, &callers::SCENES);
+    expect_scenes(&rt, &rt, &peers::SCENES);
+    expect_scenes(&rt, &rt, &kept::SCENES);
 }

@@ -1,6 +1,7 @@
 //! What a node takes for the time.
 
-use std::alloc::{AllocError, Global};
+use std::alloc::Global;
+use std::process::Abort;
 use sv_host::{Reading, Time};
 
 /// What is read of the machine's clock and of the one that nobody sets, in milliseconds, and the seconds that are taken for the time.
@@ -31,7 +32,7 @@ const ROWS: &[(u64, u64, u64)] = &[
 ];
 
 /// What is taken for the time, reading by reading, where it isn't what it should be.
-pub fn told(alloc: Global) -> Result<String, AllocError> {
+pub fn told(rt: &impl Abort, alloc: Global) -> String {
     let mut text = String::new(alloc);
     let mut time = Time::new(Reading {
         clock: 10_000_000,
@@ -40,8 +41,8 @@ pub fn told(alloc: Global) -> Result<String, AllocError> {
     for &(clock, steady, wanted) in ROWS {
         time = time.next(Reading { clock, steady });
         if time.seconds() != wanted {
-            write!(text, "{} in the place of {wanted}, ", time.seconds())?;
+            write!(text, "{} in the place of {wanted}, ", time.seconds()).expect(rt, "memory");
         }
     }
-    Ok(text)
+    text
 }

@@ -1,10 +1,11 @@
 //! A cluster of two nodes, of which one runs in a test; the other is a port at which the test listens.
 
+use crate::fixtures::push;
 use std::alloc::Global;
 use std::io;
 use std::io::{Read, Write};
 use std::net::{Ipv4Addr, OpenListener, OpenStream, SocketAddr, TcpListener, TcpStream};
-use std::test::Fail;
+use std::process::Abort;
 use std::time::Duration;
 use sv_config::Cluster;
 use sv_host::{Ended, Host, HostFault, Place, secret_of};
@@ -38,8 +39,12 @@ fn local(port: u16) -> SocketAddr {
     SocketAddr::from((Ipv4Addr::LOCALHOST, port))
 }
 
-fn listen(rt: &HostRuntime, port: u16) -> io::Result<TcpListener> {
-    TcpListener::bind(rt, local(port))
+fn listen(rt: &impl Abort, machine: &HostRuntime, port: u16) -> TcpListener {
+    TcpListener::bind(machine, local(port)).expect(rt, "a port to listen at")
+}
+
+fn port_of(rt: &impl Abort, listener: &TcpListener) -> u16 {
+    listener.local_addr().expect(rt, "an address").port()
 }
 
 /// All that comes on a connection until its other end is closed.
@@ -78,106 +83,138 @@ pub fn letter_of(alloc: Global, client: &TcpStream) -> char {
     }
 }
 
+/// A node that listens.
+pub fn host_at(
+    rt: &impl Abort,
+    machine: &HostRuntime,
+    place: Place,
+    persistence: Persistence,
+) -> Host {
+    Host::at(machine, place, persistence).expect(rt, "a node that listens")
+}
+
 /// Node 0, listening.
-pub fn host_of(rt: &HostRuntime, town: &Town, persistence: Persistence) -> Result<Host, Fail> {
-    let place = town.place(rt)?;
-    Ok(Host::at(rt, place, persistence)?)
+pub fn host_of(
+    rt: &impl Abort,
+    machine: &HostRuntime,
+    town: &Town,
+    persistence: Persistence,
+) -> Host {
+    host_at(rt, machine, town.place(rt, machine), persistence)
 }
 
 /// Has a node on two disks serve all who have connected, the last of whom has it stop.
 pub fn live(
-    rt: &HostRuntime,
+    rt: &impl Abort,
+    machine: &HostRuntime,
     host: Host,
     a: MemoryDisk,
     b: MemoryDisk,
-) -> Result<Ended<Counter, MemoryDisk>, Fail> {
-    match host.run(rt, counter(rt.alloc()), a, b) {
-        Ok(ended) => Ok(ended),
-        Err(_) => Err("not opened".into()),
+) -> Ended<Counter, MemoryDisk> {
+    match host.run(machine, counter(machine.alloc()), a, b) {
+        Ok(ended) => ended,
+        Err(_) => panic!(rt; "not opened"),
     }
 }
 
-/// The same on two empty disks: why the node has ended.
-pub fn serve_all(rt: &HostRuntime, host: Host) -> Result<Option<HostFault>, Fail> {
-    let (a, b) = (MemoryDisk::new(rt.alloc()), MemoryDisk::new(rt.alloc()));
-    Ok(live(rt, host, a, b)?.fault)
+/// The same on two empty disks.
+pub fn live_anew(rt: &impl Abort, machine: &HostRuntime, host: Host) -> Ended<Counter, MemoryDisk> {
+    let (a, b) = (
+        MemoryDisk::new(machine.alloc()),
+        MemoryDisk::new(machine.alloc()),
+    );
+    live(rt, machine, host, a, b)
+}
+
+/// The same: why the node has ended.
+pub fn serve_all(rt: &impl Abort, machine: &HostRuntime, host: Host) -> Option<HostFault> {
+    live_anew(rt, machine, host).fault
+}
+
+/// Has somebody who has connected say this.
+pub fn say(rt: &impl Abort, mut stream: &TcpStream, said: &[u8]) {
+    stream
+        .write_all(said)
+        .expect(rt, "a connection to write on");
 }
 
 impl Town {
     /// The node's port is one that was free a moment ago.
-    pub fn new(rt: &HostRuntime) -> io::Result<Town> {
-        let port = listen(rt, 0)?.local_addr()?.port();
-        Ok(Town {
-            port,
-            peer: listen(rt, 0)?,
-        })
+    pub fn new(rt: &impl Abort, machine: &HostRuntime) -> Town {
+        Town {
+            port: port_of(rt, &listen(rt, machine, 0)),
+            peer: listen(rt, machine, 0),
+        }
     }
 
     /// The place of node 0.
-    pub fn place(&self, rt: &HostRuntime) -> Result<Place, Fail> {
-        self.place_with(rt, 30, None)
+    pub fn place(&self, rt: &impl Abort, machine: &HostRuntime) -> Place {
+        self.place_with(rt, machine, 30, None)
     }
 
     /// The ports of both nodes.
-    fn ports(&self, alloc: Global) -> io::Result<Vec<u16>> {
-        let peer = self.peer.local_addr()?.port();
+    fn ports(&self, rt: &impl Abort, alloc: Global) -> Vec<u16> {
         let mut ports = Vec::new(alloc);
-        ports.push(self.port)?;
-        ports.push(peer)?;
-        Ok(ports)
+        push(rt, &mut ports, self.port);
+        push(rt, &mut ports, port_of(rt, &self.peer));
+        ports
     }
 
     /// The place of node 0, with a deadline in seconds, and with secrets of a file.
     pub fn place_with(
         &self,
-        rt: &HostRuntime,
+        rt: &impl Abort,
+        machine: &HostRuntime,
         deadline: u32,
         secrets: Option<String>,
-    ) -> Result<Place, Fail> {
-        let ports = self.ports(rt.alloc())?;
+    ) -> Place {
         let cluster = Cluster {
-            ports,
+            ports: self.ports(rt, machine.alloc()),
             deadline,
             secrets,
             keys: 65_536,
             forget: false,
         };
-        Ok(Place::new(rt.alloc(), &cluster, 0)?)
+        Place::new(machine.alloc(), &cluster, 0).expect(rt, "a place")
+    }
+
+    /// Somebody who has connected to the node.
+    fn connect(&self, rt: &impl Abort, machine: &HostRuntime) -> TcpStream {
+        TcpStream::connect(machine, local(self.port)).expect(rt, "a connection")
     }
 
     /// Somebody who has connected to the node, and said this.
-    pub fn call(&self, rt: &HostRuntime, said: &[u8]) -> io::Result<TcpStream> {
-        let stream = TcpStream::connect(rt, local(self.port))?;
-        stream.set_read_timeout(Some(Duration::from_secs(PATIENCE)))?;
-        let mut writer = &stream;
-        writer.write_all(said)?;
-        Ok(stream)
+    pub fn call(&self, rt: &impl Abort, machine: &HostRuntime, said: &[u8]) -> TcpStream {
+        let stream = self.connect(rt, machine);
+        let patience = Some(Duration::from_secs(PATIENCE));
+        stream.set_read_timeout(patience).expect(rt, "a time limit");
+        say(rt, &stream, said);
+        stream
     }
 
     /// What node 1 was asked first.
-    pub fn asked(&self, alloc: Global) -> io::Result<Vec<u8>> {
-        let (caller, _) = self.peer.accept()?;
-        heard(alloc, &caller)
+    pub fn asked(&self, rt: &impl Abort, alloc: Global) -> Vec<u8> {
+        let (caller, _) = self.peer.accept().expect(rt, "a connection of the node");
+        heard(alloc, &caller).expect(rt, "what the node has sent")
     }
 
     /// Has a client ask for the sessions of these two bytes each.
-    pub fn count(&self, mut client: &TcpStream, named: &[[u8; 2]]) -> io::Result<()> {
+    pub fn count(&self, rt: &impl Abort, client: &TcpStream, named: &[[u8; 2]]) {
         for bytes in named {
-            client.write_all(COUNT)?;
-            client.write_all(bytes)?;
+            say(rt, client, COUNT);
+            say(rt, client, bytes);
         }
-        Ok(())
     }
 
     /// A client that asks for the sessions of these two bytes each.
-    pub fn ask_all(&self, rt: &HostRuntime, named: &[[u8; 2]]) -> io::Result<TcpStream> {
-        let client = self.call(rt, b"")?;
-        self.count(&client, named)?;
-        Ok(client)
+    pub fn ask_all(&self, rt: &impl Abort, machine: &HostRuntime, named: &[[u8; 2]]) -> TcpStream {
+        let client = self.call(rt, machine, b"");
+        self.count(rt, &client, named);
+        client
     }
 
     /// A client that asks for the session of these two bytes.
-    pub fn ask(&self, rt: &HostRuntime, named: [u8; 2]) -> io::Result<TcpStream> {
-        self.ask_all(rt, &[named])
+    pub fn ask(&self, rt: &impl Abort, machine: &HostRuntime, named: [u8; 2]) -> TcpStream {
+        self.ask_all(rt, machine, &[named])
     }
 }

@@ -9,8 +9,8 @@ mod targets;
 mod tests;
 
 use crate::cases::{Case, Row, expect_all};
-use std::alloc::{AllocError, Global};
-use std::test::Fail;
+use std::alloc::Global;
+use std::process::Abort;
 use tests::{alone, parked, received};
 
 /// What is tried, each by a function of this name.
@@ -135,66 +135,68 @@ static ENDLESS: [Row<Trial>; 2] = [
 ];
 
 impl Case for Trial {
-    fn holds(self, alloc: Global, input: usize) -> Result<bool, AllocError> {
+    fn holds<R: Abort>(self, rt: &R, alloc: Global, input: usize) -> bool {
         match self {
-            Trial::AFaultClosesTheReader => Ok(heads::a_fault_closes_the_reader(alloc)),
-            Trial::TwoHundredChunkedBodies => pipelines::two_hundred_chunked_bodies(alloc, input),
-            Trial::EveryEscapeOfOneByte => targets::every_escape_of_one_byte(alloc, input),
+            Trial::AFaultClosesTheReader => heads::a_fault_closes_the_reader(alloc),
+            Trial::TwoHundredChunkedBodies => {
+                pipelines::two_hundred_chunked_bodies(rt, alloc, input)
+            }
+            Trial::EveryEscapeOfOneByte => targets::every_escape_of_one_byte(rt, alloc, input),
             Trial::EveryEscapeOfOneByteInCapitals => {
-                targets::every_escape_of_one_byte_in_capitals(alloc, input)
+                targets::every_escape_of_one_byte_in_capitals(rt, alloc, input)
             }
-            Trial::EveryByteOfAscii => targets::every_byte_of_ascii(alloc, input),
-            Trial::LongPaths => Ok(targets::long_paths(alloc)),
-            Trial::TheSiteIsAskedAsTheCallSays => Ok(tests::the_site_is_asked_as_the_call_says(
-                alloc,
-            )),
-            Trial::WhatFollowsACloseIsNotRead => Ok(tests::what_follows_a_close_is_not_read(alloc)),
-            Trial::AReaderThatFails => Ok(tests::a_reader_that_fails(alloc, input)),
-            Trial::AWriterThatFails => Ok(tests::a_writer_that_fails(alloc, input)),
-            Trial::AReaderThatNeverEndsAHead => Ok(tests::a_reader_that_never_ends_a_head(alloc)),
-            Trial::AReaderThatNeverEndsABody => Ok(tests::a_reader_that_never_ends_a_body(alloc)),
-            Trial::Refusals => tests::refusals(alloc, input),
-            Trial::ARequestWaitsForItsAnswer => parked::a_request_waits_for_its_answer(
-                alloc, input,
-            ),
-            Trial::ALateAnswerThatIsNotWritten => parked::a_late_answer_that_is_not_written(alloc),
-            Trial::TwoRequestsCutAnywhere => received::two_requests_cut_anywhere(alloc, input),
+            Trial::EveryByteOfAscii => targets::every_byte_of_ascii(rt, alloc, input),
+            Trial::LongPaths => targets::long_paths(rt, alloc),
+            Trial::TheSiteIsAskedAsTheCallSays => tests::the_site_is_asked_as_the_call_says(alloc),
+            Trial::WhatFollowsACloseIsNotRead => tests::what_follows_a_close_is_not_read(alloc),
+            Trial::AReaderThatFails => tests::a_reader_that_fails(alloc, input),
+            Trial::AWriterThatFails => tests::a_writer_that_fails(alloc, input),
+            Trial::AReaderThatNeverEndsAHead => tests::a_reader_that_never_ends_a_head(alloc),
+            Trial::AReaderThatNeverEndsABody => tests::a_reader_that_never_ends_a_body(alloc),
+            Trial::Refusals => tests::refusals(rt, alloc, input),
+            Trial::ARequestWaitsForItsAnswer => {
+                parked::a_request_waits_for_its_answer(rt, alloc, input)
+            }
+            Trial::ALateAnswerThatIsNotWritten => {
+                parked::a_late_answer_that_is_not_written(rt, alloc)
+            }
+            Trial::TwoRequestsCutAnywhere => received::two_requests_cut_anywhere(rt, alloc, input),
             Trial::AFaultInTheSecondCutAnywhere => {
-                received::a_fault_in_the_second_cut_anywhere(alloc, input)
+                received::a_fault_in_the_second_cut_anywhere(rt, alloc, input)
             }
-            Trial::TheInputEndsInsideARequest => received::the_input_ends_inside_a_request(
-                alloc, input,
-            ),
-            Trial::TheInputEndsBehindTwoRequests => received::the_input_ends_behind_two_requests(
-                alloc,
-            ),
-            Trial::AFaultyTarget => received::a_faulty_target(alloc, input),
-            Trial::ANodeAloneAnswers => Ok(alone::a_node_alone_answers(alloc)),
-            Trial::ANodeAloneKeepsItsSessions => Ok(alone::a_node_alone_keeps_its_sessions(alloc)),
-            Trial::ANodeAloneEndsWhatHasExpired => Ok(alone::a_node_alone_ends_what_has_expired(
-                alloc,
-            )),
-            Trial::ANodeAloneHasNoPeers => Ok(alone::a_node_alone_has_no_peers(alloc)),
+            Trial::TheInputEndsInsideARequest => {
+                received::the_input_ends_inside_a_request(rt, alloc, input)
+            }
+            Trial::TheInputEndsBehindTwoRequests => {
+                received::the_input_ends_behind_two_requests(rt, alloc)
+            }
+            Trial::AFaultyTarget => received::a_faulty_target(rt, alloc, input),
+            Trial::ANodeAloneAnswers => alone::a_node_alone_answers(rt, alloc),
+            Trial::ANodeAloneKeepsItsSessions => alone::a_node_alone_keeps_its_sessions(rt, alloc),
+            Trial::ANodeAloneEndsWhatHasExpired => {
+                alone::a_node_alone_ends_what_has_expired(rt, alloc)
+            }
+            Trial::ANodeAloneHasNoPeers => alone::a_node_alone_has_no_peers(rt, alloc),
         }
     }
 }
 
 #[test]
-fn pipelined_requests(rt: HostRuntime) -> Result<(), Fail> {
-    expect_all(&rt, &PIPELINES)
+fn pipelined_requests(rt: HostRuntime) {
+    expect_all(&rt, &PIPELINES);
 }
 
 #[test]
-fn messages_and_targets(rt: HostRuntime) -> Result<(), Fail> {
-    expect_all(&rt, &MESSAGES)
+fn messages_and_targets(rt: HostRuntime) {
+    expect_all(&rt, &MESSAGES);
 }
 
 #[test]
-fn connections(rt: HostRuntime) -> Result<(), Fail> {
-    expect_all(&rt, &CONNECTIONS)
+fn connections(rt: HostRuntime) {
+    expect_all(&rt, &CONNECTIONS);
 }
 
 #[test]
-fn readers_that_never_end(rt: HostRuntime) -> Result<(), Fail> {
-    expect_all(&rt, &ENDLESS)
+fn readers_that_never_end(rt: HostRuntime) {
+    expect_all(&rt, &ENDLESS);
 }

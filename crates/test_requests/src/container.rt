@@ -18,8 +18,8 @@ mod noting;
 mod served;
 
 use crate::cases::{Case, Row, expect_all};
-use std::alloc::{AllocError, Global};
-use std::test::Fail;
+use std::alloc::Global;
+use std::process::Abort;
 
 /// What is tried, each by a function of this name.
 #[derive(Clone, Copy)]
@@ -88,38 +88,42 @@ static LIMITS: [Row<Trial>; 4] = [
 ];
 
 impl Case for Trial {
-    fn holds(self, alloc: Global, input: usize) -> Result<bool, AllocError> {
+    fn holds<R: Abort>(self, rt: &R, alloc: Global, input: usize) -> bool {
         match self {
-            Trial::BoxesLiveAsTheirObjectsDo => boxed::boxes_live_as_their_objects_do(alloc),
-            Trial::DropCallsNoObject => lives::drop_calls_no_object(alloc),
-            Trial::FaultsHandAllObjectsBack => faults::faults_hand_all_objects_back(alloc, input),
+            Trial::BoxesLiveAsTheirObjectsDo => boxed::boxes_live_as_their_objects_do(rt, alloc),
+            Trial::DropCallsNoObject => lives::drop_calls_no_object(rt, alloc),
+            Trial::FaultsHandAllObjectsBack => faults::faults_hand_all_objects_back(
+                rt, alloc, input,
+            ),
             Trial::FindsEachOfAsManyPatternsAsThereMayBe => {
-                Ok(mapping::servlets::finds_each_of_as_many_patterns_as_there_may_be(alloc))
+                mapping::servlets::finds_each_of_as_many_patterns_as_there_may_be(rt, alloc)
             }
-            Trial::JudgesAMegabyte => descriptor::size::judges_a_megabyte(alloc),
-            Trial::ListenersHearInOrder => events::listeners_hear_in_order(alloc, input),
-            Trial::LivesInOrder => lives::lives_in_order(alloc, input),
+            Trial::JudgesAMegabyte => descriptor::size::judges_a_megabyte(rt, alloc),
+            Trial::ListenersHearInOrder => events::listeners_hear_in_order(rt, alloc, input),
+            Trial::LivesInOrder => lives::lives_in_order(rt, alloc, input),
             Trial::RefusesPatternsPastTheLimit => {
-                Ok(mapping::servlets::refuses_patterns_past_the_limit(alloc))
+                mapping::servlets::refuses_patterns_past_the_limit(rt, alloc)
             }
-            Trial::RequestsReachTheirObjects => served::requests_reach_their_objects(alloc, input),
-            Trial::SaysWhatIsAtFault => mapping::patterns::says_what_is_at_fault(alloc, input),
-            Trial::SaysWhatToLookFor => descriptor::texts::says_what_to_look_for(alloc, input),
+            Trial::RequestsReachTheirObjects => {
+                served::requests_reach_their_objects(rt, alloc, input)
+            }
+            Trial::SaysWhatIsAtFault => mapping::patterns::says_what_is_at_fault(rt, alloc, input),
+            Trial::SaysWhatToLookFor => descriptor::texts::says_what_to_look_for(rt, alloc, input),
         }
     }
 }
 
 #[test]
-fn lives_of_objects(rt: HostRuntime) -> Result<(), Fail> {
-    expect_all(&rt, &OBJECTS)
+fn lives_of_objects(rt: HostRuntime) {
+    expect_all(&rt, &OBJECTS);
 }
 
 #[test]
-fn a_large_descriptor(rt: HostRuntime) -> Result<(), Fail> {
-    expect_all(&rt, &LARGE)
+fn a_large_descriptor(rt: HostRuntime) {
+    expect_all(&rt, &LARGE);
 }
 
 #[test]
-fn limits_and_faults(rt: HostRuntime) -> Result<(), Fail> {
-    expect_all(&rt, &LIMITS)
+fn limits_and_faults(rt: HostRuntime) {
+    expect_all(&rt, &LIMITS);
 }

@@ -11,4 +11,6 @@ mod connection;
 #[cfg(test)]
 mod container;
 #[cfg(test)]
+mod fixtures;
+#[cfg(test)]
 mod requests;

@@ -5,7 +5,6 @@ use super::streams::Way;
 use crate::expect::expect;
 use std::alloc::Global;
 use std::process::Abort;
-use std::test::Fail;
 use sv_launch::{Application, Applications};
 use sv_showcase::showcase;
 
@@ -51,12 +50,11 @@ static ROWS: [Row; 12] = [
 ];
 
 /// Each descriptor has its row's fault.
-pub fn expect_faults(rt: &(impl Abort + AllocGlobal)) -> Result<(), Fail> {
+pub fn expect_faults(rt: &(impl Abort + AllocGlobal)) {
     for Row(descriptor, wanted) in &ROWS {
-        let text = answered(rt.alloc(), descriptor, Way::Whole, "")?;
+        let text = answered(rt, rt.alloc(), descriptor, Way::Whole, "");
         expect(rt, descriptor, text.as_str(), wanted);
     }
-    Ok(())
 }
 
 const DESCRIPTOR: &str = "[[context]]\npath = \"\"\n";

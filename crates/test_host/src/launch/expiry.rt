@@ -2,9 +2,8 @@
 
 use super::streams::{Input, Output, Way};
 use crate::expect::expect;
-use std::alloc::{AllocError, Global};
+use std::alloc::Global;
 use std::process::Abort;
-use std::test::Fail;
 use sv_connection::{Connection, Solo};
 use sv_host::secret_of;
 use sv_launch::{Applications, Fault, Purpose, deployment_in};
@@ -96,18 +95,17 @@ fn serve(
 }
 
 /// All that is written for two requests at these moments.
-fn written(alloc: Global, moments: [u64; 2], input: &str) -> Result<String, AllocError> {
+fn written(rt: &impl Abort, alloc: Global, moments: [u64; 2], input: &str) -> String {
     let mut reader = Input::new(input, Way::Whole);
     let mut writer = Output::new(alloc, Way::Whole);
     let end = serve(alloc, moments, &mut reader, &mut writer);
-    writer.ended(end)
+    writer.ended(rt, end)
 }
 
 /// Each two requests are answered as their row says.
-pub fn expect_rows(rt: &(impl Abort + AllocGlobal)) -> Result<(), Fail> {
+pub fn expect_rows(rt: &(impl Abort + AllocGlobal)) {
     for Timed(name, moments, input, output) in &ROWS {
-        let text = written(rt.alloc(), *moments, input)?;
+        let text = written(rt, rt.alloc(), *moments, input);
         expect(rt, name, text.as_str(), output);
     }
-    Ok(())
 }

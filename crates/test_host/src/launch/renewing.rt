@@ -6,6 +6,7 @@ use super::overheard::Overheard;
 use super::streams::Way;
 use super::{NOW, Row, Table};
 use std::alloc::Global;
+use std::process::Abort;
 use sv_launch::{Applications, Fault, Purpose, deployment_in, once};
 use sv_model::Engine;
 use sv_showcase::showcase;
@@ -63,15 +64,16 @@ impl Purpose for Overhearing<'_> {
 }
 
 /// What is noted of the events of those changes.
-pub fn told(alloc: Global) -> Result<String, Fault> {
+pub fn told(rt: &impl Abort, alloc: Global) -> String {
     let mut noted = String::new(alloc);
-    let deployment = deployment_in(alloc, RENEWING)?;
+    let deployment = deployment_in(alloc, RENEWING).expect(rt, "a deployment");
     let purpose = Overhearing {
         input: CHANGES,
         noted: &mut noted,
     };
-    showcase(alloc).start(alloc, deployment, purpose)?;
-    Ok(noted)
+    let end = showcase(alloc).start(alloc, deployment, purpose);
+    end.expect(rt, "a stream that is served");
+    noted
 }
 
 /// The events of the second row, request by request: the id of the session 1 is changed from the secret 1, then from the secret 2;

@@ -2,9 +2,10 @@
 
 use super::{Row, Table};
 use crate::expect::push_bytes;
-use std::alloc::{AllocError, Global};
+use std::alloc::Global;
 use std::io;
 use std::io::{ErrorKind, Read, Write};
+use std::process::Abort;
 use sv_launch::Fault;
 use sv_showcase::BUILT_IN;
 
@@ -68,12 +69,12 @@ impl Output {
     }
 
     /// All that was written, with the fault behind it that has ended the stream, and its exit status.
-    pub fn ended(self, end: Result<(), Fault>) -> Result<String, AllocError> {
+    pub fn ended(self, rt: &impl Abort, end: Result<(), Fault>) -> String {
         let Output { mut text, .. } = self;
         if let Err(fault) = end {
-            write!(text, "{fault} {}", fault.status())?;
+            write!(text, "{fault} {}", fault.status()).expect(rt, "memory");
         }
-        Ok(text)
+        text
     }
 }
 

@@ -1,9 +1,9 @@
 //! The words of the command line.
 
 use super::NOW;
-use std::alloc::{AllocError, Global};
+use crate::fixtures::{push, text};
+use std::alloc::Global;
 use std::process::Abort;
-use std::test::Fail;
 use sv_launch::{Arguments, NodeWords, Options, Words, read_words};
 use sv_net::Persistence;
 
@@ -148,30 +148,29 @@ fn read_of(meant: Meant) -> Result<Words<'static>, Arguments> {
     }
 }
 
-fn owned(alloc: Global, words: &[&str]) -> Result<Vec<String>, AllocError> {
+fn owned(rt: &impl Abort, alloc: Global, words: &[&str]) -> Vec<String> {
     let mut list = Vec::new(alloc);
     for word in words {
-        list.push(String::from_str(alloc, *word)?)?;
+        push(rt, &mut list, text(rt, alloc, word));
     }
-    Ok(list)
+    list
 }
 
 /// Whether words ask for this.
-fn ask_for(alloc: Global, words: &[&str], meant: Meant) -> Result<bool, AllocError> {
-    let list = owned(alloc, words)?;
-    Ok(read_words(list.as_slice()) == read_of(meant))
+fn ask_for(rt: &impl Abort, alloc: Global, words: &[&str], meant: Meant) -> bool {
+    let list = owned(rt, alloc, words);
+    read_words(list.as_slice()) == read_of(meant)
 }
 
-fn expect_lines(rt: &(impl Abort + AllocGlobal), lines: &[Line]) -> Result<(), Fail> {
+fn expect_lines(rt: &(impl Abort + AllocGlobal), lines: &[Line]) {
     for Line(words, meant) in lines {
-        assert!(rt; ask_for(rt.alloc(), words, *meant)?, "{words:?}");
+        assert!(rt; ask_for(rt, rt.alloc(), words, *meant), "{words:?}");
     }
-    Ok(())
 }
 
 #[test]
-fn words_ask_for_what_they_should(rt: HostRuntime) -> Result<(), Fail> {
-    expect_lines(&rt, &SINGLE)?;
-    expect_lines(&rt, &LINES)?;
-    expect_lines(&rt, &OPTIONS)
+fn words_ask_for_what_they_should(rt: HostRuntime) {
+    expect_lines(&rt, &SINGLE);
+    expect_lines(&rt, &LINES);
+    expect_lines(&rt, &OPTIONS);
 }

@@ -1,8 +1,8 @@
 //! The text of the figures.
 
-use std::alloc::{AllocError, Global};
+use crate::fixtures::add;
+use std::alloc::Global;
 use std::process::Abort;
-use std::test::Fail;
 use sv_log::{Census, Event, Figures, Gauges, Loss, Phase};
 use sv_model::{Cause, Key};
 
@@ -164,13 +164,13 @@ fn count_all(figures: &mut Figures, all: &[Counted]) {
 }
 
 /// The figures of node 3 at which that has happened, and a full stop.
-fn text_of(alloc: Global, all: &[Counted]) -> Result<String, AllocError> {
+fn text_of(rt: &impl Abort, alloc: Global, all: &[Counted]) -> String {
     let mut figures = Figures::default();
     count_all(&mut figures, all);
     let mut text = String::new(alloc);
-    figures.write(&mut text, 3, GAUGES)?;
-    text.push('.')?;
-    Ok(text)
+    figures.write(&mut text, 3, GAUGES).expect(rt, "memory");
+    add(rt, &mut text, ".");
+    text
 }
 
 fn expect_lines(rt: &impl Abort, text: &str, lines: &str) {
@@ -178,10 +178,9 @@ fn expect_lines(rt: &impl Abort, text: &str, lines: &str) {
 }
 
 #[test]
-fn each_figure_has_its_line(rt: HostRuntime) -> Result<(), Fail> {
+fn each_figure_has_its_line(rt: HostRuntime) {
     for Row(all, lines) in &ROWS {
-        let text = text_of(rt.alloc(), all)?;
+        let text = text_of(&rt, rt.alloc(), all);
         expect_lines(&rt, text.as_str(), lines);
     }
-    Ok(())
 }

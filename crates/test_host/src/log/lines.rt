@@ -1,11 +1,12 @@
 //! When lines and figures are written.
 
 use crate::expect::expect;
-use crate::files::{new_path, taken};
-use std::alloc::AllocError;
+use crate::files::{new_path, remove, taken, text_in};
+use crate::fixtures::add;
+use std::alloc::Global;
 use std::fs;
 use std::os::unix::fs::PermissionsExt;
-use std::test::Fail;
+use std::process::Abort;
 use sv_log::{Event, Level, Loss, Quoted, Report};
 use sv_model::{Cause, Key};
 
@@ -228,30 +229,35 @@ fn happen_all(rt: &HostRuntime, report: &mut Report, steps: &[Step]) {
     }
 }
 
-/// That happens while a log is written.
-fn log_all(rt: &HostRuntime, path: &str, steps: &[Step]) -> Result<(), Fail> {
+/// A log that is written at a path.
+fn log_at(rt: &impl Abort, machine: &HostRuntime, path: &str) -> Report {
     let mut report = Report::none();
-    let opened = report.log_to(rt.alloc(), rt, path);
-    happen_all(rt, &mut report, steps);
-    Ok(opened?)
+    let opened = report.log_to(machine.alloc(), machine, path);
+    opened.expect(rt, "a log");
+    report
+}
+
+/// That happens while a log is written.
+fn log_all(rt: &impl Abort, machine: &HostRuntime, path: &str, steps: &[Step]) {
+    let mut report = log_at(rt, machine, path);
+    happen_all(machine, &mut report, steps);
 }
 
 /// A file's owner alone may read it.
-fn expect_own(rt: &HostRuntime, path: &String) -> Result<(), Fail> {
-    match fs::metadata(rt, path)?.permissions().mode() & 0o777 {
-        0o600 => Ok(()),
-        _ => Err("others may read the log".into()),
-    }
+fn expect_own(rt: &impl Abort, machine: &HostRuntime, path: &String) {
+    let metadata = fs::metadata(machine, path).expect(rt, "a file");
+    let mode = metadata.permissions().mode();
+    assert!(rt; mode & 0o777 == 0o600, "others may read the log");
 }
 
 /// The log of all parts.
-fn logged(rt: &HostRuntime, parts: &[&[Step]]) -> Result<String, Fail> {
-    let path = new_path(rt, "log")?;
+fn logged(rt: &impl Abort, machine: &HostRuntime, parts: &[&[Step]]) -> String {
+    let path = new_path(rt, machine, "log");
     for steps in parts {
-        log_all(rt, path.as_str(), steps)?;
+        log_all(rt, machine, path.as_str(), steps);
     }
-    expect_own(rt, &path)?;
-    taken(rt, &path)
+    expect_own(rt, machine, &path);
+    taken(rt, machine, &path)
 }
 
 /// The number behind these words in a text of figures.
@@ -265,90 +271,88 @@ fn number_in<'a>(text: &'a str, words: &str) -> &'a str {
     found
 }
 
-fn push_number(seen: &mut String, text: &str, words: &str) -> Result<(), AllocError> {
-    seen.push_str(number_in(text, words))?;
-    seen.push_str(" ")
+fn push_number(rt: &impl Abort, seen: &mut String, text: &str, words: &str) {
+    add(rt, seen, number_in(text, words));
+    add(rt, seen, " ");
 }
 
 /// Adds the number that the figures have after each part.
 fn push_numbers(
-    rt: &HostRuntime,
+    rt: &impl Abort,
+    machine: &HostRuntime,
     report: &mut Report,
     path: &String,
     words: &str,
     parts: &[&[Step]],
     seen: &mut String,
-) -> Result<(), Fail> {
+) {
     for steps in parts {
-        happen_all(rt, report, steps);
-        let text = fs::read_to_string(rt, path)?;
-        push_number(seen, text.as_str(), words)?;
+        happen_all(machine, report, steps);
+        push_number(rt, seen, &text_in(rt, machine, path), words);
     }
-    Ok(())
+}
+
+/// The path of the figures while they are written.
+fn path_beside(rt: &impl Abort, alloc: Global, path: &str) -> String {
+    format!(in alloc; "{path}.new").expect(rt, "memory")
 }
 
 /// Takes the figures away, beside which nothing is left.
-fn take_figures(rt: &HostRuntime, path: &String) -> Result<(), Fail> {
-    fs::remove_file(rt, path)?;
-    let beside = format!(in rt.alloc(); "{path}.new")?;
-    match fs::remove_file(rt, &beside) {
-        Ok(()) => Err("a file is left beside the figures".into()),
-        Err(_) => Ok(()),
-    }
+fn take_figures(rt: &impl Abort, machine: &HostRuntime, path: &String) {
+    remove(rt, machine, path);
+    let beside = path_beside(rt, machine.alloc(), path);
+    let removed = fs::remove_file(machine, &beside);
+    assert!(rt; removed.is_err(), "a file is left beside the figures");
 }
 
 /// Figures that are written to a file, for which keys are counted.
-fn figures_at(rt: &HostRuntime, path: &str) -> Result<Report, Fail> {
+fn figures_at(rt: &impl Abort, machine: &HostRuntime, path: &str) -> Report {
     let mut report = Report::none();
-    if report.wants_census() {
-        return Err("keys are counted for no figures".into());
-    }
-    match report.count_to(rt.alloc(), rt, path, 0) {
-        Ok(()) => Ok(report),
-        Err(_) => Err("no figures".into()),
-    }
+    let wants_census = report.wants_census();
+    assert!(rt; !wants_census, "keys are counted for no figures");
+    let counted = report.count_to(machine.alloc(), machine, path, 0);
+    counted.expect(rt, "figures");
+    report
 }
 
 /// The numbers that the figures have after each part.
-fn counted(rt: &HostRuntime, words: &str, parts: &[&[Step]]) -> Result<String, Fail> {
-    let path = new_path(rt, "counted")?;
-    let mut seen = String::new(rt.alloc());
-    let mut report = figures_at(rt, path.as_str())?;
-    push_numbers(rt, &mut report, &path, words, parts, &mut seen)?;
-    take_figures(rt, &path)?;
-    Ok(seen)
+fn counted(rt: &impl Abort, machine: &HostRuntime, words: &str, parts: &[&[Step]]) -> String {
+    let path = new_path(rt, machine, "counted");
+    let mut seen = String::new(machine.alloc());
+    let mut report = figures_at(rt, machine, path.as_str());
+    push_numbers(rt, machine, &mut report, &path, words, parts, &mut seen);
+    take_figures(rt, machine, &path);
+    seen
 }
 
-fn read(rt: &HostRuntime, written: Written, parts: &[&[Step]]) -> Result<String, Fail> {
+fn read(rt: &impl Abort, machine: &HostRuntime, written: Written, parts: &[&[Step]]) -> String {
     match written {
-        Written::Log => logged(rt, parts),
-        Written::Figures(words) => counted(rt, words, parts),
+        Written::Log => logged(rt, machine, parts),
+        Written::Figures(words) => counted(rt, machine, words, parts),
     }
 }
 
 #[test]
-fn each_is_written_when_it_should_be(rt: HostRuntime) -> Result<(), Fail> {
+fn each_is_written_when_it_should_be(rt: HostRuntime) {
     for Row(name, written, parts, wanted) in &ROWS {
-        let text = read(&rt, *written, parts)?;
+        let text = read(&rt, &rt, *written, parts);
         expect(&rt, name, text.as_str(), wanted);
     }
-    Ok(())
 }
 
 /// Why a log at one path and figures at another aren't begun.
-fn begun(rt: &HostRuntime, log: &str, figures: &str) -> Result<String, AllocError> {
+fn begun(rt: &impl Abort, machine: &HostRuntime, log: &str, figures: &str) -> String {
     let mut report = Report::none();
-    let logged = report.log_to(rt.alloc(), rt, log);
-    let counted = report.count_to(rt.alloc(), rt, figures, 0);
-    format!(in rt.alloc(); "{logged:?} {counted:?}")
+    let logged = report.log_to(machine.alloc(), machine, log);
+    let counted = report.count_to(machine.alloc(), machine, figures, 0);
+    format!(in machine.alloc(); "{logged:?} {counted:?}").expect(rt, "memory")
 }
 
 /// A folder is no log, a name is none, and no figures are in a folder that there is not.
 #[test]
-fn what_cannot_be_opened_is_a_fault(rt: HostRuntime) -> Result<(), Fail> {
+fn what_cannot_be_opened_is_a_fault(rt: HostRuntime) {
     for log in ["/", ""] {
-        let text = begun(&rt, log, "/no/folder/x")?;
+        let text = begun(&rt, &rt, log, "/no/folder/x");
         expect(&rt, log, text.as_str(), "Err(Log) Err(Metrics)");
     }
-    Ok(())
 }

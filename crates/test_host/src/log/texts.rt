@@ -4,7 +4,6 @@ use super::events::EVENTS;
 use crate::expect::expect;
 use std::alloc::{AllocError, Global};
 use std::process::Abort;
-use std::test::Fail;
 use sv_log::{Event, Milestone, Quoted, Stamp};
 
 /// What stands in a line.
@@ -101,18 +100,17 @@ fn shown(alloc: Global, said: Said) -> Result<String, AllocError> {
 }
 
 /// Each of them stands in a line as its row says.
-fn expect_rows(rt: &(impl Abort + AllocGlobal), name: &str, rows: &[Row]) -> Result<(), Fail> {
+fn expect_rows(rt: &(impl Abort + AllocGlobal), name: &str, rows: &[Row]) {
     for Row(said, wanted) in rows {
-        let found = shown(rt.alloc(), *said)?;
+        let found = shown(rt.alloc(), *said).expect(rt, "memory");
         expect(rt, name, found.as_str(), wanted);
     }
-    Ok(())
 }
 
 #[test]
-fn each_stands_in_a_line_as_it_should(rt: HostRuntime) -> Result<(), Fail> {
-    expect_rows(&rt, "a moment", &MOMENTS)?;
-    expect_rows(&rt, "a text of somebody else", &TEXTS)?;
-    expect_rows(&rt, "what comes once", &MILESTONES)?;
-    expect_rows(&rt, "an event", &EVENTS)
+fn each_stands_in_a_line_as_it_should(rt: HostRuntime) {
+    expect_rows(&rt, "a moment", &MOMENTS);
+    expect_rows(&rt, "a text of somebody else", &TEXTS);
+    expect_rows(&rt, "what comes once", &MILESTONES);
+    expect_rows(&rt, "an event", &EVENTS);
 }

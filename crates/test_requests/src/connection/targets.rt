@@ -1,32 +1,37 @@
 //! Targets of requests and paths within a context: each byte, long ones and refused memory.
 
+use crate::fixtures::{add, text};
 use http::Method;
-use std::alloc::{AllocError, Global};
+use std::alloc::Global;
+use std::process::Abort;
 use sv_target::{Target, TargetFault};
 
 /// The path of a target and its query behind a space.
-fn target_text(alloc: Global, target: &Target) -> Result<String, AllocError> {
+fn target_text(rt: &impl Abort, alloc: Global, target: &Target) -> String {
     match &target.query {
-        Some(query) => format!(in alloc; "{} {}", target.path.as_str(), query.as_str()),
-        None => String::from_str(alloc, target.path.as_str()),
+        Some(query) => format!(in alloc; "{} {}", target.path.as_str(), query.as_str()).expect(
+            rt, "memory",
+        ),
+        None => text(rt, alloc, target.path.as_str()),
     }
 }
 
 /// A target as a text, or the fault.
-fn shown(alloc: Global, answer: &Result<Target, TargetFault>) -> Result<String, AllocError> {
+fn shown(rt: &impl Abort, alloc: Global, answer: &Result<Target, TargetFault>) -> String {
     match answer {
-        Ok(target) => target_text(alloc, target),
-        Err(fault) => format!(in alloc; "{fault:?}"),
+        Ok(target) => target_text(rt, alloc, target),
+        Err(fault) => format!(in alloc; "{fault:?}").expect(rt, "memory"),
     }
 }
 
 /// Whether a target or its fault has this text.
 fn is_shown(
+    rt: &impl Abort,
     alloc: Global,
     answer: &Result<Target, TargetFault>,
     want: &str,
-) -> Result<bool, AllocError> {
-    Ok(shown(alloc, answer)?.as_str() == want)
+) -> bool {
+    shown(rt, alloc, answer).as_str() == want
 }
 
 /// The letter of a byte of ASCII.
@@ -47,74 +52,85 @@ fn unescaped(byte: usize) -> Option<char> {
 }
 
 /// What the path of a slash and the escape of a byte has to be.
-fn path_of(alloc: Global, byte: usize) -> Result<String, AllocError> {
+fn path_of(rt: &impl Abort, alloc: Global, byte: usize) -> String {
     match unescaped(byte) {
-        Some(letter) => format!(in alloc; "/{letter}"),
-        None => String::from_str(alloc, "BadTarget"),
+        Some(letter) => format!(in alloc; "/{letter}").expect(rt, "memory"),
+        None => text(rt, alloc, "BadTarget"),
     }
 }
 
 /// Whether a text with the escape of a byte behind a slash is read as it has to be.
-fn is_unescaped(alloc: Global, text: &str, byte: usize) -> Result<bool, AllocError> {
-    let want = path_of(alloc, byte)?;
-    is_shown(alloc, &Target::read_within(alloc, text), &want)
+fn is_unescaped(rt: &impl Abort, alloc: Global, text: &str, byte: usize) -> bool {
+    let want = path_of(rt, alloc, byte);
+    is_shown(rt, alloc, &Target::read_within(alloc, text), &want)
 }
 
-pub(super) fn every_escape_of_one_byte(alloc: Global, byte: usize) -> Result<bool, AllocError> {
-    let text = format!(in alloc; "/%{byte:02x}")?;
-    is_unescaped(alloc, &text, byte)
+pub(super) fn every_escape_of_one_byte(rt: &impl Abort, alloc: Global, byte: usize) -> bool {
+    let text = format!(in alloc; "/%{byte:02x}").expect(rt, "memory");
+    is_unescaped(rt, alloc, &text, byte)
 }
 
 pub(super) fn every_escape_of_one_byte_in_capitals(
+    rt: &impl Abort,
     alloc: Global,
     byte: usize,
-) -> Result<bool, AllocError> {
-    let text = format!(in alloc; "/%{byte:02X}")?;
-    is_unescaped(alloc, &text, byte)
+) -> bool {
+    let text = format!(in alloc; "/%{byte:02X}").expect(rt, "memory");
+    is_unescaped(rt, alloc, &text, byte)
+}
+
+/// A letter between two others.
+fn around(rt: &impl Abort, alloc: Global, letter: char) -> String {
+    format!(in alloc; "/a{letter}b").expect(rt, "memory")
 }
 
 /// What a letter between two others has to give.
-fn between(alloc: Global, letter: char) -> Result<String, AllocError> {
+fn between(rt: &impl Abort, alloc: Global, letter: char) -> String {
     match letter {
-        '\0'..=' ' | '#' | '%' | '<' | '>' | '\\' | '`' | '\x7f' => {
-            String::from_str(alloc, "BadTarget")
-        }
-        '?' => String::from_str(alloc, "/a b"),
-        ';' => String::from_str(alloc, "/a"),
-        _ => format!(in alloc; "/a{letter}b"),
+        '\0'..=' ' | '#' | '%' | '<' | '>' | '\\' | '`' | '\x7f' => text(rt, alloc, "BadTarget"),
+        '?' => text(rt, alloc, "/a b"),
+        ';' => text(rt, alloc, "/a"),
+        _ => around(rt, alloc, letter),
     }
 }
 
 /// Whether a letter between two others is read as it has to be.
-fn is_read_between(alloc: Global, letter: char) -> Result<bool, AllocError> {
-    let raw = format!(in alloc; "/a{letter}b")?;
-    let want = between(alloc, letter)?;
-    is_shown(alloc, &Target::read(alloc, &Method::GET, &raw), &want)
+fn is_read_between(rt: &impl Abort, alloc: Global, letter: char) -> bool {
+    let raw = around(rt, alloc, letter);
+    let want = between(rt, alloc, letter);
+    is_shown(rt, alloc, &Target::read(alloc, &Method::GET, &raw), &want)
 }
 
-pub(super) fn every_byte_of_ascii(alloc: Global, byte: usize) -> Result<bool, AllocError> {
+pub(super) fn every_byte_of_ascii(rt: &impl Abort, alloc: Global, byte: usize) -> bool {
     match letter_of(byte) {
-        Some(letter) => is_read_between(alloc, letter),
-        None => Ok(false),
+        Some(letter) => is_read_between(rt, alloc, letter),
+        None => false,
     }
 }
 
 /// A path of so many bytes.
-fn long_path(alloc: Global, length: usize) -> Result<String, AllocError> {
-    let mut text = String::from_str(alloc, "/")?;
+fn long_path(rt: &impl Abort, alloc: Global, length: usize) -> String {
+    let mut path = text(rt, alloc, "/");
     for _ in 1..length {
-        text.push('x')?;
+        add(rt, &mut path, "x");
     }
-    Ok(text)
+    path
 }
 
-/// Whether a path of so many bytes is read as it stands, or the fault.
-fn is_read(alloc: Global, length: usize) -> Result<bool, TargetFault> {
-    let text = long_path(alloc, length)?;
-    let target = Target::read_within(alloc, &text)?;
-    Ok(target.path.as_str() == text.as_str())
+/// Whether a path is read as it stands, or the fault.
+fn is_read(alloc: Global, path: &str) -> Result<bool, TargetFault> {
+    match Target::read_within(alloc, path) {
+        Ok(target) => Ok(target.path.as_str() == path),
+        Err(fault) => Err(fault),
+    }
 }
 
-pub(super) fn long_paths(alloc: Global) -> bool {
-    is_read(alloc, 65_534) == Ok(true) && is_read(alloc, 65_535) == Err(TargetFault::BadTarget)
+/// The same of a path of so many bytes.
+fn is_long_read(rt: &impl Abort, alloc: Global, length: usize) -> Result<bool, TargetFault> {
+    is_read(alloc, &long_path(rt, alloc, length))
+}
+
+pub(super) fn long_paths(rt: &impl Abort, alloc: Global) -> bool {
+    is_long_read(rt, alloc, 65_534) == Ok(true)
+        && is_long_read(rt, alloc, 65_535) == Err(TargetFault::BadTarget)
 }

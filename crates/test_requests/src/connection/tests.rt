@@ -11,7 +11,7 @@ mod streams;
 use echo::Echo;
 use http::StatusCode;
 use rows::{ANSWERS, REFUSALS, Row};
-use std::alloc::{AllocError, Global};
+use std::alloc::Global;
 use std::io::{Read, Write};
 use std::process::Abort;
 use streams::{Drip, GULP, Sink, new_sink, slow_reader};
@@ -36,6 +36,11 @@ fn bare_answer(alloc: Global, head_only: bool, close: bool) -> Response {
     }
 }
 
+/// The refusal of a request.
+fn refused(rt: &impl Abort, alloc: Global, cause: Cause, head_only: bool, close: bool) -> Response {
+    refusal(alloc, cause, head_only, close).expect(rt, "memory")
+}
+
 /// One call, behind the answer to a request that waits; with no clause, so that the proof of a test carries none of the
 /// connection's facts.
 fn serve<R: Read, W: Write>(
@@ -51,6 +56,18 @@ fn serve<R: Read, W: Write>(
     connection.serve_next(reader, writer, site, AT, token)
 }
 
+/// How a call ends, and how many outputs it hands out.
+fn ended<R: Read, W: Write>(
+    connection: &mut Connection,
+    reader: &mut R,
+    writer: &mut W,
+    site: &mut Echo,
+    token: u64,
+) -> (Outcome, usize) {
+    let served = serve(connection, reader, writer, site, token);
+    (served.outcome, served.outputs.len())
+}
+
 /// Each call ends as the row says, and hands out as many outputs.
 fn are_ended<R: Read>(
     row: &Row,
@@ -62,8 +79,7 @@ fn are_ended<R: Read>(
     let mut token: u64 = 40;
     for (outcome, outputs) in &row.calls {
         token = token.wrapping_add(1);
-        let served = serve(connection, reader, writer, site, token);
-        if served.outcome != *outcome || served.outputs.len() != *outputs {
+        if ended(connection, reader, writer, site, token) != (*outcome, *outputs) {
             return false;
         }
     }
@@ -123,8 +139,8 @@ fn asked(alloc: Global, single: bool, token: u64) -> (Outcome, u64, u64, bool) {
     let mut reader: &[u8] = REQUEST;
     let mut writer = Vec::new(alloc);
     let mut site = Echo::new(alloc);
-    let served = serve(&mut connection, &mut reader, &mut writer, &mut site, token);
-    (served.outcome, site.token, site.now, site.close)
+    let outcome = ended(&mut connection, &mut reader, &mut writer, &mut site, token).0;
+    (outcome, site.token, site.now, site.close)
 }
 
 pub(super) fn the_site_is_asked_as_the_call_says(alloc: Global) -> bool {
@@ -180,18 +196,6 @@ fn front_of_answer(held: &[u8]) -> Option<usize> {
     } else {
         None
     }
-}
-
-/// How a call ends, and how many outputs it hands out.
-fn ended(
-    connection: &mut Connection,
-    reader: &mut Drip<'_>,
-    writer: &mut Sink,
-    site: &mut Echo,
-    token: u64,
-) -> (Outcome, usize) {
-    let served = serve(connection, reader, writer, site, token);
-    (served.outcome, served.outputs.len())
 }
 
 /// The call after one that didn't answer.
@@ -307,9 +311,9 @@ fn run_endless(
     reader.again_at = Some(again_at);
     let mut writer = Vec::new(alloc);
     let mut site = Echo::new(alloc);
-    let served = serve(&mut connection, &mut reader, &mut writer, &mut site, 1);
+    let outcome = ended(&mut connection, &mut reader, &mut writer, &mut site, 1).0;
     let is_written = writer.as_slice() == written.as_bytes();
-    (served.outcome, reader.calls, site.steps, is_written)
+    (outcome, reader.calls, site.steps, is_written)
 }
 
 /// A reader that never ends a head, a byte a read: 8,192 of them are too long for one.
@@ -350,25 +354,29 @@ fn has_its_type(response: &Response) -> bool {
 }
 
 /// A refusal by a cause has this body, and is for a HEAD and closes as it was asked for.
-fn is_refusal(
+fn is_refusal(response: &Response, text: &str, head_only: bool, close: bool) -> bool {
+    response.status == StatusCode::SERVICE_UNAVAILABLE
+        && response.body.as_slice() == text.as_bytes()
+        && has_its_type(response)
+        && response.head_only == head_only
+        && response.close == close
+}
+
+fn is_refused(
+    rt: &impl Abort,
     alloc: Global,
     row: &(Cause, &str),
     head_only: bool,
     close: bool,
-) -> Result<bool, AllocError> {
-    let response = refusal(alloc, row.0, head_only, close)?;
-    Ok(
-        response.status == StatusCode::SERVICE_UNAVAILABLE
-            && response.body.as_slice() == row.1.as_bytes()
-            && has_its_type(&response)
-            && response.head_only == head_only
-            && response.close == close,
-    )
+) -> bool {
+    let response = refused(rt, alloc, row.0, head_only, close);
+    is_refusal(&response, row.1, head_only, close)
 }
 
-pub(super) fn refusals(alloc: Global, input: usize) -> Result<bool, AllocError> {
-    let Some(row) = CAUSES.get(input) else {
-        return Ok(false);
-    };
-    Ok(is_refusal(alloc, row, false, true)? && is_refusal(alloc, row, true, false)?)
+pub(super) fn refusals(rt: &impl Abort, alloc: Global, input: usize) -> bool {
+    match CAUSES.get(input) {
+        Some(row) => is_refused(rt, alloc, row, false, true)
+            && is_refused(rt, alloc, row, true, false),
+        None => false,
+    }
 }

@@ -1,12 +1,14 @@
 //! Lists of objects that note in one diary, and what stands in it.
 
-ghost use Rattle.std.specs.Prelude.{◌≡◌, IfOk};
+ghost use Rattle.std.specs.Prelude.{◌≡◌};
 ghost use Rattle.sv_container.specs.Life.{AreNamedNew};
 ghost use Rattle.sv_servlet.specs.declared.servlet.Phase.TheVariants.{New};
 
 use crate::container::noting::{Diary, NotingFilter, NotingListener, NotingServlet, Pen};
-use std::alloc::{AllocError, Global};
+use crate::fixtures::{push, text};
+use std::alloc::Global;
 use std::cell::RefCell;
+use std::process::Abort;
 use std::rc::Rc;
 use sv_container::Named;
 use sv_servlet::{Filter, Phase, Servlet};
@@ -15,148 +17,117 @@ use sv_servlet::{Filter, Phase, Servlet};
 pub type Part = (usize, &'static str);
 
 /// A diary in which nothing stands.
-pub fn new_diary(alloc: Global) -> Result<Diary, AllocError> {
-    Ok(Rc::new(alloc, RefCell::new(String::new(alloc)))?)
+pub fn new_diary(rt: &impl Abort, alloc: Global) -> Diary {
+    Rc::new(alloc, RefCell::new(String::new(alloc))).expect(rt, "memory")
 }
 
-fn pen_of(alloc: Global, diary: &Diary, name: &str) -> Result<Pen, AllocError> {
-    Ok(Pen {
-        name: String::from_str(alloc, name)?,
-        diary: diary.clone()?,
-    })
+fn pen_of(rt: &impl Abort, alloc: Global, diary: &Diary, name: &str) -> Pen {
+    Pen {
+        name: text(rt, alloc, name),
+        diary: diary.clone().expect(rt, "memory"),
+    }
 }
 
 /// A servlet as it was made.
 pub fn servlet_of(
+    rt: &impl Abort,
     alloc: Global,
     diary: &Diary,
     name: &str,
     is_able: bool,
-) -> Result<NotingServlet, AllocError>
-    ensures { IfOk result (λ s. s.phase ≡ New) }
+) -> NotingServlet
+    ensures { result.phase ≡ New }
 {
-    Ok(NotingServlet {
-        pen: pen_of(alloc, diary, name)?,
+    NotingServlet {
+        pen: pen_of(rt, alloc, diary, name),
         is_able,
         phase: Phase::New,
-    })
+    }
 }
 
 /// A filter as it was made.
 pub fn filter_of(
+    rt: &impl Abort,
     alloc: Global,
     diary: &Diary,
     name: &str,
     is_able: bool,
-) -> Result<NotingFilter, AllocError>
-    ensures { IfOk result (λ f. f.phase ≡ New) }
+) -> NotingFilter
+    ensures { result.phase ≡ New }
 {
-    Ok(NotingFilter {
-        pen: pen_of(alloc, diary, name)?,
+    NotingFilter {
+        pen: pen_of(rt, alloc, diary, name),
         is_able,
         phase: Phase::New,
-    })
+    }
 }
 
-/// A servlet with its context and its name; the one that is called `unable` can't be initialised.
-fn named_servlet(
-    alloc: Global,
-    diary: &Diary,
-    part: &Part,
-    unable: &str,
-) -> Result<Named<NotingServlet>, AllocError>
-    ensures { IfOk result (λ n. n.object.phase ≡ New) }
+pub fn listener_of(rt: &impl Abort, alloc: Global, diary: &Diary, name: &str) -> NotingListener {
+    NotingListener {
+        pen: pen_of(rt, alloc, diary, name),
+    }
+}
+
+/// An object with its context and its name.
+pub fn named<T>(rt: &impl Abort, alloc: Global, part: &Part, object: T) -> Named<T>
+    ensures { result.object ≡ object }
 {
     let (context, name) = *part;
-    let object = servlet_of(alloc, diary, name, name != unable)?;
-    let name = String::from_str(alloc, name)?;
-    Ok(Named {
+    Named {
         context,
-        name,
+        name: text(rt, alloc, name),
         object,
-    })
+    }
 }
 
-/// A filter likewise.
-fn named_filter(
-    alloc: Global,
-    diary: &Diary,
-    part: &Part,
-    unable: &str,
-) -> Result<Named<NotingFilter>, AllocError>
-    ensures { IfOk result (λ n. n.object.phase ≡ New) }
-{
-    let (context, name) = *part;
-    let object = filter_of(alloc, diary, name, name != unable)?;
-    let name = String::from_str(alloc, name)?;
-    Ok(Named {
-        context,
-        name,
-        object,
-    })
-}
-
-/// A listener likewise.
-pub fn named_listener(
-    alloc: Global,
-    diary: &Diary,
-    part: &Part,
-) -> Result<Named<NotingListener>, AllocError> {
-    let (context, name) = *part;
-    let object = NotingListener {
-        pen: pen_of(alloc, diary, name)?,
-    };
-    let name = String::from_str(alloc, name)?;
-    Ok(Named {
-        context,
-        name,
-        object,
-    })
-}
-
+/// Servlets, of which the one that is called `unable` can't be initialised.
 pub fn servlets_of(
+    rt: &impl Abort,
     alloc: Global,
     diary: &Diary,
     parts: &[Part],
     unable: &str,
-) -> Result<Vec<Named<NotingServlet>>, AllocError>
-    ensures { IfOk result (λ all. AreNamedNew ⟦<NotingServlet as Servlet>⟧.servlet_phase all.items) }
+) -> Vec<Named<NotingServlet>>
+    ensures { AreNamedNew ⟦<NotingServlet as Servlet>⟧.servlet_phase result.items }
 {
     let mut all = Vec::new(alloc);
     for part in parts {
-        let named = named_servlet(alloc, diary, part, unable)?;
-        all.push(named)?;
+        let object = servlet_of(rt, alloc, diary, part.1, part.1 != unable);
+        push(rt, &mut all, named(rt, alloc, part, object));
     }
-    Ok(all)
+    all
 }
 
+/// Filters likewise.
 pub fn filters_of(
+    rt: &impl Abort,
     alloc: Global,
     diary: &Diary,
     parts: &[Part],
     unable: &str,
-) -> Result<Vec<Named<NotingFilter>>, AllocError>
-    ensures { IfOk result (λ all. AreNamedNew ⟦<NotingFilter as Filter>⟧.filter_phase all.items) }
+) -> Vec<Named<NotingFilter>>
+    ensures { AreNamedNew ⟦<NotingFilter as Filter>⟧.filter_phase result.items }
 {
     let mut all = Vec::new(alloc);
     for part in parts {
-        let named = named_filter(alloc, diary, part, unable)?;
-        all.push(named)?;
+        let object = filter_of(rt, alloc, diary, part.1, part.1 != unable);
+        push(rt, &mut all, named(rt, alloc, part, object));
     }
-    Ok(all)
+    all
 }
 
 pub fn listeners_of(
+    rt: &impl Abort,
     alloc: Global,
     diary: &Diary,
     parts: &[Part],
-) -> Result<Vec<Named<NotingListener>>, AllocError> {
+) -> Vec<Named<NotingListener>> {
     let mut all = Vec::new(alloc);
     for part in parts {
-        let named = named_listener(alloc, diary, part)?;
-        all.push(named)?;
+        let object = listener_of(rt, alloc, diary, part.1);
+        push(rt, &mut all, named(rt, alloc, part, object));
     }
-    Ok(all)
+    all
 }
 
 /// Forgets what was noted.

@@ -3,8 +3,10 @@
 use crate::container::cast::{has_notes, new_diary};
 use crate::container::lives::{STARTED, started};
 use crate::container::noting::Diary;
-use std::alloc::{AllocError, Global};
-use sv_model::{Engine, Event, Key, Secret, Sequence, Text, Told};
+use crate::requests::text_of;
+use std::alloc::Global;
+use std::process::Abort;
+use sv_model::{Engine, Event, Key, Secret, Sequence, Told};
 
 const KEY: Key = Key { home: 0, serial: 1 };
 
@@ -30,10 +32,10 @@ static ROWS: [Row; 14] = [
 ];
 
 /// An event that has an attribute's name.
-fn named_event(alloc: Global, number: u8) -> Result<Event, AllocError> {
-    let name = Text::from_str(alloc, "a")?;
+fn named_event(rt: &impl Abort, alloc: Global, number: u8) -> Event {
+    let name = text_of(rt, alloc, "a");
     let old = Sequence::new(alloc);
-    Ok(match number {
+    match number {
         7 => Event::Added {
             key: KEY,
             name,
@@ -49,7 +51,7 @@ fn named_event(alloc: Global, number: u8) -> Result<Event, AllocError> {
             name,
             old,
         },
-    })
+    }
 }
 
 /// Any other event.
@@ -71,38 +73,34 @@ fn plain_event(number: u8) -> Event {
 }
 
 /// The event of a number, from 1 on in the order of the variants.
-fn event_of(alloc: Global, number: u8) -> Result<Event, AllocError> {
+fn event_of(rt: &impl Abort, alloc: Global, number: u8) -> Event {
     match number {
-        7..=9 => named_event(alloc, number),
-        _ => Ok(plain_event(number)),
+        7..=9 => named_event(rt, alloc, number),
+        _ => plain_event(number),
     }
 }
 
 /// Tells an engine an event, by its number.
-fn tell<E: Engine>(alloc: Global, engine: &mut E, context: u8, number: u8) -> Result<(), AllocError>
+fn tell<E: Engine>(rt: &impl Abort, alloc: Global, engine: &mut E, context: u8, number: u8)
     requires { E.valid engine.old }
     ensures { E.valid engine.new }
 {
-    let event = event_of(alloc, number)?;
+    let event = event_of(rt, alloc, number);
     engine.tell(&[Told { context, event }]);
-    Ok(())
 }
 
 /// The listeners hear a row's event as it says.
-fn is_heard(alloc: Global, diary: &Diary, row: &Row) -> bool {
+fn is_heard(rt: &impl Abort, alloc: Global, diary: &Diary, row: &Row) -> bool {
     let (context, number, want) = *row;
-    let Some(mut container) = started(alloc, diary, "") else {
-        return false;
-    };
+    let mut container = started(rt, alloc, diary, "");
     let is_started = has_notes(diary, STARTED);
-    let told = tell(alloc, &mut container, context, number);
-    is_started && told.is_ok() && has_notes(diary, want)
+    tell(rt, alloc, &mut container, context, number);
+    is_started && has_notes(diary, want)
 }
 
-pub fn listeners_hear_in_order(alloc: Global, input: usize) -> Result<bool, AllocError> {
-    let Some(row) = ROWS.get(input) else {
-        return Ok(false);
-    };
-    let diary = new_diary(alloc)?;
-    Ok(is_heard(alloc, &diary, row))
+pub fn listeners_hear_in_order(rt: &impl Abort, alloc: Global, input: usize) -> bool {
+    match ROWS.get(input) {
+        Some(row) => is_heard(rt, alloc, &new_diary(rt, alloc), row),
+        None => false,
+    }
 }

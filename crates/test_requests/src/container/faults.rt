@@ -3,9 +3,10 @@
 use crate::container::cast::{
     Part, filters_of, has_notes, has_so_many, listeners_of, new_diary, servlets_of,
 };
+use crate::container::lives::deployment_of;
 use crate::container::noting::{Diary, NotingFilter, NotingListener, NotingServlet};
-use std::alloc::{AllocError, Global};
-use sv_config::Deployment;
+use std::alloc::Global;
+use std::process::Abort;
 use sv_container::{Container, NotStarted, StartFault};
 
 const DESCRIPTOR: &str = r#"[[context]]
@@ -50,24 +51,13 @@ static ROWS: [Row; 12] = [
 type Back = NotStarted<NotingServlet, NotingFilter, NotingListener>;
 
 /// What a start with the objects of a row, which note in a diary, hands back.
-fn back_from(alloc: Global, diary: &Diary, row: &Row) -> Option<Back> {
+fn back_from(rt: &impl Abort, alloc: Global, diary: &Diary, row: &Row) -> Option<Back> {
     let (servlets, filters, listeners, _) = *row;
-    let Ok(servlets) = servlets_of(alloc, diary, servlets, "") else {
-        return None;
-    };
-    let Ok(filters) = filters_of(alloc, diary, filters, "") else {
-        return None;
-    };
-    let Ok(listeners) = listeners_of(alloc, diary, listeners) else {
-        return None;
-    };
-    let Ok(deployment) = Deployment::from_toml(alloc, DESCRIPTOR) else {
-        return None;
-    };
-    match Container::start(alloc, deployment, servlets, filters, listeners) {
-        Ok(_) => None,
-        Err(back) => Some(back),
-    }
+    let servlets = servlets_of(rt, alloc, diary, servlets, "");
+    let filters = filters_of(rt, alloc, diary, filters, "");
+    let listeners = listeners_of(rt, alloc, diary, listeners);
+    let deployment = deployment_of(rt, alloc, DESCRIPTOR);
+    Container::start(alloc, deployment, servlets, filters, listeners).err()
 }
 
 /// The fault is that of a row, and all its objects are there.
@@ -90,8 +80,8 @@ fn are_dropped(diary: &Diary, row: &Row) -> bool {
 }
 
 /// All objects of a row are handed back, none has been called, and each is dropped once.
-fn is_handed_back(alloc: Global, diary: &Diary, row: &Row) -> bool {
-    let Some(back) = back_from(alloc, diary, row) else {
+fn is_handed_back(rt: &impl Abort, alloc: Global, diary: &Diary, row: &Row) -> bool {
+    let Some(back) = back_from(rt, alloc, diary, row) else {
         return false;
     };
     let is_right = is_whole(&back, row) && has_notes(diary, "");
@@ -99,10 +89,9 @@ fn is_handed_back(alloc: Global, diary: &Diary, row: &Row) -> bool {
     is_right && are_dropped(diary, row)
 }
 
-pub fn faults_hand_all_objects_back(alloc: Global, input: usize) -> Result<bool, AllocError> {
-    let Some(row) = ROWS.get(input) else {
-        return Ok(false);
-    };
-    let diary = new_diary(alloc)?;
-    Ok(is_handed_back(alloc, &diary, row))
+pub fn faults_hand_all_objects_back(rt: &impl Abort, alloc: Global, input: usize) -> bool {
+    match ROWS.get(input) {
+        Some(row) => is_handed_back(rt, alloc, &new_diary(rt, alloc), row),
+        None => false,
+    }
 }

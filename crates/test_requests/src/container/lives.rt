@@ -1,15 +1,17 @@
 //! Two applications from start to shutdown.
 
-ghost use Rattle.std.specs.Prelude.{◌≡◌, IfSome};
+ghost use Rattle.sv_container.specs.Life.{AreNamedNew};
 
 use crate::container::cast::{
     Part, filters_of, has_end, has_notes, listeners_of, new_diary, servlets_of,
 };
 use crate::container::noting::{Diary, NotingFilter, NotingListener, NotingServlet};
-use std::alloc::{AllocError, Global};
+use std::alloc::Global;
+use std::process::Abort;
 use sv_config::Deployment;
-use sv_container::{Container, Stopped};
+use sv_container::{Container, Named, Stopped};
 use sv_model::Engine;
+use sv_servlet::{Filter, Listener, Servlet};
 
 pub type Noted = Container<NotingServlet, NotingFilter, NotingListener>;
 
@@ -40,26 +42,37 @@ pub static LISTENERS: [Part; 4] = [(1, "l4"), (0, "l2"), (1, "l3"), (0, "l1")];
 pub const STARTED: &str =
     "l1.up l2.up f1.init f2.init s1.init s2.init l3.up l4.up f3.init s3.init ";
 
-/// The two applications, if they start; the servlet or filter that is called `unable` can't be initialised.
-pub fn started(alloc: Global, diary: &Diary, unable: &str) -> Option<Noted>
-    ensures { IfSome result (λ c. ⟦<Noted as Engine>⟧.valid c) }
+pub fn deployment_of(rt: &impl Abort, alloc: Global, descriptor: &str) -> Deployment {
+    Deployment::from_toml(alloc, descriptor).expect(rt, "a deployment")
+}
+
+/// The two applications with their objects.
+pub fn start<S: Servlet, F: Filter, L: Listener>(
+    rt: &impl Abort,
+    alloc: Global,
+    servlets: Vec<Named<S>>,
+    filters: Vec<Named<F>>,
+    listeners: Vec<Named<L>>,
+) -> Container<S, F, L>
+    requires servlets { AreNamedNew S.servlet_phase servlets.items }
+    requires filters { AreNamedNew F.filter_phase filters.items }
+    ensures { ⟦<Container<S, F, L> as Engine>⟧.valid result }
 {
-    let Ok(servlets) = servlets_of(alloc, diary, &SERVLETS, unable) else {
-        return None;
-    };
-    let Ok(filters) = filters_of(alloc, diary, &FILTERS, unable) else {
-        return None;
-    };
-    let Ok(listeners) = listeners_of(alloc, diary, &LISTENERS) else {
-        return None;
-    };
-    let Ok(deployment) = Deployment::from_toml(alloc, DESCRIPTOR) else {
-        return None;
-    };
+    let deployment = deployment_of(rt, alloc, DESCRIPTOR);
     match Container::start(alloc, deployment, servlets, filters, listeners) {
-        Ok(container) => Some(container),
-        Err(_) => None,
+        Ok(container) => container,
+        Err(_) => panic!(rt; "the applications don't start"),
     }
+}
+
+/// The same; the servlet or filter that is called `unable` can't be initialised.
+pub fn started(rt: &impl Abort, alloc: Global, diary: &Diary, unable: &str) -> Noted
+    ensures { ⟦<Noted as Engine>⟧.valid result }
+{
+    let servlets = servlets_of(rt, alloc, diary, &SERVLETS, unable);
+    let filters = filters_of(rt, alloc, diary, &FILTERS, unable);
+    let listeners = listeners_of(rt, alloc, diary, &LISTENERS);
+    start(rt, alloc, servlets, filters, listeners)
 }
 
 /// The object that can't be initialised, how many servlets and filters are destroyed, and what is noted at the shutdown.
@@ -92,11 +105,9 @@ static SHUTDOWNS: [Row; 3] = [
 ];
 
 /// A row's objects live from the start to the shutdown as it says.
-fn is_lived(alloc: Global, diary: &Diary, row: &Row) -> bool {
+fn is_lived(rt: &impl Abort, alloc: Global, diary: &Diary, row: &Row) -> bool {
     let (unable, servlets, filters, notes) = *row;
-    let Some(container) = started(alloc, diary, unable) else {
-        return false;
-    };
+    let container = started(rt, alloc, diary, unable);
     let is_started = has_notes(diary, STARTED);
     let stopped = container.shutdown();
     is_started && stopped == Stopped { servlets, filters } && has_end(diary, notes)
@@ -104,19 +115,18 @@ fn is_lived(alloc: Global, diary: &Diary, row: &Row) -> bool {
 
 /// Each object is initialised once, also where another one fails; each that is ready is destroyed once; all are dropped
 /// behind the last call.
-pub fn lives_in_order(alloc: Global, input: usize) -> Result<bool, AllocError> {
-    let Some(row) = SHUTDOWNS.get(input) else {
-        return Ok(false);
-    };
-    let diary = new_diary(alloc)?;
-    Ok(is_lived(alloc, &diary, row))
+pub fn lives_in_order(rt: &impl Abort, alloc: Global, input: usize) -> bool {
+    match SHUTDOWNS.get(input) {
+        Some(row) => is_lived(rt, alloc, &new_diary(rt, alloc), row),
+        None => false,
+    }
 }
 
 /// A container that is dropped drops its objects alone: without a shutdown nothing is destroyed and nothing goes down.
-pub fn drop_calls_no_object(alloc: Global) -> Result<bool, AllocError> {
-    let diary = new_diary(alloc)?;
-    let container = started(alloc, &diary, "");
-    let is_started = container.is_some() && has_notes(&diary, STARTED);
+pub fn drop_calls_no_object(rt: &impl Abort, alloc: Global) -> bool {
+    let diary = new_diary(rt, alloc);
+    let container = started(rt, alloc, &diary, "");
+    let is_started = has_notes(&diary, STARTED);
     drop(container);
-    Ok(is_started && has_end(&diary, ""))
+    is_started && has_end(&diary, "")
 }

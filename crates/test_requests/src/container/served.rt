@@ -4,7 +4,8 @@ use crate::container::cast::{clear_notes, has_notes, new_diary};
 use crate::container::lives::started;
 use crate::container::noting::Diary;
 use crate::requests::request_for;
-use std::alloc::{AllocError, Global};
+use std::alloc::Global;
+use std::process::Abort;
 use sv_model::{Engine, Key, Request, Secret};
 
 const FRESH: (Key, Secret) = (Key { home: 0, serial: 1 }, Secret([1; 16]));
@@ -25,16 +26,17 @@ fn serves<E: Engine>(engine: &mut E, request: &Request, status: u16) -> bool
 
 /// Whether a request for a path is answered with this status.
 pub fn is_answered<E: Engine>(
+    rt: &impl Abort,
     alloc: Global,
     engine: &mut E,
     path: &str,
     status: u16,
-) -> Result<bool, AllocError>
+) -> bool
     requires { E.valid engine.old }
     ensures { E.valid engine.new }
 {
-    let request = request_for(alloc, path, path, false)?;
-    Ok(serves(engine, &request, status))
+    let request = request_for(rt, alloc, path, path, false);
+    serves(engine, &request, status)
 }
 
 /// The object that can't be initialised, a path, the status, and what is noted.
@@ -85,19 +87,16 @@ static ROWS: [Row; 7] = [
 ];
 
 /// A row's request is answered, and its objects are called, as it says.
-fn is_served(alloc: Global, diary: &Diary, row: &Row) -> bool {
+fn is_served(rt: &impl Abort, alloc: Global, diary: &Diary, row: &Row) -> bool {
     let (unable, path, status, notes) = *row;
-    let Some(mut container) = started(alloc, diary, unable) else {
-        return false;
-    };
+    let mut container = started(rt, alloc, diary, unable);
     clear_notes(diary);
-    is_answered(alloc, &mut container, path, status) == Ok(true) && has_notes(diary, notes)
+    is_answered(rt, alloc, &mut container, path, status) && has_notes(diary, notes)
 }
 
-pub fn requests_reach_their_objects(alloc: Global, input: usize) -> Result<bool, AllocError> {
-    let Some(row) = ROWS.get(input) else {
-        return Ok(false);
-    };
-    let diary = new_diary(alloc)?;
-    Ok(is_served(alloc, &diary, row))
+pub fn requests_reach_their_objects(rt: &impl Abort, alloc: Global, input: usize) -> bool {
+    match ROWS.get(input) {
+        Some(row) => is_served(rt, alloc, &new_diary(rt, alloc), row),
+        None => false,
+    }
 }

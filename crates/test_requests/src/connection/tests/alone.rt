@@ -7,11 +7,12 @@ use super::AT;
 use super::engines::{Greeter, Turner};
 use crate::requests::request_for;
 use std::alloc::Global;
+use std::process::Abort;
 use sv_connection::Solo;
-use sv_model::{Input, Key, Moment, MoveRefusal, Output, Packet, Secret, Site, StepFault};
+use sv_model::{Input, Key, Moment, MoveRefusal, Output, Packet, Secret, Site};
 
 /// Steps a site as any caller of one does.
-fn step_at<S: Site>(site: &mut S, now: u64, input: Input) -> Result<Vec<Output>, StepFault>
+fn step_at<S: Site>(rt: &impl Abort, site: &mut S, now: u64, input: Input) -> Vec<Output>
     requires valid { S.site_valid site.old }
     requires input { IsInput input }
     ensures { S.site_valid site.new }
@@ -20,25 +21,25 @@ fn step_at<S: Site>(site: &mut S, now: u64, input: Input) -> Result<Vec<Output>,
         now,
         secret: AT.secret,
     };
-    site.step(moment, input)
+    site.step(moment, input).expect(rt, "a step succeeds")
 }
 
 /// The same at one moment, by a request.
-fn ask_once<S: Site>(site: &mut S, alloc: Global, token: u64) -> Result<Vec<Output>, StepFault>
+fn ask_once<S: Site>(rt: &impl Abort, site: &mut S, alloc: Global, token: u64) -> Vec<Output>
     requires { S.site_valid site.old }
     ensures { S.site_valid site.new }
 {
-    let request = request_for(alloc, "/as/sent", "/as/read", true)?;
-    step_at(site, AT.now, Input::Ask { token, request })
+    let request = request_for(rt, alloc, "/as/sent", "/as/read", true);
+    step_at(rt, site, AT.now, Input::Ask { token, request })
 }
 
 /// By an order to move a session.
-fn move_once<S: Site>(site: &mut S, key: Key) -> Result<Vec<Output>, StepFault>
+fn move_once<S: Site>(rt: &impl Abort, site: &mut S, key: Key) -> Vec<Output>
     requires valid { S.site_valid site.old }
     requires key { IsKey key }
     ensures { S.site_valid site.new }
 {
-    step_at(site, AT.now, Input::Move { key, to: 1 })
+    step_at(rt, site, AT.now, Input::Move { key, to: 1 })
 }
 
 /// The only output is the answer of the greeter under this number, which closes.
@@ -55,17 +56,17 @@ fn is_greeting(outputs: &[Output], token: u64) -> bool {
 }
 
 /// Whether a request under a number is greeted.
-fn greets<S: Site>(site: &mut S, alloc: Global, token: u64) -> Result<bool, StepFault>
+fn greets<S: Site>(rt: &impl Abort, site: &mut S, alloc: Global, token: u64) -> bool
     requires { S.site_valid site.old }
     ensures { S.site_valid site.new }
 {
-    let outputs = ask_once(site, alloc, token)?;
-    Ok(is_greeting(&outputs, token))
+    let outputs = ask_once(rt, site, alloc, token);
+    is_greeting(&outputs, token)
 }
 
-pub(in crate::connection) fn a_node_alone_answers(alloc: Global) -> bool {
+pub(in crate::connection) fn a_node_alone_answers(rt: &impl Abort, alloc: Global) -> bool {
     let mut site = Solo::new(alloc, Greeter { alloc });
-    greets(&mut site, alloc, 3) == Ok(true) && greets(&mut site, alloc, 4) == Ok(true)
+    greets(rt, &mut site, alloc, 3) && greets(rt, &mut site, alloc, 4)
 }
 
 /// The first session, of the only node.
@@ -82,38 +83,39 @@ fn is_refusal(outputs: &[Output], reason: MoveRefusal) -> bool {
 }
 
 /// Whether a request under the number 7 is answered.
-fn is_answered<S: Site>(site: &mut S, alloc: Global) -> Result<bool, StepFault>
+fn is_answered<S: Site>(rt: &impl Abort, site: &mut S, alloc: Global) -> bool
     requires { S.site_valid site.old }
     ensures { S.site_valid site.new }
 {
-    let outputs = ask_once(site, alloc, 7)?;
-    Ok(matches!(outputs.as_slice(), [Output::Answer { token: 7, .. }]))
+    let outputs = ask_once(rt, site, alloc, 7);
+    matches!(outputs.as_slice(), [Output::Answer { token: 7, .. }])
 }
 
 /// A move of the first session is refused for a reason, and then a request is answered.
-fn is_turned<S: Site>(site: &mut S, alloc: Global, reason: MoveRefusal) -> Result<bool, StepFault>
+fn is_turned<S: Site>(rt: &impl Abort, site: &mut S, alloc: Global, reason: MoveRefusal) -> bool
     requires { S.site_valid site.old }
     ensures { S.site_valid site.new }
 {
-    Ok(is_refused(site, FIRST.0, reason)? && is_answered(site, alloc)?)
+    is_refused(rt, site, FIRST.0, reason) && is_answered(rt, site, alloc)
 }
 
 /// Nothing is known of the first session, then it was made, then it has ended; the third request made the second one, since the
 /// first had ended.
-fn keeps_sessions<S: Site>(site: &mut S, alloc: Global) -> Result<bool, StepFault>
+fn keeps_sessions<S: Site>(rt: &impl Abort, site: &mut S, alloc: Global) -> bool
     requires { S.site_valid site.old }
     ensures { S.site_valid site.new }
 {
-    Ok(
-        is_turned(site, alloc, MoveRefusal::UnknownKey)?
-            && is_turned(site, alloc, MoveRefusal::BadPeer)?
-            && is_turned(site, alloc, MoveRefusal::NotActive)?
-            && is_refused(site, SECOND, MoveRefusal::BadPeer)?,
-    )
+    is_turned(rt, site, alloc, MoveRefusal::UnknownKey)
+        && is_turned(rt, site, alloc, MoveRefusal::BadPeer)
+        && is_turned(rt, site, alloc, MoveRefusal::NotActive)
+        && is_refused(rt, site, SECOND, MoveRefusal::BadPeer)
 }
 
 /// Each request names the first session: where it isn't active one is made, where it is it ends.
-pub(in crate::connection) fn a_node_alone_keeps_its_sessions(alloc: Global) -> bool {
+pub(in crate::connection) fn a_node_alone_keeps_its_sessions(
+    rt: &impl Abort,
+    alloc: Global,
+) -> bool {
     let mut site = Solo::new(
         alloc,
         Turner {
@@ -122,7 +124,7 @@ pub(in crate::connection) fn a_node_alone_keeps_its_sessions(alloc: Global) -> b
             told: 0,
         },
     );
-    keeps_sessions(&mut site, alloc) == Ok(true)
+    keeps_sessions(rt, &mut site, alloc)
 }
 
 /// So many seconds after the requests, what a move of each of two sessions is refused for, and how many ends listeners were told.
@@ -162,50 +164,49 @@ static TICKS: [Ticked; 4] = [
 ];
 
 /// How many outputs a step has.
-fn put_out<S: Site>(site: &mut S, now: u64, input: Input) -> Result<usize, StepFault>
+fn put_out<S: Site>(rt: &impl Abort, site: &mut S, now: u64, input: Input) -> usize
     requires valid { S.site_valid site.old }
     requires input { IsInput input }
     ensures { S.site_valid site.new }
 {
-    let outputs = step_at(site, now, input)?;
-    Ok(outputs.len())
+    step_at(rt, site, now, input).len()
 }
 
 /// Whether an order to move a session is refused for this reason.
-fn is_refused<S: Site>(site: &mut S, key: Key, reason: MoveRefusal) -> Result<bool, StepFault>
+fn is_refused<S: Site>(rt: &impl Abort, site: &mut S, key: Key, reason: MoveRefusal) -> bool
     requires valid { S.site_valid site.old }
     requires key { IsKey key }
     ensures { S.site_valid site.new }
 {
-    let outputs = move_once(site, key)?;
-    Ok(is_refusal(outputs.as_slice(), reason))
+    let outputs = move_once(rt, site, key);
+    is_refusal(outputs.as_slice(), reason)
 }
 
 /// After so many seconds a tick puts nothing out, and then moves of the two sessions are refused as it says.
-fn is_ticked<S: Site>(site: &mut S, tick: &Ticked) -> Result<bool, StepFault>
+fn is_ticked<S: Site>(rt: &impl Abort, site: &mut S, tick: &Ticked) -> bool
     requires { S.site_valid site.old }
     ensures { S.site_valid site.new }
 {
     let now = AT.now.saturating_add(tick.after);
-    Ok(
-        put_out(site, now, Input::Tick)? == 0
-            && is_refused(site, FIRST.0, tick.first)?
-            && is_refused(site, SECOND, tick.second)?,
-    )
+    put_out(rt, site, now, Input::Tick) == 0
+        && is_refused(rt, site, FIRST.0, tick.first)
+        && is_refused(rt, site, SECOND, tick.second)
 }
 
 /// Makes both sessions.
-fn make_two<S: Site>(site: &mut S, alloc: Global) -> Result<(), StepFault>
+fn make_two<S: Site>(rt: &impl Abort, site: &mut S, alloc: Global)
     requires { S.site_valid site.old }
     ensures { S.site_valid site.new }
 {
-    ask_once(site, alloc, 7)?;
-    ask_once(site, alloc, 7)?;
-    Ok(())
+    ask_once(rt, site, alloc, 7);
+    ask_once(rt, site, alloc, 7);
 }
 
 /// A session that nothing has named for its 60 seconds ends at a tick, and not before; the listeners are told it once.
-pub(in crate::connection) fn a_node_alone_ends_what_has_expired(alloc: Global) -> bool {
+pub(in crate::connection) fn a_node_alone_ends_what_has_expired(
+    rt: &impl Abort,
+    alloc: Global,
+) -> bool {
     let mut site = Solo::new(
         alloc,
         Turner {
@@ -214,16 +215,17 @@ pub(in crate::connection) fn a_node_alone_ends_what_has_expired(alloc: Global) -
             told: 0,
         },
     );
-    let mut is_right = make_two(&mut site, alloc) == Ok(());
+    make_two(rt, &mut site, alloc);
+    let mut is_right = true;
     for tick in &TICKS {
-        let is_ended = is_ticked(&mut site, tick) == Ok(true);
+        let is_ended = is_ticked(rt, &mut site, tick);
         is_right = is_right && is_ended && site.engine.told == tick.told;
     }
     is_right
 }
 
 /// What concerns other nodes puts nothing out, and nothing can be moved.
-fn has_no_peers<S: Site>(site: &mut S) -> Result<bool, StepFault>
+fn has_no_peers<S: Site>(rt: &impl Abort, site: &mut S) -> bool
     requires { S.site_valid site.old }
     ensures { S.site_valid site.new }
 {
@@ -234,15 +236,13 @@ fn has_no_peers<S: Site>(site: &mut S) -> Result<bool, StepFault>
         boot: 1,
         want: 0,
     };
-    Ok(
-        put_out(site, AT.now, Input::Packet(no))? == 0
-            && put_out(site, AT.now, Input::Poke)? == 0
-            && put_out(site, AT.now, Input::Tick)? == 0
-            && is_refused(site, FIRST.0, MoveRefusal::UnknownKey)?,
-    )
+    put_out(rt, site, AT.now, Input::Packet(no)) == 0
+        && put_out(rt, site, AT.now, Input::Poke) == 0
+        && put_out(rt, site, AT.now, Input::Tick) == 0
+        && is_refused(rt, site, FIRST.0, MoveRefusal::UnknownKey)
 }
 
-pub(in crate::connection) fn a_node_alone_has_no_peers(alloc: Global) -> bool {
+pub(in crate::connection) fn a_node_alone_has_no_peers(rt: &impl Abort, alloc: Global) -> bool {
     let mut site = Solo::new(alloc, Greeter { alloc });
-    has_no_peers(&mut site) == Ok(true)
+    has_no_peers(rt, &mut site)
 }

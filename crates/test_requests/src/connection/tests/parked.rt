@@ -2,11 +2,12 @@
 //!
 //! The texts are written out from RFC 9112 (sections 4 and 6) and RFC 9110 (sections 9.3.2 and 15.6.4).
 
-use super::AT;
 use super::echo::Echo;
 use super::streams::new_sink;
-use std::alloc::{AllocError, Global};
-use sv_connection::{Connection, Outcome, refusal};
+use super::{AT, refused};
+use std::alloc::Global;
+use std::process::Abort;
+use sv_connection::{Connection, Outcome};
 use sv_model::{Cause, Response};
 
 /// A method, whether its answer leaves out its body, and the text of that answer.
@@ -60,20 +61,25 @@ fn wait(alloc: Global, sent: &str, response: &Response, text: &str) -> Waited {
     }
 }
 
-fn waited_by(alloc: Global, row: &Row) -> Result<Waited, AllocError> {
+fn sent_by(rt: &impl Abort, alloc: Global, method: &str) -> String {
+    format!(in alloc; "{method} /park HTTP/1.1\r\nHost: h\r\n\r\n").expect(rt, "memory")
+}
+
+fn waited_by(rt: &impl Abort, alloc: Global, row: &Row) -> Waited {
     let (method, head_only, text) = *row;
-    let sent = format!(in alloc; "{method} /park HTTP/1.1\r\nHost: h\r\n\r\n")?;
-    let response = refusal(alloc, Cause::Deadline, head_only, true)?;
-    Ok(wait(alloc, &sent, &response, text))
+    let sent = sent_by(rt, alloc, method);
+    let response = refused(rt, alloc, Cause::Deadline, head_only, true);
+    wait(alloc, &sent, &response, text)
 }
 
 /// Nothing is written until the answer is there, and that is all that is written.
 pub(in crate::connection) fn a_request_waits_for_its_answer(
+    rt: &impl Abort,
     alloc: Global,
     input: usize,
-) -> Result<bool, AllocError> {
+) -> bool {
     let Some(row) = ROWS.get(input) else {
-        return Ok(false);
+        return false;
     };
     let want = Waited {
         waits_before: false,
@@ -84,7 +90,7 @@ pub(in crate::connection) fn a_request_waits_for_its_answer(
         waits_after: false,
         is_written: true,
     };
-    Ok(waited_by(alloc, row)? == want)
+    waited_by(rt, alloc, row) == want
 }
 
 /// A request that waits, its answer, whose first write fails, and the call after it; and how many steps were taken.
@@ -106,13 +112,14 @@ fn fail_late(alloc: Global, response: &Response) -> ([Outcome; 3], u64) {
 
 /// An answer that can't be written closes the connection, which waits no longer.
 pub(in crate::connection) fn a_late_answer_that_is_not_written(
+    rt: &impl Abort,
     alloc: Global,
-) -> Result<bool, AllocError> {
-    let response = refusal(alloc, Cause::Deadline, false, false)?;
+) -> bool {
+    let response = refused(rt, alloc, Cause::Deadline, false, false);
     let want = [
         Outcome::Parked { head_only: false },
         Outcome::WriteFailed,
         Outcome::Closed,
     ];
-    Ok(fail_late(alloc, &response) == (want, 1))
+    fail_late(alloc, &response) == (want, 1)
 }

@@ -3,7 +3,9 @@
 //! The texts are written out from RFC 9112 (sections 3 to 6 and 9) and RFC 9110 (sections 6.6.1, 8.6 and 15.5.1).
 
 use super::{AT, bare_answer};
-use std::alloc::{AllocError, Global};
+use crate::fixtures::add;
+use std::alloc::Global;
+use std::process::Abort;
 use sv_connection::{Connection, Received, RequestFault};
 use sv_model::{Request, is_head};
 
@@ -59,19 +61,16 @@ impl Caller {
     }
 
     /// Tells a word; whether more can be there.
-    fn say(&mut self, word: &str, is_request: bool) -> Result<bool, AllocError> {
-        self.told.push_str(word)?;
-        Ok(is_request)
+    fn say(&mut self, rt: &impl Abort, word: &str, is_request: bool) -> bool {
+        add(rt, &mut self.told, word);
+        is_request
     }
 
     /// Tells of a request, and answers it with no body.
-    fn tell_request(&mut self, request: &Request) -> Result<bool, AllocError> {
-        let head_only = is_head(&request.method);
-        let close = request.close;
-        let path = request.path.as_str();
-        let text = format!(in self.alloc; "{path} {head_only} {close};")?;
-        self.answer(head_only, close);
-        self.say(&text, true)
+    fn tell_request(&mut self, rt: &impl Abort, request: &Request) -> bool {
+        let text = words_of(rt, self.alloc, request);
+        self.answer(is_head(&request.method), request.close);
+        self.say(rt, &text, true)
     }
 
     fn answer(&mut self, head_only: bool, close: bool) {
@@ -80,88 +79,101 @@ impl Caller {
     }
 
     /// Writes the page of a fault, and tells of it.
-    fn tell_refusal(&mut self, fault: RequestFault, head_only: bool) -> Result<bool, AllocError> {
+    fn tell_refusal(&mut self, rt: &impl Abort, fault: RequestFault, head_only: bool) -> bool {
         let outcome = self
             .connection
             .refuse(&mut self.written, fault, head_only, AT.now);
-        let text = format!(in self.alloc; "{outcome:?} {head_only};")?;
-        self.say(&text, false)
+        let text = format!(in self.alloc; "{outcome:?} {head_only};").expect(rt, "memory");
+        self.say(rt, &text, false)
     }
 
     /// Tells what was given; a request is answered, and the page of a fault is written. Whether more can be there.
-    fn tell(&mut self, received: Received) -> Result<bool, AllocError> {
+    fn tell(&mut self, rt: &impl Abort, received: Received) -> bool {
         match received {
-            Received::Request(request) => self.tell_request(&request),
-            Received::Refused { fault, head_only } => self.tell_refusal(fault, head_only),
-            Received::More => self.say("more;", false),
-            Received::Closed => self.say("closed;", false),
+            Received::Request(request) => self.tell_request(rt, &request),
+            Received::Refused { fault, head_only } => self.tell_refusal(rt, fault, head_only),
+            Received::More => self.say(rt, "more;", false),
+            Received::Closed => self.say(rt, "closed;", false),
         }
     }
 
-    fn receive_once(&mut self, piece: &[u8]) -> Result<bool, AllocError> {
+    fn receive_once(&mut self, rt: &impl Abort, piece: &[u8]) -> bool {
         if self.connection.waiting() {
-            return Ok(false);
+            return false;
         }
         let received = self.connection.receive(piece);
-        self.tell(received)
+        self.tell(rt, received)
     }
 
     /// Hands on what has come, and then nothing, until there is no request.
-    fn receive(&mut self, piece: &[u8]) -> Result<(), AllocError> {
-        if !self.receive_once(piece)? {
-            return Ok(());
+    fn receive(&mut self, rt: &impl Abort, piece: &[u8]) {
+        if !self.receive_once(rt, piece) {
+            return;
         }
         for _ in 0..3 {
-            if !self.receive_once(&[])? {
+            if !self.receive_once(rt, &[]) {
                 break;
             }
         }
-        Ok(())
     }
 
     /// Says that nothing more comes, until there is no request.
-    fn end(&mut self) -> Result<(), AllocError> {
+    fn end(&mut self, rt: &impl Abort) {
         for _ in 0..3 {
             if self.connection.waiting() {
                 break;
             }
             let received = self.connection.end();
-            if !self.tell(received)? {
+            if !self.tell(rt, received) {
                 break;
             }
         }
-        Ok(())
+    }
+
+    /// Just this was told, and this written.
+    fn has(&self, told: &str, written: &str) -> bool {
+        self.told.as_str() == told && self.written.as_slice() == written.as_bytes()
     }
 }
 
+/// A request in words.
+fn words_of(rt: &impl Abort, alloc: Global, request: &Request) -> String {
+    let head_only = is_head(&request.method);
+    let close = request.close;
+    let path = request.path.as_str();
+    format!(in alloc; "{path} {head_only} {close};").expect(rt, "memory")
+}
+
 /// Two pieces and the end.
-fn tell_cut(caller: &mut Caller, first: &[u8], rest: &[u8]) -> Result<(), AllocError> {
-    caller.receive(first)?;
-    caller.told.push('|')?;
-    caller.receive(rest)?;
-    caller.told.push('|')?;
-    caller.end()
+fn tell_cut(rt: &impl Abort, caller: &mut Caller, first: &[u8], rest: &[u8]) {
+    caller.receive(rt, first);
+    add(rt, &mut caller.told, "|");
+    caller.receive(rt, rest);
+    add(rt, &mut caller.told, "|");
+    caller.end(rt);
 }
 
 /// Whether this is told of a stream that is cut there, and this written.
 fn is_told(
+    rt: &impl Abort,
     alloc: Global,
     stream: &str,
     cut: usize,
     told: &str,
     written: &str,
-) -> Result<bool, AllocError> {
+) -> bool {
     let bytes = stream.as_bytes();
     let (Some(first), Some(rest)) = (bytes.get(..cut), bytes.get(cut..)) else {
-        return Ok(false);
+        return false;
     };
     let mut caller = Caller::new(alloc);
-    match tell_cut(&mut caller, first, rest) {
-        Ok(()) => Ok(
-            caller.told.as_str() == told && caller.written.as_slice() == written.as_bytes(),
-        ),
-        Err(fault) => Err(fault),
-    }
+    tell_cut(rt, &mut caller, first, rest);
+    caller.has(told, written)
+}
+
+/// Two texts in one.
+fn both(rt: &impl Abort, alloc: Global, first: &str, second: &str) -> String {
+    format!(in alloc; "{first}{second}").expect(rt, "memory")
 }
 
 /// What two requests are told as, by where their stream is cut.
@@ -181,13 +193,14 @@ const CLOSING: &str =
 
 /// Two requests come, however the stream is cut: one is given once it is whole, and all else is kept.
 pub(in crate::connection) fn two_requests_cut_anywhere(
+    rt: &impl Abort,
     alloc: Global,
     cut: usize,
-) -> Result<bool, AllocError> {
-    let stream = format!(in alloc; "{FIRST}{LAST}")?;
-    let written = format!(in alloc; "{ANSWERED}{CLOSING}")?;
+) -> bool {
+    let stream = both(rt, alloc, FIRST, LAST);
+    let written = both(rt, alloc, ANSWERED, CLOSING);
     let told = told_of_two(cut, stream.len());
-    is_told(alloc, &stream, cut, told, &written)
+    is_told(rt, alloc, &stream, cut, told, &written)
 }
 
 /// What a request and a fault are told as, by where their stream is cut.
@@ -203,75 +216,56 @@ fn told_of_fault(cut: usize, end: usize) -> &'static str {
 
 /// The request before a fault is given, and the fault once it stands there.
 pub(in crate::connection) fn a_fault_in_the_second_cut_anywhere(
+    rt: &impl Abort,
     alloc: Global,
     cut: usize,
-) -> Result<bool, AllocError> {
-    let stream = format!(in alloc; "{FIRST}{FAULTY}")?;
-    let written = format!(in alloc; "{ANSWERED}{PAGE}")?;
+) -> bool {
+    let stream = both(rt, alloc, FIRST, FAULTY);
+    let written = both(rt, alloc, ANSWERED, PAGE);
     let told = told_of_fault(cut, stream.len());
-    is_told(alloc, &stream, cut, told, &written)
-}
-
-/// Some bytes, and the end.
-fn tell_end(caller: &mut Caller, sent: &[u8]) -> Result<(), AllocError> {
-    caller.receive(sent)?;
-    caller.end()
+    is_told(rt, alloc, &stream, cut, told, &written)
 }
 
 /// Whether the input that ends behind these bytes is told so, and no more than this is written; and whether it closes.
-fn ends_so(alloc: Global, sent: &[u8], told: &str, written: &str) -> Result<bool, AllocError> {
+fn ends_so(rt: &impl Abort, alloc: Global, sent: &[u8], told: &str, written: &str) -> bool {
     let mut caller = Caller::new(alloc);
-    match tell_end(&mut caller, sent) {
-        Ok(()) => Ok(
-            caller.told.as_str() == told
-                && caller.written.as_slice() == written.as_bytes()
-                && caller.connection.closed(),
-        ),
-        Err(fault) => Err(fault),
-    }
+    caller.receive(rt, sent);
+    caller.end(rt);
+    caller.has(told, written) && caller.connection.closed()
 }
 
 /// Whether the input that ends inside the first of two requests, or the second, is told so.
-fn ends_inside(alloc: Global, sent: &[u8]) -> Result<bool, AllocError> {
+fn ends_inside(rt: &impl Abort, alloc: Global, sent: &[u8]) -> bool {
     if sent.len() < FIRST.len() {
-        ends_so(alloc, sent, "more;closed;", "")
+        ends_so(rt, alloc, sent, "more;closed;", "")
     } else {
-        ends_so(alloc, sent, "/a false false;more;closed;", ANSWERED)
+        ends_so(rt, alloc, sent, "/a false false;more;closed;", ANSWERED)
     }
 }
 
 /// The input ends inside a request: nothing is written for it, and the connection closes.
 pub(in crate::connection) fn the_input_ends_inside_a_request(
+    rt: &impl Abort,
     alloc: Global,
     len: usize,
-) -> Result<bool, AllocError> {
-    let stream = format!(in alloc; "{FIRST}{LAST}")?;
+) -> bool {
+    let stream = both(rt, alloc, FIRST, LAST);
     match stream.as_bytes().get(..len) {
-        Some(sent) => ends_inside(alloc, sent),
-        None => Ok(false),
-    }
-}
-
-/// All of a stream at once, and the end.
-fn tell_whole(caller: &mut Caller, stream: &str) -> Result<(), AllocError> {
-    let _ = caller.receive_once(stream.as_bytes())?;
-    caller.end()
-}
-
-fn is_told_whole(alloc: Global, stream: &str, told: &str) -> Result<bool, AllocError> {
-    let mut caller = Caller::new(alloc);
-    match tell_whole(&mut caller, stream) {
-        Ok(()) => Ok(caller.told.as_str() == told),
-        Err(fault) => Err(fault),
+        Some(sent) => ends_inside(rt, alloc, sent),
+        None => false,
     }
 }
 
 /// What stands there whole is given, though nothing more comes.
 pub(in crate::connection) fn the_input_ends_behind_two_requests(
+    rt: &impl Abort,
     alloc: Global,
-) -> Result<bool, AllocError> {
-    let stream = format!(in alloc; "{FIRST}{LAST}")?;
-    is_told_whole(alloc, &stream, "/a false false;/b true true;closed;")
+) -> bool {
+    let stream = both(rt, alloc, FIRST, LAST);
+    let mut caller = Caller::new(alloc);
+    let _ = caller.receive_once(rt, stream.as_bytes());
+    caller.end(rt);
+    caller.told.as_str() == "/a false false;/b true true;closed;"
 }
 
 static FAULTY_TARGETS: [(&str, &str); 2] = [
@@ -285,27 +279,18 @@ static FAULTY_TARGETS: [(&str, &str); 2] = [
     ),
 ];
 
-/// Two pieces, the second of which is the rest of a request.
-fn tell_two(caller: &mut Caller, sent: &str) -> Result<(), AllocError> {
-    caller.receive(sent.as_bytes())?;
-    caller.receive(b" / HTTP/1.1\r\nHost: h\r\n\r\n")
-}
-
-fn is_refused(alloc: Global, sent: &str, told: &str) -> Result<bool, AllocError> {
+/// Whether a request and then the rest of another are told so.
+fn is_refused(rt: &impl Abort, alloc: Global, sent: &str, told: &str) -> bool {
     let mut caller = Caller::new(alloc);
-    match tell_two(&mut caller, sent) {
-        Ok(()) => Ok(caller.told.as_str() == told),
-        Err(fault) => Err(fault),
-    }
+    caller.receive(rt, sent.as_bytes());
+    caller.receive(rt, b" / HTTP/1.1\r\nHost: h\r\n\r\n");
+    caller.told.as_str() == told
 }
 
 /// A fault of the method and the target is met once the request is whole, and nothing is read behind it.
-pub(in crate::connection) fn a_faulty_target(
-    alloc: Global,
-    input: usize,
-) -> Result<bool, AllocError> {
+pub(in crate::connection) fn a_faulty_target(rt: &impl Abort, alloc: Global, input: usize) -> bool {
     match FAULTY_TARGETS.get(input) {
-        Some((sent, told)) => is_refused(alloc, sent, told),
-        None => Ok(false),
+        Some((sent, told)) => is_refused(rt, alloc, sent, told),
+        None => false,
     }
 }

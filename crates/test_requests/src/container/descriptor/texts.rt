@@ -1,6 +1,7 @@
 //! What is said of a fault.
 
-use std::alloc::{AllocError, Global};
+use std::alloc::Global;
+use std::process::Abort;
 use sv_config::ConfigFault;
 
 /// A fault, and a word of what is said of it.
@@ -15,10 +16,14 @@ static FAULTS: [(ConfigFault, &str); 8] = [
     (ConfigFault::Memory, "memory"),
 ];
 
-pub fn says_what_to_look_for(alloc: Global, input: usize) -> Result<bool, AllocError> {
-    let Some((fault, word)) = FAULTS.get(input) else {
-        return Ok(false);
-    };
-    let text = fault.to_string(alloc)?;
-    Ok(text.contains(*word))
+/// What is said of a fault.
+fn said(rt: &impl Abort, alloc: Global, fault: ConfigFault) -> String {
+    fault.to_string(alloc).expect(rt, "memory")
+}
+
+pub fn says_what_to_look_for(rt: &impl Abort, alloc: Global, input: usize) -> bool {
+    match FAULTS.get(input) {
+        Some((fault, word)) => said(rt, alloc, *fault).contains(*word),
+        None => false,
+    }
 }

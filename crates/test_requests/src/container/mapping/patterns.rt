@@ -1,6 +1,7 @@
 //! What is said of a fault.
 
-use std::alloc::{AllocError, Global};
+use std::alloc::Global;
+use std::process::Abort;
 use sv_mapping::MappingFault;
 
 static FAULTS: [(MappingFault, &str); 4] = [
@@ -22,10 +23,14 @@ static FAULTS: [(MappingFault, &str); 4] = [
     ),
 ];
 
-pub fn says_what_is_at_fault(alloc: Global, input: usize) -> Result<bool, AllocError> {
-    let Some((fault, want)) = FAULTS.get(input) else {
-        return Ok(false);
-    };
-    let text = fault.to_string(alloc)?;
-    Ok(text.as_str() == *want)
+/// What is said of a fault.
+fn said(rt: &impl Abort, alloc: Global, fault: MappingFault) -> String {
+    fault.to_string(alloc).expect(rt, "memory")
+}
+
+pub fn says_what_is_at_fault(rt: &impl Abort, alloc: Global, input: usize) -> bool {
+    match FAULTS.get(input) {
+        Some((fault, want)) => said(rt, alloc, *fault).as_str() == *want,
+        None => false,
+    }
 }
