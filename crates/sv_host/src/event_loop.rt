@@ -13,12 +13,12 @@ use crate::nudges::{expire, settle, tick};
 use crate::server::Server;
 use sv_journal::Disk;
 use sv_model::Engine;
-use sv_net::{Acceptor, Machine};
+use sv_net::Acceptor;
 use sv_node::Node;
 
 /// What is done at the end of each turn as time passes.
-fn keep_time<M: Machine, E: Engine, D: Disk>(
-    machine: &M,
+fn keep_time<E: Engine, D: Disk>(
+    machine: &HostRuntime,
     server: &mut Server,
     node: &mut Node<E, D>,
     group: &mut Group,
@@ -31,8 +31,8 @@ fn keep_time<M: Machine, E: Engine, D: Disk>(
 }
 
 /// What is done at the end of each turn as sessions come.
-fn look_after<M: Machine, E: Engine, D: Disk>(
-    machine: &M,
+fn look_after<E: Engine, D: Disk>(
+    machine: &HostRuntime,
     server: &mut Server,
     node: &mut Node<E, D>,
     group: &mut Group,
@@ -45,8 +45,8 @@ fn look_after<M: Machine, E: Engine, D: Disk>(
 }
 
 /// What is done at the end of each turn.
-fn end_turn<M: Machine, E: Engine, D: Disk>(
-    machine: &M,
+fn end_turn<E: Engine, D: Disk>(
+    machine: &HostRuntime,
     server: &mut Server,
     node: &mut Node<E, D>,
     group: &mut Group,
@@ -59,8 +59,8 @@ fn end_turn<M: Machine, E: Engine, D: Disk>(
 }
 
 /// Gives what was gathered to the node.
-fn step_gathered<M: Machine, E: Engine, D: Disk>(
-    machine: &M,
+fn step_gathered<E: Engine, D: Disk>(
+    machine: &HostRuntime,
     server: &mut Server,
     node: &mut Node<E, D>,
     group: &mut Group,
@@ -79,8 +79,8 @@ fn step_gathered<M: Machine, E: Engine, D: Disk>(
 }
 
 /// Gives what was gathered to the node, and ends the turn. Where not all could be gathered the node then stops.
-fn finish_turn<M: Machine, E: Engine, D: Disk>(
-    machine: &M,
+fn finish_turn<E: Engine, D: Disk>(
+    machine: &HostRuntime,
     server: &mut Server,
     node: &mut Node<E, D>,
     group: &mut Group,
@@ -97,8 +97,8 @@ fn finish_turn<M: Machine, E: Engine, D: Disk>(
 }
 
 /// Tells the operator what there is to tell, waits until somebody is to be looked after, and looks who has taken too long.
-fn wait<M: Machine, E, D: Disk>(
-    machine: &M,
+fn wait<E, D: Disk>(
+    machine: &HostRuntime,
     server: &mut Server,
     node: &Node<E, D>,
     acceptor: &mut Acceptor,
@@ -114,8 +114,8 @@ fn wait<M: Machine, E, D: Disk>(
 }
 
 /// Waits until somebody is to be looked after, gives what has come to the node, and hands on what comes of it.
-fn take_turn<M: Machine, E: Engine, D: Disk>(
-    machine: &M,
+fn take_turn<E: Engine, D: Disk>(
+    machine: &HostRuntime,
     server: &mut Server,
     node: &mut Node<E, D>,
     group: &mut Group,
@@ -130,8 +130,8 @@ fn take_turn<M: Machine, E: Engine, D: Disk>(
 }
 
 /// Serves whoever connects, until the node is to stop.
-pub fn run<M: Machine, E: Engine, D: Disk>(
-    machine: &M,
+pub fn run<E: Engine, D: Disk>(
+    machine: &HostRuntime,
     server: &mut Server,
     node: &mut Node<E, D>,
     acceptor: &mut Acceptor,

@@ -11,7 +11,7 @@ use crate::serve::{serve, serve_newcomer};
 use crate::server::Server;
 use sv_log::Event;
 use sv_model::Input;
-use sv_net::{Acceptor, Arrival, Machine, Open, PIECE};
+use sv_net::{Acceptor, Arrival, Open, PIECE};
 
 /// So many packets of one connection are gathered in a turn, at most.
 const PACKETS: u32 = 16;
@@ -32,8 +32,8 @@ fn next_number(group: &Group) -> Result<u64, Stop>
 fn let_go(_input: Input) {}
 
 /// Adds what has come on a connection to a group. Where memory is refused who asks is told.
-fn add<M: Machine>(
-    machine: &M,
+fn add(
+    machine: &HostRuntime,
     server: &mut Server,
     group: &mut Group,
     came: Came,
@@ -66,8 +66,8 @@ fn add<M: Machine>(
 }
 
 /// The same of what may have come; whether anything had.
-fn add_some<M: Machine>(
-    machine: &M,
+fn add_some(
+    machine: &HostRuntime,
     server: &mut Server,
     group: &mut Group,
     came: Result<Option<Came>, Stop>,
@@ -91,8 +91,8 @@ fn add_some<M: Machine>(
 }
 
 /// Gathers what has come first on a connection; whether more may have come there for the node: a peer sends packet after packet.
-fn gather_one<M: Machine>(
-    machine: &M,
+fn gather_one(
+    machine: &HostRuntime,
     server: &mut Server,
     group: &mut Group,
     place: usize,
@@ -110,8 +110,8 @@ fn gather_one<M: Machine>(
 }
 
 /// Gathers what has come on a connection: one request, or some packets.
-fn gather_some<M: Machine>(
-    machine: &M,
+fn gather_some(
+    machine: &HostRuntime,
     server: &mut Server,
     group: &mut Group,
     place: usize,
@@ -135,8 +135,8 @@ fn gather_some<M: Machine>(
 }
 
 /// Gathers what has come on the connections whose turn it is.
-fn gather_reported<M: Machine>(
-    machine: &M,
+fn gather_reported(
+    machine: &HostRuntime,
     server: &mut Server,
     group: &mut Group,
     acceptor: &mut Acceptor,
@@ -161,8 +161,8 @@ fn gather_reported<M: Machine>(
 
 /// Accepts somebody who may stand at the door, and says at which place; none where nobody stands there, or there is no memory.
 /// Where there is no room for them, one that is open gives way.
-fn admit<M: Machine>(
-    machine: &M,
+fn admit(
+    machine: &HostRuntime,
     server: &mut Server,
     acceptor: &mut Acceptor,
 ) -> Option<(usize, Open)> {
@@ -190,8 +190,8 @@ fn admit<M: Machine>(
 }
 
 /// Gathers what else has come on a connection, where it is a peer's.
-fn gather_behind<M: Machine>(
-    machine: &M,
+fn gather_behind(
+    machine: &HostRuntime,
     server: &mut Server,
     group: &mut Group,
     place: usize,
@@ -213,8 +213,8 @@ fn gather_behind<M: Machine>(
 }
 
 /// Gathers what has come of one who was accepted, and of whom this place is to be.
-fn gather_newcomer<M: Machine>(
-    machine: &M,
+fn gather_newcomer(
+    machine: &HostRuntime,
     server: &mut Server,
     group: &mut Group,
     newcomer: (usize, Open),
@@ -236,8 +236,8 @@ fn gather_newcomer<M: Machine>(
 }
 
 /// Accepts one who stands at the door, and gathers what has come of that one.
-fn gather_new<M: Machine>(
-    machine: &M,
+fn gather_new(
+    machine: &HostRuntime,
     server: &mut Server,
     group: &mut Group,
     acceptor: &mut Acceptor,
@@ -254,8 +254,8 @@ fn gather_new<M: Machine>(
 }
 
 /// Gathers what has come of all whose turn it is, and of one who has come.
-pub fn gather<M: Machine>(
-    machine: &M,
+pub fn gather(
+    machine: &HostRuntime,
     server: &mut Server,
     group: &mut Group,
     acceptor: &mut Acceptor,

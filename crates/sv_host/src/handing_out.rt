@@ -18,7 +18,7 @@ use crate::round::Share;
 use crate::server::Server;
 use sv_log::{Event, Loss};
 use sv_model::{Cause, Output, Packet, Response, StepFault};
-use sv_net::{Machine, address_of, addressee};
+use sv_net::{address_of, addressee};
 
 /// Where what comes of an input goes that nobody asked for.
 const NO_WAY: Way = Way {
@@ -28,7 +28,7 @@ const NO_WAY: Way = Way {
 
 impl Server {
     /// Sends a packet to its node.
-    fn send(&mut self, machine: &impl Machine, packet: Packet)
+    fn send(&mut self, machine: &HostRuntime, packet: Packet)
         requires { IsPacket packet }
     {
         let to = addressee(&packet);
@@ -67,7 +67,7 @@ impl Server {
     }
 
     /// Hands on one output.
-    fn hand_on_one(&mut self, machine: &impl Machine, output: Output, now: u64)
+    fn hand_on_one(&mut self, machine: &HostRuntime, output: Output, now: u64)
         requires { IsSendable output }
     {
         match output {
@@ -82,7 +82,7 @@ impl Server {
     /// Hands on one output, but for a packet that isn't to be sent.
     fn hand_on_some(
         &mut self,
-        machine: &impl Machine,
+        machine: &HostRuntime,
         output: Output,
         now: u64,
         sending: &mut Sending,
@@ -97,7 +97,7 @@ impl Server {
     /// Hands on what a step has put out, in order: packets to their nodes, answers to the clients that wait for them.
     pub fn hand_on(
         &mut self,
-        machine: &impl Machine,
+        machine: &HostRuntime,
         outputs: Vec<Output>,
         now: u64,
         packets: Packets,
@@ -151,7 +151,7 @@ impl Server {
     /// Hands on what came of one input.
     fn hand_out_one(
         &mut self,
-        machine: &impl Machine,
+        machine: &HostRuntime,
         way: Way,
         answer: Result<Vec<Output>, StepFault>,
         now: u64,
@@ -176,7 +176,7 @@ impl Server {
     /// Hands on what came of the inputs of a group, in order; what came of the last of them.
     fn hand_out_all(
         &mut self,
-        machine: &impl Machine,
+        machine: &HostRuntime,
         ways: &[Way],
         answers: Vec<Result<Vec<Output>, StepFault>>,
     ) -> Taken
@@ -217,7 +217,7 @@ impl Server {
     /// Hands on what came of a group; what came of the last of its inputs.
     pub fn hand_out(
         &mut self,
-        machine: &impl Machine,
+        machine: &HostRuntime,
         ways: &[Way],
         answers: Result<Vec<Result<Vec<Output>, StepFault>>, StepFault>,
     ) -> Result<Taken, Stop>

@@ -24,7 +24,7 @@ use std::alloc::Global;
 use sv_journal::Disk;
 use sv_log::Report;
 use sv_model::{Engine, Setting};
-use sv_net::{Acceptor, Connections, Machine, Persistence, loopback};
+use sv_net::{Acceptor, Connections, Persistence, loopback};
 use sv_node::{Node, NotOpened};
 
 /// What a node has of its machine beside its disks: the port at which it listens, and its secrets.
@@ -57,7 +57,7 @@ pub struct Ended<E, D> {
 }
 
 /// Listens at the node's port.
-fn open_door(machine: &impl Machine, place: &Place) -> Result<(Acceptor, Registry), HostFault> {
+fn open_door(machine: &HostRuntime, place: &Place) -> Result<(Acceptor, Registry), HostFault> {
     let port = place
         .ports
         .get(usize::from(place.setting.node))
@@ -71,7 +71,7 @@ fn open_door(machine: &impl Machine, place: &Place) -> Result<(Acceptor, Registr
 
 /// Opens the file of secrets, and listens at the node's port.
 fn open_both(
-    machine: &impl Machine,
+    machine: &HostRuntime,
     place: &Place,
 ) -> Result<(Secrets, Acceptor, Registry), HostFault>
     ensures { IfOk result (λ r. last_of r.0 ≡ first_by place.now.secrets) }
@@ -91,12 +91,7 @@ struct Found {
 }
 
 /// Says that the node of this number is ready, in whose journal this was found; false where that can't be said.
-fn announce<M: Machine + Print>(
-    machine: &M,
-    server: &mut Server,
-    number: u8,
-    found: Found,
-) -> bool {
+fn announce(machine: &HostRuntime, server: &mut Server, number: u8, found: Found) -> bool {
     let Found { bytes, records } = found;
     server
         .connections
@@ -110,8 +105,8 @@ fn announce<M: Machine + Print>(
 }
 
 /// Says that the node of this number is ready, and serves until it is told to stop.
-fn serve_all<M: Machine + Print, E: Engine, D: Disk>(
-    machine: &M,
+fn serve_all<E: Engine, D: Disk>(
+    machine: &HostRuntime,
     server: &mut Server,
     node: &mut Node<E, D>,
     acceptor: &mut Acceptor,
@@ -136,8 +131,8 @@ fn serve_all<M: Machine + Print, E: Engine, D: Disk>(
 }
 
 /// Has a node that is open serve until it is told to stop, and takes it apart.
-fn live<M: Machine + Print, E: Engine, D: Disk>(
-    machine: &M,
+fn live<E: Engine, D: Disk>(
+    machine: &HostRuntime,
     server: &mut Server,
     node: Node<E, D>,
     acceptor: &mut Acceptor,
@@ -168,7 +163,7 @@ impl Host {
 
     /// Opens the file of secrets, and listens at the node's port. Faults are found in this order.
     pub fn at(
-        machine: &impl Machine,
+        machine: &HostRuntime,
         place: Place,
         persistence: Persistence,
     ) -> Result<Host, HostFault>
@@ -215,9 +210,9 @@ impl Host {
 
     /// Runs the node over its disks A and B: opens them, says by the line `ready` with the node's number that it listens, and
     /// serves until a command stops it, or a fault does. The engine and the disks come back.
-    pub fn run<M: Machine + Print, E: Engine, D: Disk>(
+    pub fn run<E: Engine, D: Disk>(
         self,
-        machine: &M,
+        machine: &HostRuntime,
         engine: E,
         a: D,
         b: D,

@@ -17,7 +17,6 @@ use crate::server::Server;
 use crate::time::steady;
 use sv_journal::Disk;
 use sv_model::{Engine, Input};
-use sv_net::Machine;
 use sv_node::Node;
 
 /// So many sessions end in a group, at most.
@@ -73,8 +72,8 @@ struct Nudges {
 }
 
 /// Adds one of what a node is told by itself to a group.
-fn add_nudge<M: Machine>(
-    machine: &M,
+fn add_nudge(
+    machine: &HostRuntime,
     server: &mut Server,
     group: &mut Group,
     nudge: Nudge,
@@ -89,8 +88,8 @@ fn add_nudge<M: Machine>(
     Ok(())
 }
 
-fn add_nudges<M: Machine>(
-    machine: &M,
+fn add_nudges(
+    machine: &HostRuntime,
     server: &mut Server,
     group: &mut Group,
     nudges: Nudges,
@@ -106,8 +105,8 @@ fn add_nudges<M: Machine>(
 }
 
 /// Tells the node several together; what came of the last.
-fn tell<M: Machine, E: Engine, D: Disk>(
-    machine: &M,
+fn tell<E: Engine, D: Disk>(
+    machine: &HostRuntime,
     server: &mut Server,
     node: &mut Node<E, D>,
     group: &mut Group,
@@ -125,8 +124,8 @@ fn tell<M: Machine, E: Engine, D: Disk>(
 
 /// Serves waiting requests whose sessions have come, until none is left. Where nobody waits there is nothing to look for, and no
 /// secret is drawn for it.
-pub fn settle<M: Machine, E: Engine, D: Disk>(
-    machine: &M,
+pub fn settle<E: Engine, D: Disk>(
+    machine: &HostRuntime,
     server: &mut Server,
     node: &mut Node<E, D>,
     group: &mut Group,
@@ -154,8 +153,8 @@ pub fn settle<M: Machine, E: Engine, D: Disk>(
 }
 
 /// Has the node look at the time; whether a session has ended by that, of which alone a record tells.
-fn tick_all<M: Machine, E: Engine, D: Disk>(
-    machine: &M,
+fn tick_all<E: Engine, D: Disk>(
+    machine: &HostRuntime,
     server: &mut Server,
     node: &mut Node<E, D>,
     group: &mut Group,
@@ -173,8 +172,8 @@ fn tick_all<M: Machine, E: Engine, D: Disk>(
 }
 
 /// Lets the node look at the time, where a second has passed.
-pub fn tick<M: Machine, E: Engine, D: Disk>(
-    machine: &M,
+pub fn tick<E: Engine, D: Disk>(
+    machine: &HostRuntime,
     server: &mut Server,
     node: &mut Node<E, D>,
     group: &mut Group,
@@ -198,8 +197,8 @@ pub fn tick<M: Machine, E: Engine, D: Disk>(
 }
 
 /// Ends some more sessions that have expired, where one is known to be left in this second.
-fn end_some<M: Machine, E: Engine, D: Disk>(
-    machine: &M,
+fn end_some<E: Engine, D: Disk>(
+    machine: &HostRuntime,
     server: &mut Server,
     node: &mut Node<E, D>,
     group: &mut Group,
@@ -218,8 +217,8 @@ fn end_some<M: Machine, E: Engine, D: Disk>(
 }
 
 /// Ends more sessions that have expired, a few, so that nobody waits for it for longer than a thousandth of a second or two.
-pub fn expire<M: Machine, E: Engine, D: Disk>(
-    machine: &M,
+pub fn expire<E: Engine, D: Disk>(
+    machine: &HostRuntime,
     server: &mut Server,
     node: &mut Node<E, D>,
     group: &mut Group,

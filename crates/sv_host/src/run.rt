@@ -8,10 +8,10 @@ use crate::time::read;
 use sv_journal::FileDisk;
 use sv_log::{Level, Milestone, Report, ReportFault};
 use sv_model::{Engine, Setting};
-use sv_net::{Machine, Persistence, port_of};
+use sv_net::{Persistence, port_of};
 
 /// The journal's file, and the second one beside it.
-fn open_files<M: Machine>(machine: &M, journal: &str) -> Result<(FileDisk, FileDisk), HostFault> {
+fn open_files(machine: &HostRuntime, journal: &str) -> Result<(FileDisk, FileDisk), HostFault> {
     let Ok(other) = format!(in machine.alloc(); "{journal}.b") else {
         return Err(HostFault::Memory);
     };
@@ -25,8 +25,8 @@ fn open_files<M: Machine>(machine: &M, journal: &str) -> Result<(FileDisk, FileD
 }
 
 /// Opens the log and the figures, those that are wanted.
-fn open_report<M: Machine>(
-    machine: &M,
+fn open_report(
+    machine: &HostRuntime,
     setting: Setting,
     paths: Paths<'_>,
 ) -> Result<Report, ReportFault> {
@@ -45,11 +45,7 @@ fn open_report<M: Machine>(
 }
 
 /// The same, with the first line.
-fn report_of<M: Machine>(
-    machine: &M,
-    place: &Place,
-    paths: Paths<'_>,
-) -> Result<Report, HostFault> {
+fn report_of(machine: &HostRuntime, place: &Place, paths: Paths<'_>) -> Result<Report, HostFault> {
     let node = place.setting.node;
     let mut report = open_report(machine, place.setting, paths)?;
     let starting = Milestone::Starting {
@@ -63,8 +59,8 @@ fn report_of<M: Machine>(
 }
 
 /// What a node has of its machine, and what it tells.
-fn open_host<M: Machine>(
-    machine: &M,
+fn open_host(
+    machine: &HostRuntime,
     place: Place,
     persistence: Persistence,
     paths: Paths<'_>,
@@ -75,8 +71,8 @@ fn open_host<M: Machine>(
 }
 
 /// What a node has of its machine, and the files of its journal.
-fn open<M: Machine>(
-    machine: &M,
+fn open(
+    machine: &HostRuntime,
     place: Place,
     persistence: Persistence,
     paths: Paths<'_>,
@@ -98,8 +94,8 @@ fn how_ended<E: Drop>(ended: Ended<E, FileDisk>) -> Result<(), HostFault> {
 /// and serves until a command stops it.
 ///
 /// Faults are found in this order: the log, the figures, the file of secrets, the port, the journal.
-pub fn run_node<M: Machine + Print, E: Engine + Drop>(
-    machine: &M,
+pub fn run_node<E: Engine + Drop>(
+    machine: &HostRuntime,
     engine: E,
     place: Place,
     persistence: Persistence,

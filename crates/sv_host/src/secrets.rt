@@ -9,7 +9,6 @@ use crate::fault::{HostFault, Stop};
 use std::fs::File;
 use std::io::Read;
 use sv_model::Secret;
-use sv_net::Machine;
 
 /// Where a node's secrets come from.
 #[derive(Drop)]
@@ -72,7 +71,7 @@ impl Source {
 
 impl Secrets {
     /// Those of a file at a path, or counted ones, of which the first is 1.
-    pub fn open(machine: &impl Machine, path: Option<&String>) -> Result<Secrets, HostFault>
+    pub fn open(machine: &HostRuntime, path: Option<&String>) -> Result<Secrets, HostFault>
         ensures { IfOk result (λ s. last_of s ≡ first_by path.entry) }
     {
         let source = match path {

@@ -15,12 +15,13 @@ use crate::round::Round;
 use crate::secrets::Secrets;
 use crate::time::{Time, read};
 use std::alloc::Global;
+use std::rt::Clock;
 use std::time::Duration;
 use sv_core::Census;
 use sv_journal::Disk;
 use sv_log::{Event, Level, Milestone, Report};
 use sv_model::{Engine, Moment};
-use sv_net::{Connections, Machine, port_of};
+use sv_net::{Connections, port_of};
 use sv_node::Node;
 
 /// What a running node keeps beside its journal.
@@ -78,7 +79,7 @@ struct Write {
 
 impl Server {
     /// What is taken for the time, in seconds since 1970.
-    pub fn now(&mut self, machine: &impl Machine) -> u64
+    pub fn now(&mut self, machine: &HostRuntime) -> u64
         ensures time { result ≡ seconds_of self.new.time }
         ensures never_back { seconds_of self.old.time ≤ result }
         ensures secrets { last_of self.new.secrets ≡ last_of self.old.secrets }
@@ -90,7 +91,7 @@ impl Server {
     }
 
     /// The second in which a turn ends.
-    pub fn second(&mut self, machine: &impl Machine) -> u64 {
+    pub fn second(&mut self, machine: &HostRuntime) -> u64 {
         if self.is_spared {
             self.ticked
         } else {
@@ -99,7 +100,7 @@ impl Server {
     }
 
     /// The moment of a step: the time, and a secret that no step has had.
-    pub fn moment(&mut self, machine: &impl Machine) -> Result<Moment, Stop>
+    pub fn moment(&mut self, machine: &HostRuntime) -> Result<Moment, Stop>
         ensures time { IfOk result (λ m. m.now ≡ seconds_of self.new.time) }
         ensures never_back { seconds_of self.old.time ≤ seconds_of self.new.time }
         ensures secret { Draws (last_of self.old.secrets) (secret_in result) (last_of self.new.secrets) }
@@ -139,7 +140,7 @@ impl Server {
     }
 
     /// When a group is given to the node whose journal has so many bytes.
-    fn begin_write(&self, machine: &impl Machine, len: u64) -> Write {
+    fn begin_write(&self, machine: &HostRuntime, len: u64) -> Write {
         let begun = if self.connections.report.is_counting() {
             machine.monotonic().ok()
         } else {
@@ -149,7 +150,7 @@ impl Server {
     }
 
     /// The journal has so many bytes behind it: where it has grown the group was written and synced.
-    fn end_write(&mut self, machine: &impl Machine, write: Write, len: u64) {
+    fn end_write(&mut self, machine: &HostRuntime, write: Write, len: u64) {
         if let Some(begun) = write.begun
             && len != write.len
             && let Ok(now) = machine.monotonic()
@@ -175,7 +176,7 @@ impl Server {
     }
 
     /// Why the node has stopped, if not by a command; and whatever is still to be told to the operator.
-    pub fn say_stopped(&mut self, machine: &impl Machine, stop: Stop) -> Option<HostFault> {
+    pub fn say_stopped(&mut self, machine: &HostRuntime, stop: Stop) -> Option<HostFault> {
         let (waiting, open) = (self.parked.len(), self.connections.len());
         let fault = match stop {
             Stop::Done => {
@@ -189,7 +190,7 @@ impl Server {
     }
 
     /// Writes what is to be told to the operator.
-    pub fn tell_operator(&mut self, machine: &impl Machine) {
+    pub fn tell_operator(&mut self, machine: &HostRuntime) {
         let (waiting, open) = (self.parked.len(), self.connections.len());
         self.connections.report.turn(machine, waiting, open);
     }
@@ -197,7 +198,7 @@ impl Server {
     /// Gives a group to the node, and hands on what comes of it; what came of the last of them.
     pub fn step<E: Engine, D: Disk>(
         &mut self,
-        machine: &impl Machine,
+        machine: &HostRuntime,
         node: &mut Node<E, D>,
         group: &mut Group,
     ) -> Result<Taken, Stop>

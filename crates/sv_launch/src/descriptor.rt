@@ -14,7 +14,6 @@ use crate::fault::Fault;
 use std::alloc::Global;
 use std::fs;
 use std::io::ErrorKind;
-use std::rt::Files;
 use sv_config::Deployment;
 
 /// The word for the built-in descriptor.
@@ -30,7 +29,7 @@ pub fn deployment_in(alloc: Global, text: &str) -> Result<Deployment, Fault>
 }
 
 /// The text of a file.
-fn read_file<R: Files + AllocGlobal>(rt: &R, path: &str) -> Result<String, Fault> {
+fn read_file(rt: &HostRuntime, path: &str) -> Result<String, Fault> {
     match fs::read_to_string(rt, path) {
         Ok(text) => Ok(text),
         Err(refused) if refused.kind() == ErrorKind::OutOfMemory => Err(Fault::Memory),
@@ -39,8 +38,8 @@ fn read_file<R: Files + AllocGlobal>(rt: &R, path: &str) -> Result<String, Fault
 }
 
 /// The deployment that a CONFIG says: the built-in one where it is `-`, or else that of the file at this path.
-pub fn read_config<R: Files + AllocGlobal>(
-    rt: &R,
+pub fn read_config(
+    rt: &HostRuntime,
     built_in: Option<&str>,
     config: &str,
 ) -> Result<Deployment, Fault> {

@@ -6,12 +6,12 @@ use crate::words::NodeWords;
 use std::fs::{File, OpenOptions};
 use std::io;
 use std::net::{Ipv4Addr, OpenListener, SocketAddr, TcpListener};
+use std::rt::Clock;
 use sv_config::Cluster;
 use sv_log::{Failure, Level, Log, Site};
-use sv_net::Machine;
 
 /// What the system says where a file is opened to be written and locked, as a journal is.
-fn refused_file<M: Machine>(machine: &M, path: &str) -> io::Result<()> {
+fn refused_file(machine: &HostRuntime, path: &str) -> io::Result<()> {
     let file = OpenOptions::new()
         .read(true)
         .write(true)
@@ -21,22 +21,22 @@ fn refused_file<M: Machine>(machine: &M, path: &str) -> io::Result<()> {
 }
 
 /// What the system says of a port that is to be listened at.
-fn refused_port<M: Machine>(machine: &M, port: u16) -> io::Result<()> {
+fn refused_port(machine: &HostRuntime, port: u16) -> io::Result<()> {
     let addr = SocketAddr::from((Ipv4Addr::LOCALHOST, port));
     let _listener: TcpListener = TcpListener::bind(machine, addr)?;
     Ok(())
 }
 
 /// What the system says of a file that is to be read.
-fn unread_file<M: Machine>(machine: &M, path: &str) -> io::Result<()> {
+fn unread_file(machine: &HostRuntime, path: &str) -> io::Result<()> {
     let _file = File::open(machine, path)?;
     Ok(())
 }
 
 /// Where a fault of what the cluster's descriptor names was found, its port or its file of secrets, and what the system says there when it
 /// is asked once more.
-fn found_in_cluster<'a, M: Machine>(
-    machine: &M,
+fn found_in_cluster<'a>(
+    machine: &HostRuntime,
     cluster: &'a Cluster,
     number: u8,
     fault: Fault,
@@ -54,8 +54,8 @@ fn found_in_cluster<'a, M: Machine>(
 }
 
 /// The same of a fault of one of the node's files, or of none.
-fn found_in_files<'a, M: Machine>(
-    machine: &M,
+fn found_in_files<'a>(
+    machine: &HostRuntime,
     node: &NodeWords<'a>,
     fault: Fault,
 ) -> (Site<'a>, io::Result<()>) {
@@ -73,12 +73,7 @@ fn found_in_files<'a, M: Machine>(
 }
 
 /// Puts down a fault.
-fn put_down<M: Machine>(
-    machine: &M,
-    log: &mut Log,
-    fault: Fault,
-    found: (Site<'_>, io::Result<()>),
-) {
+fn put_down(machine: &HostRuntime, log: &mut Log, fault: Fault, found: (Site<'_>, io::Result<()>)) {
     let (site, asked) = found;
     if let Ok(name) = fault.to_string(machine.alloc()) {
         let failure = Failure {
@@ -92,8 +87,8 @@ fn put_down<M: Machine>(
 }
 
 /// Puts down why a node ends.
-fn put_down_any<M: Machine>(
-    machine: &M,
+fn put_down_any(
+    machine: &HostRuntime,
     log: &mut Log,
     built_in: Option<&str>,
     node: &NodeWords<'_>,
@@ -110,8 +105,8 @@ fn put_down_any<M: Machine>(
 }
 
 /// Adds the line to the log of a node, where it has one that can be opened.
-pub fn log_failure<M: Machine>(
-    machine: &M,
+pub fn log_failure(
+    machine: &HostRuntime,
     built_in: Option<&str>,
     node: &NodeWords<'_>,
     fault: Fault,

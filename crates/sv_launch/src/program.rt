@@ -6,18 +6,14 @@ use crate::failure::log_failure;
 use crate::fault::Fault;
 use crate::purpose::{Running, Stream};
 use crate::words::{NodeWords, Words, read_words};
-use std::fs::File;
 use std::io::ErrorKind;
-use std::net::{Net, TcpListener, TcpStream};
 use std::process::ExitCode;
-use std::rt::{Clock, Env, Files};
 use std::{env, io};
 use sv_host::Place;
-use sv_net::Machine;
 use sv_version::version;
 
 /// The words behind the program's name. One that is no UTF-8 text is [`Fault::Arguments`].
-pub fn words_of<R: Env + AllocGlobal>(rt: &R) -> Result<Vec<String>, Fault> {
+pub fn words_of(rt: &HostRuntime) -> Result<Vec<String>, Fault> {
     let mut words = Vec::new(rt.alloc());
     let args = match env::args(rt) {
         Ok(args) => args,
@@ -31,9 +27,9 @@ pub fn words_of<R: Env + AllocGlobal>(rt: &R) -> Result<Vec<String>, Fault> {
 }
 
 /// Serves standard input to its end by the descriptor at a path, all of it at `now` in whole seconds since 1970.
-fn serve_input<A: Applications, R: Files + Input + Print + AllocGlobal>(
+fn serve_input<A: Applications>(
     applications: &A,
-    rt: &R,
+    rt: &HostRuntime,
     config: &str,
     now: u64,
 ) -> Result<(), Fault> {
@@ -52,9 +48,9 @@ fn serve_input<A: Applications, R: Files + Input + Print + AllocGlobal>(
 }
 
 /// Runs a node in the cluster of its descriptor, over its files, until a command stops it.
-fn serve_in_cluster<A: Applications, M: Machine + Print>(
+fn serve_in_cluster<A: Applications>(
     applications: &A,
-    machine: &M,
+    machine: &HostRuntime,
     node: &NodeWords<'_>,
 ) -> Result<(), Fault> {
     let deployment = read_config(machine, applications.built_in(), node.config)?;
@@ -69,9 +65,9 @@ fn serve_in_cluster<A: Applications, M: Machine + Print>(
 }
 
 /// The same; why it ends otherwise than by a command is the last line of its log, where it has one.
-fn run_in_cluster<A: Applications, M: Machine + Print>(
+fn run_in_cluster<A: Applications>(
     applications: &A,
-    machine: &M,
+    machine: &HostRuntime,
     node: &NodeWords<'_>,
 ) -> Result<(), Fault> {
     let served = serve_in_cluster(applications, machine, node);
@@ -107,7 +103,7 @@ error.
 ";
 
 /// What the program's file is called, as it was called.
-fn name_of<R: Env + AllocGlobal>(rt: &R) -> Result<String, Fault> {
+fn name_of(rt: &HostRuntime) -> Result<String, Fault> {
     let Ok(mut args) = env::args(rt) else {
         return Err(Fault::Arguments);
     };
@@ -120,7 +116,7 @@ fn name_of<R: Env + AllocGlobal>(rt: &R) -> Result<String, Fault> {
 }
 
 /// Prints the program's name with a text behind it.
-fn say<R: Env + Print + AllocGlobal>(rt: &R, text: &str) -> Result<(), Fault> {
+fn say(rt: &HostRuntime, text: &str) -> Result<(), Fault> {
     let name = name_of(rt)?;
     match print!(rt; "{name}{text}") {
         Ok(()) => Ok(()),
@@ -129,18 +125,14 @@ fn say<R: Env + Print + AllocGlobal>(rt: &R, text: &str) -> Result<(), Fault> {
 }
 
 /// Prints which version the program is.
-fn say_version<R: Env + Print + AllocGlobal>(rt: &R) -> Result<(), Fault> {
+fn say_version(rt: &HostRuntime) -> Result<(), Fault> {
     let text = format!(in rt.alloc(); " {}\n", version())?;
     say(rt, text.as_str())
 }
 
 /// Does what the words of a command line ask for: serves standard input, runs a node, or says what was asked of the program itself.
 /// Other words are [`Fault::Arguments`].
-fn run<A: Applications, R: Machine + Env + Print + Input>(
-    applications: &A,
-    rt: &R,
-    words: &[String],
-) -> Result<(), Fault> {
+fn run<A: Applications>(applications: &A, rt: &HostRuntime, words: &[String]) -> Result<(), Fault> {
     match read_words(words) {
         Ok(Words::Once { config, now }) => serve_input(applications, rt, config, now),
         Ok(Words::Node(node)) => run_in_cluster(applications, rt, &node),
@@ -151,28 +143,14 @@ fn run<A: Applications, R: Machine + Env + Print + Input>(
 }
 
 /// The same for the words that the program was called with.
-fn run_as_called<A: Applications, R: Machine + Env + Print + Input>(
-    applications: &A,
-    rt: &R,
-) -> Result<(), Fault> {
+fn run_as_called<A: Applications>(applications: &A, rt: &HostRuntime) -> Result<(), Fault> {
     let words = words_of(rt)?;
     run(applications, rt, words.as_slice())
 }
 
 /// What the `main` of a program does: all that its words ask for. A fault is a line on standard error, the program's name and its own, and
 /// its exit status.
-pub fn launch<A, R>(rt: &R, name: &str, applications: &A) -> ExitCode
-where
-    A: Applications,
-    R: Net<Listener = TcpListener, Stream = TcpStream>
-        + Files<File = File>
-        + Clock
-        + Env
-        + Print
-        + Eprint
-        + Input
-        + AllocGlobal,
-{
+pub fn launch<A: Applications>(rt: &HostRuntime, name: &str, applications: &A) -> ExitCode {
     match run_as_called(applications, rt) {
         Ok(()) => ExitCode::SUCCESS,
         Err(fault) => {
@@ -183,7 +161,7 @@ where
 }
 
 /// The number of the node that the program was called as; one that stands alone has the number 0.
-pub fn number_of<R: Env + AllocGlobal>(rt: &R) -> u8 {
+pub fn number_of(rt: &HostRuntime) -> u8 {
     let Ok(words) = words_of(rt) else {
         return 0;
     };

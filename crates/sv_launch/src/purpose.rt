@@ -6,7 +6,7 @@ use std::alloc::Global;
 use std::io::{Read, Write};
 use sv_host::{Paths, Place, run_node};
 use sv_model::Engine;
-use sv_net::{Machine, Persistence};
+use sv_net::Persistence;
 
 /// What an engine is made for.
 pub trait Purpose: Drop {
@@ -37,14 +37,14 @@ impl<R: Read, W: Write> Purpose for Stream<'_, R, W> {
 
 /// A node of a cluster, over its files.
 #[derive(Drop)]
-pub struct Running<'a, M: Machine + Print> {
-    pub machine: &'a M,
+pub struct Running<'a> {
+    pub machine: &'a HostRuntime,
     pub place: Place,
     pub persistence: Persistence,
     pub paths: Paths<'a>,
 }
 
-impl<M: Machine + Print> Purpose for Running<'_, M> {
+impl Purpose for Running<'_> {
     fn serve<E: Engine + Drop>(self, _alloc: Global, engine: E) -> Result<(), Fault> {
         let Running {
             machine,

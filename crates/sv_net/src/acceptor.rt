@@ -3,7 +3,6 @@
 use crate::connections::Connections;
 use crate::deadline::{TURN, listen};
 use crate::hearing::PIECE;
-use crate::machine::Machine;
 use crate::queue::Queue;
 use crate::socket::Socket;
 use mio::unix::SourceFd;
@@ -76,7 +75,7 @@ impl Drop for Acceptor {
 }
 
 /// A poll that reports who comes to a listener of this number.
-fn poll_of(machine: &impl Machine, listener: RawFd) -> io::Result<(Poll, Registry)> {
+fn poll_of(machine: &HostRuntime, listener: RawFd) -> io::Result<(Poll, Registry)> {
     let poll = Poll::new(machine)?;
     let registry = poll.registry().try_clone()?;
     registry.register(&mut SourceFd(&listener), Token(DOOR), Interest::READABLE)?;
@@ -89,13 +88,13 @@ impl Acceptor {
     /// # Errors
     ///
     /// The system refuses the address, the poll, or memory.
-    pub fn bind(machine: &impl Machine, addr: SocketAddr) -> io::Result<(Acceptor, Registry)> {
+    pub fn bind(machine: &HostRuntime, addr: SocketAddr) -> io::Result<(Acceptor, Registry)> {
         let listener = listen(machine, addr)?;
         Acceptor::new(machine, listener)
     }
 
     /// Has a poll report who comes to a listener.
-    fn new(machine: &impl Machine, listener: TcpListener) -> io::Result<(Acceptor, Registry)> {
+    fn new(machine: &HostRuntime, listener: TcpListener) -> io::Result<(Acceptor, Registry)> {
         let alloc: Global = machine.alloc();
         let (poll, registry) = poll_of(machine, listener.as_raw_fd())?;
         let events = Events::with_capacity(alloc, EVENTS)?;

@@ -4,7 +4,6 @@ ghost use Rattle.sv_model.specs.Ranges.{IsPacket};
 
 use crate::connections::Connections;
 use crate::links::Link;
-use crate::machine::Machine;
 use crate::open::Open;
 use crate::socket::{Socket, Written};
 use crate::state::State;
@@ -72,7 +71,7 @@ impl Connections {
     }
 
     /// Sends a packet to a node. What isn't sent is a packet that is lost.
-    pub fn send(&mut self, machine: &impl Machine, to: u8, addr: SocketAddr, packet: Packet)
+    pub fn send(&mut self, machine: &HostRuntime, to: u8, addr: SocketAddr, packet: Packet)
         requires { IsPacket packet }
     {
         match spelled(self.alloc, packet) {
@@ -82,7 +81,7 @@ impl Connections {
     }
 
     /// Sends a frame.
-    fn send_frame(&mut self, machine: &impl Machine, to: u8, addr: SocketAddr, frame: Vec<u8>) {
+    fn send_frame(&mut self, machine: &HostRuntime, to: u8, addr: SocketAddr, frame: Vec<u8>) {
         match self.links.link_to(machine, to, addr, self.clock) {
             Some(link) => self.call(link, frame),
             None => self.report.lost(to, Loss::NoSocket),

@@ -4,7 +4,6 @@ ghost use Rattle.std.specs.Prelude.{◌≡◌, ◌-◌};
 ghost use Rattle.sv_net.specs.Places.{places_of, count_of, elsewhere, held_at, with_at, persistence_of, IsKept, Keeps, HasStood};
 
 use crate::links::Links;
-use crate::machine::Machine;
 use crate::open::Open;
 use crate::persistence::Persistence;
 use crate::queue::Queue;
@@ -12,6 +11,7 @@ use crate::socket::Socket;
 use crate::state::State;
 use mio::{Interest, Registry};
 use std::alloc::{AllocFailed, Global};
+use std::rt::Clock;
 use std::time::Duration;
 use sv_log::Report;
 
@@ -101,7 +101,7 @@ impl Connections {
 
     /// Looks at the clock. While a turn stood still, as one does whose disk does, nobody was heard: what is more than a turn may take
     /// is nobody's delay.
-    pub fn look_at_clock(&mut self, machine: &impl Machine) {
+    pub fn look_at_clock(&mut self, machine: &HostRuntime) {
         if let Ok(now) = machine.monotonic() {
             let stood = now.saturating_sub(self.clock.saturating_add(Duration::from_millis(MOST)));
             self.clock = now;

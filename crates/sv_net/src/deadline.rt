@@ -1,6 +1,5 @@
 //! How a node listens.
 
-use crate::machine::Machine;
 use std::io;
 use std::net::{OpenListener, OpenStream, SocketAddr, TcpListener, TcpStream};
 use std::os::fd::OwnedFd;
@@ -10,7 +9,7 @@ use std::time::Duration;
 pub const TURN: u64 = 1;
 
 /// Listens at an address of this machine; where `accept` waits, it does so for a turn at most.
-pub fn listen(machine: &impl Machine, addr: SocketAddr) -> io::Result<TcpListener> {
+pub fn listen(machine: &HostRuntime, addr: SocketAddr) -> io::Result<TcpListener> {
     let listener = TcpListener::bind(machine, addr)?;
     let socket = TcpStream::from(OwnedFd::from(listener));
     socket.set_read_timeout(Some(Duration::from_secs(TURN)))?;

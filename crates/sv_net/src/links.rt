@@ -2,7 +2,6 @@
 
 ghost use Rattle.std.specs.Prelude.{◌≡◌};
 
-use crate::machine::Machine;
 use crate::persistence::Persistence;
 use crate::socket::{Sign, Socket};
 use mio::net::TcpStream;
@@ -59,7 +58,7 @@ impl Links {
     /// The connection to a node, whose address this is: the one that is kept, or a new one; none where none can be had.
     pub fn link_to(
         &mut self,
-        machine: &impl Machine,
+        machine: &HostRuntime,
         node: u8,
         addr: SocketAddr,
         clock: Duration,
@@ -75,7 +74,7 @@ impl Links {
     }
 
     /// A new connection. What is sent on one that is kept doesn't wait for the other end to have acknowledged what was sent before.
-    fn connect(&self, machine: &impl Machine, addr: SocketAddr) -> Option<Socket> {
+    fn connect(&self, machine: &HostRuntime, addr: SocketAddr) -> Option<Socket> {
         let stream = TcpStream::connect(machine, addr).ok()?;
         if self.persistence == Persistence::Kept {
             stream.set_nodelay(true).ok()?;

@@ -4,4 +4,4 @@ use Rattle.sv_host.proofs.gathering.gather_reported.Given as goal
 
 -- no group has been given to the node meanwhile, and what was gathered stands behind what was there
 abbrev pub invariant-loop-place : goal.invariant-loop-place
-invariant-loop-place g l = record { gathered : HasGathered l.initial.group l.group; more : HasMore l.initial.group l.group }
+invariant-loop-place l = record { gathered : HasGathered l.initial.group l.group; more : HasMore l.initial.group l.group }

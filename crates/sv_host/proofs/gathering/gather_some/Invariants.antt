@@ -4,4 +4,4 @@ use Rattle.sv_host.proofs.gathering.gather_some.Given as goal
 
 -- no group has been given to the node meanwhile, and what was gathered stands behind what was there
 abbrev pub invariant-loop : goal.invariant-loop
-invariant-loop g l = record { gathered : HasGathered l.initial.group l.group; more : HasMore l.initial.group l.group }
+invariant-loop l = record { gathered : HasGathered l.initial.group l.group; more : HasMore l.initial.group l.group }

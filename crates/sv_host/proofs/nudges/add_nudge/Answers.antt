@@ -2,4 +2,4 @@ use Rattle.sv_host.specs.Group.{number_of}
 use Rattle.sv_host.proofs.nudges.add_nudge.Goals as goal
 
 pub add-added-requires-clause-above : goal.add-added-requires-clause-above
-add-added-requires-clause-above g c = c.input.ensures.above (number_of c.args.group.now)
+add-added-requires-clause-above c = c.input.ensures.above (number_of c.args.group.now)

@@ -5,7 +5,7 @@ use Rattle.sv_host.proofs.server.Server.hand_on.Given as goal
 
 -- what is left can be sent
 abbrev pub invariant-loop-output : goal.invariant-loop-output
-invariant-loop-output g l = record {
+invariant-loop-output l = record {
   sendable : AreSendable (into_iter_items l.output-iterator);
   long : into_iter_len l.output-iterator ≡ length (into_iter_items l.output-iterator);
 }

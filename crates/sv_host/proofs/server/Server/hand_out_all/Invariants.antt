@@ -6,7 +6,7 @@ use Rattle.sv_host.proofs.server.Server.hand_out_all.Given as goal
 
 -- what is left can be sent
 abbrev pub invariant-loop-answer : goal.invariant-loop-answer
-invariant-loop-answer g l = record {
+invariant-loop-answer l = record {
   sendable : AllByRecursion (λ a. IsHandedOn a) (into_iter_items l.answer-iterator);
   long : into_iter_len l.answer-iterator ≡ length (into_iter_items l.answer-iterator);
 }
