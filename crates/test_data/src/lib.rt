@@ -7,6 +7,8 @@
 #[cfg(test)]
 mod disk;
 #[cfg(test)]
+mod fixtures;
+#[cfg(test)]
 mod model;
 #[cfg(test)]
 mod record;

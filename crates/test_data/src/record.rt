@@ -1,9 +1,12 @@
 //! Values that are written behind what is there, the longest frame and the largest record, and what is said of a fault. What bytes
 //! say are rows of `test_rows`.
 
+ghost use Rattle.sv_model.specs.Ranges.{IsRecord};
+
+use crate::fixtures::{add, bytes, expect_bytes, repeated, text_bytes};
 use std::alloc::{AllocError, Global};
-use std::test::Fail;
-use sv_model::{Key, Packet};
+use std::process::Abort;
+use sv_model::{Key, Packet, Record};
 use sv_record::{
     Frame, RecordFault, read_frame, read_record, write_frame, write_packet, write_record,
 };
@@ -116,31 +119,42 @@ static CASES: [(&str, Case, &[u8]); 15] = [
 ];
 
 /// A byte that stands before what is written.
-fn before(alloc: Global) -> Result<Vec<u8>, AllocError> {
-    Vec::from_slice(alloc, &[0xFF])
+fn before(rt: &impl Abort, alloc: Global) -> Vec<u8> {
+    bytes(rt, alloc, &[0xFF])
 }
 
-fn record_again(alloc: Global, bytes: &[u8]) -> Result<Vec<u8>, RecordFault> {
-    let mut out = before(alloc)?;
-    let record = read_record(alloc, bytes)?;
-    write_record(&record, &mut out)?;
-    Ok(out)
+/// A record that may be written.
+fn record_of(rt: &impl Abort, alloc: Global, bytes: &[u8]) -> Record
+    ensures { IsRecord result }
+{
+    read_record(alloc, bytes).expect(rt, "a record")
 }
 
-fn acknowledgement(alloc: Global) -> Result<Vec<u8>, AllocError> {
-    let mut out = before(alloc)?;
+/// Reads a record, and writes it behind what is there.
+fn write_again(rt: &impl Abort, alloc: Global, bytes: &[u8], out: &mut Vec<u8>) {
+    write_record(&record_of(rt, alloc, bytes), out).expect(rt, "memory");
+}
+
+fn record_again(rt: &impl Abort, alloc: Global, bytes: &[u8]) -> Vec<u8> {
+    let mut out = before(rt, alloc);
+    write_again(rt, alloc, bytes, &mut out);
+    out
+}
+
+fn acknowledgement(rt: &impl Abort, alloc: Global) -> Vec<u8> {
+    let mut out = before(rt, alloc);
     let frame = Frame::Peer(Packet::Ack {
         from: 1,
         to: 0,
         key: KEY,
         epoch: 2,
     });
-    write_frame(&frame, &mut out)?;
-    Ok(out)
+    write_frame(&frame, &mut out).expect(rt, "memory");
+    out
 }
 
-fn want(alloc: Global) -> Result<Vec<u8>, AllocError> {
-    let mut out = before(alloc)?;
+fn want(rt: &impl Abort, alloc: Global) -> Vec<u8> {
+    let mut out = before(rt, alloc);
     let packet = Packet::Want {
         from: 7,
         to: 2,
@@ -148,15 +162,15 @@ fn want(alloc: Global) -> Result<Vec<u8>, AllocError> {
         boot: 3,
         want: 4,
     };
-    write_packet(&packet, &mut out)?;
-    Ok(out)
+    write_packet(&packet, &mut out).expect(rt, "memory");
+    out
 }
 
 /// The front of a stream, and so many zeros.
-fn stream(alloc: Global, front: &[u8], count: usize) -> Result<Vec<u8>, AllocError> {
-    let mut bytes = Vec::from_slice(alloc, front)?;
-    bytes.extend_from_slice(&Vec::from_elem(alloc, 0u8, count)?)?;
-    Ok(bytes)
+fn stream(rt: &impl Abort, alloc: Global, front: &[u8], count: usize) -> Vec<u8> {
+    let mut all = bytes(rt, alloc, front);
+    add(rt, &mut all, &repeated(rt, alloc, 0, count));
+    all
 }
 
 /// Whether a frame is there whole.
@@ -164,86 +178,90 @@ fn is_frame(alloc: Global, bytes: &[u8]) -> Result<bool, RecordFault> {
     Ok(read_frame(alloc, bytes)?.is_some())
 }
 
-fn frame_text(alloc: Global, bytes: &[u8]) -> Result<Vec<u8>, AllocError> {
-    match is_frame(alloc, bytes) {
-        Ok(true) => Vec::from_slice(alloc, b"a frame"),
-        Ok(false) => Vec::from_slice(alloc, b"none yet"),
-        Err(fault) => Ok(format!(in alloc; "{fault:?}")?.into_bytes()),
+fn frame_text(rt: &impl Abort, alloc: Global, front: &[u8]) -> Vec<u8> {
+    match is_frame(alloc, front) {
+        Ok(true) => bytes(rt, alloc, b"a frame"),
+        Ok(false) => bytes(rt, alloc, b"none yet"),
+        Err(fault) => text_bytes(rt, alloc, format_args!("{fault:?}")),
     }
 }
 
-fn payload(alloc: Global, count: usize) -> Result<Vec<u8>, AllocError> {
-    frame_text(alloc, &stream(alloc, b"\xE1\0\x04\0\0", count)?)
+fn payload(rt: &impl Abort, alloc: Global, count: usize) -> Vec<u8> {
+    frame_text(rt, alloc, &stream(rt, alloc, b"\xE1\0\x04\0\0", count))
+}
+
+/// How this first byte is told: by itself, unless it is refused as foreign; by a bar where it is refused otherwise.
+fn first_byte(alloc: Global, first: u8) -> Option<u8> {
+    match is_frame(alloc, &[first]) {
+        Ok(_) => Some(first),
+        Err(RecordFault::Foreign) => None,
+        Err(_) => Some(b'|'),
+    }
 }
 
 /// The first bytes that aren't refused as foreign; a bar for one that is refused otherwise.
-fn first_bytes(alloc: Global) -> Result<Vec<u8>, AllocError> {
+fn first_bytes(rt: &impl Abort, alloc: Global) -> Vec<u8> {
     let mut known = Vec::new(alloc);
     for first in 0..=255u8 {
-        match is_frame(alloc, &[first]) {
-            Ok(_) => known.push(first)?,
-            Err(RecordFault::Foreign) => {}
-            Err(_) => known.push(b'|')?,
+        if let Some(byte) = first_byte(alloc, first) {
+            add(rt, &mut known, &[byte]);
         }
     }
-    Ok(known)
+    known
 }
 
 /// A commit by which the session that was named has ended, and another was made, up to its attributes, of which there are 64.
-const HEAD: &[u8] = b"\x02\x02\x02\0\0\0\0\0\0\0\0\x01\x01\0\0\0\0\0\0\0\0\x02\
+static HEAD: &[u8] = b"\x02\x02\x02\0\0\0\0\0\0\0\0\x01\x01\0\0\0\0\0\0\0\0\x02\
 \0\0\0\0\0\0\0\0\0\0\0\0\0\0\0\x01\0\0\0\0\0\0\0\x03\xE8\0\0\0\0\0\0\x03\xE8\0\0\x07\x08\x01\0\x40";
 
 /// Adds an attribute with a name of one byte and a value of so many bytes.
-fn add(alloc: Global, bytes: &mut Vec<u8>, name: u8, len: u16) -> Result<(), AllocError> {
-    bytes.extend_from_slice(&[0, 1, name, 0, 0])?;
-    bytes.extend_from_slice(&len.to_be_bytes())?;
-    bytes.extend_from_slice(&Vec::from_elem(alloc, b'x', usize::from(len))?)
+fn add_attribute(rt: &impl Abort, alloc: Global, bytes: &mut Vec<u8>, name: u8, len: u16) {
+    add(rt, bytes, &[0, 1, name, 0, 0]);
+    add(rt, bytes, &len.to_be_bytes());
+    add(rt, bytes, &repeated(rt, alloc, b'x', usize::from(len)));
 }
 
 /// That commit, whose last value has so many bytes. Names from `0` to `n` and values of 2,047 bytes are 63 times 2,048.
-fn commit(alloc: Global, last: u16) -> Result<Vec<u8>, AllocError> {
-    let mut bytes = Vec::from_slice(alloc, HEAD)?;
+fn commit(rt: &impl Abort, alloc: Global, last: u16) -> Vec<u8> {
+    let mut all = bytes(rt, alloc, HEAD);
     for name in b'0'..b'o' {
-        add(alloc, &mut bytes, name, 2_047)?;
+        add_attribute(rt, alloc, &mut all, name, 2_047);
     }
-    add(alloc, &mut bytes, b'o', last)?;
-    Ok(bytes)
+    add_attribute(rt, alloc, &mut all, b'o', last);
+    all
 }
 
 /// Whether bytes are read as a record.
 fn record_answer(alloc: Global, bytes: &[u8]) -> Result<(), RecordFault> {
-    let _record = read_record(alloc, bytes)?;
-    Ok(())
+    match read_record(alloc, bytes).err() {
+        Some(fault) => Err(fault),
+        None => Ok(()),
+    }
 }
 
-fn commit_text(alloc: Global, last: u16) -> Result<Vec<u8>, AllocError> {
-    let bytes = commit(alloc, last)?;
+fn commit_text(rt: &impl Abort, alloc: Global, last: u16) -> Vec<u8> {
+    let bytes = commit(rt, alloc, last);
     let answer = record_answer(alloc, &bytes);
-    Ok(format!(in alloc; "{} {answer:?}", bytes.len())?.into_bytes())
-}
-
-fn fault_text(alloc: Global, fault: RecordFault) -> Result<Vec<u8>, AllocError> {
-    Ok(format!(in alloc; "{fault}")?.into_bytes())
+    text_bytes(rt, alloc, format_args!("{} {answer:?}", bytes.len()))
 }
 
 /// What comes of a case.
-fn told(alloc: Global, case: Case) -> Result<Vec<u8>, RecordFault> {
+fn told(rt: &impl Abort, alloc: Global, case: Case) -> Vec<u8> {
     match case {
-        Case::Record(bytes) => record_again(alloc, bytes),
-        Case::Acknowledgement => Ok(acknowledgement(alloc)?),
-        Case::Want => Ok(want(alloc)?),
-        Case::Payload(count) => Ok(payload(alloc, count)?),
-        Case::FirstBytes => Ok(first_bytes(alloc)?),
-        Case::Commit(last) => Ok(commit_text(alloc, last)?),
-        Case::Fault(fault) => Ok(fault_text(alloc, fault)?),
-        Case::RefusedMemory => Ok(fault_text(alloc, RecordFault::from(AllocError))?),
+        Case::Record(bytes) => record_again(rt, alloc, bytes),
+        Case::Acknowledgement => acknowledgement(rt, alloc),
+        Case::Want => want(rt, alloc),
+        Case::Payload(count) => payload(rt, alloc, count),
+        Case::FirstBytes => first_bytes(rt, alloc),
+        Case::Commit(last) => commit_text(rt, alloc, last),
+        Case::Fault(fault) => text_bytes(rt, alloc, fault),
+        Case::RefusedMemory => text_bytes(rt, alloc, RecordFault::from(AllocError)),
     }
 }
 
 #[test]
-fn records_and_frames(rt: HostRuntime) -> Result<(), Fail> {
+fn records_and_frames(rt: HostRuntime) {
     for (name, case, wanted) in &CASES {
-        assert_eq!(rt; told(rt.alloc(), *case)?.as_slice(), *wanted, "{name}");
+        expect_bytes(&rt, name, &told(&rt, rt.alloc(), *case), wanted);
     }
-    Ok(())
 }

@@ -61,9 +61,9 @@ static FAULTY: [&str; 14] = [
     "move 0",
 ];
 
-fn is_read(alloc: Global, text: &str, wanted: &[Line]) -> bool {
-    let lines = read_script(alloc, text);
-    lines.is_ok_and(|lines| lines.as_slice() == wanted)
+fn is_read(alloc: Global) -> bool {
+    let lines = read_script(alloc, SCRIPT);
+    lines.is_ok_and(|lines| lines.as_slice() == LINES.as_slice())
 }
 
 fn is_refused(alloc: Global, text: &str) -> bool {
@@ -72,7 +72,7 @@ fn is_refused(alloc: Global, text: &str) -> bool {
 
 /// The first script that is read otherwise.
 fn other_script(alloc: Global) -> Option<&'static str> {
-    if !is_read(alloc, SCRIPT, &LINES) {
+    if !is_read(alloc) {
         return Some(SCRIPT);
     }
     for text in &FAULTY {

@@ -1,9 +1,8 @@
 //! The calls of a disk, in memory and of a file, and what each answers.
-use crate::disk::fixtures::{Files, expect_bytes, shown_calls};
-use std::alloc::{AllocError, Global};
-use std::fs;
+use crate::disk::fixtures::{Files, disk_of, file_bytes, file_disk, remove, shown_calls};
+use crate::fixtures::{bytes, expect_bytes, repeated, text_bytes};
+use std::alloc::Global;
 use std::process::Abort;
-use std::test::Fail;
 use sv_journal::{Device, Disk, FileDisk, MemoryDisk};
 
 /// A call of a disk.
@@ -18,17 +17,17 @@ enum Call {
     Failures,
 }
 
-fn answer_text(alloc: Global, answer: Result<(), Device>) -> Result<Vec<u8>, AllocError> {
+fn answer_text(rt: &impl Abort, alloc: Global, answer: Result<(), Device>) -> Vec<u8> {
     match answer {
-        Ok(()) => Vec::from_slice(alloc, b"ok"),
-        Err(Device) => Vec::from_slice(alloc, b"Device"),
+        Ok(()) => bytes(rt, alloc, b"ok"),
+        Err(Device) => bytes(rt, alloc, b"Device"),
     }
 }
 
-fn len_text(alloc: Global, len: Result<u64, Device>) -> Result<Vec<u8>, AllocError> {
+fn len_text(rt: &impl Abort, alloc: Global, len: Result<u64, Device>) -> Vec<u8> {
     match len {
-        Ok(len) => Ok(format!(in alloc; "{len}")?.into_bytes()),
-        Err(Device) => Vec::from_slice(alloc, b"Device"),
+        Ok(len) => text_bytes(rt, alloc, len),
+        Err(Device) => bytes(rt, alloc, b"Device"),
     }
 }
 
@@ -80,28 +79,23 @@ impl AnyRange for FileDisk {
 }
 
 /// The bytes of a range, or that they can't be read.
-fn range(
-    alloc: Global,
-    disk: &mut impl AnyRange,
-    at: u64,
-    len: usize,
-) -> Result<Vec<u8>, AllocError> {
-    let mut bytes = Vec::from_elem(alloc, 0u8, len)?;
-    match disk.read_any(at, &mut bytes) {
-        Ok(()) => Ok(bytes),
-        Err(Device) => Vec::from_slice(alloc, b"Device"),
+fn range(rt: &impl Abort, alloc: Global, disk: &mut impl AnyRange, at: u64, len: usize) -> Vec<u8> {
+    let mut read = repeated(rt, alloc, 0, len);
+    match disk.read_any(at, &mut read) {
+        Ok(()) => read,
+        Err(Device) => bytes(rt, alloc, b"Device"),
     }
 }
 
 /// What a call answers.
-fn told(alloc: Global, disk: &mut impl AnyRange, call: Call) -> Result<Vec<u8>, AllocError> {
+fn told(rt: &impl Abort, alloc: Global, disk: &mut impl AnyRange, call: Call) -> Vec<u8> {
     match call {
-        Call::Write(at, bytes) => answer_text(alloc, disk.write_any(at, bytes)),
-        Call::Cut(len) => answer_text(alloc, disk.cut_any(len)),
-        Call::Sync => answer_text(alloc, disk.sync()),
-        Call::Len => len_text(alloc, disk.len()),
-        Call::Read(at, len) => range(alloc, disk, at, len),
-        Call::Failures => len_text(alloc, Ok(disk.failures())),
+        Call::Write(at, bytes) => answer_text(rt, alloc, disk.write_any(at, bytes)),
+        Call::Cut(len) => answer_text(rt, alloc, disk.cut_any(len)),
+        Call::Sync => answer_text(rt, alloc, disk.sync()),
+        Call::Len => len_text(rt, alloc, disk.len()),
+        Call::Read(at, len) => range(rt, alloc, disk, at, len),
+        Call::Failures => len_text(rt, alloc, Ok(disk.failures())),
     }
 }
 
@@ -111,11 +105,10 @@ fn expect_told(
     disk: &mut impl AnyRange,
     what: &str,
     calls: &[(Call, &[u8])],
-) -> Result<(), Fail> {
+) {
     for (call, want) in calls {
-        expect_bytes(rt, what, &told(alloc, disk, *call)?, want);
+        expect_bytes(rt, what, &told(rt, alloc, disk, *call), want);
     }
-    Ok(())
 }
 
 /// Calls that are made of a disk one behind the other, and which of them fails; none with 0.
@@ -181,39 +174,45 @@ static OUTSIDE: [(Call, &[u8]); 11] = [
     (Call::Sync, b"ok"),
 ];
 
-fn expect_failing(rt: &impl Abort, alloc: Global) -> Result<(), Fail> {
-    let mut disk = MemoryDisk::with(alloc, b"abc")?;
-    for Calls { what, fails, calls } in &FAILING {
-        disk.fail_at(*fails);
-        expect_told(rt, alloc, &mut disk, what, calls)?;
+fn expect_calls(rt: &impl Abort, alloc: Global, disk: &mut MemoryDisk, calls: &Calls) {
+    disk.fail_at(calls.fails);
+    expect_told(rt, alloc, disk, calls.what, calls.calls);
+}
+
+fn expect_failing(rt: &impl Abort, alloc: Global) {
+    let mut disk = disk_of(rt, alloc, b"abc", 0);
+    for calls in &FAILING {
+        expect_calls(rt, alloc, &mut disk, calls);
     }
-    expect_bytes(rt, "the calls", &shown_calls(alloc, disk.calls())?, KEPT);
-    Ok(())
+    expect_bytes(rt, "the calls", &shown_calls(rt, alloc, disk.calls()), KEPT);
 }
 
-fn expect_lengthening(rt: &impl Abort, alloc: Global) -> Result<(), Fail> {
-    let mut disk = MemoryDisk::with(alloc, b"abcdef")?;
-    expect_told(rt, alloc, &mut disk, "a write", &LENGTHENING)
+fn expect_lengthening(rt: &impl Abort, alloc: Global) {
+    let mut disk = disk_of(rt, alloc, b"abcdef", 0);
+    expect_told(rt, alloc, &mut disk, "a write", &LENGTHENING);
 }
 
-/// What a file holds, which is removed.
-fn left_of(rt: &HostRuntime, path: &str) -> Result<Vec<u8>, Fail> {
-    let bytes = fs::read(rt, path)?;
-    fs::remove_file(rt, path)?;
-    Ok(bytes)
+/// What file A holds, which is removed.
+fn left_of(rt: &impl Abort, files: &Files) -> Vec<u8> {
+    let bytes = file_bytes(rt, files.machine, &files.a);
+    remove(rt, files.machine, &files.a);
+    bytes
+}
+
+fn expect_outside(rt: &impl Abort, files: &Files) {
+    let mut disk = file_disk(rt, files.machine, &files.a);
+    expect_told(rt, files.alloc(), &mut disk, "a file", &OUTSIDE);
 }
 
 #[test]
-fn calls_of_disks(rt: HostRuntime) -> Result<(), Fail> {
-    expect_failing(&rt, rt.alloc())?;
-    expect_lengthening(&rt, rt.alloc())
+fn calls_of_disks(rt: HostRuntime) {
+    expect_failing(&rt, rt.alloc());
+    expect_lengthening(&rt, rt.alloc());
 }
 
 #[test]
-fn calls_of_a_file(rt: HostRuntime) -> Result<(), Fail> {
-    let files = Files::new(&rt, "calls")?;
-    let mut disk = FileDisk::open(&rt, &files.a)?;
-    expect_told(&rt, rt.alloc(), &mut disk, "a file", &OUTSIDE)?;
-    expect_bytes(&rt, "what is left", &left_of(&rt, &files.a)?, b"a");
-    Ok(())
+fn calls_of_a_file(rt: HostRuntime) {
+    let files = Files::new(&rt, &rt, "calls");
+    expect_outside(&rt, &files);
+    expect_bytes(&rt, "what is left", &left_of(&rt, &files), b"a");
 }

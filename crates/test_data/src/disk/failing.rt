@@ -1,9 +1,9 @@
 //! Scripts of appends and compactions in which each call of either disk fails in turn.
-use crate::disk::fixtures::{Held, added, compacted, opened, records_of};
-use std::alloc::{AllocError, Global};
+use crate::disk::fixtures::{Held, added, compacted, disk_of, opened, records_of};
+use crate::fixtures::bytes;
+use std::alloc::Global;
 use std::process::Abort;
-use std::test::Fail;
-use sv_journal::{Disk, JournalFault, MemoryDisk};
+use sv_journal::{JournalFault, MemoryDisk};
 
 /// A step of the script.
 #[derive(Clone, Copy)]
@@ -28,7 +28,7 @@ static SCRIPT: [Step; 10] = [
 ];
 
 // What is read after so many steps.
-const FOUND: [&[u8]; 11] = [
+static FOUND: [&[u8]; 11] = [
     b"",
     b"a|",
     b"a|b|",
@@ -42,27 +42,24 @@ const FOUND: [&[u8]; 11] = [
     b"j|j|",
 ];
 
-fn compacted_to<D: Disk>(
-    alloc: Global,
-    journal: &mut Held<D>,
-    byte: u8,
-    count: usize,
-) -> Result<(), JournalFault> {
+// The entries of a compaction.
+fn alike(rt: &impl Abort, alloc: Global, byte: u8, count: usize) -> Vec<Vec<u8>> {
     let mut entries = Vec::new(alloc);
     for _ in 0..count {
-        entries.push(Vec::from_slice(alloc, &[byte])?)?;
+        entries.push(bytes(rt, alloc, &[byte])).expect(rt, "memory");
     }
-    compacted(journal, &entries)
+    entries
 }
 
-fn take_step<D: Disk>(
+fn take_step(
+    rt: &impl Abort,
     alloc: Global,
-    journal: &mut Held<D>,
+    journal: &mut Held<MemoryDisk>,
     step: Step,
 ) -> Result<(), JournalFault> {
     match step {
         Step::Append(byte) => added(journal, &[byte]),
-        Step::Compact(byte, count) => compacted_to(alloc, journal, byte, count),
+        Step::Compact(byte, count) => compacted(journal, &alike(rt, alloc, byte, count)),
     }
 }
 
@@ -88,13 +85,14 @@ impl Drop for Ended {
 
 // Takes the steps up to the first fault: how many were acknowledged, and the fault.
 fn take_steps(
+    rt: &impl Abort,
     alloc: Global,
     journal: &mut Held<MemoryDisk>,
     steps: &[Step],
 ) -> (usize, Option<JournalFault>) {
     let mut acknowledged: usize = 0;
     for next in steps {
-        if let Err(fault) = take_step(alloc, journal, *next) {
+        if let Err(fault) = take_step(rt, alloc, journal, *next) {
             return (acknowledged, Some(fault));
         }
         acknowledged = acknowledged.saturating_add(1);
@@ -103,9 +101,9 @@ fn take_steps(
 }
 
 // Takes the steps on a journal that is open.
-fn script_on(alloc: Global, journal: Held<MemoryDisk>, steps: &[Step]) -> Ended {
+fn script_on(rt: &impl Abort, alloc: Global, journal: Held<MemoryDisk>, steps: &[Step]) -> Ended {
     let mut journal = journal;
-    let (acknowledged, fault) = take_steps(alloc, &mut journal, steps);
+    let (acknowledged, fault) = take_steps(rt, alloc, &mut journal, steps);
     let (a, b) = journal.into_disks();
     Ended {
         acknowledged,
@@ -116,9 +114,9 @@ fn script_on(alloc: Global, journal: Held<MemoryDisk>, steps: &[Step]) -> Ended 
 }
 
 // Opens the disks and takes the steps.
-fn script(alloc: Global, a: MemoryDisk, b: MemoryDisk, steps: &[Step]) -> Ended {
+fn script(rt: &impl Abort, alloc: Global, a: MemoryDisk, b: MemoryDisk, steps: &[Step]) -> Ended {
     match opened(alloc, a, b) {
-        Ok(journal) => script_on(alloc, journal, steps),
+        Ok(journal) => script_on(rt, alloc, journal, steps),
         Err(refused) => Ended {
             acknowledged: 0,
             fault: Some(refused.fault),
@@ -130,90 +128,102 @@ fn script(alloc: Global, a: MemoryDisk, b: MemoryDisk, steps: &[Step]) -> Ended 
 
 // Takes the steps on disks that hold these bytes. A call of each disk, by its number, fails; none with 0.
 fn run(
+    rt: &impl Abort,
     alloc: Global,
     disks: [&[u8]; 2],
     fails: (u64, u64),
     steps: &[Step],
-) -> Result<Ended, AllocError> {
-    let mut a = MemoryDisk::with(alloc, disks[0])?;
-    a.fail_at(fails.0);
-    let mut b = MemoryDisk::with(alloc, disks[1])?;
-    b.fail_at(fails.1);
-    Ok(script(alloc, a, b, steps))
+) -> Ended {
+    let a = disk_of(rt, alloc, disks[0], fails.0);
+    let b = disk_of(rt, alloc, disks[1], fails.1);
+    script(rt, alloc, a, b, steps)
 }
 
-// The entries of these disks are those after so many steps, or after one more.
-fn has_these(alloc: Global, ended: &Ended, acknowledged: usize) -> Result<bool, JournalFault> {
-    let found = records_of(alloc, ended.a.bytes(), ended.b.bytes())?;
+// The entries of these disks.
+fn entries_of(rt: &impl Abort, alloc: Global, ended: &Ended) -> Vec<u8> {
+    records_of(rt, alloc, ended.a.bytes(), ended.b.bytes()).expect(rt, "the disks open")
+}
+
+// These are the entries after so many steps, or after one more.
+fn are_these(found: &[u8], acknowledged: usize) -> bool {
     let old = FOUND.get(acknowledged).copied().unwrap_or(b"");
     let new = FOUND
         .get(acknowledged.saturating_add(1))
         .copied()
         .unwrap_or(old);
-    Ok(found.as_slice() == old || found.as_slice() == new)
+    found == old || found == new
+}
+
+// The entries of these disks are those after so many steps, or after one more.
+fn has_these(rt: &impl Abort, alloc: Global, ended: &Ended, acknowledged: usize) -> bool {
+    are_these(&entries_of(rt, alloc, ended), acknowledged)
 }
 
 // The same entries with the k-th call of the first disk failing while the two are opened again, or a later one of the second.
-fn opens_with_these(alloc: Global, ended: &Ended, k: u64) -> Result<bool, JournalFault> {
+fn opens_with_these(rt: &impl Abort, alloc: Global, ended: &Ended, k: u64) -> bool {
     let fails = if k < 12 {
         (k, 0)
     } else {
         (0, k.saturating_sub(11))
     };
-    let again = run(alloc, [ended.a.bytes(), ended.b.bytes()], fails, &[])?;
+    let again = run(rt, alloc, [ended.a.bytes(), ended.b.bytes()], fails, &[]);
     let is_device = again.fault.is_none() || again.fault == Some(JournalFault::Device);
-    Ok(is_device && has_these(alloc, &again, ended.acknowledged)?)
+    is_device && has_these(rt, alloc, &again, ended.acknowledged)
 }
 
 // The same with each call of either disk failing in turn while the two are opened again.
-fn opens_each_time(alloc: Global, ended: &Ended) -> Result<bool, JournalFault> {
+fn opens_each_time(rt: &impl Abort, alloc: Global, ended: &Ended) -> bool {
     for k in 1..24u64 {
-        if !opens_with_these(alloc, ended, k)? {
-            return Ok(false);
+        if !opens_with_these(rt, alloc, ended, k) {
+            return false;
         }
     }
-    has_these(alloc, ended, ended.acknowledged)
+    has_these(rt, alloc, ended, ended.acknowledged)
 }
 
 // What a script leaves of which a call has failed, or none.
-fn is_so(alloc: Global, ended: &Ended) -> Result<bool, JournalFault> {
+fn is_so(rt: &impl Abort, alloc: Global, ended: &Ended) -> bool {
     match ended.fault {
-        None => Ok(ended.acknowledged == 10 && has_these(alloc, ended, 10)?),
-        Some(JournalFault::Device) => opens_each_time(alloc, ended),
-        Some(_) => Ok(false),
+        None => ended.acknowledged == 10 && has_these(rt, alloc, ended, 10),
+        Some(JournalFault::Device) => opens_each_time(rt, alloc, ended),
+        Some(_) => false,
     }
 }
 
-// Runs the script with one call of either disk failing: whether it was through before that, and whether all is so behind it.
-fn turn(alloc: Global, fails: (u64, u64)) -> Result<(bool, bool), JournalFault> {
-    let ended = run(alloc, [b"", b""], fails, &SCRIPT)?;
-    Ok((ended.fault.is_none(), is_so(alloc, &ended)?))
+fn expect_so(rt: &impl Abort, alloc: Global, ended: &Ended, is_on_a: bool, k: u64) {
+    assert!(rt; is_so(rt, alloc, ended), "call {k} of disk A: {is_on_a}");
+}
+
+// Runs the script with the k-th call of one disk failing: whether it was through before that. All is so behind it.
+fn is_through(rt: &impl Abort, alloc: Global, is_on_a: bool, k: u64) -> bool {
+    let fails = if is_on_a { (k, 0) } else { (0, k) };
+    let ended = run(rt, alloc, [b"", b""], fails, &SCRIPT);
+    expect_so(rt, alloc, &ended, is_on_a, k);
+    ended.fault.is_none()
 }
 
 // Runs the script with the k-th call of one disk failing, until none fails, and tells how many calls that were.
-fn calls_of(rt: &impl Abort, alloc: Global, is_on_a: bool) -> Result<u64, Fail> {
+fn calls_of(rt: &impl Abort, alloc: Global, is_on_a: bool) -> u64 {
     for k in 1..200u64 {
-        let (is_through, is_so) = turn(alloc, if is_on_a { (k, 0) } else { (0, k) })?;
-        assert!(rt; is_so, "call {k} of disk A: {is_on_a}");
-        if is_through {
-            return Ok(k.saturating_sub(1));
+        if is_through(rt, alloc, is_on_a, k) {
+            return k.saturating_sub(1);
         }
     }
-    Ok(200)
+    200
 }
 
 // Disk A: 8 calls make the first journal, each append is 4, and each of two compactions the length, the gate and the
 // 8 calls that change something. Disk B: a sync and a length, then the same, but its first compaction reads no gate.
-const CALLS: [(bool, u64); 2] = [(true, 8 + 4 * 4 + 2 * 10), (false, 2 + 2 * 4 + 9 + 10)];
+static CALLS: [(bool, u64); 2] = [(true, 8 + 4 * 4 + 2 * 10), (false, 2 + 2 * 4 + 9 + 10)];
+
+fn expect_calls(rt: &impl Abort, alloc: Global, is_on_a: bool, calls: u64) {
+    let found = calls_of(rt, alloc, is_on_a);
+    assert!(rt; found == calls, "disk A: {is_on_a}: {found} calls");
+}
 
 #[test]
-fn each_call_of_a_script_fails_in_turn(rt: HostRuntime) -> Result<(), Fail> {
-    for (is_on_a, calls) in CALLS {
-        assert_eq!(rt;
-            calls_of(&rt, rt.alloc(), is_on_a)?,
-            calls,
-            "disk A: {is_on_a}"
-        );
+fn each_call_of_a_script_fails_in_turn(rt: HostRuntime) {
+    for (is_on_a, calls) in &CALLS {
+        expect_calls(&rt, rt.alloc(), *is_on_a, *calls);
     }
-    Ok(())
 }

@@ -1,11 +1,10 @@
 //! Real files.
-use crate::disk::fixtures::{Files, added, expect_bytes, joined, read};
+use crate::disk::fixtures::{Files, added, file_disk, read, remove};
 use crate::disk::stopped_files::{found_at_a_stop, found_in_cuts};
-use std::alloc::{AllocError, Global};
-use std::process::Command;
-use std::test::Fail;
-use std::{env, fs, io};
-use sv_journal::FileDisk;
+use crate::fixtures::{add, expect_bytes, text_bytes};
+use std::process::{Abort, Command};
+use std::{env, fs};
+use sv_journal::{Device, FileDisk};
 
 /// What is done to the files of a journal, which are gone before and behind it.
 #[derive(Clone, Copy)]
@@ -95,10 +94,10 @@ static CASES: [(&str, Case, &[u8]); 11] = [
     ),
 ];
 
-fn told(rt: &HostRuntime, files: &Files, case: Case) -> Result<Vec<u8>, Fail> {
+fn told(rt: &impl Abort, files: &Files, case: Case) -> Vec<u8> {
     match case {
         Case::Turns => compacted_in_turn(rt, files),
-        Case::Locked => opened_twice(rt, &files.a),
+        Case::Locked => opened_twice(rt, files),
         Case::Limit => filled(rt, files),
         Case::Meanwhile => cut_meanwhile(rt, files),
         Case::Cut(whole) => found_in_cuts(rt, files, whole),
@@ -107,143 +106,154 @@ fn told(rt: &HostRuntime, files: &Files, case: Case) -> Result<Vec<u8>, Fail> {
 }
 
 #[test]
-fn files_of_journals(rt: HostRuntime) -> Result<(), Fail> {
-    let files = Files::new(&rt, "files")?;
+fn files_of_journals(rt: HostRuntime) {
+    let files = Files::new(&rt, &rt, "files");
     for (name, case, wanted) in &CASES {
-        expect_bytes(&rt, name, &told(&rt, &files, *case)?, wanted);
+        expect_bytes(&rt, name, &told(&rt, &files, *case), wanted);
     }
-    Ok(())
 }
+
+static NO_FILES: [&str; 4] = ["/nowhere/at/all", ".", "/", ""];
 
 #[test]
 fn paths_that_are_no_file_are_device(rt: HostRuntime) {
-    for bad in ["/nowhere/at/all", ".", "/", ""] {
-        assert!(rt; is_device(&rt, bad), "{bad}");
+    for bad in &NO_FILES {
+        assert!(rt; fault_of(&rt, bad).is_some(), "{bad}");
     }
 }
 
-fn is_device(rt: &HostRuntime, path: &str) -> bool {
-    FileDisk::open(rt, path).is_err()
-}
-
-fn compacted_and_grown(rt: &HostRuntime, files: &Files) -> Result<Vec<u8>, Fail> {
-    files.add(rt, b"one")?;
-    files.compact(rt, b"two")?;
-    files.add(rt, b"four")?;
+fn compacted_and_grown(rt: &impl Abort, files: &Files) -> Vec<u8> {
+    files.add(rt, b"one");
+    files.compact(rt, b"two");
+    files.add(rt, b"four");
     files.found(rt)
 }
 
 // The entries behind each of two compactions, and what is left of the files.
-fn compacted_in_turn(rt: &HostRuntime, files: &Files) -> Result<Vec<u8>, Fail> {
-    let mut found = compacted_and_grown(rt, files)?;
-    files.compact(rt, b"five")?;
-    found.extend_from_slice(&files.found(rt)?)?;
-    found.extend_from_slice(&files.left(rt)?)?;
-    Ok(found)
+fn compacted_in_turn(rt: &impl Abort, files: &Files) -> Vec<u8> {
+    let mut found = compacted_and_grown(rt, files);
+    files.compact(rt, b"five");
+    add(rt, &mut found, &files.found(rt));
+    add(rt, &mut found, &files.left(rt));
+    found
+}
+
+// The fault with which a path is opened.
+fn fault_of(machine: &HostRuntime, path: &str) -> Option<Device> {
+    FileDisk::open(machine, path).err()
 }
 
 // What a second opening of a file answers while the first one has it, and once that has let it go.
-fn opened_twice(rt: &HostRuntime, path: &str) -> Result<Vec<u8>, Fail> {
-    let disk = FileDisk::open(rt, path)?;
-    let beside = FileDisk::open(rt, path).err();
+fn opened_twice(rt: &impl Abort, files: &Files) -> Vec<u8> {
+    let disk = file_disk(rt, files.machine, &files.a);
+    let beside = fault_of(files.machine, &files.a);
     drop(disk);
-    let after = FileDisk::open(rt, path).err();
-    fs::remove_file(rt, path)?;
-    Ok(format!(in rt.alloc(); "{beside:?} {after:?}")?.into_bytes())
+    let after = fault_of(files.machine, &files.a);
+    remove(rt, files.machine, &files.a);
+    text_bytes(rt, files.alloc(), format_args!("{beside:?} {after:?}"))
 }
 
-// Makes a file this long, with nothing behind what it holds, or cuts it; that takes no room on the disk.
-fn lengthen(rt: &HostRuntime, path: &str, len: u64) -> Result<(), Fail> {
-    let file = fs::OpenOptions::new().write(true).open(rt, path)?;
-    Ok(file.set_len(len)?)
+// Makes file A this long, with nothing behind what it holds, or cuts it; that takes no room on the disk.
+fn lengthen(rt: &impl Abort, files: &Files, len: u64) {
+    let file = fs::OpenOptions::new()
+        .write(true)
+        .open(files.machine, &files.a);
+    file.expect(rt, "a file that is written")
+        .set_len(len)
+        .expect(rt, "a length that it may have");
 }
 
-// What is answered to an entry that is added where file A is this long.
-fn answer_at(rt: &HostRuntime, files: &Files, len: u64) -> Result<String, Fail> {
-    lengthen(rt, &files.a, len)?;
-    let answer = added(&mut files.open(rt)?, b"two");
-    Ok(format!(in rt.alloc(); "{answer:?} ")?)
+// Adds what is answered to an entry that is added where file A is this long.
+fn add_answer_at(rt: &impl Abort, files: &Files, answers: &mut Vec<u8>, len: u64) {
+    lengthen(rt, files, len);
+    let answer = added(&mut files.open(rt), b"two");
+    add(
+        rt,
+        answers,
+        &text_bytes(rt, files.alloc(), format_args!("{answer:?} ")),
+    );
 }
 
-// What is answered to an entry that is added at the limit, and to one a byte past it.
-fn answers_at_the_limit(rt: &HostRuntime, files: &Files) -> Result<String, Fail> {
-    let mut answers = answer_at(rt, files, 1_073_741_824)?;
-    answers.push_str(&answer_at(rt, files, 1_073_741_825)?)?;
-    Ok(answers)
-}
-
-// And the entries behind that.
-fn filled(rt: &HostRuntime, files: &Files) -> Result<Vec<u8>, Fail> {
-    files.add(rt, b"one")?;
-    let answers = answers_at_the_limit(rt, files)?;
-    let found = files.found(rt)?;
-    files.remove(rt)?;
-    Ok(joined(rt.alloc(), answers.as_bytes(), &found)?)
+// What is answered to an entry that is added at the limit, and to one a byte past it; and the entries behind that.
+fn filled(rt: &impl Abort, files: &Files) -> Vec<u8> {
+    files.add(rt, b"one");
+    let mut told = Vec::new(files.alloc());
+    add_answer_at(rt, files, &mut told, 1_073_741_824);
+    add_answer_at(rt, files, &mut told, 1_073_741_825);
+    add(rt, &mut told, &files.found(rt));
+    files.remove(rt);
+    told
 }
 
 // The fault of a read behind which the file was cut.
-fn fault_behind_a_cut(rt: &HostRuntime, files: &Files) -> Result<Vec<u8>, Fail> {
-    let mut journal = files.open(rt)?;
-    lengthen(rt, &files.a, 20)?;
+fn fault_behind_a_cut(rt: &impl Abort, files: &Files) -> Vec<u8> {
+    let mut journal = files.open(rt);
+    lengthen(rt, files, 20);
     let fault = read(&mut journal).err();
-    Ok(format!(in rt.alloc(); "{fault:?}")?.into_bytes())
+    text_bytes(rt, files.alloc(), format_args!("{fault:?}"))
 }
 
-fn cut_meanwhile(rt: &HostRuntime, files: &Files) -> Result<Vec<u8>, Fail> {
-    files.add(rt, b"one")?;
-    let fault = fault_behind_a_cut(rt, files)?;
-    files.remove(rt)?;
-    Ok(fault)
+fn cut_meanwhile(rt: &impl Abort, files: &Files) -> Vec<u8> {
+    files.add(rt, b"one");
+    let fault = fault_behind_a_cut(rt, files);
+    files.remove(rt);
+    fault
 }
 
 const FILE: &str = "SV_JOURNAL_TEST_FILE";
 
 // What the second process does, and what it found.
-fn goes_on(rt: &HostRuntime, path: &str) -> Result<Vec<u8>, Fail> {
-    let files = Files::at(rt, path)?;
-    let found = files.found(rt)?;
-    files.add(rt, b"two")?;
-    Ok(found)
+fn goes_on(rt: &impl Abort, machine: &HostRuntime, path: &str) -> Vec<u8> {
+    let files = Files::at(rt, machine, path);
+    let found = files.found(rt);
+    files.add(rt, b"two");
+    found
 }
 
 // This program, and the name of this test.
-fn own_words(rt: &HostRuntime) -> Result<(String, String), Fail> {
-    let mut words = env::args(rt)?;
-    let program = words.next().ok_or("no program")?;
-    let name = words.next().ok_or("no name of a test")?;
-    Ok((program, name))
+fn own_words(rt: &impl Abort, machine: &HostRuntime) -> (String, String) {
+    let mut words = env::args(machine).expect(rt, "the words of this process");
+    let program = words.next().expect(rt, "a program");
+    let name = words.next().expect(rt, "the name of a test");
+    (program, name)
 }
 
-fn prepare(command: &mut Command, name: &str, path: &str) -> io::Result<()> {
-    command.arg(name)?;
-    command.env(FILE, path)?;
-    Ok(())
+fn prepare(rt: &impl Abort, command: &mut Command, name: &str, path: &str) {
+    command.arg(name).expect(rt, "memory");
+    command.env(FILE, path).expect(rt, "memory");
 }
 
-// The run of a test by its name, with the path of a file.
-fn run_of(alloc: Global, program: &str, name: &str, path: &str) -> io::Result<Command> {
-    let mut command = Command::new(alloc, program)?;
-    prepare(&mut command, name, path)?;
-    Ok(command)
+// A run of this test, with the path of a file.
+fn own_run(rt: &impl Abort, machine: &HostRuntime, path: &str) -> Command {
+    let (program, name) = own_words(rt, machine);
+    let mut command = Command::new(machine.alloc(), &program).expect(rt, "memory");
+    prepare(rt, &mut command, &name, path);
+    command
 }
 
-// Starts a test, and waits until that process ends.
-fn start(rt: &HostRuntime, program: &str, name: &str, path: &str) -> io::Result<bool> {
-    let mut command = run_of(rt.alloc(), program, name, path)?;
-    Ok(command.status(rt)?.success())
+// Starts a process, and waits until it ends.
+fn has_succeeded(rt: &impl Abort, machine: &HostRuntime, command: &mut Command) -> bool {
+    let status = command.status(machine);
+    status.expect(rt, "a process that starts").success()
+}
+
+fn has_run_again(rt: &impl Abort, machine: &HostRuntime, path: &str) -> bool {
+    has_succeeded(rt, machine, &mut own_run(rt, machine, path))
 }
 
 // Starts this test once more, and waits until that process ends.
-fn start_again(rt: &HostRuntime, path: &str) -> Result<bool, Fail> {
-    let (program, name) = own_words(rt)?;
-    Ok(start(rt, &program, &name, path)?)
+fn start_again(rt: &impl Abort, machine: &HostRuntime, path: &str) {
+    assert!(rt;
+        has_run_again(rt, machine, path),
+        "the second process has failed"
+    );
 }
 
 // What one of the two processes finds, the first one behind the second, and what is left of the files then.
-fn found_by_one(rt: &HostRuntime) -> Result<(Vec<u8>, &'static [u8]), Fail> {
-    match env::var(rt, FILE) {
-        Ok(path) => Ok((goes_on(rt, &path)?, b"one|")),
-        Err(_) => Ok((both(rt)?, BOTH)),
+fn found_by_one(rt: &impl Abort, machine: &HostRuntime) -> (Vec<u8>, &'static [u8]) {
+    match env::var(machine, FILE) {
+        Ok(path) => (goes_on(rt, machine, &path), b"one|"),
+        Err(_) => (both(rt, machine), BOTH),
     }
 }
 
@@ -253,20 +263,17 @@ const BOTH: &[u8] =
 
 // The test starts itself a second time, and that process opens the file too.
 #[test]
-fn another_process_opens_the_file(rt: HostRuntime) -> Result<(), Fail> {
-    let (found, wanted) = found_by_one(&rt)?;
+fn another_process_opens_the_file(rt: HostRuntime) {
+    let (found, wanted) = found_by_one(&rt, &rt);
     expect_bytes(&rt, "the entries", &found, wanted);
-    Ok(())
 }
 
 // The entries behind the second process, and what the files hold then.
-fn both(rt: &HostRuntime) -> Result<Vec<u8>, Fail> {
-    let files = Files::new(rt, "process")?;
-    files.add(rt, b"one")?;
-    if !start_again(rt, &files.a)? {
-        return Err("the second process has failed".into());
-    }
-    let mut found = files.found(rt)?;
-    found.extend_from_slice(&files.left(rt)?)?;
-    Ok(found)
+fn both(rt: &impl Abort, machine: &HostRuntime) -> Vec<u8> {
+    let files = Files::new(rt, machine, "process");
+    files.add(rt, b"one");
+    start_again(rt, machine, &files.a);
+    let mut found = files.found(rt);
+    add(rt, &mut found, &files.left(rt));
+    found
 }

@@ -1,11 +1,12 @@
 //! What is read of the bytes of two disks.
 use crate::disk::fixtures::{
-    Held, added, expect_bytes, image, journal_on, new_journal, opened, read, records_of,
+    Held, added, disk_of, image, journal_on, new_journal, opened, read, records_of,
 };
 use crate::disk::stage::found_text;
 use crate::disk::stories::EMPTY;
-use std::alloc::{AllocError, Global};
-use std::test::Fail;
+use crate::fixtures::{add, expect_bytes, repeated, text_bytes};
+use std::alloc::Global;
+use std::process::Abort;
 use sv_journal::{JournalFault, MemoryDisk};
 
 /// The header of a journal of generation 1.
@@ -120,59 +121,55 @@ static DISKS: [(&str, &[&[u8]], &[u8], &[u8]); 22] = [
 ];
 
 /// What is read of these disks.
-fn found_on(alloc: Global, a: &[&[u8]], b: &[u8]) -> Result<Vec<u8>, AllocError> {
+fn found_on(rt: &impl Abort, alloc: Global, a: &[&[u8]], b: &[u8]) -> Vec<u8> {
     let mut whole = Vec::new(alloc);
     for part in a {
-        whole.extend_from_slice(part)?;
+        add(rt, &mut whole, part);
     }
-    found_text(alloc, &whole, b)
+    found_text(rt, alloc, &whole, b)
 }
 
 #[test]
-fn disks_are_journals_blank_or_damaged(rt: HostRuntime) -> Result<(), Fail> {
+fn disks_are_journals_blank_or_damaged(rt: HostRuntime) {
     for (name, a, b, want) in &DISKS {
-        expect_bytes(&rt, name, &found_on(rt.alloc(), a, b)?, want);
+        expect_bytes(&rt, name, &found_on(&rt, rt.alloc(), a, b), want);
     }
-    Ok(())
 }
 
 /// An image with an entry of this gate and length, with so many bytes behind it, and a closed gate.
-fn entry_of(alloc: Global, front: &[u8], count: usize) -> Result<Vec<u8>, AllocError> {
-    let payload = Vec::from_elem(alloc, 7u8, count)?;
-    let mut bytes = image(alloc, front)?;
-    bytes.extend_from_slice(&payload)?;
-    bytes.push(0)?;
-    Ok(bytes)
+fn entry_of(rt: &impl Abort, alloc: Global, front: &[u8], count: usize) -> Vec<u8> {
+    let mut bytes = image(rt, alloc, front);
+    add(rt, &mut bytes, &repeated(rt, alloc, 7, count));
+    add(rt, &mut bytes, &[0]);
+    bytes
 }
 
 /// How many bytes are read where the entry of an image has so many, the bar behind it among them, or the fault.
-fn len_of_entry(alloc: Global, front: &[u8], count: usize) -> Result<Vec<u8>, AllocError> {
-    let image = entry_of(alloc, front, count)?;
-    match records_of(alloc, &image, b"") {
-        Ok(entries) => Ok(format!(in alloc; "{}", entries.len())?.into_bytes()),
-        Err(fault) => Ok(format!(in alloc; "{fault:?}")?.into_bytes()),
+fn len_of_entry(rt: &impl Abort, alloc: Global, front: &[u8], count: usize) -> Vec<u8> {
+    match records_of(rt, alloc, &entry_of(rt, alloc, front, count), b"") {
+        Ok(entries) => text_bytes(rt, alloc, entries.len()),
+        Err(fault) => text_bytes(rt, alloc, format_args!("{fault:?}")),
     }
 }
 
 /// The longest payload there is.
-fn longest_payload(alloc: Global) -> Result<Vec<u8>, AllocError> {
-    len_of_entry(alloc, b"\xA5\0\x08\0\0", 524_288)
+fn longest_payload(rt: &impl Abort, alloc: Global) -> Vec<u8> {
+    len_of_entry(rt, alloc, b"\xA5\0\x08\0\0", 524_288)
 }
 
 /// And one with a byte more, which stands there whole.
-fn too_long_payload(alloc: Global) -> Result<Vec<u8>, AllocError> {
-    len_of_entry(alloc, b"\xA5\0\x08\0\x01", 524_289)
+fn too_long_payload(rt: &impl Abort, alloc: Global) -> Vec<u8> {
+    len_of_entry(rt, alloc, b"\xA5\0\x08\0\x01", 524_289)
 }
 
 /// Adds 26 payloads of 100,000 bytes and 200 short ones.
-fn add_many(alloc: Global, journal: &mut Held<MemoryDisk>) -> Result<(), Fail> {
+fn add_many(rt: &impl Abort, alloc: Global, journal: &mut Held<MemoryDisk>) {
     for i in 0..26u8 {
-        added(journal, &Vec::from_elem(alloc, i, 100_000)?)?;
+        added(journal, &repeated(rt, alloc, i, 100_000)).expect(rt, "a long entry is added");
     }
     for i in 0..200u8 {
-        added(journal, &[i; 50])?;
+        added(journal, &[i; 50]).expect(rt, "a short entry is added");
     }
-    Ok(())
 }
 
 /// The first of these payloads that isn't so, or their number.
@@ -191,34 +188,36 @@ fn first_other(found: &[Vec<u8>]) -> usize {
 }
 
 /// A journal with these payloads.
-fn long_journal(alloc: Global) -> Result<Held<MemoryDisk>, Fail> {
-    let mut journal = new_journal(alloc)?;
-    add_many(alloc, &mut journal)?;
-    Ok(journal)
+fn long_journal(rt: &impl Abort, alloc: Global) -> Held<MemoryDisk> {
+    let mut journal = new_journal(rt, alloc);
+    add_many(rt, alloc, &mut journal);
+    journal
+}
+
+/// How many of the payloads on these disks are read as they were written.
+fn read_again(rt: &impl Abort, alloc: Global, (a, b): (MemoryDisk, MemoryDisk)) -> usize {
+    let mut journal = journal_on(rt, alloc, a, b);
+    first_other(&read(&mut journal).expect(rt, "the entries are read"))
 }
 
 /// The length of such a journal, and how many payloads are read as they were written where its disks are opened again.
-fn read_in_pieces(alloc: Global) -> Result<Vec<u8>, Fail> {
-    let journal = long_journal(alloc)?;
+fn read_in_pieces(rt: &impl Abort, alloc: Global) -> Vec<u8> {
+    let journal = long_journal(rt, alloc);
     let len = journal.len();
-    let (a, b) = journal.into_disks();
-    let found = read(&mut journal_on(alloc, a, b)?)?;
-    Ok(format!(in alloc; "{len} {}", first_other(&found))?.into_bytes())
+    let found = read_again(rt, alloc, journal.into_disks());
+    text_bytes(rt, alloc, format_args!("{len} {found}"))
 }
 
 /// What is said where two disks of two bytes are opened, if they are refused.
-fn text_of_refused(alloc: Global) -> Result<Vec<u8>, AllocError> {
-    let a = MemoryDisk::with(alloc, b"\0\0")?;
-    let b = MemoryDisk::with(alloc, b"\0\0")?;
-    match opened(alloc, a, b) {
-        Ok(_) => Ok(Vec::new(alloc)),
-        Err(refused) => Ok(format!(in alloc; "{refused}")?.into_bytes()),
+fn text_of_refused(rt: &impl Abort, alloc: Global) -> Vec<u8> {
+    let disks = (
+        disk_of(rt, alloc, b"\0\0", 0),
+        disk_of(rt, alloc, b"\0\0", 0),
+    );
+    match opened(alloc, disks.0, disks.1) {
+        Ok(_) => Vec::new(alloc),
+        Err(refused) => text_bytes(rt, alloc, refused),
     }
-}
-
-/// What a fault says.
-fn text_of_damaged(alloc: Global) -> Result<Vec<u8>, AllocError> {
-    Ok(format!(in alloc; "{}", JournalFault::Damaged)?.into_bytes())
 }
 
 /// What is tried of bytes that are too many for a table, and of what faults say.
@@ -257,20 +256,19 @@ static CASES: [(&str, Case, &[u8]); 5] = [
     ),
 ];
 
-fn told(alloc: Global, case: Case) -> Result<Vec<u8>, Fail> {
+fn told(rt: &impl Abort, alloc: Global, case: Case) -> Vec<u8> {
     match case {
-        Case::Longest => Ok(longest_payload(alloc)?),
-        Case::TooLong => Ok(too_long_payload(alloc)?),
-        Case::Pieces => read_in_pieces(alloc),
-        Case::Damaged => Ok(text_of_damaged(alloc)?),
-        Case::Refused => Ok(text_of_refused(alloc)?),
+        Case::Longest => longest_payload(rt, alloc),
+        Case::TooLong => too_long_payload(rt, alloc),
+        Case::Pieces => read_in_pieces(rt, alloc),
+        Case::Damaged => text_bytes(rt, alloc, JournalFault::Damaged),
+        Case::Refused => text_of_refused(rt, alloc),
     }
 }
 
 #[test]
-fn long_journals_and_faults(rt: HostRuntime) -> Result<(), Fail> {
+fn long_journals_and_faults(rt: HostRuntime) {
     for (name, case, want) in &CASES {
-        expect_bytes(&rt, name, &told(rt.alloc(), *case)?, want);
+        expect_bytes(&rt, name, &told(&rt, rt.alloc(), *case), want);
     }
-    Ok(())
 }

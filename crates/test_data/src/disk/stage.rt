@@ -1,10 +1,11 @@
 //! A journal on two disks in memory, what is done to it, and what comes of that.
 use crate::disk::fixtures::{
-    Held, added, added_together, compacted, disks_of, listed, opened, opened_on, records_of,
-    shown_calls, shown_of, with_gate,
+    Held, added, added_together, compacted, disk_of, listed, opened, opened_on, records_of,
+    shown_calls, shown_of, with_byte,
 };
-use std::alloc::{AllocError, Global};
-use std::test::Fail;
+use crate::fixtures::{bytes, text_bytes};
+use std::alloc::Global;
+use std::process::Abort;
 use sv_journal::{JournalFault, MemoryDisk};
 
 /// What is done to a journal, or looked at.
@@ -59,42 +60,32 @@ fn answer_text(answer: Result<(), JournalFault>) -> &'static [u8] {
     }
 }
 
-fn compacted_to(
+/// What a call answers.
+fn called(
+    rt: &impl Abort,
     alloc: Global,
     journal: &mut Held<MemoryDisk>,
-    entries: &[&[u8]],
-) -> Result<(), JournalFault> {
-    compacted(journal, &listed(alloc, entries)?)
-}
-
-/// What a call answers.
-fn called(alloc: Global, journal: &mut Held<MemoryDisk>, act: Act) -> &'static [u8] {
+    act: Act,
+) -> &'static [u8] {
     answer_text(match act {
         Act::Append(payload) => added(journal, payload),
-        Act::Together(payloads) => added_together(alloc, journal, payloads),
-        Act::Compact(entries) => compacted_to(alloc, journal, entries),
+        Act::Together(payloads) => added_together(rt, alloc, journal, payloads),
+        Act::Compact(entries) => compacted(journal, &listed(rt, alloc, entries)),
         _ => Ok(()),
     })
 }
 
+/// The entries that were read, or why there are none.
+fn read_text(rt: &impl Abort, alloc: Global, found: Result<Vec<u8>, JournalFault>) -> Vec<u8> {
+    match found {
+        Ok(entries) => entries,
+        Err(fault) => bytes(rt, alloc, answer_text(Err(fault))),
+    }
+}
+
 /// What is read where these bytes are opened, or why nothing is.
-pub fn found_text(alloc: Global, a: &[u8], b: &[u8]) -> Result<Vec<u8>, AllocError> {
-    match records_of(alloc, a, b) {
-        Ok(entries) => Ok(entries),
-        Err(fault) => Vec::from_slice(alloc, answer_text(Err(fault))),
-    }
-}
-
-/// The entries, or why there are none.
-fn read_text(alloc: Global, journal: &mut Held<MemoryDisk>) -> Result<Vec<u8>, AllocError> {
-    match shown_of(alloc, journal) {
-        Ok(entries) => Ok(entries),
-        Err(fault) => Vec::from_slice(alloc, answer_text(Err(fault))),
-    }
-}
-
-fn len_text(alloc: Global, journal: &Held<MemoryDisk>) -> Result<Vec<u8>, AllocError> {
-    Ok(format!(in alloc; "{}", journal.len())?.into_bytes())
+pub fn found_text(rt: &impl Abort, alloc: Global, a: &[u8], b: &[u8]) -> Vec<u8> {
+    read_text(rt, alloc, records_of(rt, alloc, a, b))
 }
 
 fn live_text(journal: &Held<MemoryDisk>) -> &'static [u8] {
@@ -102,57 +93,54 @@ fn live_text(journal: &Held<MemoryDisk>) -> &'static [u8] {
 }
 
 /// What comes of an act that needs the journal alone.
-fn told(alloc: Global, journal: &mut Held<MemoryDisk>, act: Act) -> Result<Vec<u8>, AllocError> {
+fn told(rt: &impl Abort, alloc: Global, journal: &mut Held<MemoryDisk>, act: Act) -> Vec<u8> {
     match act {
-        Act::Entries => read_text(alloc, journal),
-        Act::Len => len_text(alloc, journal),
-        Act::IsLive => Vec::from_slice(alloc, live_text(journal)),
-        _ => Vec::from_slice(alloc, called(alloc, journal, act)),
+        Act::Entries => read_text(rt, alloc, shown_of(rt, alloc, journal)),
+        Act::Len => text_bytes(rt, alloc, journal.len()),
+        Act::IsLive => bytes(rt, alloc, live_text(journal)),
+        _ => bytes(rt, alloc, called(rt, alloc, journal, act)),
     }
 }
 
 /// What is answered where the call of this number of disk A fails as these bytes are opened.
-fn answer_of(alloc: Global, a: &[u8], b: &[u8], k: u64) -> Result<Vec<u8>, AllocError> {
-    let (a, b) = disks_of(alloc, a, b, k)?;
-    Vec::from_slice(
-        alloc,
-        match opened(alloc, a, b) {
-            Ok(_) => b"ok",
-            Err(refused) => answer_text(Err(refused.fault)),
-        },
-    )
+fn answer_of(rt: &impl Abort, alloc: Global, a: &[u8], b: &[u8], k: u64) -> &'static [u8] {
+    match opened(alloc, disk_of(rt, alloc, a, k), disk_of(rt, alloc, b, 0)) {
+        Ok(_) => b"ok",
+        Err(refused) => answer_text(Err(refused.fault)),
+    }
 }
 
 /// What is seen of the disks.
-fn seen(alloc: Global, a: &MemoryDisk, b: &MemoryDisk, act: Act) -> Result<Vec<u8>, AllocError> {
+fn seen(rt: &impl Abort, alloc: Global, a: &MemoryDisk, b: &MemoryDisk, act: Act) -> Vec<u8> {
     match act {
-        Act::A => Vec::from_slice(alloc, a.bytes()),
-        Act::B => Vec::from_slice(alloc, b.bytes()),
-        Act::CallsA => shown_calls(alloc, a.calls()),
-        Act::CallsB => shown_calls(alloc, b.calls()),
-        Act::OpenFailing(k) => answer_of(alloc, a.bytes(), b.bytes(), k),
-        _ => Ok(Vec::new(alloc)),
+        Act::A => bytes(rt, alloc, a.bytes()),
+        Act::B => bytes(rt, alloc, b.bytes()),
+        Act::CallsA => shown_calls(rt, alloc, a.calls()),
+        Act::CallsB => shown_calls(rt, alloc, b.calls()),
+        Act::OpenFailing(k) => bytes(rt, alloc, answer_of(rt, alloc, a.bytes(), b.bytes(), k)),
+        _ => Vec::new(alloc),
     }
 }
 
 /// A journal on the bytes of these disks.
-fn reopened(alloc: Global, a: &[u8], b: &[u8], act: Act) -> Result<Held<MemoryDisk>, Fail> {
+fn reopened(rt: &impl Abort, alloc: Global, a: &[u8], b: &[u8], act: Act) -> Held<MemoryDisk> {
     match act {
-        Act::ReopenFailing(k) => opened_on(alloc, a, b, k),
-        Act::CloseB => opened_on(alloc, a, &with_gate(alloc, b, 0)?, 0),
-        _ => opened_on(alloc, a, b, 0),
+        Act::ReopenFailing(k) => opened_on(rt, alloc, a, b, k),
+        Act::CloseB => opened_on(rt, alloc, a, &with_byte(rt, alloc, b, 0, 0), 0),
+        _ => opened_on(rt, alloc, a, b, 0),
     }
 }
 
 /// A look at the disks, or another way to open them.
 fn looked(
+    rt: &impl Abort,
     alloc: Global,
     journal: Held<MemoryDisk>,
     act: Act,
-) -> Result<(Held<MemoryDisk>, Vec<u8>), Fail> {
+) -> (Held<MemoryDisk>, Vec<u8>) {
     let (a, b) = journal.into_disks();
-    let journal = reopened(alloc, a.bytes(), b.bytes(), act)?;
-    Ok((journal, seen(alloc, &a, &b, act)?))
+    let journal = reopened(rt, alloc, a.bytes(), b.bytes(), act);
+    (journal, seen(rt, alloc, &a, &b, act))
 }
 
 fn is_look(act: Act) -> bool {
@@ -165,14 +153,15 @@ fn is_look(act: Act) -> bool {
 
 /// The journal behind an act, and what came of it.
 pub fn take(
+    rt: &impl Abort,
     alloc: Global,
     journal: Held<MemoryDisk>,
     act: Act,
-) -> Result<(Held<MemoryDisk>, Vec<u8>), Fail> {
+) -> (Held<MemoryDisk>, Vec<u8>) {
     if is_look(act) {
-        return looked(alloc, journal, act);
+        return looked(rt, alloc, journal, act);
     }
     let mut journal = journal;
-    let told = told(alloc, &mut journal, act)?;
-    Ok((journal, told))
+    let told = told(rt, alloc, &mut journal, act);
+    (journal, told)
 }

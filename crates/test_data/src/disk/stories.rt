@@ -1,9 +1,10 @@
 //! What journals write and read, call by call.
-use crate::disk::fixtures::opened_on;
+use crate::disk::fixtures::{Held, opened_on};
 use crate::disk::stage::{Act, Row, Story, take};
+use crate::fixtures::expect_bytes;
 use std::alloc::Global;
 use std::process::Abort;
-use std::test::Fail;
+use sv_journal::MemoryDisk;
 
 /// The header of a journal of generation 1, and a closed gate.
 pub const EMPTY: &[u8] = b"\xA5SVJRNL\x01\0\0\0\0\0\0\0\x01\0";
@@ -364,35 +365,46 @@ static FAILING: [Story; 8] = [
     },
 ];
 
+/// The journal behind an act of which comes what should.
+fn expect_row(
+    rt: &impl Abort,
+    alloc: Global,
+    name: &str,
+    place: usize,
+    journal: Held<MemoryDisk>,
+    row: &Row,
+) -> Held<MemoryDisk> {
+    let (act, want) = row;
+    let (behind, told) = take(rt, alloc, journal, *act);
+    expect_bytes(rt, format_args!("{name}, act {place}"), &told, want);
+    behind
+}
+
 /// The acts of a story are done in order, each with what comes of it.
-fn expect_rows(rt: &impl Abort, alloc: Global, story: &Story) -> Result<(), Fail> {
-    let mut journal = opened_on(alloc, story.a, story.b, story.fails)?;
-    for (place, (act, want)) in story.rows.iter().enumerate() {
-        let (behind, told) = take(alloc, journal, *act)?;
-        journal = behind;
-        assert_eq!(rt; told.as_slice(), *want, "{}, act {place}", story.name);
+fn expect_rows(rt: &impl Abort, alloc: Global, story: &Story) {
+    let mut journal = opened_on(rt, alloc, story.a, story.b, story.fails);
+    for (place, row) in story.rows.iter().enumerate() {
+        journal = expect_row(rt, alloc, story.name, place, journal, row);
     }
-    Ok(())
 }
 
-fn expect_stories(rt: &impl Abort, alloc: Global, stories: &[Story]) -> Result<(), Fail> {
+fn expect_stories(rt: &impl Abort, alloc: Global, stories: &[Story]) {
     for story in stories {
-        expect_rows(rt, alloc, story)?;
+        expect_rows(rt, alloc, story);
     }
-    Ok(())
 }
 
 #[test]
-fn entries_are_added(rt: HostRuntime) -> Result<(), Fail> {
-    expect_stories(&rt, rt.alloc(), &ADDING)
+fn entries_are_added(rt: HostRuntime) {
+    expect_stories(&rt, rt.alloc(), &ADDING);
 }
 
 #[test]
-fn journals_are_compacted(rt: HostRuntime) -> Result<(), Fail> {
-    expect_stories(&rt, rt.alloc(), &COMPACTING)
+fn journals_are_compacted(rt: HostRuntime) {
+    expect_stories(&rt, rt.alloc(), &COMPACTING);
 }
 
 #[test]
-fn calls_that_fail(rt: HostRuntime) -> Result<(), Fail> {
-    expect_stories(&rt, rt.alloc(), &FAILING)
+fn calls_that_fail(rt: HostRuntime) {
+    expect_stories(&rt, rt.alloc(), &FAILING);
 }

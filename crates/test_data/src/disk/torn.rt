@@ -1,10 +1,10 @@
 //! Images that a stop leaves of a write that was not synced.
-use crate::disk::fixtures::{image, records_of};
+use crate::disk::fixtures::{image, with_byte};
+use crate::disk::stage::found_text;
 use crate::disk::stories::EMPTY;
-use std::alloc::{AllocError, Global};
+use crate::fixtures::{expect_bytes, repeated};
+use std::alloc::Global;
 use std::process::Abort;
-use std::test::Fail;
-use sv_journal::JournalFault;
 
 // Writes this choice of what a stop may leave of a range: each byte is 0, an open gate or the one that was written.
 fn tear(image: &mut Vec<u8>, at: usize, new: &[u8], choice: usize) {
@@ -24,36 +24,28 @@ fn tear(image: &mut Vec<u8>, at: usize, new: &[u8], choice: usize) {
 
 // Until the first sync any bytes may stand behind the closed gate, up to any length. So long an image of the old entry, with
 // each choice of what is left of a new one, is read as the old one.
-fn expect_torn_entries(rt: &impl Abort, alloc: Global, len: usize) -> Result<(), Fail> {
+fn expect_torn_entries(rt: &impl Abort, alloc: Global, len: usize) {
     for choice in 0..729usize {
-        let found = found_in_torn(alloc, len, choice)?;
-        assert_eq!(rt; found.as_slice(), b"ab|".as_slice(), "{len} {choice}");
+        let found = found_text(rt, alloc, &torn_entry(rt, alloc, len, choice), b"");
+        expect_bytes(rt, format_args!("{len} {choice}"), &found, b"ab|");
     }
-    Ok(())
 }
 
-fn found_in_torn(alloc: Global, len: usize, choice: usize) -> Result<Vec<u8>, JournalFault> {
-    records_of(alloc, &torn_entry(alloc, len, choice)?, b"")
-}
-
-fn torn_entry(alloc: Global, len: usize, choice: usize) -> Result<Vec<u8>, AllocError> {
-    let mut torn = image(alloc, b"\xA5\0\0\0\x02ab\0")?;
-    torn.resize(len, 0x5A)?;
+fn torn_entry(rt: &impl Abort, alloc: Global, len: usize, choice: usize) -> Vec<u8> {
+    let mut torn = image(rt, alloc, b"\xA5\0\0\0\x02ab\0");
+    torn.resize(len, 0x5A).expect(rt, "memory");
     tear(&mut torn, 24, b"\0\0\0\x01x\0", choice);
-    Ok(torn)
+    torn
 }
 
-// The first journal while it is made, so long and all of this byte.
-fn expect_torn_new(rt: &impl Abort, alloc: Global, len: usize) -> Result<(), Fail> {
-    for byte in [0u8, 0xA5, 0x37] {
-        assert!(rt; is_empty(alloc, byte, len)?, "{len} {byte}");
+static TORN: [u8; 3] = [0, 0xA5, 0x37];
+
+// The first journal while it is made, so long and all of one byte.
+fn expect_torn_new(rt: &impl Abort, alloc: Global, len: usize) {
+    for byte in &TORN {
+        let found = found_text(rt, alloc, &repeated(rt, alloc, *byte, len), b"");
+        expect_bytes(rt, format_args!("{len} {byte}"), &found, b"");
     }
-    Ok(())
-}
-
-fn is_empty(alloc: Global, byte: u8, len: usize) -> Result<bool, JournalFault> {
-    let torn = Vec::from_elem(alloc, byte, len)?;
-    Ok(records_of(alloc, &torn, b"")?.is_empty())
 }
 
 /// Two disks with a gate at a place of one of them, and what is read where it is open, and where it is anything else.
@@ -111,49 +103,35 @@ static GATES: [Gate; 4] = [
     },
 ];
 
-// These bytes with another one at a place.
-fn with_byte(alloc: Global, bytes: &[u8], at: usize, byte: u8) -> Result<Vec<u8>, AllocError> {
-    let mut torn = Vec::from_slice(alloc, bytes)?;
-    if let Some(place) = torn.get_mut(at) {
-        *place = byte;
-    }
-    Ok(torn)
-}
-
 // What is read with this byte in the place of a gate.
-fn found_with(alloc: Global, gate: &Gate, byte: u8) -> Result<Vec<u8>, JournalFault> {
+fn found_with(rt: &impl Abort, alloc: Global, gate: &Gate, byte: u8) -> Vec<u8> {
     if gate.is_on_a {
-        records_of(alloc, &with_byte(alloc, gate.a, gate.at, byte)?, gate.b)
+        let torn = with_byte(rt, alloc, gate.a, gate.at, byte);
+        found_text(rt, alloc, &torn, gate.b)
     } else {
-        records_of(alloc, gate.a, &with_byte(alloc, gate.b, gate.at, byte)?)
+        let torn = with_byte(rt, alloc, gate.b, gate.at, byte);
+        found_text(rt, alloc, gate.a, &torn)
     }
 }
 
 // Each byte in the place of a gate.
-fn expect_torn_gate(rt: &impl Abort, alloc: Global, gate: &Gate) -> Result<(), Fail> {
+fn expect_torn_gate(rt: &impl Abort, alloc: Global, gate: &Gate) {
     for byte in 0..=255u8 {
         let wanted = if byte == 0xA5 { gate.open } else { gate.closed };
-        let found = found_with(alloc, gate, byte)?;
-        assert_eq!(rt;
-            found.as_slice(),
-            wanted,
-            "{byte} as the gate {}",
-            gate.name
-        );
+        let what = format_args!("{byte} as the gate {}", gate.name);
+        expect_bytes(rt, what, &found_with(rt, alloc, gate, byte), wanted);
     }
-    Ok(())
 }
 
 #[test]
-fn torn_images_open(rt: HostRuntime) -> Result<(), Fail> {
+fn torn_images_open(rt: HostRuntime) {
     for len in 0..=16usize {
-        expect_torn_new(&rt, rt.alloc(), len)?;
+        expect_torn_new(&rt, rt.alloc(), len);
     }
     for len in 24..31usize {
-        expect_torn_entries(&rt, rt.alloc(), len)?;
+        expect_torn_entries(&rt, rt.alloc(), len);
     }
     for gate in &GATES {
-        expect_torn_gate(&rt, rt.alloc(), gate)?;
+        expect_torn_gate(&rt, rt.alloc(), gate);
     }
-    Ok(())
 }

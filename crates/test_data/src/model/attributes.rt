@@ -1,42 +1,58 @@
 //! Attributes by their names.
 
+ghost use Rattle.std.specs.Prelude.{◌≡◌, ◌≤◌, length};
+
 use std::alloc::Global;
-use std::test::Fail;
+use std::process::Abort;
 use sv_model::{Attributes, Sequence, Text};
 
 /// Attributes as their names and values.
 type Pairs = &'static [(&'static str, &'static [u8])];
 
+/// A name, which is a short one.
+fn name_of(rt: &impl Abort, alloc: Global, name: &str) -> Text
+    ensures { length result ≤ 1000 }
+{
+    assert!(rt; name.len() <= 1_000);
+    Text::from_str(alloc, name).expect(rt, "memory")
+}
+
+/// A value, which is a short one.
+fn value_of(rt: &impl Abort, alloc: Global, value: &[u8]) -> Sequence<u8>
+    ensures { length result ≤ 1000 }
+{
+    assert!(rt; value.len() <= 1_000);
+    Sequence::from_vec(Vec::from_slice(alloc, value).expect(rt, "memory"))
+}
+
 /// Puts a value at a name, and gives the old one.
 fn put(
+    rt: &impl Abort,
     alloc: Global,
     attributes: &mut Attributes,
     name: &str,
     value: &[u8],
-) -> Result<Option<Sequence<u8>>, Fail> {
-    if attributes.size() > 1_000 || name.len() > 1_000 || value.len() > 1_000 {
-        return Err("the test's attributes are small".into());
-    }
-    let name = Text::from_str(alloc, name)?;
-    let value = Sequence::from_vec(Vec::from_slice(alloc, value)?);
-    Ok(attributes.insert(name, value)?)
+) -> Option<Sequence<u8>> {
+    assert!(rt; attributes.size() <= 1_000);
+    let name = name_of(rt, alloc, name);
+    let value = value_of(rt, alloc, value);
+    attributes.insert(name, value).expect(rt, "memory")
 }
 
 /// The attributes are those of these names and values, in order.
 fn are_attributes(attributes: &Attributes, pairs: &[(&str, &[u8])]) -> bool {
     let mut are_so = attributes.len() == pairs.len();
-    for ((name, value), (its, want)) in attributes.iter().zip(pairs) {
-        are_so = are_so && name == *its && value == *want;
+    for (found, wanted) in attributes.iter().zip(pairs) {
+        are_so = are_so && found == *wanted;
     }
     are_so
 }
 
 /// The value is this one, or there is none.
 fn is_value(value: &Option<Sequence<u8>>, want: Option<&[u8]>) -> bool {
-    match (value, want) {
-        (Some(value), Some(want)) => value.as_slice() == want,
-        (None, None) => true,
-        _ => false,
+    match value {
+        Some(value) => want == Some(value.as_slice()),
+        None => want.is_none(),
     }
 }
 
@@ -111,31 +127,39 @@ fn are_behind(attributes: &Attributes, row: &Step) -> bool {
 }
 
 /// Puts the value of a row, and compares.
-fn is_put(alloc: Global, attributes: &mut Attributes, row: &Step) -> Result<bool, Fail> {
-    let old = put(alloc, attributes, row.name, row.value)?;
-    Ok(is_value(&old, row.old) && are_behind(attributes, row))
+fn is_put(rt: &impl Abort, alloc: Global, attributes: &mut Attributes, row: &Step) -> bool {
+    let old = put(rt, alloc, attributes, row.name, row.value);
+    is_value(&old, row.old) && are_behind(attributes, row)
 }
 
-pub(super) fn other_put(alloc: Global) -> Result<Option<&'static str>, Fail> {
-    let mut attributes = Attributes::new(alloc);
+/// The first row behind which the attributes are otherwise.
+fn other_put_among(
+    rt: &impl Abort,
+    alloc: Global,
+    attributes: &mut Attributes,
+) -> Option<&'static str> {
     if attributes.len() != 0 || attributes.size() != 0 {
-        return Ok(Some("none at first"));
+        return Some("none at first");
     }
     for row in &PUT {
-        if !is_put(alloc, &mut attributes, row)? {
-            return Ok(Some(row.row));
+        if !is_put(rt, alloc, attributes, row) {
+            return Some(row.row);
         }
     }
-    Ok(None)
+    None
+}
+
+pub(super) fn other_put(rt: &impl Abort, alloc: Global) -> Option<&'static str> {
+    other_put_among(rt, alloc, &mut Attributes::new(alloc))
 }
 
 /// What all rows leave behind.
-fn all(alloc: Global) -> Result<Attributes, Fail> {
+fn all(rt: &impl Abort, alloc: Global) -> Attributes {
     let mut attributes = Attributes::new(alloc);
     for row in &PUT {
-        let _old = put(alloc, &mut attributes, row.name, row.value)?;
+        let _old = put(rt, alloc, &mut attributes, row.name, row.value);
     }
-    Ok(attributes)
+    attributes
 }
 
 /// The names are these, in order.
@@ -147,19 +171,23 @@ fn are_names(names: &[Text], want: &[&str]) -> bool {
     are_so
 }
 
-fn have_names(alloc: Global, attributes: &Attributes, want: &[&str]) -> Result<bool, Fail> {
-    Ok(are_names(attributes.names(alloc)?.as_slice(), want))
+fn have_names(rt: &impl Abort, alloc: Global, attributes: &Attributes, want: &[&str]) -> bool {
+    let names = attributes.names(alloc).expect(rt, "memory");
+    are_names(names.as_slice(), want)
 }
 
-pub(super) fn other_names(alloc: Global) -> Result<Option<&'static str>, Fail> {
-    let attributes = all(alloc)?;
+fn other_names_of(rt: &impl Abort, alloc: Global, attributes: &Attributes) -> Option<&'static str> {
     if attributes.len() != 4 || attributes.get("A").is_some() {
-        return Ok(Some("a name in another case"));
+        return Some("a name in another case");
     }
-    if !have_names(alloc, &attributes, &["B", "a", "z", "é"])? {
-        return Ok(Some("all names"));
+    if !have_names(rt, alloc, attributes, &["B", "a", "z", "é"]) {
+        return Some("all names");
     }
-    Ok(None)
+    None
+}
+
+pub(super) fn other_names(rt: &impl Abort, alloc: Global) -> Option<&'static str> {
+    other_names_of(rt, alloc, &all(rt, alloc))
 }
 
 /// A name whose value is removed, the old value, and all attributes behind that, with the bytes of all.
@@ -202,58 +230,61 @@ fn is_removed(attributes: &mut Attributes, row: &Removal) -> bool {
         && attributes.size() == row.size
 }
 
-pub(super) fn other_removed(alloc: Global) -> Result<Option<&'static str>, Fail> {
-    let mut attributes = all(alloc)?;
+fn other_removed_of(attributes: &mut Attributes) -> Option<&'static str> {
     for row in &REMOVED {
-        if !is_removed(&mut attributes, row) {
-            return Ok(Some(row.row));
+        if !is_removed(attributes, row) {
+            return Some(row.row);
         }
     }
-    Ok(None)
+    None
+}
+
+pub(super) fn other_removed(rt: &impl Abort, alloc: Global) -> Option<&'static str> {
+    other_removed_of(&mut all(rt, alloc))
 }
 
 /// Two attributes.
-fn two(alloc: Global) -> Result<Attributes, Fail> {
+fn two(rt: &impl Abort, alloc: Global) -> Attributes {
     let mut attributes = Attributes::new(alloc);
-    let _new = put(alloc, &mut attributes, "k", b"one")?;
-    let _new = put(alloc, &mut attributes, "j", b"two")?;
-    Ok(attributes)
+    let _new = put(rt, alloc, &mut attributes, "k", b"one");
+    let _new = put(rt, alloc, &mut attributes, "j", b"two");
+    attributes
 }
 
 /// A copy of the two, of which one has another value since.
-fn copied_before(alloc: Global) -> Result<Attributes, Fail> {
-    let mut attributes = two(alloc)?;
-    let copy = attributes.copy(alloc)?;
-    let _old = put(alloc, &mut attributes, "k", b"other")?;
-    Ok(copy)
+fn copied_before(rt: &impl Abort, alloc: Global) -> Attributes {
+    let mut attributes = two(rt, alloc);
+    let copy = attributes.copy(alloc).expect(rt, "memory");
+    let _old = put(rt, alloc, &mut attributes, "k", b"other");
+    copy
 }
 
-pub(super) fn other_copy(alloc: Global) -> Result<Option<&'static str>, Fail> {
-    let copy = copied_before(alloc)?;
-    if !are_attributes(&copy, &[("j", b"two"), ("k", b"one")]) {
-        return Ok(Some("its values"));
+fn other_than_two(copy: &Attributes) -> Option<&'static str> {
+    if !are_attributes(copy, &[("j", b"two"), ("k", b"one")]) {
+        return Some("its values");
     }
     if copy.size() != 8 {
-        return Ok(Some("its size"));
+        return Some("its size");
     }
-    Ok(None)
+    None
+}
+
+pub(super) fn other_copy(rt: &impl Abort, alloc: Global) -> Option<&'static str> {
+    other_than_two(&copied_before(rt, alloc))
 }
 
 /// Attributes of which this is the only one.
-fn single(alloc: Global, name: &str, value: &[u8]) -> Result<Attributes, Fail> {
-    if name.len() > 1_000 || value.len() > 1_000 {
-        return Err("the test's attributes are small".into());
-    }
-    let name = Text::from_str(alloc, name)?;
-    let value = Sequence::from_vec(Vec::from_slice(alloc, value)?);
+fn single(rt: &impl Abort, alloc: Global, name: &str, value: &[u8]) -> Attributes {
+    let name = name_of(rt, alloc, name);
+    let value = value_of(rt, alloc, value);
     let mut attributes = Attributes::new(alloc);
-    attributes.push(name, value)?;
-    Ok(attributes)
+    attributes.push(name, value).expect(rt, "memory");
+    attributes
 }
 
-pub(super) fn other_pushed(alloc: Global) -> Result<Option<&'static str>, Fail> {
-    if !are_attributes(&single(alloc, "k", b"one")?, &[("k", b"one")]) {
-        return Ok(Some("k"));
+pub(super) fn other_pushed(rt: &impl Abort, alloc: Global) -> Option<&'static str> {
+    if !are_attributes(&single(rt, alloc, "k", b"one"), &[("k", b"one")]) {
+        return Some("k");
     }
-    Ok(None)
+    None
 }

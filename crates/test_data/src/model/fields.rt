@@ -3,36 +3,44 @@
 use http::Method;
 use http_header::{HeaderName, HeaderValue};
 use std::alloc::Global;
-use std::test::Fail;
+use std::process::Abort;
 use sv_model::{Field, Sequence, is_head, place_of_field, set_field};
 
 /// Fields as their names and values.
 pub type Pairs = &'static [(&'static str, &'static str)];
 
+fn name_of(rt: &impl Abort, alloc: Global, name: &str) -> HeaderName {
+    HeaderName::from_bytes(alloc, name.as_bytes()).expect(rt, "the name of a field")
+}
+
 /// A field of a name and a value.
-fn field(alloc: Global, name: &str, value: &str) -> Result<Field, Fail> {
-    Ok(Field {
-        name: HeaderName::from_bytes(alloc, name.as_bytes())?,
-        value: HeaderValue::from_str(alloc, value)?,
-    })
+fn field(rt: &impl Abort, alloc: Global, name: &str, value: &str) -> Field {
+    Field {
+        name: name_of(rt, alloc, name),
+        value: HeaderValue::from_str(alloc, value).expect(rt, "the value of a field"),
+    }
 }
 
 /// The fields of these names and values, in order.
-pub fn fields_of(alloc: Global, pairs: &[(&str, &str)]) -> Result<Sequence<Field>, Fail> {
+pub fn fields_of(rt: &impl Abort, alloc: Global, pairs: &[(&str, &str)]) -> Sequence<Field> {
     let mut fields = Sequence::new(alloc);
     for (name, value) in pairs {
-        fields.push(field(alloc, name, value)?)?;
+        let field = field(rt, alloc, name, value);
+        fields.push(field).expect(rt, "memory");
     }
-    Ok(fields)
+    fields
+}
+
+/// The field has this name and this value.
+pub fn is_field(field: &Field, name: &str, value: &str) -> bool {
+    field.name.as_str() == name && field.value.as_bytes() == value.as_bytes()
 }
 
 /// The fields are those of these names and values, in order.
 pub fn are_fields(fields: &[Field], pairs: &[(&str, &str)]) -> bool {
     let mut are_so = fields.len() == pairs.len();
     for (field, (name, value)) in fields.iter().zip(pairs) {
-        are_so = are_so
-            && field.name.as_str() == *name
-            && field.value.as_bytes() == value.as_bytes();
+        are_so = are_so && is_field(field, name, value);
     }
     are_so
 }
@@ -70,30 +78,25 @@ static SET: [Setting; 3] = [
     },
 ];
 
-/// Sets a field.
-fn set(alloc: Global, fields: &mut Sequence<Field>, name: &str, value: &str) -> Result<(), Fail> {
-    Ok(set_field(fields, field(alloc, name, value)?)?)
+fn is_set(rt: &impl Abort, alloc: Global, row: &Setting) -> bool {
+    let mut fields = fields_of(rt, alloc, row.before);
+    let field = field(rt, alloc, row.name, row.value);
+    set_field(&mut fields, field).expect(rt, "memory");
+    are_fields(fields.as_slice(), row.behind)
 }
 
-fn is_set(alloc: Global, row: &Setting) -> Result<bool, Fail> {
-    let mut fields = fields_of(alloc, row.before)?;
-    set(alloc, &mut fields, row.name, row.value)?;
-    Ok(are_fields(fields.as_slice(), row.behind))
-}
-
-pub(super) fn other_set(alloc: Global) -> Result<Option<&'static str>, Fail> {
+pub(super) fn other_set(rt: &impl Abort, alloc: Global) -> Option<&'static str> {
     for row in &SET {
-        if !is_set(alloc, row)? {
-            return Ok(Some(row.row));
+        if !is_set(rt, alloc, row) {
+            return Some(row.row);
         }
     }
-    Ok(None)
+    None
 }
 
 /// The place of a name among fields.
-fn place_of(alloc: Global, fields: &[Field], name: &str) -> Result<Option<usize>, Fail> {
-    let name = HeaderName::from_bytes(alloc, name.as_bytes())?;
-    Ok(place_of_field(fields, &name))
+fn place_of(rt: &impl Abort, alloc: Global, fields: &[Field], name: &str) -> Option<usize> {
+    place_of_field(fields, &name_of(rt, alloc, name))
 }
 
 static PLACES: [(&str, Option<usize>); 4] = [
@@ -103,18 +106,18 @@ static PLACES: [(&str, Option<usize>); 4] = [
     ("x", None),
 ];
 
-fn other_place_among(alloc: Global, fields: &[Field]) -> Result<Option<&'static str>, Fail> {
+fn other_place_among(rt: &impl Abort, alloc: Global, fields: &[Field]) -> Option<&'static str> {
     for (name, want) in &PLACES {
-        if place_of(alloc, fields, name)? != *want {
-            return Ok(Some(name));
+        if place_of(rt, alloc, fields, name) != *want {
+            return Some(name);
         }
     }
-    Ok(None)
+    None
 }
 
-pub(super) fn other_place(alloc: Global) -> Result<Option<&'static str>, Fail> {
-    let all = fields_of(alloc, SET[2].behind)?;
-    other_place_among(alloc, all.as_slice())
+pub(super) fn other_place(rt: &impl Abort, alloc: Global) -> Option<&'static str> {
+    let all = fields_of(rt, alloc, SET[2].behind);
+    other_place_among(rt, alloc, all.as_slice())
 }
 
 static METHODS: [(&str, bool); 5] = [
@@ -125,15 +128,15 @@ static METHODS: [(&str, bool); 5] = [
     ("HEA", false),
 ];
 
-fn is_head_method(alloc: Global, name: &str) -> Result<bool, Fail> {
-    Ok(is_head(&Method::from_bytes(alloc, name.as_bytes())?))
+fn is_head_method(rt: &impl Abort, alloc: Global, name: &str) -> bool {
+    is_head(&Method::from_bytes(alloc, name.as_bytes()).expect(rt, "a method"))
 }
 
-pub(super) fn other_method(alloc: Global) -> Result<Option<&'static str>, Fail> {
+pub(super) fn other_method(rt: &impl Abort, alloc: Global) -> Option<&'static str> {
     for (name, want) in &METHODS {
-        if is_head_method(alloc, name)? != *want {
-            return Ok(Some(name));
+        if is_head_method(rt, alloc, name) != *want {
+            return Some(name);
         }
     }
-    Ok(None)
+    None
 }

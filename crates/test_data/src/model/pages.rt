@@ -1,9 +1,9 @@
 //! Plain pages.
 
-use crate::model::fields::{Pairs, are_fields, fields_of};
+use crate::model::fields::{Pairs, are_fields, fields_of, is_field};
 use http::StatusCode;
 use std::alloc::Global;
-use std::test::Fail;
+use std::process::Abort;
 use sv_model::{Response, Sequence, phrase, plain_body, plain_page, plain_type};
 
 /// A plain page: its code, the fields so far, and the fields, the phrase and the body that it has then.
@@ -62,11 +62,15 @@ static PAGES: [Page; 4] = [
     },
 ];
 
+fn status(rt: &impl Abort, code: u16) -> StatusCode {
+    StatusCode::from_u16(code).expect(rt, "the code of a status")
+}
+
 /// The plain page of a row.
-fn page_of(alloc: Global, page: &Page) -> Result<Response, Fail> {
-    let status = StatusCode::from_u16(page.code)?;
-    let fields = fields_of(alloc, page.so_far)?;
-    Ok(plain_page(alloc, status, fields, page.head_only, page.close)?)
+fn page_of(rt: &impl Abort, alloc: Global, page: &Page) -> Response {
+    let status = status(rt, page.code);
+    let fields = fields_of(rt, alloc, page.so_far);
+    plain_page(alloc, status, fields, page.head_only, page.close).expect(rt, "memory")
 }
 
 /// The response is what a row says.
@@ -79,33 +83,32 @@ fn is_page(response: &Response, page: &Page) -> bool {
 }
 
 /// The plain body of a code.
-fn body_of(alloc: Global, code: u16) -> Result<Sequence<u8>, Fail> {
-    Ok(plain_body(alloc, StatusCode::from_u16(code)?)?)
+fn body_of(rt: &impl Abort, alloc: Global, code: u16) -> Sequence<u8> {
+    plain_body(alloc, status(rt, code)).expect(rt, "memory")
 }
 
-fn is_made(alloc: Global, page: &Page) -> Result<bool, Fail> {
-    Ok(is_page(&page_of(alloc, page)?, page))
+fn is_made(rt: &impl Abort, alloc: Global, page: &Page) -> bool {
+    is_page(&page_of(rt, alloc, page), page)
 }
 
 /// The phrase and the plain body of a row's code are its own.
-fn is_said(alloc: Global, page: &Page) -> Result<bool, Fail> {
-    let is_phrase = phrase(StatusCode::from_u16(page.code)?) == page.phrase;
-    Ok(is_phrase && body_of(alloc, page.code)?.as_slice() == page.body)
+fn is_said(rt: &impl Abort, alloc: Global, page: &Page) -> bool {
+    let is_phrase = phrase(status(rt, page.code)) == page.phrase;
+    is_phrase && body_of(rt, alloc, page.code).as_slice() == page.body
 }
 
 fn is_plain_type() -> bool {
-    let plain = plain_type();
-    plain.name.as_str() == "content-type" && plain.value.as_bytes() == b"text/plain".as_slice()
+    is_field(&plain_type(), "content-type", "text/plain")
 }
 
-pub(super) fn other_page(alloc: Global) -> Result<Option<&'static str>, Fail> {
+pub(super) fn other_page(rt: &impl Abort, alloc: Global) -> Option<&'static str> {
     if !is_plain_type() {
-        return Ok(Some("the plain type"));
+        return Some("the plain type");
     }
     for page in &PAGES {
-        if !is_made(alloc, page)? || !is_said(alloc, page)? {
-            return Ok(Some(page.name));
+        if !is_made(rt, alloc, page) || !is_said(rt, alloc, page) {
+            return Some(page.name);
         }
     }
-    Ok(None)
+    None
 }

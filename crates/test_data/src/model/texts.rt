@@ -1,7 +1,8 @@
 //! Texts, lists of bytes, and the names of faults.
 
+use crate::fixtures::{bytes, text};
 use std::alloc::{AllocError, Global};
-use std::test::Fail;
+use std::process::Abort;
 use sv_model::{EngineFault, Sequence, StepFault, Text, trim};
 
 /// Spaces and tabs go, no other white space does, and blanks inside stay (RFC 9110, section 5.6.3).
@@ -26,58 +27,70 @@ pub(super) fn other_trimmed() -> Option<&'static str> {
 }
 
 /// A string as a text, and as a string again.
-fn is_string_again(alloc: Global, string: &str) -> Result<bool, AllocError> {
-    let text = Text::from_string(String::from_str(alloc, string)?);
+fn is_string_again(rt: &impl Abort, alloc: Global, string: &str) -> bool {
+    let text = Text::from_string(text(rt, alloc, string));
     let is_so = text.as_str() == string;
-    Ok(is_so && text.into_string().as_str() == string)
+    let again = text.into_string();
+    is_so && again.as_str() == string
 }
 
-fn is_text(alloc: Global, string: &str) -> Result<bool, AllocError> {
-    Ok(Text::from_str(alloc, string)?.as_str() == string)
+fn is_text(rt: &impl Abort, alloc: Global, string: &str) -> bool {
+    let text = Text::from_str(alloc, string).expect(rt, "memory");
+    text.as_str() == string
 }
 
-pub(super) fn other_text(alloc: Global) -> Result<Option<&'static str>, Fail> {
-    for string in ["", "bramble", "käg"] {
-        if !is_text(alloc, string)? || !is_string_again(alloc, string)? {
-            return Ok(Some(string));
+fn is_empty_text(alloc: Global) -> bool {
+    Text::new(alloc).as_str().is_empty()
+}
+
+static STRINGS: [&str; 3] = ["", "bramble", "käg"];
+
+pub(super) fn other_text(rt: &impl Abort, alloc: Global) -> Option<&'static str> {
+    for string in &STRINGS {
+        if !is_text(rt, alloc, string) || !is_string_again(rt, alloc, string) {
+            return Some(string);
         }
     }
-    if !Text::new(alloc).as_str().is_empty() {
-        return Ok(Some("a new text"));
+    if !is_empty_text(alloc) {
+        return Some("a new text");
     }
-    Ok(None)
+    None
 }
 
 /// 7, 8, 9 and 10.
-fn four(alloc: Global) -> Result<Sequence<u8>, AllocError> {
-    let mut bytes = Sequence::from_vec(vec![in alloc; 7u8, 8, 9]?);
-    bytes.push(10)?;
-    Ok(bytes)
+fn four(rt: &impl Abort, alloc: Global) -> Sequence<u8> {
+    let mut bytes = Sequence::from_vec(bytes(rt, alloc, &[7, 8, 9]));
+    bytes.push(10).expect(rt, "memory");
+    bytes
 }
 
 /// With another one in the place of 8, and 11 and 12 behind.
-fn six(alloc: Global) -> Result<Vec<u8>, AllocError> {
-    let mut bytes = four(alloc)?;
+fn six(rt: &impl Abort, alloc: Global) -> Vec<u8> {
+    let mut bytes = four(rt, alloc);
     if bytes.len() == 4 {
         bytes.replace(1, 80);
     }
-    bytes.extend_from_slice(&[11, 12])?;
-    Ok(bytes.into_vec())
+    bytes.extend_from_slice(&[11, 12]).expect(rt, "memory");
+    bytes.into_vec()
 }
 
-fn is_empty(alloc: Global) -> bool {
+fn is_empty_list(alloc: Global) -> bool {
     let none: Sequence<u8> = Sequence::new(alloc);
     none.len() == 0
 }
 
-pub(super) fn other_list(alloc: Global) -> Result<Option<&'static str>, Fail> {
-    if six(alloc)?.as_slice() != [7, 80, 9, 10, 11, 12].as_slice() {
-        return Ok(Some("six bytes"));
+fn is_six(rt: &impl Abort, alloc: Global) -> bool {
+    six(rt, alloc).as_slice() == [7, 80, 9, 10, 11, 12].as_slice()
+}
+
+pub(super) fn other_list(rt: &impl Abort, alloc: Global) -> Option<&'static str> {
+    if !is_six(rt, alloc) {
+        return Some("six bytes");
     }
-    if !is_empty(alloc) {
-        return Ok(Some("no byte"));
+    if !is_empty_list(alloc) {
+        return Some("no byte");
     }
-    Ok(None)
+    None
 }
 
 pub(super) fn other_fault() -> Option<&'static str> {
