@@ -12,11 +12,15 @@ pub trait Case: Copy {
 /// What is tried, how many inputs it has, and its name.
 pub type Row<C> = (C, usize, &'static str);
 
+fn expect(rt: &impl Abort, holds: bool, name: &str, input: usize) {
+    assert!(rt; holds, "{name}, input {input}");
+}
+
 /// Each input of each row comes as it has to.
 pub fn expect_all<C: Case>(rt: &(impl Abort + AllocGlobal), rows: &[Row<C>]) {
     for (case, inputs, name) in rows {
         for input in 0..*inputs {
-            assert!(rt; case.holds(rt, rt.alloc(), input), "{name}, input {input}");
+            expect(rt, case.holds(rt, rt.alloc(), input), name, input);
         }
     }
 }

@@ -3,7 +3,7 @@
 use crate::fixtures::{add, add_bytes};
 use std::alloc::Global;
 use std::process::Abort;
-use sv_message::{RawRequest, ReadFault, RequestReader};
+use sv_message::{RawRequest, RequestReader};
 
 /// Adds ten chunks of 99 bytes.
 fn add_chunks(rt: &impl Abort, stream: &mut Vec<u8>) {
@@ -58,56 +58,41 @@ fn number_of(raw: &RawRequest) -> &str {
     str::from_utf8(&raw.body.as_slice()[..10]).unwrap_or("no digits")
 }
 
-/// Adds the number of the next request, if it is there.
-fn tell_next(
-    rt: &impl Abort,
-    told: &mut String,
-    reader: &mut RequestReader,
-) -> Result<bool, ReadFault> {
+/// Adds the number of the next request, if it is there, or that there is a fault. Whether more can be there.
+fn tell_next(rt: &impl Abort, told: &mut String, reader: &mut RequestReader) -> bool {
     match reader.next() {
         Ok(Some(raw)) => {
             add(rt, told, number_of(&raw));
-            Ok(true)
+            true
         }
-        Ok(None) => Ok(false),
-        Err(fault) => Err(fault),
+        Ok(None) => false,
+        Err(_) => {
+            add(rt, told, "a fault");
+            false
+        }
     }
 }
 
 /// Adds the numbers of the requests that are there behind a piece.
-fn tell_piece(
-    rt: &impl Abort,
-    told: &mut String,
-    reader: &mut RequestReader,
-    piece: &[u8],
-) -> Result<(), ReadFault> {
-    reader.feed(piece)?;
+fn tell_piece(rt: &impl Abort, told: &mut String, reader: &mut RequestReader, piece: &[u8]) {
+    if reader.feed(piece).is_err() {
+        add(rt, told, "a fault");
+    }
     for _ in 0..201 {
-        if !tell_next(rt, told, reader)? {
+        if !tell_next(rt, told, reader) {
             break;
         }
     }
-    Ok(())
 }
 
-fn tell_all(
-    rt: &impl Abort,
-    told: &mut String,
-    reader: &mut RequestReader,
-    stream: &[u8],
-    size: usize,
-) -> Result<(), ReadFault> {
-    for piece in stream.chunks(size.max(1)) {
-        tell_piece(rt, told, reader, piece)?;
-    }
-    Ok(())
-}
-
-/// Whether a stream in pieces of a size has requests of just these numbers.
-fn has_numbers(rt: &impl Abort, alloc: Global, stream: &[u8], want: &str, size: usize) -> bool {
+/// The numbers of the requests of a stream in pieces of a size.
+fn told_of(rt: &impl Abort, alloc: Global, stream: &[u8], size: usize) -> String {
     let mut told = String::new(alloc);
     let mut reader = RequestReader::new(alloc);
-    tell_all(rt, &mut told, &mut reader, stream, size) == Ok(()) && told.as_str() == want
+    for piece in stream.chunks(size.max(1)) {
+        tell_piece(rt, &mut told, &mut reader, piece);
+    }
+    told
 }
 
 /// How long the pieces are.
@@ -117,7 +102,6 @@ pub(super) fn two_hundred_chunked_bodies(rt: &impl Abort, alloc: Global, input: 
     let Some(size) = SIZES.get(input) else {
         return false;
     };
-    let stream = pipeline(rt, alloc);
-    let want = all_numbers(rt, alloc);
-    has_numbers(rt, alloc, &stream, &want, *size)
+    let told = told_of(rt, alloc, &pipeline(rt, alloc), *size);
+    told.as_str() == all_numbers(rt, alloc).as_str()
 }

@@ -24,14 +24,14 @@ fn shown(rt: &impl Abort, alloc: Global, answer: &Result<Target, TargetFault>) -
     }
 }
 
-/// Whether a target or its fault has this text.
-fn is_shown(
-    rt: &impl Abort,
-    alloc: Global,
-    answer: &Result<Target, TargetFault>,
-    want: &str,
-) -> bool {
-    shown(rt, alloc, answer).as_str() == want
+/// What a text within a path is read as.
+fn shown_within(rt: &impl Abort, alloc: Global, text: &str) -> String {
+    shown(rt, alloc, &Target::read_within(alloc, text))
+}
+
+/// What the target of a request is read as.
+fn shown_of(rt: &impl Abort, alloc: Global, text: &str) -> String {
+    shown(rt, alloc, &Target::read(alloc, &Method::GET, text))
 }
 
 /// The letter of a byte of ASCII.
@@ -62,7 +62,7 @@ fn path_of(rt: &impl Abort, alloc: Global, byte: usize) -> String {
 /// Whether a text with the escape of a byte behind a slash is read as it has to be.
 fn is_unescaped(rt: &impl Abort, alloc: Global, text: &str, byte: usize) -> bool {
     let want = path_of(rt, alloc, byte);
-    is_shown(rt, alloc, &Target::read_within(alloc, text), &want)
+    shown_within(rt, alloc, text).as_str() == want.as_str()
 }
 
 pub(super) fn every_escape_of_one_byte(rt: &impl Abort, alloc: Global, byte: usize) -> bool {
@@ -96,9 +96,8 @@ fn between(rt: &impl Abort, alloc: Global, letter: char) -> String {
 
 /// Whether a letter between two others is read as it has to be.
 fn is_read_between(rt: &impl Abort, alloc: Global, letter: char) -> bool {
-    let raw = around(rt, alloc, letter);
     let want = between(rt, alloc, letter);
-    is_shown(rt, alloc, &Target::read(alloc, &Method::GET, &raw), &want)
+    shown_of(rt, alloc, &around(rt, alloc, letter)).as_str() == want.as_str()
 }
 
 pub(super) fn every_byte_of_ascii(rt: &impl Abort, alloc: Global, byte: usize) -> bool {

@@ -86,21 +86,26 @@ fn are_ended<R: Read>(
     true
 }
 
+/// What is otherwise than a row says: how the calls end, the number of steps, or what is written.
+fn difference_from(row: &Row, are_ended: bool, steps: u64, written: &[u8]) -> &'static str {
+    if !are_ended {
+        "a call ends otherwise"
+    } else if steps != row.steps {
+        "another number of steps"
+    } else if written != row.written.as_bytes() {
+        "another text"
+    } else {
+        ""
+    }
+}
+
 /// What the calls of a row's connection do otherwise than it says.
 fn difference<R: Read>(alloc: Global, row: &Row, reader: &mut R) -> &'static str {
     let mut connection = Connection::new(alloc, row.single);
     let mut site = Echo::new(alloc);
     let mut writer = Vec::new(alloc);
     let are_ended = are_ended(row, &mut connection, reader, &mut writer, &mut site);
-    if !are_ended {
-        "a call ends otherwise"
-    } else if site.steps != row.steps {
-        "another number of steps"
-    } else if writer.as_slice() != row.written.as_bytes() {
-        "another text"
-    } else {
-        ""
-    }
+    difference_from(row, are_ended, site.steps, writer.as_slice())
 }
 
 /// The same, for a reader that gives what is sent at once, or a byte at a time.

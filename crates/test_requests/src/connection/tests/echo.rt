@@ -4,7 +4,7 @@ ghost use Rattle.std.specs.Prelude.{⊤};
 
 use http::StatusCode;
 use std::alloc::{AllocError, Global};
-use sv_model::{Cause, Input, Moment, Output, Request, Response, Sequence, Site, StepFault};
+use sv_model::{Cause, Input, Moment, Output, Param, Request, Response, Sequence, Site, StepFault};
 
 /// Answers with the path, but at some paths in another way, and keeps what it was asked last.
 #[derive(Drop)]
@@ -131,12 +131,23 @@ fn refused(token: u64, cause: Cause) -> Output {
 fn params_of(alloc: Global, request: &Request) -> Result<Vec<u8>, AllocError> {
     let mut text = Vec::new(alloc);
     for param in request.params.as_slice() {
-        text.extend_from_slice(param.name.as_str().as_bytes())?;
-        text.push(b'=')?;
-        text.extend_from_slice(param.value.as_str().as_bytes())?;
-        text.push(b'\n')?;
+        add_param(&mut text, param)?;
     }
     Ok(text)
+}
+
+/// Adds the line of a parameter.
+fn add_param(text: &mut Vec<u8>, param: &Param) -> Result<(), AllocError> {
+    text.extend_from_slice(param.name.as_str().as_bytes())?;
+    text.extend_from_slice(b"=")?;
+    text.extend_from_slice(param.value.as_str().as_bytes())?;
+    text.extend_from_slice(b"\n")
+}
+
+fn body_of(alloc: Global, text: &[u8]) -> Result<Sequence<u8>, AllocError> {
+    let mut body = Sequence::new(alloc);
+    body.extend_from_slice(text)?;
+    Ok(body)
 }
 
 /// An answer with status 200 and no fields.
@@ -146,8 +157,7 @@ fn answer_to(
     request: &Request,
     text: &[u8],
 ) -> Result<Output, AllocError> {
-    let mut body = Sequence::new(alloc);
-    body.extend_from_slice(text)?;
+    let body = body_of(alloc, text)?;
     Ok(Output::Answer {
         token,
         response: Response {

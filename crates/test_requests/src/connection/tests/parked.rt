@@ -4,7 +4,7 @@
 
 use super::echo::Echo;
 use super::streams::new_sink;
-use super::{AT, refused};
+use super::{AT, ended, refused};
 use std::alloc::Global;
 use std::process::Abort;
 use sv_connection::{Connection, Outcome};
@@ -46,13 +46,13 @@ fn wait(alloc: Global, sent: &str, response: &Response, text: &str) -> Waited {
     let mut site = Echo::new(alloc);
     let mut connection = Connection::new(alloc, true);
     let waits_before = connection.waiting();
-    let served = connection.serve_next(&mut reader, &mut writer, &mut site, AT, 9);
+    let first = ended(&mut connection, &mut reader, &mut writer, &mut site, 9).0;
     let waits = connection.waiting();
     let early = writer.len();
     let late = connection.answer(&mut writer, response, AT.now);
     Waited {
         waits_before,
-        first: served.outcome,
+        first,
         waits,
         early,
         late,
@@ -100,13 +100,9 @@ fn fail_late(alloc: Global, response: &Response) -> ([Outcome; 3], u64) {
     let mut writer = new_sink(alloc, 1);
     let mut site = Echo::new(alloc);
     let mut connection = Connection::new(alloc, false);
-    let first = connection
-        .serve_next(&mut reader, &mut writer, &mut site, AT, 9)
-        .outcome;
+    let first = ended(&mut connection, &mut reader, &mut writer, &mut site, 9).0;
     let late = connection.answer(&mut writer, response, AT.now);
-    let next = connection
-        .serve_next(&mut reader, &mut writer, &mut site, AT, 10)
-        .outcome;
+    let next = ended(&mut connection, &mut reader, &mut writer, &mut site, 10).0;
     ([first, late, next], site.steps)
 }
 

@@ -6,7 +6,7 @@ use super::{AT, bare_answer};
 use crate::fixtures::add;
 use std::alloc::Global;
 use std::process::Abort;
-use sv_connection::{Connection, Received, RequestFault};
+use sv_connection::{Connection, Outcome, Received, RequestFault};
 use sv_model::{Request, is_head};
 
 /// A request with a body.
@@ -83,7 +83,7 @@ impl Caller {
         let outcome = self
             .connection
             .refuse(&mut self.written, fault, head_only, AT.now);
-        let text = format!(in self.alloc; "{outcome:?} {head_only};").expect(rt, "memory");
+        let text = words_of_end(rt, self.alloc, outcome, head_only);
         self.say(rt, &text, false)
     }
 
@@ -142,6 +142,11 @@ fn words_of(rt: &impl Abort, alloc: Global, request: &Request) -> String {
     let close = request.close;
     let path = request.path.as_str();
     format!(in alloc; "{path} {head_only} {close};").expect(rt, "memory")
+}
+
+/// The end of a refused request in words.
+fn words_of_end(rt: &impl Abort, alloc: Global, outcome: Outcome, head_only: bool) -> String {
+    format!(in alloc; "{outcome:?} {head_only};").expect(rt, "memory")
 }
 
 /// Two pieces and the end.
