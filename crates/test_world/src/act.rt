@@ -1,9 +1,9 @@
 //! What happens to a world, an event each.
 
-use std::alloc::{AllocError, Global};
-use sv_model::{Input, Key, Moment, Secret};
+use std::alloc::Global;
+use std::process::Abort;
+use sv_model::{Input, Key, Moment, Request, Secret};
 use sv_world::WorldEvent;
-use test_engine::request;
 
 /// A key, by its home and its serial, of one byte each.
 pub type KeyName = (u8, u8);
@@ -57,20 +57,26 @@ pub fn key((home, serial): KeyName) -> Key {
     }
 }
 
+/// A request with this body.
+pub fn request(rt: &impl Abort, alloc: Global, body: &[u8]) -> Request {
+    test_engine::request(alloc, body).expect(rt, "memory")
+}
+
 /// A request with this body, at a node in a second.
 pub fn ask(
+    rt: &impl Abort,
     alloc: Global,
     token: u64,
     node: u8,
     now: u64,
     body: &[u8],
-) -> Result<WorldEvent, AllocError> {
-    Ok(WorldEvent::Ask {
+) -> WorldEvent {
+    WorldEvent::Ask {
         node,
         moment: at(now),
         token,
-        request: request(alloc, body)?,
-    })
+        request: request(rt, alloc, body),
+    }
 }
 
 /// A step that a stop cuts.
@@ -85,19 +91,20 @@ pub fn torn(node: u8, input: Input, kept: bool) -> WorldEvent {
 
 /// A step of which nothing leaves its node, at a request that names a session.
 fn silent_again(
+    rt: &impl Abort,
     alloc: Global,
     token: u64,
     node: u8,
     named: KeyName,
-) -> Result<WorldEvent, AllocError> {
-    Ok(WorldEvent::Silent {
+) -> WorldEvent {
+    WorldEvent::Silent {
         node,
         moment: at(NOW),
         input: Input::Ask {
             token,
-            request: request(alloc, &[named.0, named.1])?,
+            request: request(rt, alloc, &[named.0, named.1]),
         },
-    })
+    }
 }
 
 fn torn_move(node: u8, named: KeyName, to: u8, kept: bool) -> WorldEvent {
@@ -106,32 +113,32 @@ fn torn_move(node: u8, named: KeyName, to: u8, kept: bool) -> WorldEvent {
 }
 
 /// The event; a request comes under the token.
-pub fn event(alloc: Global, token: u64, act: Act) -> Result<WorldEvent, AllocError> {
+pub fn event(rt: &impl Abort, alloc: Global, token: u64, act: Act) -> WorldEvent {
     match act {
-        Act::First(node) => ask(alloc, token, node, NOW, &[]),
-        Act::Again(node, named) => ask(alloc, token, node, NOW, &[named.0, named.1]),
-        Act::Deliver(place) => Ok(WorldEvent::Deliver {
+        Act::First(node) => ask(rt, alloc, token, node, NOW, &[]),
+        Act::Again(node, named) => ask(rt, alloc, token, node, NOW, &[named.0, named.1]),
+        Act::Deliver(place) => WorldEvent::Deliver {
             moment: at(NOW),
             place,
-        }),
-        Act::Poke(node) => Ok(WorldEvent::Poke {
+        },
+        Act::Poke(node) => WorldEvent::Poke {
             node,
             moment: at(NOW),
-        }),
-        Act::Tick(node, now) => Ok(WorldEvent::Tick {
+        },
+        Act::Tick(node, now) => WorldEvent::Tick {
             node,
             moment: at(now),
-        }),
-        Act::Move(node, named, to) => Ok(WorldEvent::Move {
+        },
+        Act::Move(node, named, to) => WorldEvent::Move {
             node,
             moment: at(NOW),
             key: key(named),
             to,
-        }),
-        Act::Crash(node) => Ok(WorldEvent::Crash(node)),
-        Act::Restart(node) => Ok(WorldEvent::Restart(node)),
-        Act::TornMove(node, named, to, kept) => Ok(torn_move(node, named, to, kept)),
-        Act::SilentAgain(node, named) => silent_again(alloc, token, node, named),
-        Act::TornRestart(node, kept) => Ok(WorldEvent::TornRestart { node, kept }),
+        },
+        Act::Crash(node) => WorldEvent::Crash(node),
+        Act::Restart(node) => WorldEvent::Restart(node),
+        Act::TornMove(node, named, to, kept) => torn_move(node, named, to, kept),
+        Act::SilentAgain(node, named) => silent_again(rt, alloc, token, node, named),
+        Act::TornRestart(node, kept) => WorldEvent::TornRestart { node, kept },
     }
 }

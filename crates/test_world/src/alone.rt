@@ -1,16 +1,16 @@
 //! A core by itself, node 0 of three: what it is recovered from, what it is given, and what it puts out.
 
-use crate::act::{NOW, SECRET};
+use crate::act::{NOW, SECRET, request};
+use crate::fixtures::{add, expect_text, text};
 use crate::{forgets, limits, room};
-use std::alloc::{AllocError, Global};
+use std::alloc::Global;
 use std::process::Abort;
-use std::test::Fail;
 use sv_core::{ApplyFault, Census, Core};
 use sv_model::{
     Attributes, Change, Input, Key, KeyState, Moment, Output, Packet, Record, Request, Session,
     Setting,
 };
-use test_engine::{Counter, hello, output_text, request, state_text};
+use test_engine::{Counter, hello, output_text, state_text};
 
 /// A key, by its home and its serial.
 pub type KeyName = (u8, u64);
@@ -74,11 +74,13 @@ fn recover(
 }
 
 /// A core of these records, which fit.
-fn recovered(alloc: Global, setting: Setting, records: &[Record]) -> Result<Core<Counter>, Fail> {
-    match recover(alloc, setting, records) {
-        Ok(core) => Ok(core),
-        Err(_) => Err("the records don't fit".into()),
-    }
+fn recovered(
+    rt: &impl Abort,
+    alloc: Global,
+    setting: Setting,
+    records: &[Record],
+) -> Core<Counter> {
+    recover(alloc, setting, records).expect(rt, "the records fit")
 }
 
 /// The records are refused, since one of them doesn't fit.
@@ -204,20 +206,20 @@ fn count(entry: Entry) -> u64 {
     }
 }
 
-fn push(records: &mut Vec<Record>, alloc: Global, entry: Entry) -> Result<(), AllocError> {
+fn push(rt: &impl Abort, records: &mut Vec<Record>, alloc: Global, entry: Entry) {
     for serial in 1..count(entry).saturating_add(1) {
-        records.push(record(alloc, entry, serial))?;
+        let record = record(alloc, entry, serial);
+        records.push(record).expect(rt, "memory");
     }
-    Ok(())
 }
 
 /// The records of these entries.
-fn records_of(alloc: Global, entries: &[Entry]) -> Result<Vec<Record>, AllocError> {
+fn records_of(rt: &impl Abort, alloc: Global, entries: &[Entry]) -> Vec<Record> {
     let mut records = Vec::new(alloc);
     for entry in entries {
-        push(&mut records, alloc, *entry)?;
+        push(rt, &mut records, alloc, *entry);
     }
-    Ok(records)
+    records
 }
 
 fn asked(request: Request) -> Input {
@@ -262,13 +264,13 @@ fn carried(alloc: Global, given: Given) -> Input {
     }
 }
 
-fn input(alloc: Global, given: Given) -> Result<Input, AllocError> {
+fn input(rt: &impl Abort, alloc: Global, given: Given) -> Input {
     match given {
-        Given::Hello => Ok(asked(hello(alloc)?)),
-        Given::First => Ok(asked(request(alloc, &[])?)),
-        Given::Again(home, serial) => Ok(asked(request(alloc, &[home, serial])?)),
-        Given::Poke => Ok(Input::Poke),
-        _ => Ok(carried(alloc, given)),
+        Given::Hello => asked(hello(alloc).expect(rt, "memory")),
+        Given::First => asked(request(rt, alloc, &[])),
+        Given::Again(home, serial) => asked(request(rt, alloc, &[home, serial])),
+        Given::Poke => Input::Poke,
+        _ => carried(alloc, given),
     }
 }
 
@@ -280,57 +282,55 @@ fn second(given: Given) -> u64 {
     }
 }
 
-fn outputs_text(alloc: Global, kept: bool, outputs: &[Output]) -> Result<String, AllocError> {
-    let mut text = String::new(alloc);
-    if kept {
-        text.push_str("+")?;
-    }
-    for output in outputs {
-        text.push_str(output_text(alloc, output)?.as_str())?;
-        text.push_str(";")?;
-    }
-    Ok(text)
+fn add_output(rt: &impl Abort, text: &mut String, alloc: Global, output: &Output) {
+    add(rt, text, &output_text(alloc, output).expect(rt, "memory"));
+    add(rt, text, ";");
 }
 
-fn taken(core: &mut Core<Counter>, alloc: Global, given: Given) -> Result<String, Fail> {
+fn outputs_text(rt: &impl Abort, alloc: Global, kept: bool, outputs: &[Output]) -> String {
+    let mut text = text(rt, alloc, if kept { "+" } else { "" });
+    for output in outputs {
+        add_output(rt, &mut text, alloc, output);
+    }
+    text
+}
+
+fn taken(rt: &impl Abort, core: &mut Core<Counter>, alloc: Global, given: Given) -> String {
     let moment = Moment {
         now: second(given),
         secret: SECRET,
     };
-    let decision = core.decide(moment, input(alloc, given)?)?;
+    let input = input(rt, alloc, given);
+    let decision = core.decide(moment, input).expect(rt, "memory");
     let kept = decision.entry().is_some();
     let outputs = core.accept(decision);
-    Ok(outputs_text(alloc, kept, &outputs)?)
+    outputs_text(rt, alloc, kept, &outputs)
 }
 
-fn census_text(alloc: Global, census: &Census) -> Result<String, AllocError> {
-    format!(in alloc;
-        "{} {} {} {}",
-        census.active, census.sent, census.gone, census.ended
-    )
+fn census_text(rt: &impl Abort, alloc: Global, census: &Census) -> String {
+    let Census {
+        active,
+        sent,
+        gone,
+        ended,
+    } = census;
+    text(rt, alloc, format_args!("{active} {sent} {gone} {ended}"))
 }
 
-fn told(core: &mut Core<Counter>, alloc: Global, given: Given) -> Result<String, Fail> {
+fn told(rt: &impl Abort, core: &mut Core<Counter>, alloc: Global, given: Given) -> String {
     match given {
-        Given::Known(name) => Ok(state_text(alloc, core.state(key(name)))?),
-        Given::Census => Ok(census_text(alloc, &core.census())?),
-        _ => taken(core, alloc, given),
+        Given::Known(name) => state_text(alloc, core.state(key(name))).expect(rt, "memory"),
+        Given::Census => census_text(rt, alloc, &core.census()),
+        _ => taken(rt, core, alloc, given),
     }
 }
 
 /// A core is given these in order, each with what it puts out.
-fn expect(
-    rt: &impl Abort,
-    core: &mut Core<Counter>,
-    alloc: Global,
-    name: &str,
-    rows: &[Row],
-) -> Result<(), Fail> {
+fn expect(rt: &impl Abort, core: &mut Core<Counter>, alloc: Global, name: &str, rows: &[Row]) {
     for (place, (given, want)) in rows.iter().enumerate() {
-        let told = told(core, alloc, *given)?;
-        assert_eq!(rt; told.as_str(), *want, "{name}, row {place}");
+        let told = told(rt, core, alloc, *given);
+        expect_text(rt, format_args!("{name}, row {place}"), &told, want);
     }
-    Ok(())
 }
 
 /// What is looked at of a snapshot.
@@ -360,17 +360,10 @@ pub struct Story {
 }
 
 /// A core is given the rows of a part, as often as that says.
-fn expect_part(
-    rt: &impl Abort,
-    core: &mut Core<Counter>,
-    alloc: Global,
-    name: &str,
-    part: &Part,
-) -> Result<(), Fail> {
+fn expect_part(rt: &impl Abort, core: &mut Core<Counter>, alloc: Global, name: &str, part: &Part) {
     for _time in 0..part.times {
-        expect(rt, core, alloc, name, part.rows)?;
+        expect(rt, core, alloc, name, part.rows);
     }
-    Ok(())
 }
 
 /// The snapshot of a core behind a part.
@@ -380,9 +373,9 @@ fn snapshot_behind(
     alloc: Global,
     name: &str,
     part: &Part,
-) -> Result<Vec<Record>, Fail> {
-    expect_part(rt, core, alloc, name, part)?;
-    Ok(core.snapshot()?)
+) -> Vec<Record> {
+    expect_part(rt, core, alloc, name, part);
+    core.snapshot().expect(rt, "memory")
 }
 
 /// The snapshot of a core that was recovered from these records, behind a part.
@@ -392,8 +385,8 @@ fn left_by(
     story: &Story,
     records: &[Record],
     part: &Part,
-) -> Result<Vec<Record>, Fail> {
-    let mut core = recovered(alloc, setting(story.keys, story.forget), records)?;
+) -> Vec<Record> {
+    let mut core = recovered(rt, alloc, setting(story.keys, story.forget), records);
     snapshot_behind(rt, &mut core, alloc, story.name, part)
 }
 
@@ -414,41 +407,38 @@ fn is_left(records: &[Record], left: Left) -> bool {
     }
 }
 
-fn expect_story(rt: &impl Abort, alloc: Global, story: &Story) -> Result<(), Fail> {
-    let mut records = records_of(alloc, story.records)?;
+fn expect_left(rt: &impl Abort, name: &str, records: &[Record], left: Left) {
+    let count = records.len();
+    assert!(rt; is_left(records, left), "{name}: {count} records are left");
+}
+
+fn expect_story(rt: &impl Abort, alloc: Global, story: &Story) {
+    let mut records = records_of(rt, alloc, story.records);
     for part in story.parts {
-        records = left_by(rt, alloc, story, &records, part)?;
-        let is_left = is_left(&records, part.left);
-        assert!(rt;
-            is_left,
-            "{}: {} records are left",
-            story.name,
-            records.len()
-        );
+        records = left_by(rt, alloc, story, &records, part);
+        expect_left(rt, story.name, &records, part.left);
     }
-    Ok(())
 }
 
-fn expect_stories(rt: &impl Abort, alloc: Global, stories: &[Story]) -> Result<(), Fail> {
+fn expect_stories(rt: &impl Abort, alloc: Global, stories: &[Story]) {
     for story in stories {
-        expect_story(rt, alloc, story)?;
+        expect_story(rt, alloc, story);
     }
-    Ok(())
 }
 
 #[test]
-fn numbers_at_their_ends(rt: HostRuntime) -> Result<(), Fail> {
-    expect_stories(&rt, rt.alloc(), &limits::STORIES)
+fn numbers_at_their_ends(rt: HostRuntime) {
+    expect_stories(&rt, rt.alloc(), &limits::STORIES);
 }
 
 #[test]
-fn room_for_keys(rt: HostRuntime) -> Result<(), Fail> {
-    expect_stories(&rt, rt.alloc(), &room::STORIES)
+fn room_for_keys(rt: HostRuntime) {
+    expect_stories(&rt, rt.alloc(), &room::STORIES);
 }
 
 #[test]
-fn keys_that_are_forgotten(rt: HostRuntime) -> Result<(), Fail> {
-    expect_stories(&rt, rt.alloc(), &forgets::STORIES)
+fn keys_that_are_forgotten(rt: HostRuntime) {
+    expect_stories(&rt, rt.alloc(), &forgets::STORIES);
 }
 
 /// Records of which the last one doesn't fit behind those before it, which do.
@@ -460,29 +450,28 @@ pub struct Refused {
 }
 
 /// The records are taken without the last one, and refused with it.
-fn is_last_refused(alloc: Global, refused: &Refused) -> Result<bool, Fail> {
-    let records = records_of(alloc, refused.records)?;
-    let (_, before) = records.split_last().ok_or("no records")?;
+fn is_last_refused(rt: &impl Abort, alloc: Global, refused: &Refused) -> bool {
+    let records = records_of(rt, alloc, refused.records);
+    let (_, before) = records.split_last().expect(rt, "records");
     let set = setting(refused.keys, refused.forget);
-    Ok(!is_refused(alloc, set, before) && is_refused(alloc, set, &records))
+    !is_refused(alloc, set, before) && is_refused(alloc, set, &records)
 }
 
-fn expect_refused(rt: &impl Abort, alloc: Global, all: &[Refused]) -> Result<(), Fail> {
+fn expect_refused(rt: &impl Abort, alloc: Global, all: &[Refused]) {
     for refused in all {
-        assert!(rt; is_last_refused(alloc, refused)?, "{}", refused.why);
+        assert!(rt; is_last_refused(rt, alloc, refused), "{}", refused.why);
     }
-    Ok(())
 }
 
 #[test]
-fn records_that_do_not_fit(rt: HostRuntime) -> Result<(), Fail> {
-    expect_refused(&rt, rt.alloc(), &limits::REFUSED)?;
-    expect_refused(&rt, rt.alloc(), &forgets::REFUSED)
+fn records_that_do_not_fit(rt: HostRuntime) {
+    expect_refused(&rt, rt.alloc(), &limits::REFUSED);
+    expect_refused(&rt, rt.alloc(), &forgets::REFUSED);
 }
 
 #[test]
-fn records_of_too_many_keys(rt: HostRuntime) -> Result<(), Fail> {
-    expect_refused(&rt, rt.alloc(), &room::REFUSED)
+fn records_of_too_many_keys(rt: HostRuntime) {
+    expect_refused(&rt, rt.alloc(), &room::REFUSED);
 }
 
 /// How the next start is written, if there is one.
@@ -503,18 +492,18 @@ fn start_of(entry: Option<&Record>) -> Start {
     }
 }
 
-fn decided_start(core: &mut Core<Counter>) -> Result<Start, Fail> {
-    match core.decide_start()? {
-        Some(decision) => Ok(start_of(decision.entry())),
-        None => Ok(Start::None),
+fn decided_start(rt: &impl Abort, core: &mut Core<Counter>) -> Start {
+    match core.decide_start().expect(rt, "memory") {
+        Some(decision) => start_of(decision.entry()),
+        None => Start::None,
     }
 }
 
 /// The next start of a node that forgets or not, behind these records.
-fn next_start(alloc: Global, forget: bool, entries: &[Entry]) -> Result<Start, Fail> {
-    let records = records_of(alloc, entries)?;
-    let mut core = recovered(alloc, setting(10, forget), &records)?;
-    decided_start(&mut core)
+fn next_start(rt: &impl Abort, alloc: Global, forget: bool, entries: &[Entry]) -> Start {
+    let records = records_of(rt, alloc, entries);
+    let mut core = recovered(rt, alloc, setting(10, forget), &records);
+    decided_start(rt, &mut core)
 }
 
 /// Whether a node forgets, its records, and its next start.
@@ -547,12 +536,11 @@ static STARTS: [(&str, bool, &[Entry], Start); 5] = [
 ];
 
 #[test]
-fn starts_say_whether_they_forget(rt: HostRuntime) -> Result<(), Fail> {
+fn starts_say_whether_they_forget(rt: HostRuntime) {
     for (name, forget, entries, want) in &STARTS {
         assert!(rt;
-            next_start(rt.alloc(), *forget, entries)? == *want,
+            next_start(&rt, rt.alloc(), *forget, entries) == *want,
             "{name}"
         );
     }
-    Ok(())
 }

@@ -4,9 +4,8 @@ ghost use Rattle.test_world.specs.Stage.{IsStaged};
 
 use crate::act::{Act, K1, KEPT, NOW, ask, key, torn};
 use crate::stage::{Row, expect_rows, nodes};
-use std::alloc::{AllocError, Global};
+use std::alloc::Global;
 use std::process::Abort;
-use std::test::Fail;
 use sv_model::{Input, Packet, Token};
 use sv_world::{World, WorldEvent, WorldFault};
 use test_engine::Counter;
@@ -29,27 +28,22 @@ static ONE_NUMBER: [(Event, Option<WorldFault>); 6] = [
     (Event::Ask(0), None),
 ];
 
-fn numbered(alloc: Global, event: Event) -> Result<WorldEvent, AllocError> {
+fn numbered(rt: &impl Abort, alloc: Global, event: Event) -> WorldEvent {
     match event {
-        Event::Ask(node) => ask(alloc, 7, node, NOW, &[]),
-        Event::Crash(node) => Ok(WorldEvent::Crash(node)),
-        Event::Restart(node) => Ok(WorldEvent::Restart(node)),
+        Event::Ask(node) => ask(rt, alloc, 7, node, NOW, &[]),
+        Event::Crash(node) => WorldEvent::Crash(node),
+        Event::Restart(node) => WorldEvent::Restart(node),
     }
 }
 
-fn expect_events(
-    rt: &impl Abort,
-    alloc: Global,
-    world: &mut World<Counter>,
-) -> Result<(), AllocError>
+fn expect_events(rt: &impl Abort, alloc: Global, world: &mut World<Counter>)
     requires { IsStaged world.old }
     ensures { IsStaged world.new }
 {
     for (place, (event, fault)) in ONE_NUMBER.iter().enumerate() {
-        let event = numbered(alloc, *event)?;
+        let event = numbered(rt, alloc, *event);
         assert_eq!(rt; world.step(event).err(), *fault, "event {place}");
     }
-    Ok(())
 }
 
 fn last_asked(world: &World<Counter>) -> Option<Token> {
@@ -57,16 +51,15 @@ fn last_asked(world: &World<Counter>) -> Option<Token> {
 }
 
 #[test]
-fn a_token_is_used_once_a_start(rt: HostRuntime) -> Result<(), Fail> {
-    let mut world = nodes(rt.alloc(), 3)?;
-    expect_events(&rt, rt.alloc(), &mut world)?;
+fn a_token_is_used_once_a_start(rt: HostRuntime) {
+    let mut world = nodes(&rt, rt.alloc(), 3);
+    expect_events(&rt, rt.alloc(), &mut world);
     let token = Token {
         number: 7,
         node: 0,
         boot: 2,
     };
     assert_eq!(rt; last_asked(&world), Some(token));
-    Ok(())
 }
 
 /// Node 1 has acknowledged the first session.
@@ -116,10 +109,9 @@ fn expect_torn(rt: &impl Abort, world: &mut World<Counter>)
 }
 
 #[test]
-fn a_torn_packet_was_sent(rt: HostRuntime) -> Result<(), Fail> {
+fn a_torn_packet_was_sent(rt: HostRuntime) {
     let alloc = rt.alloc();
-    let mut world = nodes(alloc, 3)?;
-    expect_rows(&rt, alloc, &mut world, ("acknowledged", &ACKNOWLEDGED))?;
+    let mut world = nodes(&rt, alloc, 3);
+    expect_rows(&rt, alloc, &mut world, ("acknowledged", &ACKNOWLEDGED));
     expect_torn(&rt, &mut world);
-    Ok(())
 }

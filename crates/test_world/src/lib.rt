@@ -12,6 +12,8 @@ mod alone;
 #[cfg(test)]
 mod faults;
 #[cfg(test)]
+mod fixtures;
+#[cfg(test)]
 mod forgets;
 #[cfg(test)]
 mod limits;

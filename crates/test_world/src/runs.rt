@@ -3,11 +3,11 @@
 ghost use Rattle.test_world.specs.Stage.{IsStaged};
 
 use crate::act::{Act, K1, KEPT, NOW, event};
+use crate::fixtures::{expect_text, text};
 use crate::stage::{Row, line_text, nodes};
-use std::alloc::{AllocError, Global};
+use std::alloc::Global;
 use std::process::Abort;
-use std::test::Fail;
-use sv_world::{World, WorldEvent, WorldFault};
+use sv_world::{RunFault, World, WorldEvent, WorldFault};
 use test_engine::Counter;
 
 /// Each of the ten kinds of event. A session goes from node 0 to node 1, whose next move is cut behind its record, so that
@@ -47,37 +47,39 @@ pub static EVERY_KIND: [Row; 15] = [
 ];
 
 /// The events of these rows. A request's token is its place.
-pub fn events(alloc: Global, rows: &[Row]) -> Result<Vec<WorldEvent>, AllocError> {
+pub fn events(rt: &impl Abort, alloc: Global, rows: &[Row]) -> Vec<WorldEvent> {
     let mut events = Vec::new(alloc);
     for (place, (act, _)) in rows.iter().enumerate() {
-        events.push(event(alloc, place as u64, *act)?)?;
+        let event = event(rt, alloc, place as u64, *act);
+        events.push(event).expect(rt, "memory");
     }
-    Ok(events)
+    events
 }
 
 /// The last lines of a world, each with what it says.
-fn expect_lines(
-    rt: &impl Abort,
-    alloc: Global,
-    world: &World<Counter>,
-    rows: &[Row],
-) -> Result<(), Fail> {
+fn expect_lines(rt: &impl Abort, alloc: Global, world: &World<Counter>, rows: &[Row]) {
     let before = world.trace().len().saturating_sub(rows.len());
     for (place, (_, want)) in rows.iter().enumerate() {
-        let said = line_text(alloc, world, before.saturating_add(place))?;
-        assert_eq!(rt; said.as_str(), *want, "event {place}");
+        let said = line_text(rt, alloc, world, before.saturating_add(place));
+        expect_text(rt, format_args!("event {place}"), &said, want);
     }
-    Ok(())
+}
+
+/// The events of these rows happen.
+fn run(rt: &impl Abort, alloc: Global, world: &mut World<Counter>, rows: &[Row])
+    requires { IsStaged world.old }
+    ensures { IsStaged world.new }
+{
+    let ran = world.run(&events(rt, alloc, rows));
+    ran.expect(rt, "each event happens");
 }
 
 /// A run does what its events do one by one.
 #[test]
-fn a_run_of_every_kind(rt: HostRuntime) -> Result<(), Fail> {
-    let alloc = rt.alloc();
-    let mut world = nodes(alloc, 3)?;
-    let events = events(alloc, &EVERY_KIND)?;
-    assert_eq!(rt; world.run(&events), Ok(()));
-    expect_lines(&rt, alloc, &world, &EVERY_KIND)
+fn a_run_of_every_kind(rt: HostRuntime) {
+    let mut world = nodes(&rt, rt.alloc(), 3);
+    run(&rt, rt.alloc(), &mut world, &EVERY_KIND);
+    expect_lines(&rt, rt.alloc(), &world, &EVERY_KIND);
 }
 
 /// The third and the fifth can't happen.
@@ -90,38 +92,30 @@ static FAULTY: [Row; 5] = [
 ];
 
 /// The event at which these stop is the third.
-fn expect_fault(
-    rt: &impl Abort,
-    alloc: Global,
-    world: &mut World<Counter>,
-    events: &[WorldEvent],
-) -> Result<(), Fail>
-    requires { IsStaged world.old }
-    ensures { IsStaged world.new }
-{
-    let fault = world.run(events).err().ok_or("no fault")?;
+fn expect_fault(rt: &impl Abort, alloc: Global, fault: RunFault) {
     assert_eq!(rt; (fault.place, fault.fault), (2, WorldFault::NotRunning));
-    assert_eq!(rt;
-        format!(in alloc; "{fault}")?.as_str(),
-        "the event at place 2: the node doesn't run"
+    let said = text(rt, alloc, fault);
+    expect_text(
+        rt,
+        "a fault",
+        &said,
+        "the event at place 2: the node doesn't run",
     );
-    Ok(())
 }
 
-fn run_to_the_fault(rt: &impl Abort, alloc: Global, world: &mut World<Counter>) -> Result<(), Fail>
+fn run_to_the_fault(rt: &impl Abort, alloc: Global, world: &mut World<Counter>)
     requires { IsStaged world.old }
     ensures { IsStaged world.new }
 {
-    let events = events(alloc, &FAULTY)?;
-    expect_fault(rt, alloc, world, &events)
+    let ran = world.run(&events(rt, alloc, &FAULTY));
+    expect_fault(rt, alloc, ran.expect_err(rt, "a fault"));
 }
 
 /// A run stops at the first event that can't happen, and says which that is; those before it have happened.
 #[test]
-fn a_run_stops_at_the_first_fault(rt: HostRuntime) -> Result<(), Fail> {
-    let alloc = rt.alloc();
-    let mut world = nodes(alloc, 3)?;
-    run_to_the_fault(&rt, alloc, &mut world)?;
+fn a_run_stops_at_the_first_fault(rt: HostRuntime) {
+    let mut world = nodes(&rt, rt.alloc(), 3);
+    run_to_the_fault(&rt, rt.alloc(), &mut world);
     assert_eq!(rt; world.trace().len(), 5);
-    expect_lines(&rt, alloc, &world, &FAULTY[..2])
+    expect_lines(&rt, rt.alloc(), &world, &FAULTY[..2]);
 }

@@ -1,7 +1,9 @@
 //! A line of a world's trace, as a text: its record, its commit, what was told, and what was put out.
 
-use std::alloc::{AllocError, Global};
-use sv_model::{Change, Commit, Event, Key, Output, Record, Told};
+use crate::fixtures::{add, text};
+use std::alloc::Global;
+use std::process::Abort;
+use sv_model::{Change, Commit, Event, Key, Output, Packet, Record, Told};
 use sv_world::Line;
 use test_engine::{numbered, output_text, packet_text};
 
@@ -22,40 +24,52 @@ pub fn sent(trace: &[Line]) -> usize {
     count
 }
 
-fn key_text(alloc: Global, verb: &str, key: &Key) -> Result<String, AllocError> {
-    format!(in alloc; " {verb} {}.{}", key.home, key.serial)
+fn key_text(rt: &impl Abort, alloc: Global, verb: &str, key: &Key) -> String {
+    text(
+        rt,
+        alloc,
+        format_args!(" {verb} {}.{}", key.home, key.serial),
+    )
 }
 
 /// What a commit makes of one key; the verb says it of a session that is there behind it.
-fn change_text(alloc: Global, verb: &str, change: &Change) -> Result<String, AllocError> {
+fn change_text(rt: &impl Abort, alloc: Global, verb: &str, change: &Change) -> String {
     match change {
-        Change::Absent => Ok(String::new(alloc)),
-        Change::Alive { key, .. } => key_text(alloc, verb, key),
-        Change::Ended(key) => key_text(alloc, "ends", key),
+        Change::Absent => String::new(alloc),
+        Change::Alive { key, .. } => key_text(rt, alloc, verb, key),
+        Change::Ended(key) => key_text(rt, alloc, "ends", key),
     }
 }
 
 /// A Commit, with the session that the request named and the one that was made.
-fn changes_text(alloc: Global, named: &Change, born: &Change) -> Result<String, AllocError> {
-    let mut text = String::from_str(alloc, "Commit")?;
-    text.push_str(change_text(alloc, "keeps", named)?.as_str())?;
-    text.push_str(change_text(alloc, "makes", born)?.as_str())?;
-    Ok(text)
+fn changes_text(rt: &impl Abort, alloc: Global, named: &Change, born: &Change) -> String {
+    let mut text = text(rt, alloc, "Commit");
+    add(rt, &mut text, &change_text(rt, alloc, "keeps", named));
+    add(rt, &mut text, &change_text(rt, alloc, "makes", born));
+    text
 }
 
 /// A record's kind, with its number and the other node where it has them.
-fn record_text(alloc: Global, record: &Record) -> Result<String, AllocError> {
+fn record_text(rt: &impl Abort, alloc: Global, record: &Record) -> String {
     match record {
-        Record::Boot(boot) => format!(in alloc; "Boot {boot}"),
-        Record::Commit { named, born } => changes_text(alloc, named, born),
-        Record::Expired(key) => format!(in alloc; "Expired {}.{}", key.home, key.serial),
-        Record::Sent { epoch, to, .. } => format!(in alloc; "Sent {epoch} to {to}"),
-        Record::Taken { epoch, from, .. } => format!(in alloc; "Taken {epoch} from {from}"),
-        Record::Gone { epoch, .. } => format!(in alloc; "Gone {epoch}"),
-        Record::State { .. } => format!(in alloc; "State"),
-        Record::Counters { .. } => format!(in alloc; "Counters"),
-        Record::Forgets { boot, .. } => format!(in alloc; "Forgets {boot}"),
-        Record::Counted { .. } => format!(in alloc; "Counted"),
+        Record::Boot(boot) => text(rt, alloc, format_args!("Boot {boot}")),
+        Record::Commit { named, born } => changes_text(rt, alloc, named, born),
+        Record::Expired(key) => {
+            text(
+                rt,
+                alloc,
+                format_args!("Expired {}.{}", key.home, key.serial),
+            )
+        }
+        Record::Sent { epoch, to, .. } => text(rt, alloc, format_args!("Sent {epoch} to {to}")),
+        Record::Taken { epoch, from, .. } => {
+            text(rt, alloc, format_args!("Taken {epoch} from {from}"))
+        }
+        Record::Gone { epoch, .. } => text(rt, alloc, format_args!("Gone {epoch}")),
+        Record::State { .. } => text(rt, alloc, "State"),
+        Record::Counters { .. } => text(rt, alloc, "Counters"),
+        Record::Forgets { boot, .. } => text(rt, alloc, format_args!("Forgets {boot}")),
+        Record::Counted { .. } => text(rt, alloc, "Counted"),
     }
 }
 
@@ -79,65 +93,68 @@ fn told_text(told: &Told) -> &'static str {
 }
 
 /// Adds a part behind the others.
-fn add(text: &mut String, part: &str) -> Result<(), AllocError> {
+fn add_part(rt: &impl Abort, text: &mut String, part: &str) {
     if !text.is_empty() {
-        text.push_str(", ")?;
+        add(rt, text, ", ");
     }
-    text.push_str(part)
+    add(rt, text, part);
 }
 
 /// Adds what became durable, and the commit.
-fn add_done(text: &mut String, alloc: Global, line: &Line) -> Result<(), AllocError> {
+fn add_done(rt: &impl Abort, text: &mut String, alloc: Global, line: &Line) {
     if let Some(record) = &line.entry {
-        add(text, record_text(alloc, record)?.as_str())?;
+        add_part(rt, text, &record_text(rt, alloc, record));
     }
     if let Some(commit) = &line.commit {
-        add(text, commit_text(commit))?;
+        add_part(rt, text, commit_text(commit));
     }
-    Ok(())
 }
 
 /// Adds what was told: the events of the commit, then that a session has come or gone.
-fn add_told(text: &mut String, line: &Line) -> Result<(), AllocError> {
+fn add_told(rt: &impl Abort, text: &mut String, line: &Line) {
     for told in line.events.as_slice() {
-        add(text, told_text(told))?;
+        add_part(rt, text, told_text(told));
     }
     if let Some(mark) = &line.mark {
-        add(text, told_text(mark))?;
+        add_part(rt, text, told_text(mark));
     }
-    Ok(())
+}
+
+fn sent_text(rt: &impl Abort, alloc: Global, number: usize, packet: &Packet) -> String {
+    let packet = packet_text(alloc, packet).expect(rt, "memory");
+    numbered(alloc, number, &packet).expect(rt, "memory")
 }
 
 /// One output; a packet has its number in front.
-fn put_out(alloc: Global, number: usize, output: &Output) -> Result<String, AllocError> {
+fn put_out(rt: &impl Abort, alloc: Global, number: usize, output: &Output) -> String {
     match output {
-        Output::Send(packet) => numbered(alloc, number, packet_text(alloc, packet)?.as_str()),
-        other => output_text(alloc, other),
+        Output::Send(packet) => sent_text(rt, alloc, number, packet),
+        other => output_text(alloc, other).expect(rt, "memory"),
     }
 }
 
 /// Adds what was put out, where so many packets were sent before.
 fn add_outputs(
+    rt: &impl Abort,
     text: &mut String,
     alloc: Global,
     before: usize,
     outputs: &[Output],
-) -> Result<(), AllocError> {
+) {
     let mut number = before;
     for output in outputs {
-        add(text, put_out(alloc, number, output)?.as_str())?;
+        add_part(rt, text, &put_out(rt, alloc, number, output));
         if let Output::Send(_) = output {
             number = number.saturating_add(1);
         }
     }
-    Ok(())
 }
 
 /// What an event has done, where so many packets were sent before.
-pub fn said(alloc: Global, before: usize, line: &Line) -> Result<String, AllocError> {
+pub fn said(rt: &impl Abort, alloc: Global, before: usize, line: &Line) -> String {
     let mut text = String::new(alloc);
-    add_done(&mut text, alloc, line)?;
-    add_told(&mut text, line)?;
-    add_outputs(&mut text, alloc, before, line.outputs.as_slice())?;
-    Ok(text)
+    add_done(rt, &mut text, alloc, line);
+    add_told(rt, &mut text, line);
+    add_outputs(rt, &mut text, alloc, before, line.outputs.as_slice());
+    text
 }

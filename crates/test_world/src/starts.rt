@@ -3,26 +3,21 @@
 ghost use Rattle.test_world.specs.Stage.{IsStaged};
 
 use crate::act::Act;
+use crate::fixtures::expect_text;
 use crate::stage::{line_text, nodes, take};
 use std::alloc::Global;
 use std::process::Abort;
-use std::test::Fail;
 use sv_world::World;
 use test_engine::Counter;
 
 /// Each node has made the record of its first start, by number, and has sent nothing.
-fn expect_starts(
-    rt: &impl Abort,
-    alloc: Global,
-    world: &World<Counter>,
-    count: usize,
-) -> Result<(), Fail> {
+fn expect_starts(rt: &impl Abort, alloc: Global, world: &World<Counter>, count: usize) {
     assert_eq!(rt; world.trace().len(), count);
     for (place, line) in world.trace().iter().enumerate() {
         assert_eq!(rt; usize::from(line.node), place);
-        assert_eq!(rt; line_text(alloc, world, place)?.as_str(), "Boot 1");
+        let said = line_text(rt, alloc, world, place);
+        expect_text(rt, format_args!("node {place}"), &said, "Boot 1");
     }
-    Ok(())
 }
 
 /// What node 0 does for the first session of node 1, by how many nodes there are: it asks each other one, and alone it
@@ -36,28 +31,20 @@ const WORLDS: [(u8, &str); 3] = [
     ),
 ];
 
-fn expect_world(
-    rt: &impl Abort,
-    alloc: Global,
-    world: &mut World<Counter>,
-    count: u8,
-    want: &str,
-) -> Result<(), Fail>
+fn expect_world(rt: &impl Abort, alloc: Global, world: &mut World<Counter>, count: u8, want: &str)
     requires { IsStaged world.old }
     ensures { IsStaged world.new }
 {
-    expect_starts(rt, alloc, world, usize::from(count))?;
-    let said = take(rt, alloc, world, Act::Again(0, (1, 1)))?;
-    assert_eq!(rt; said.as_str(), want, "of {count} nodes");
-    Ok(())
+    expect_starts(rt, alloc, world, usize::from(count));
+    let said = take(rt, alloc, world, Act::Again(0, (1, 1)));
+    expect_text(rt, format_args!("of {count} nodes"), &said, want);
 }
 
 #[test]
-fn one_to_eight_nodes_start(rt: HostRuntime) -> Result<(), Fail> {
+fn one_to_eight_nodes_start(rt: HostRuntime) {
     let alloc = rt.alloc();
     for (count, want) in WORLDS {
-        let mut world = nodes(alloc, count)?;
-        expect_world(&rt, alloc, &mut world, count, want)?;
+        let mut world = nodes(&rt, alloc, count);
+        expect_world(&rt, alloc, &mut world, count, want);
     }
-    Ok(())
 }
