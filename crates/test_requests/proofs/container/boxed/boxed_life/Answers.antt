@@ -12,8 +12,8 @@ boxed : (at i : own-1.I) (y : (own-1.entry i).0.Denot) (x : (own-1.entry at).0.D
 boxed at i y x made = read_made own-1 (own-1.entry at) at refl Phase (λ e v. e.1.servlet_phase v) i y x made
 
 pub loop-part-preserved : goal.loop-part-preserved
-loop-part-preserved c =
+loop-part-preserved g c =
     let fresh : (own-1.entry c.into_dyn_box.result.vtable).1.servlet_phase c.into_dyn_box.result.value ≡ New =
-    boxed (inl tt) c.into_dyn_box.result.vtable c.into_dyn_box.result.value c.in_ok-new.field-0.value c.into_dyn_box.ensures.1 ∙ (rw c.in_ok-new.ensures.ok c.in_ok-servlet_of.ensures)
+    boxed (inl tt) c.into_dyn_box.result.vtable c.into_dyn_box.result.value c.boxed.result.value c.into_dyn_box.ensures.1 ∙ (rw c.boxed.ensures c.servlet_of.ensures)
     in
-    rw c.in_ok-push.ensures.items (All-push (λ n. (own-1.entry n.object.vtable).1.servlet_phase n.object.value ≡ New) _ _ c.loop-part.invariant fresh)
+    rw c.push.ensures (All-push (λ n. (own-1.entry n.object.vtable).1.servlet_phase n.object.value ≡ New) _ _ c.loop-part.invariant (rw c.named.ensures fresh))

@@ -6,4 +6,6 @@ use Rattle.sv_container.specs.declared.named.Named.{Named}
 use Rattle.test_requests.proofs.container.cast.servlets_of.Goals as goal
 
 pub loop-part-preserved : goal.loop-part-preserved
-loop-part-preserved c = rw c.in_ok-push.ensures.items (All-push (λ (n : Named NotingServlet). n.object.phase ≡ New) _ _ c.loop-part.invariant c.in_ok-named.ensures)
+loop-part-preserved g c =
+    let fresh : c.named.result.object.phase ≡ New = rw c.named.ensures c.servlet_of.ensures in
+    rw c.push.ensures (All-push (λ (n : Named NotingServlet). n.object.phase ≡ New) _ _ c.loop-part.invariant fresh)

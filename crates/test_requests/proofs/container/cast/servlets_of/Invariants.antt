@@ -4,4 +4,4 @@ use Rattle.test_requests.proofs.container.cast.servlets_of.Given as goal
 
 -- the servlets so far are as they were made
 abbrev pub invariant-loop-part : goal.invariant-loop-part
-invariant-loop-part l = AreNamedNew (λ (s : NotingServlet). s.phase) l.all.items
+invariant-loop-part g l = AreNamedNew (λ (s : NotingServlet). s.phase) l.all.items
