@@ -13,7 +13,7 @@ boxed at i y x made = read_made own-1 (own-1.entry at) at refl Phase (λ e v. e.
 
 pub loop-part-preserved : goal.loop-part-preserved
 loop-part-preserved g c =
-    let fresh : (own-1.entry c.into_dyn_box.result.vtable).1.filter_phase c.into_dyn_box.result.value ≡ New =
-    boxed (inl tt) c.into_dyn_box.result.vtable c.into_dyn_box.result.value c.boxed.result.value c.into_dyn_box.ensures.1 ∙ (rw c.boxed.ensures c.filter_of.ensures)
+    let fresh : (own-1.entry c.into_dyn_box-object.result.vtable).1.filter_phase c.into_dyn_box-object.result.value ≡ New =
+    boxed (inl tt) c.into_dyn_box-object.result.vtable c.into_dyn_box-object.result.value c.boxed.result.value c.into_dyn_box-object.ensures.1 ∙ (rw c.boxed.ensures c.filter_of.ensures)
     in
     rw c.push.ensures (All-push (λ n. (own-1.entry n.object.vtable).1.filter_phase n.object.value ≡ New) _ _ c.loop-part.invariant (rw c.named.ensures fresh))

@@ -7,5 +7,5 @@ use Rattle.test_requests.proofs.container.cast.filters_of.Goals as goal
 
 pub loop-part-preserved : goal.loop-part-preserved
 loop-part-preserved g c =
-    let fresh : c.named.result.object.phase ≡ New = rw c.named.ensures c.filter_of.ensures in
+    let fresh : c.named.result.object.phase ≡ New = rw c.named.ensures c.filter_of-object.ensures in
     rw c.push.ensures (All-push (λ (n : Named NotingFilter). n.object.phase ≡ New) _ _ c.loop-part.invariant fresh)

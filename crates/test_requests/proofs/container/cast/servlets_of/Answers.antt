@@ -7,5 +7,5 @@ use Rattle.test_requests.proofs.container.cast.servlets_of.Goals as goal
 
 pub loop-part-preserved : goal.loop-part-preserved
 loop-part-preserved g c =
-    let fresh : c.named.result.object.phase ≡ New = rw c.named.ensures c.servlet_of.ensures in
+    let fresh : c.named.result.object.phase ≡ New = rw c.named.ensures c.servlet_of-object.ensures in
     rw c.push.ensures (All-push (λ (n : Named NotingServlet). n.object.phase ≡ New) _ _ c.loop-part.invariant fresh)
