@@ -16,3 +16,4 @@ pub mod FoundLemmas
 pub mod ReplacingLemmas
 pub mod Appending
 pub mod Compacting
+pub mod Laying

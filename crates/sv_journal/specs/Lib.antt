@@ -4,6 +4,7 @@ pub mod MemoryDisk
 pub mod FileDisk
 pub mod Format
 pub mod Commit
+pub mod Ahead
 pub mod Batch
 pub mod Walk
 pub mod Reading

@@ -10,6 +10,7 @@ ghost use Rattle.sv_journal.specs.Journal.{Holds, IsSound, disk_a, disk_b, disks
 ghost use Rattle.sv_journal.specs.Opening.{journal_at};
 ghost use Rattle.sv_journal.specs.declared.limits.TheConstants.{FILE_LIMIT, PAYLOAD_LIMIT};
 
+use crate::ahead::make_ready;
 use crate::batch::Batch;
 use crate::commit::commit;
 use crate::entries::ENTRY_HEAD;
@@ -100,7 +101,7 @@ impl<D: Disk> Journal<D> {
         ensures on_a { self.new.on_a ≡ self.old.on_a }
         ensures generation { self.new.generation ≡ self.old.generation }
         ensures end { OnOk result (self.new.end ≡ self.old.end + 5 + length payload.now) }
-        ensures len { OnOk result (self.new.len ≡ max self.old.len (self.old.end + 6 + length payload.now)) }
+        ensures len { OnOk result ((max self.old.len (self.old.end + 6 + length payload.now) ≤ self.new.len) × (self.new.len ≤ max self.old.len FILE_LIMIT)) }
         ensures len_err { OnErr result (self.new.len ≡ self.old.len) }
         ensures live { OnOk result (IsTrue self.new.live) }
 
@@ -142,7 +143,7 @@ impl<D: Disk> Journal<D> {
         ensures on_a { self.new.on_a ≡ self.old.on_a }
         ensures generation { self.new.generation ≡ self.old.generation }
         ensures end { OnOk result (self.new.end + 1 ≡ self.old.end + size_of batch.now) }
-        ensures len { OnOk result (self.new.len ≡ max self.old.len (self.old.end + size_of batch.now)) }
+        ensures len { OnOk result ((max self.old.len (self.old.end + size_of batch.now) ≤ self.new.len) × (self.new.len ≤ max self.old.len FILE_LIMIT)) }
         ensures len_err { OnErr result (self.new.len ≡ self.old.len) }
         ensures live { OnOk result (IsTrue self.new.live) }
 
@@ -166,10 +167,11 @@ impl<D: Disk> Journal<D> {
         }
         let end = self.end + bytes.len() as u64;
         self.is_live = false;
+        let len = make_ready(&mut self.current, self.len, end + 1)?;
         commit(&mut self.current, self.end, bytes)?;
         self.is_live = true;
         self.end = end;
-        self.len = self.len.max(end + 1);
+        self.len = len.max(end + 1);
         Ok(())
     }
 
@@ -263,6 +265,15 @@ impl<D: Disk> Journal<D> {
         ensures { result ≡ self.now.len }
     {
         self.len
+    }
+
+    /// The bytes up to the gate that ends the entries, with it. What is laid out ahead counts for the file's length alone.
+    pub fn used(&self) -> u64
+        ensures { result ≡ self.now.end + 1 }
+    {
+        let is_within = self.end < self.len;
+        prove!(is_within);
+        self.end + 1
     }
 
     /// No call of a disk has failed in an append or a compaction since the disks were opened.

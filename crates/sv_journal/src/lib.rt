@@ -9,6 +9,7 @@
 //! with the next generation, and the disk of the greater generation is the one that is read.
 #![tactic(auto)]
 
+mod ahead;
 mod batch;
 mod commit;
 mod current;
@@ -32,7 +33,7 @@ mod walk;
 
 pub use batch::Batch;
 pub use disk::{Device, Disk};
-pub use file_disk::FileDisk;
+pub use file_disk::{FileDisk, FileFault, IfMissing};
 pub use journal::Journal;
 pub use journal_fault::JournalFault;
 pub use limits::{FILE_LIMIT, PAYLOAD_LIMIT};

@@ -37,7 +37,8 @@ use Rattle.sv_model.specs.Waiting.{on_ask, waits, first_of, without, serve_first
 use Rattle.sv_model.specs.Migration.{no_if_unmade, says_no, on_want, hands_over, takes_over, on_grant, on_ack, is_wanted, is_ours, on_ours, move_refused, on_move}
 use Rattle.sv_model.specs.Time.{first_over, expire}
 use Rattle.sv_model.specs.Node.{decided}
-use Rattle.sv_model.specs.Replay.{applied_if, is_active, fits_named, is_next, fits_born, FitsSent, fits_taken, fits_gone, Fits}
+use Rattle.sv_model.specs.Replay.{applied_if}
+use Rattle.sv_model.specs.Fitting.{is_active, fits_named, is_next, fits_born, FitsSent, fits_taken, fits_gone, Fits}
 use Rattle.sv_model.specs.Opening.{mark_of}
 use Rattle.sv_model.specs.Journaled.{IsJournaled}
 use Rattle.sv_model.proofs.EntryLemmas.{Entry, entry_kept, over_in}

@@ -34,8 +34,8 @@ use Rattle.sv_model.specs.declared.output.Output.{Output}
 use Rattle.sv_model.specs.declared.output.Output.TheVariants.{Refuse, Send, Moved}
 use Rattle.sv_model.specs.declared.event.Told.{Told}
 use Rattle.sv_model.specs.Keys.{same_key, IsNode, IsCounting, IsKey}
-use Rattle.sv_model.specs.Session.{IsWithinLimits}
-use Rattle.sv_model.specs.Engine.{EngineMeaning, KeepsWithin, BringsWithin, KeepsLimits, NamesKeys}
+use Rattle.sv_model.specs.Limits.{IsWithinLimits, KeepsWithin, BringsWithin, KeepsLimits, NamesKeys}
+use Rattle.sv_model.specs.Engine.{EngineMeaning}
 use Rattle.sv_model.specs.NodeState.{Keys, Durable, Node, last_number, session_in, is_settled, is_dead, is_unmade, epoch_in, is_own, was_given, known, lacks_room, is_crowded}
 use Rattle.sv_model.specs.Outputs.{packet_in, sends_in}
 use Rattle.sv_model.specs.Membership.{In}
@@ -242,7 +242,7 @@ module _ (set : Setting) (is : IsSetting set) (n : Node) (r : IsRanged n) where
       left_is = record {
         known = r.known;
         next = r.next;
-        waiting = all_both (λ p. IsKey p.key) n.parked (record { token = token; request = q; key = k; since = moment.now; want = n.next_want } ∷ []) r.waiting (key, tt);
+        waiting = all_both (λ p. IsKey p.key) n.parked (record { token = token; request = q; key = k; since = moment.steady; want = n.next_want } ∷ []) r.waiting (key, tt);
         home = r.home;
         next_within = r.next_within;
         want_within = let no : n.next_want ≡ last_number → ⊥ = eqb-false n.next_want last_number apart in omega (arith, r.want_within, no);
@@ -341,16 +341,16 @@ module _ (set : Setting) (is : IsSetting set) (n : Node) (r : IsRanged n) where
     again d (p ∷ ps) wait = sends_both (wants set d p.key p.want) (flat_map (λ q. wants set d q.key q.want) ps)
         (wants_ranged set.node p.key d.boot p.want (others set) here_is wait.0 others_are) (again d ps wait.1)
 
-    ticks : IsRangedStep (on_tick set n moment.now)
+    ticks : IsRangedStep (on_tick set n moment.now moment.steady)
     ticks =
         let d = expire n moment.now (first_over moment.now (entries n.durable.keys)) [] in
         let step = ended moment.now (first_over moment.now (entries n.durable.keys)) refl in
-        let stay = filter (λ p. not (is_late set moment.now p)) n.parked in
-        let wait = all_filter (λ p. IsKey p.key) (λ p. not (is_late set moment.now p)) n.parked r.waiting in
+        let stay = filter (λ p. not (is_late set moment.steady p)) n.parked in
+        let wait = all_filter (λ p. IsKey p.key) (λ p. not (is_late set moment.steady p)) n.parked r.waiting in
         record {
           entry = step.entry;
-          packets = sends_both (deadlines set moment.now n.parked ++ wants_again set n.durable stay) (filter_map (grant_again set) (entries d.durable.keys))
-              (sends_both (deadlines set moment.now n.parked) (wants_again set n.durable stay) (late_ranged (filter (is_late set moment.now) n.parked))
+          packets = sends_both (deadlines set moment.steady n.parked ++ wants_again set n.durable stay) (filter_map (grant_again set) (entries d.durable.keys))
+              (sends_both (deadlines set moment.steady n.parked) (wants_again set n.durable stay) (late_ranged (filter (is_late set moment.steady) n.parked))
               (again n.durable (filter (λ p. not (is_quiet set n.durable p)) stay) (all_filter (λ p. IsKey p.key) (λ p. not (is_quiet set n.durable p)) stay wait)))
               (grants_ranged set (entries d.durable.keys) here_is (λ e i. step.left_is.known e.0 e.1 (entry_kept d.durable.keys e i)));
           left_is = record { known = step.left_is.known; next = step.left_is.next; waiting = wait; home = step.left_is.home; next_within = step.left_is.next_within; want_within = step.left_is.want_within };

@@ -1,9 +1,12 @@
 -- The container that all nodes make up: one map of sessions, and one list of commits that lead to it.
 --
--- It knows no nodes, packets, epochs or journals. A commit is either a request that was served, or a session that
--- expired.
+-- It knows no packets, epochs or journals. A commit is either a request that was served, or a session that expired.
+--
+-- What the engine means may change from one start of a node to the next. A request's token names its node and the number of that
+-- node's start, and the request is served under the start that it came under, or never. So the token says which meaning a request
+-- is served by, and a list of commits needs nothing beside it.
 use Rattle.std.specs.Prelude.{◌≡◌, ℕ, ◌≤◌, Bool, true, false, Option, Some, None, List, [], ◌∷◌, ◌++◌, take, length, ⊤}
-use Rattle.std.specs.Option.{option_map}
+use Rattle.std.specs.Option.{option_map, option_to_list}
 use Rattle.sv_model.specs.declared.key.Key.{Key}
 use Rattle.sv_model.specs.declared.key.Secret.{Secret}
 use Rattle.sv_model.specs.declared.key.Token.{Token}
@@ -19,9 +22,24 @@ use Rattle.sv_model.specs.declared.outcome.Birth.{Birth}
 use Rattle.sv_model.specs.declared.outcome.Birth.TheVariants.{Absent, Alive, Ended as BirthEnded}
 use Rattle.sv_model.specs.declared.commit.Commit.{Commit}
 use Rattle.sv_model.specs.declared.commit.Commit.TheVariants.{Served, Expired}
-use Rattle.sv_model.specs.Engine.{EngineMeaning}
+use Rattle.sv_model.specs.Engine.{EngineMeaning, TouchesOnlyHanded}
 use Rattle.sv_model.specs.Keys.{set_key}
 use Rattle.sv_model.specs.Session.{is_expired}
+
+-- what the engine means that a node was started with, by the node and the number of its start
+abbrev pub Meanings : Type 0
+Meanings = ℕ → ℕ → EngineMeaning
+
+-- the same at all nodes, from start to start
+abbrev pub always : EngineMeaning → Meanings
+always m = λ node boot. m
+
+abbrev pub AllTouchOnlyHanded : Meanings → Type 0
+AllTouchOnlyHanded m = (node boot : ℕ) → TouchesOnlyHanded (m node boot)
+
+-- what a request of a token is served by
+abbrev pub meaning_of : Meanings → Token → EngineMeaning
+meaning_of m token = m token.node token.boot
 
 -- the sessions by their keys, and the keys that were ever created
 pub record Store : Type 0 where
@@ -68,12 +86,13 @@ abbrev pub stored : Option (Key × Secret) → Key → Outcome → Store → Sto
 stored named fresh out store = record { map = born fresh out.birth (fated named out.fate store.map); made = made_with fresh out.birth store.made }
 
 -- one step of the container
-abbrev pub committed : EngineMeaning → Store → Commit → Store
-committed m store (Served token r now handed fresh) = stored (m.names r) fresh.0 (outcome_of m store r now handed fresh) store
+abbrev pub committed : Meanings → Store → Commit → Store
+committed m store (Served token r now handed fresh) =
+    stored ((meaning_of m token).names r) fresh.0 (outcome_of (meaning_of m token) store r now handed fresh) store
 committed m store (Expired k now) = record store { map = set_key store.map k None }
 
 -- all of them, one behind the other
-abbrev pub after : EngineMeaning → Store → List Commit → Store
+abbrev pub after : Meanings → Store → List Commit → Store
 after m store [] = store
 after m store (c ∷ cs) = after m (committed m store c) cs
 
@@ -90,12 +109,12 @@ pub record IsExpiry (store : Store) (k : Key) (now : ℕ) : Type 0 where
   pub expired : is_expired session now ≡ true
 
 -- the commit may stand behind the store
-abbrev pub IsLawful : EngineMeaning → Store → Commit → Type 0
-IsLawful m store (Served token r now handed fresh) = IsNewKey store fresh.0 (outcome_of m store r now handed fresh).birth
+abbrev pub IsLawful : Meanings → Store → Commit → Type 0
+IsLawful m store (Served token r now handed fresh) = IsNewKey store fresh.0 (outcome_of (meaning_of m token) store r now handed fresh).birth
 IsLawful m store (Expired k now) = IsExpiry store k now
 
 -- a run of the container: each commit may stand behind those before it
-abbrev pub AreLawful : EngineMeaning → Store → List Commit → Type 0
+abbrev pub AreLawful : Meanings → Store → List Commit → Type 0
 AreLawful m store [] = ⊤
 AreLawful m store (c ∷ cs) = IsLawful m store c × AreLawful m (committed m store c) cs
 
@@ -105,19 +124,33 @@ expiry_events k None = []
 expiry_events k (Some s) = record { context = s.context; event = Destroyed k } ∷ []
 
 -- what listeners are told of a commit
-abbrev pub events_of : EngineMeaning → Store → Commit → List Told
-events_of m store (Served token r now handed fresh) = (outcome_of m store r now handed fresh).events
+abbrev pub events_of : Meanings → Store → Commit → List Told
+events_of m store (Served token r now handed fresh) = (outcome_of (meaning_of m token) store r now handed fresh).events
 events_of m store (Expired k now) = expiry_events k (store.map k)
 
 -- the reply of a commit, to the token that asked
-abbrev pub reply_of : EngineMeaning → Store → Commit → Option (Token × Response)
-reply_of m store (Served token r now handed fresh) = Some (token, (outcome_of m store r now handed fresh).response)
+abbrev pub reply_of : Meanings → Store → Commit → Option (Token × Response)
+reply_of m store (Served token r now handed fresh) = Some (token, (outcome_of (meaning_of m token) store r now handed fresh).response)
 reply_of m store (Expired k now) = None
+
+-- ---- a step with a commit or without
+
+abbrev pub store_with : Meanings → Store → Option Commit → Store
+store_with m store None = store
+store_with m store (Some c) = committed m store c
+
+abbrev pub events_with : Meanings → Store → Option Commit → List Told
+events_with m store None = []
+events_with m store (Some c) = events_of m store c
+
+abbrev pub replies_with : Meanings → Store → Option Commit → List (Token × Response)
+replies_with m store None = []
+replies_with m store (Some c) = option_to_list (reply_of m store c)
 
 -- ---- requests that are served without the session that they name
 
 -- at some place since the request's arrival the map lacked the key
-pub record IsExcused (m : EngineMeaning) (commits : List Commit) (arrival : ℕ) (k : Key) : Type 0 where
+pub record IsExcused (m : Meanings) (commits : List Commit) (arrival : ℕ) (k : Key) : Type 0 where
   pub place : ℕ
   pub since : arrival ≤ place
   pub within : place ≤ length commits
@@ -125,11 +158,12 @@ pub record IsExcused (m : EngineMeaning) (commits : List Commit) (arrival : ℕ)
 
 -- a commit behind others: it stands behind its request's arrival, and where the session that it names wasn't handed
 -- in it has its excuse
-abbrev pub MayStand : EngineMeaning → (Token → ℕ) → List Commit → Commit → Type 0
+abbrev pub MayStand : Meanings → (Token → ℕ) → List Commit → Commit → Type 0
 MayStand m arrival before (Served token r now handed fresh) =
-    (arrival token ≤ length before) × ((named : Key × Secret) → handed ≡ false → m.names r ≡ Some named → IsExcused m before (arrival token) named.0)
+    (arrival token ≤ length before)
+    × ((named : Key × Secret) → handed ≡ false → (meaning_of m token).names r ≡ Some named → IsExcused m before (arrival token) named.0)
 MayStand m arrival before (Expired k now) = ⊤
 
-abbrev pub AllMayStand : EngineMeaning → (Token → ℕ) → List Commit → List Commit → Type 0
+abbrev pub AllMayStand : Meanings → (Token → ℕ) → List Commit → List Commit → Type 0
 AllMayStand m arrival before [] = ⊤
 AllMayStand m arrival before (c ∷ cs) = MayStand m arrival before c × AllMayStand m arrival (before ++ c ∷ []) cs

@@ -21,6 +21,10 @@ pub record Decision : Type 0 where
   pub parked : List Parked
   pub next_want : ℕ
 
+-- the node that a decision leaves
+abbrev pub left : Decision → Node
+left d = record { durable = d.durable; parked = d.parked; next_want = d.next_want }
+
 -- nothing changes
 abbrev pub idle : Node → List Output → Decision
 idle n outputs =

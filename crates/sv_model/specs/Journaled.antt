@@ -5,7 +5,8 @@ use Rattle.sv_model.specs.declared.node.Stage.{Stage}
 use Rattle.sv_model.specs.NodeState.{Node}
 use Rattle.sv_model.specs.Decision.{Decision}
 use Rattle.sv_model.specs.Opening.{mark_of}
-use Rattle.sv_model.specs.Replay.{Fits, applied_if}
+use Rattle.sv_model.specs.Replay.{applied_if}
+use Rattle.sv_model.specs.Fitting.{Fits}
 
 pub record IsJournaled (set : Setting) (n : Node) (d : Decision) : Type 0 where
   -- wherever the node's records stand

@@ -14,5 +14,5 @@ abbrev pub decided : EngineMeaning → Setting → Node → Moment → Input →
 decided m set n moment (Ask token r) = on_ask m set n moment token r (m.names r)
 decided m set n moment (Incoming p) = on_packet m set n moment p
 decided m set n moment Poke = on_poke m set n moment
-decided m set n moment Tick = on_tick set n moment.now
+decided m set n moment Tick = on_tick set n moment.now moment.steady
 decided m set n moment (Move k to) = on_move set n k to (known n.durable k)

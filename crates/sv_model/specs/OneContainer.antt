@@ -1,18 +1,14 @@
 -- What holds of all that a node alone has done: its sessions are those of one container, and its answers are that
--- container's replies, in one order of all commits.
-use Rattle.std.specs.Option.{option_to_list}
-use Rattle.std.specs.Prelude.{◌≡◌, ◌+◌, ◌≤◌, Option, Some, None, List, [], ◌∷◌, map, ⊤}
+-- container's replies, in one order of all commits. Its engine means the same throughout.
+use Rattle.std.specs.Prelude.{◌≡◌, ◌+◌, ◌≤◌, Option, List, [], ◌∷◌, ⊤}
 use Rattle.std.specs.FinMap.{get}
 use Rattle.sv_model.specs.declared.key.Key.{Key}
 use Rattle.sv_model.specs.declared.key.Token.{Token}
-use Rattle.sv_model.specs.declared.response.Response.{Response}
 use Rattle.sv_model.specs.declared.session.Session.{Session}
-use Rattle.sv_model.specs.declared.event.Told.{Told}
-use Rattle.sv_model.specs.declared.commit.Commit.{Commit}
 use Rattle.sv_model.specs.Engine.{EngineMeaning}
-use Rattle.sv_model.specs.Container.{Store, nothing_stored, committed, after, AreLawful, AllMayStand, events_of, reply_of}
+use Rattle.sv_model.specs.Container.{Store, always, nothing_stored, after, AreLawful, AllMayStand, store_with, events_with, replies_with}
 use Rattle.sv_model.specs.NodeState.{Node, session_in}
-use Rattle.sv_model.specs.Trace.{Item, commits_of, asked_of, replies_of, refused_of, served_of, times, arrival_behind}
+use Rattle.sv_model.specs.Trace.{Item, commits_of, asked_of, replies_of, refused_of, served_of, times, arrival_behind, tokens_in}
 
 -- the sessions that a node holds active
 abbrev pub active_at : Node → Key → Option Session
@@ -21,40 +17,21 @@ active_at n k = session_in (get n.durable.keys k)
 -- the commits are a run of the container; a request that was served without the session that it names has its excuse
 -- since it came; and behind all of them the container has these sessions
 pub record IsOneContainer (m : EngineMeaning) (trace : List Item) (sessions : Key → Option Session) : Type 0 where
-  pub lawful : AreLawful m nothing_stored (commits_of trace)
-  pub stands : AllMayStand m (arrival_behind 0 trace) [] (commits_of trace)
-  pub holds : (k : Key) → (after m nothing_stored (commits_of trace)).map k ≡ sessions k
+  pub lawful : AreLawful (always m) nothing_stored (commits_of trace)
+  pub stands : AllMayStand (always m) (arrival_behind 0 trace) [] (commits_of trace)
+  pub holds : (k : Key) → (after (always m) nothing_stored (commits_of trace)).map k ≡ sessions k
 
 -- ---- answers
-
-abbrev pub store_with : EngineMeaning → Store → Option Commit → Store
-store_with m store None = store
-store_with m store (Some c) = committed m store c
-
-abbrev pub events_with : EngineMeaning → Store → Option Commit → List Told
-events_with m store None = []
-events_with m store (Some c) = events_of m store c
-
-abbrev pub replies_with : EngineMeaning → Store → Option Commit → List (Token × Response)
-replies_with m store None = []
-replies_with m store (Some c) = option_to_list (reply_of m store c)
 
 -- a step tells the events of its own commit, at its place in the order, and puts out that commit's reply; without a
 -- commit it tells nothing and answers nobody
 pub record IsFit (m : EngineMeaning) (store : Store) (i : Item) : Type 0 where
-  pub events : i.events ≡ events_with m store i.commit
-  pub replies : i.replies ≡ replies_with m store i.commit
+  pub events : i.events ≡ events_with (always m) store i.commit
+  pub replies : i.replies ≡ replies_with (always m) store i.commit
 
 abbrev pub AreFit : EngineMeaning → Store → List Item → Type 0
 AreFit m store [] = ⊤
-AreFit m store (i ∷ is) = IsFit m store i × AreFit m (store_with m store i.commit) is
-
--- each request came under a token of its own
-abbrev pub AreDistinct : List Token → Type 0
-AreDistinct tokens = (t : Token) → times t tokens ≤ 1
-
-abbrev pub tokens_in : List (Token × Response) → List Token
-tokens_in replies = map (λ a. a.0) replies
+AreFit m store (i ∷ is) = IsFit m store i × AreFit m (store_with (always m) store i.commit) is
 
 -- each answer is the reply of its step's own commit, and a token is answered as often as it is served; it is served or
 -- refused no more often than a request came under it

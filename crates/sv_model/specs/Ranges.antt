@@ -17,11 +17,10 @@ use Rattle.sv_model.specs.declared.packet.Packet.TheVariants.{Want, Grant, Ack, 
 use Rattle.sv_model.specs.declared.input.Input.{Input}
 use Rattle.sv_model.specs.declared.input.Input.TheVariants.{Ask, Packet as Incoming, Poke, Tick, Move}
 use Rattle.sv_model.specs.Keys.{IsNode, IsCounting, IsKey}
-use Rattle.sv_model.specs.Session.{IsWithinLimits}
+use Rattle.sv_model.specs.Limits.{IsWithinLimits}
 use Rattle.sv_model.specs.NodeState.{Node, last_number}
-use Rattle.sv_model.specs.Decision.{Decision}
+use Rattle.sv_model.specs.Decision.{Decision, left}
 use Rattle.sv_model.specs.Outputs.{sends_in}
-use Rattle.sv_model.specs.Step.{left}
 
 -- a cluster has a node and at most 8, and this is one of them
 pub record IsSetting (set : Setting) : Type 0 where

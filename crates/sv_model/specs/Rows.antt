@@ -30,7 +30,8 @@ use Rattle.sv_model.specs.Session.{is_expired}
 use Rattle.sv_model.specs.NodeState.{Keys, Durable, Node, setting_for, known}
 use Rattle.sv_model.specs.Decision.{idle}
 use Rattle.sv_model.specs.Node.{decided}
-use Rattle.sv_model.specs.Replay.{blank, replayed, Fits}
+use Rattle.sv_model.specs.Replay.{blank, replayed}
+use Rattle.sv_model.specs.Fitting.{Fits}
 
 -- the nodes of the examples: three, and a request waits for 30 seconds
 abbrev pub of_three : ℕ → Setting
@@ -57,7 +58,7 @@ abbrev pub at_rest : Durable → Node
 at_rest d = record { durable = d; parked = []; next_want = 1 }
 
 abbrev pub at_second : ℕ → Secret → Moment
-at_second now secret = record { now = now; secret = secret }
+at_second now secret = record { now = now; steady = now; secret = secret }
 
 -- an engine, a request that names no session and makes one, and another that names it, changes it where it is handed in
 -- and else makes a new one

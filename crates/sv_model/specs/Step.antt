@@ -8,7 +8,7 @@ use Rattle.sv_model.specs.declared.site.StepFault.{StepFault}
 use Rattle.sv_model.specs.declared.site.StepFault.TheVariants.{Memory}
 use Rattle.sv_model.specs.Engine.{EngineMeaning, heard_all}
 use Rattle.sv_model.specs.NodeState.{Setting, Node}
-use Rattle.sv_model.specs.Decision.{Decision}
+use Rattle.sv_model.specs.Decision.{Decision, left}
 use Rattle.sv_model.specs.Node.{decided}
 
 -- a node with its engine's meaning, and what its listeners have noted
@@ -16,10 +16,6 @@ pub record View : Type 0 where
   pub meaning : EngineMeaning
   pub node : Node
   pub heard : List (List ℕ)
-
--- the node that a decision leaves
-abbrev pub left : Decision → Node
-left d = record { durable = d.durable; parked = d.parked; next_want = d.next_want }
 
 abbrev pub with_mark : List Told → Option Told → List Told
 with_mark events None = events

@@ -46,10 +46,10 @@ expire n now (Some (k, Ended e)) outputs = idle n outputs
 
 -- the request has waited for as long as requests do
 abbrev pub is_late : Setting → ℕ → Parked → Bool
-is_late set now p = nat_le (p.since + set.deadline) now
+is_late set steady p = nat_le (p.since + set.deadline) steady
 
 abbrev pub deadlines : Setting → ℕ → List Parked → List Output
-deadlines set now parked = map (λ p. Refuse p.token Deadline) (filter (is_late set now) parked)
+deadlines set steady parked = map (λ p. Refuse p.token Deadline) (filter (is_late set steady) parked)
 
 -- the session may not be asked for again: the request can be served, or there is no room for what it waits for
 abbrev pub is_quiet : Setting → Durable → Parked → Bool
@@ -66,11 +66,12 @@ grant_again set (k, Sent e s to) = Some (Send (Grant set.node to k e s))
 grant_again set (k, Gone e) = None
 grant_again set (k, Ended e) = None
 
-abbrev pub on_tick : Setting → Node → ℕ → Decision
-on_tick set n now =
+-- sessions expire by the clock as it is set, requests are late by the one that nobody sets
+abbrev pub on_tick : Setting → Node → (now steady : ℕ) → Decision
+on_tick set n now steady =
     let d = expire n now (first_over now (entries n.durable.keys)) [] in
-    let waiting = filter (λ p. not (is_late set now p)) n.parked in
+    let waiting = filter (λ p. not (is_late set steady p)) n.parked in
     record d {
-      outputs = deadlines set now n.parked ++ wants_again set n.durable waiting ++ filter_map (grant_again set) (entries d.durable.keys);
+      outputs = deadlines set steady n.parked ++ wants_again set n.durable waiting ++ filter_map (grant_again set) (entries d.durable.keys);
       parked = waiting;
     }

@@ -33,7 +33,7 @@ wants set d k want = map (λ p. Send (Want set.node p k d.boot want)) (others se
 abbrev pub parks : Setting → Node → Moment → ℕ → Request → Key → Decision
 parks set n moment token r k =
     record (idle n (wants set n.durable k n.next_want)) {
-      parked = n.parked ++ record { token = token; request = r; key = k; since = moment.now; want = n.next_want } ∷ [];
+      parked = n.parked ++ record { token = token; request = r; key = k; since = moment.steady; want = n.next_want } ∷ [];
       next_want = n.next_want + 1;
     }
 

@@ -2,7 +2,8 @@
 
 ghost use Rattle.std.specs.Prelude.{◌≡◌, ℕ, List, IfOk};
 ghost use Rattle.std.specs.Option.{option_map};
-ghost use Rattle.sv_model.specs.Engine.{EngineMeaning, TouchesOnlyHanded, KeepsLimits, NamesKeys, heard_all};
+ghost use Rattle.sv_model.specs.Engine.{EngineMeaning, TouchesOnlyHanded, heard_all};
+ghost use Rattle.sv_model.specs.Limits.{KeepsLimits, NamesKeys};
 ghost use Rattle.sv_model.specs.declared.engine.EngineFault.TheVariants.{Memory};
 
 use crate::event::Told;

@@ -19,8 +19,10 @@ pub struct Secret(pub [u8; 16]);
 /// What a step takes from the outside world.
 #[derive(Clone, Copy, Debug, PartialEq, Eq)]
 pub struct Moment {
-    /// Whole seconds since the beginning of 1970.
+    /// Whole seconds since the beginning of 1970, as the machine's clock is set: sessions are used, and expire, by it.
     pub now: u64,
+    /// Whole seconds by a clock that nobody sets, wherever it began: requests wait by it.
+    pub steady: u64,
     /// The secret of a session that is made in this step, or whose id is changed in it.
     pub secret: Secret,
 }

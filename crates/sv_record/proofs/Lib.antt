@@ -9,3 +9,4 @@ pub mod Names
 pub mod WrittenLemmas
 pub mod RangeLemmas
 pub mod WithinLemmas
+pub mod GreetingLaws

@@ -9,7 +9,7 @@ use Rattle.std.proofs.lemmas.Bool.{and_from, and_parts, le-ltb, ltb-false}
 use Rattle.std.proofs.lemmas.Bool.Decides.{nat_tests}
 use Rattle.std.proofs.lemmas.List.Elements.{All-from_recursion, recursion_from_All}
 use Rattle.sv_model.specs.Attributes.{NamesRise, name_cmp, names_of, attributes_size}
-use Rattle.sv_model.specs.Session.{IsWithinLimits}
+use Rattle.sv_model.specs.Limits.{IsWithinLimits}
 use Rattle.sv_model.specs.declared.key.Key.{Key}
 use Rattle.sv_model.specs.declared.session.Session.{Session}
 use Rattle.sv_model.specs.declared.state.KeyState.{KeyState}
@@ -146,7 +146,7 @@ all_within v before (x ∷ xs) small fits =
     let here = (limited v before x fits.0).within in
     omega (arith, attributes_size-cons x xs, all_within v (behind before x) xs here fits.1)
 
-node_range : (n : ℕ) → node.Fits n → IsNode n
+pub node_range : (n : ℕ) → node.Fits n → IsNode n
 unfolding node
 node_range n fits = let small : nat_lt n 8 ≡ true = fits.1 in grind (arith, nat_tests)
 

@@ -7,3 +7,4 @@ pub mod Session
 pub mod Record
 pub mod Packet
 pub mod Frame
+pub mod Greeting

@@ -12,6 +12,7 @@ mod attributes;
 mod change;
 mod fault;
 mod frame;
+mod greeting;
 mod handover;
 mod key;
 pub mod laws;
@@ -27,6 +28,9 @@ mod version;
 
 pub use fault::RecordFault;
 pub use frame::{CONTROL, Frame, PAYLOAD_LIMIT, PEER, read_frame, write_frame};
+pub use greeting::{
+    CONTEXTS_LEN, Errand, GREETING, GREETING_LEN, Greeting, read_greeting, write_greeting,
+};
 pub use packet::{read_packet, write_packet};
 pub use record::{RECORD_LIMIT, read_record, write_record};
 pub use sv_model::{Packet, Record};

@@ -1,7 +1,7 @@
 //! A session: its fields, and then its attributes.
 
 ghost use Rattle.std.specs.Prelude.{◌≡◌, ◌<◌, ◌++◌, length, take, OnOk, OnErr};
-ghost use Rattle.sv_model.specs.Session.{IsWithinLimits};
+ghost use Rattle.sv_model.specs.Limits.{IsWithinLimits};
 ghost use Rattle.sv_model.specs.declared.session.TheConstants.{CONTEXT_LIMIT};
 ghost use Rattle.sv_record.specs.Reading.{Gives, bytes_at};
 ghost use Rattle.sv_record.specs.Session.{context, session};
