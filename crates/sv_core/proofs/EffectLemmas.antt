@@ -10,7 +10,8 @@ use Rattle.sv_model.specs.declared.record.Change.TheVariants.{Absent as Unchange
 use Rattle.sv_model.specs.declared.record.Record.{Record}
 use Rattle.sv_model.specs.declared.record.Record.TheVariants.{Boot, Commit, Expired, Sent, Taken, Gone, State, Counters, Forgets, Counted}
 use Rattle.sv_model.specs.NodeState.{Durable, last_number, has_space}
-use Rattle.sv_model.specs.Replay.{applied, fits_named, fits_born, is_next, Fits}
+use Rattle.sv_model.specs.Replay.{applied}
+use Rattle.sv_model.specs.Fitting.{fits_named, fits_born, is_next, Fits}
 use Rattle.sv_core.specs.Effect.{LeavesSerial, HasSerial}
 
 third : (a b c d : Bool) → (a && (b && (not c && d))) ≡ true → c ≡ false

@@ -14,7 +14,8 @@ use Rattle.sv_model.specs.declared.node.Stage.TheVariants.{Blank, Snapshot}
 use Rattle.sv_model.specs.Keys.{key_cmp}
 use Rattle.sv_model.specs.Membership.{In}
 use Rattle.sv_model.specs.NodeState.{Keys, Durable, is_unmade, bound, has_space}
-use Rattle.sv_model.specs.Replay.{blank, applied, replayed, stage_behind, Fits, AllFit}
+use Rattle.sv_model.specs.Replay.{blank, applied, replayed}
+use Rattle.sv_model.specs.Fitting.{stage_behind, Fits, AllFit}
 use Rattle.sv_model.proofs.KeyLemmas.{keys_total}
 use Rattle.sv_model.proofs.EntryLemmas.{no_entries, entry_kept}
 use Rattle.sv_core.specs.Order.{Entry}

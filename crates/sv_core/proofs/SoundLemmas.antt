@@ -19,7 +19,8 @@ use Rattle.sv_model.specs.declared.record.Record.{Record}
 use Rattle.sv_model.specs.declared.record.Record.TheVariants.{Boot, Commit, Expired, Sent as SentRecord, Taken, Gone as GoneRecord, State, Counters, Forgets, Counted}
 use Rattle.sv_model.specs.Keys.{key_cmp}
 use Rattle.sv_model.specs.NodeState.{Keys, Durable, last_number, epoch_in, known_by, was_given, is_unmade, bound, has_space}
-use Rattle.sv_model.specs.Replay.{blank, with_named, with_born, next_by, applied, replayed, stage_behind, fits_named, is_next, fits_born, FitsSent, fits_gone, fits_state, Fits, AllFit}
+use Rattle.sv_model.specs.Replay.{blank, with_named, with_born, next_by, applied, replayed}
+use Rattle.sv_model.specs.Fitting.{stage_behind, fits_named, is_next, fits_born, FitsSent, fits_gone, fits_state, Fits, AllFit}
 use Rattle.sv_core.specs.Snapshot.{staged}
 use Rattle.sv_core.proofs.KeptLemmas.{left, right, is_lower, AreAll, all_with, all_kept, all_over, all_ended, as_many, one_more, kept_many, over_more, ended_few}
 

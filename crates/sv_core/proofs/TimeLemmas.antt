@@ -119,18 +119,18 @@ granted_over set home keys k n s found = cond_both (is_own home k) (remove keys 
 
 -- ---- the tick
 
-module _ (set : Setting) (keys : Keys) (boot next : ℕ) (home : Option ℕ) (parked : List Parked) (want now : ℕ) where
+module _ (set : Setting) (keys : Keys) (boot next : ℕ) (home : Option ℕ) (parked : List Parked) (want now steady : ℕ) where
   abbrev pub there : Node
   there = record { durable = durable_by keys boot next home; parked = parked; next_want = want }
 
   abbrev pub put_out : List Output
-  put_out = deadlines set now parked ++ wants_of set there.durable now parked ++ filter_map (grant_again set) (entries keys)
+  put_out = deadlines set steady parked ++ wants_of set there.durable steady parked ++ filter_map (grant_again set) (entries keys)
 
   abbrev pub tick_by : Option Entry → Decision
   tick_by f =
-      let waiting = filter (λ p. not (is_late set now p)) parked in
+      let waiting = filter (λ p. not (is_late set steady p)) parked in
       record (expire there now f []) {
-        outputs = deadlines set now parked ++ wants_again set there.durable waiting ++ filter_map (grant_again set) (entries (expire there now f []).durable.keys);
+        outputs = deadlines set steady parked ++ wants_again set there.durable waiting ++ filter_map (grant_again set) (entries (expire there now f []).durable.keys);
         parked = waiting;
       }
 
@@ -141,21 +141,21 @@ module _ (set : Setting) (keys : Keys) (boot next : ℕ) (home : Option ℕ) (pa
   kept k st is = get-entries keys k ∙ found k st is
 
   tick_ended : (k : Key) (e : ℕ) (s : Session) → first_over now (entries keys) ≡ Some (k, Active e s)
-      → decision_of set there (ticked now (Some (k, s.context)) put_out) ≡ tick_by (Some (k, Active e s))
+      → decision_of set there (ticked now steady (Some (k, s.context)) put_out) ≡ tick_by (Some (k, Active e s))
   tick_ended k e s is = λ i. record (tick_by (Some (k, Active e s))) {
     durable = durable_by (ended_at home k (kept k (Active e s) is i) keys) boot next home;
-    outputs = deadlines set now parked ++ wants_of set there.durable now parked ++ sym (granted_over set home keys k e s (found k (Active e s) is)) i;
+    outputs = deadlines set steady parked ++ wants_of set there.durable steady parked ++ sym (granted_over set home keys k e s (found k (Active e s) is)) i;
   }
 
-  by_found : (f : Option Entry) → first_over now (entries keys) ≡ f → decision_of set there (ticked now (expiring f) put_out) ≡ tick_by f
+  by_found : (f : Option Entry) → first_over now (entries keys) ≡ f → decision_of set there (ticked now steady (expiring f) put_out) ≡ tick_by f
   by_found None is = refl
   by_found (Some (k, Active e s)) is = tick_ended k e s is
   by_found (Some (k, Sent e s to)) is = refl
   by_found (Some (k, Gone e)) is = refl
   by_found (Some (k, Ended e)) is = refl
 
-  pub ticks : (outs : List Output) → outs ≡ put_out → decision_of set there (ticked now (expiring (first_over now (entries keys))) outs) ≡ on_tick set there now
-  ticks outs is = ap (λ l. decision_of set there (ticked now (expiring (first_over now (entries keys))) l)) is ∙ by_found (first_over now (entries keys)) refl
+  pub ticks : (outs : List Output) → outs ≡ put_out → decision_of set there (ticked now steady (expiring (first_over now (entries keys))) outs) ≡ on_tick set there now steady
+  ticks outs is = ap (λ l. decision_of set there (ticked now steady (expiring (first_over now (entries keys))) l)) is ∙ by_found (first_over now (entries keys)) refl
 
 -- three lists, one behind the other
 pub put_three : (a b c d x y z : List Output) → a ≡ [] → b ≡ a ++ x → c ≡ b ++ y → d ≡ c ++ z → d ≡ x ++ y ++ z

@@ -122,5 +122,5 @@ module _ (set : Setting) (n : Node) (want : n.next_want ≤ last_number) (next :
     within (Ask token r) = asks token r (m.names r)
     within (Incoming p) = either (is_ours set p) _ _ (λ _. ours p) (λ _. same (idle n []) refl refl)
     within Poke = parked (λ p. is_settled (known n.durable p.key))
-    within Tick = let e = ended moment.now (first_over moment.now (entries n.durable.keys)) in same (on_tick set n moment.now) e.0 e.1
+    within Tick = let e = ended moment.now (first_over moment.now (entries n.durable.keys)) in same (on_tick set n moment.now moment.steady) e.0 e.1
     within (Move k to) = moves k to (known n.durable k)

@@ -10,7 +10,8 @@ use Rattle.sv_model.specs.Engine.{EngineMeaning}
 use Rattle.sv_model.specs.NodeState.{Durable, Node, last_number}
 use Rattle.sv_model.specs.Decision as model
 use Rattle.sv_model.specs.Node.{decided}
-use Rattle.sv_model.specs.Replay.{blank, boot_record, applied, replayed, AllFit}
+use Rattle.sv_model.specs.Replay.{blank, boot_record, applied, replayed}
+use Rattle.sv_model.specs.Fitting.{AllFit}
 use Rattle.sv_model.specs.Step.{View}
 use Rattle.sv_core.specs.declared.node.Core.{Core}
 use Rattle.sv_core.specs.declared.decision.Decision.{Decision}

@@ -46,13 +46,13 @@ abbrev pub parked_by : Setting → ℕ → Waiting → List Parked → List Park
 parked_by set next_want Stays parked = parked
 parked_by set next_want (Joins a) parked = parked ++ with_want next_want a ∷ []
 parked_by set next_want (Leaves place) parked = remove parked place
-parked_by set next_want (Late now) parked = filter (λ p. not (is_late set now p)) parked
+parked_by set next_want (Late steady) parked = filter (λ p. not (is_late set steady p)) parked
 
 abbrev pub want_by : Waiting → ℕ → ℕ
 want_by Stays want = want
 want_by (Joins a) want = want + 1
 want_by (Leaves place) want = want
-want_by (Late now) want = want
+want_by (Late steady) want = want
 
 abbrev pub decision_of : Setting → Node → Decision → model.Decision
 decision_of set n d =

@@ -9,7 +9,8 @@ use Rattle.sv_model.specs.declared.node.Stage.TheVariants.{Blank, Snapshot}
 use Rattle.sv_model.specs.declared.record.Record.{Record}
 use Rattle.sv_model.specs.declared.record.Record.TheVariants.{State, Counters, Counted}
 use Rattle.sv_model.specs.NodeState.{Durable}
-use Rattle.sv_model.specs.Replay.{blank, replayed, stage_behind, AllFit}
+use Rattle.sv_model.specs.Replay.{blank, replayed}
+use Rattle.sv_model.specs.Fitting.{stage_behind, AllFit}
 
 -- how far records have come, one behind the other
 abbrev pub staged : Stage → List Record → Stage

@@ -1,6 +1,6 @@
 //! How many keys a node knows, by what it knows of them.
 
-ghost use Rattle.std.specs.Prelude.{◌≡◌, ◌+◌, ◌<◌, ◌≤◌, length};
+ghost use Rattle.std.specs.Prelude.{◌≡◌, ◌+◌, ◌<◌, ◌≤◌, length, max};
 ghost use Rattle.sv_core.specs.Census.{nobody, with_one, with_all, total, census_of};
 ghost use Rattle.sv_core.specs.Kept.{node_of};
 ghost use Rattle.sv_core.specs.Places.{AreWithin, seen};
@@ -20,6 +20,15 @@ pub struct Census {
     pub gone: usize,
     /// Sessions that have ended here.
     pub ended: usize,
+    /// The sessions that live here, or were handed over and not yet acknowledged, were made at nodes below this number.
+    pub homes: u16,
+}
+
+/// The greater of two numbers.
+fn greater(a: u16, b: u16) -> u16
+    ensures { result ≡ max a b }
+{
+    if a < b { b } else { a }
 }
 
 impl Census {
@@ -32,18 +41,26 @@ impl Census {
             sent: 0,
             gone: 0,
             ended: 0,
+            homes: 0,
         }
     }
 
     /// One more key.
-    fn with_one(self, state: &KeyState) -> Census
+    fn with_one(self, key: Key, state: &KeyState) -> Census
         requires { total self < last_number }
-        ensures { result ≡ with_one state.now self }
+        ensures { result ≡ with_one (key, state.now) self }
     {
+        let homes = greater(self.homes, u16::from(key.home) + 1);
         let mut census = self;
         match state {
-            KeyState::Active { .. } => census.active += 1,
-            KeyState::Sent { .. } => census.sent += 1,
+            KeyState::Active { .. } => {
+                census.active += 1;
+                census.homes = homes;
+            }
+            KeyState::Sent { .. } => {
+                census.sent += 1;
+                census.homes = homes;
+            }
             KeyState::Gone { .. } => census.gone += 1,
             KeyState::Ended { .. } => census.ended += 1,
         }
@@ -59,8 +76,8 @@ impl Kept {
         ensures { result ≡ with_all (seen self.now.keys.states.items places.now) census }
     {
         let mut census = census;
-        for &(_, place) in places {
-            census = census.with_one(self.keys.state(place));
+        for &(key, place) in places {
+            census = census.with_one(key, self.keys.state(place));
         }
         census
     }

@@ -3,7 +3,8 @@
 ghost use Rattle.std.specs.Prelude.{◌≡◌, ◌≤◌, None, vec_capacity};
 ghost use Rattle.sv_model.specs.NodeState.{last_number};
 ghost use Rattle.sv_model.specs.Replay.{with_named, with_born, keys_behind, boot_behind, next_behind};
-ghost use Rattle.sv_model.specs.Replay.{home_behind, applied, applied_if, stage_behind, stage_behind_if};
+ghost use Rattle.sv_model.specs.Replay.{home_behind, applied, applied_if};
+ghost use Rattle.sv_model.specs.Fitting.{stage_behind, stage_behind_if};
 ghost use Rattle.sv_core.specs.Decision.{want_by, behind};
 ghost use Rattle.sv_core.specs.Table.{keys_of, HasRoom, HasPlace};
 ghost use Rattle.sv_core.specs.Effect.{HasSerial};

@@ -4,13 +4,15 @@ ghost use Rattle.std.specs.Prelude.{◌≡◌, ◌==◌, is_none, IfOk, IfSome, 
 ghost use Rattle.std.specs.List.{AllByRecursion};
 ghost use Rattle.sv_model.specs.Engine.{heard_all};
 ghost use Rattle.sv_model.specs.NodeState.{last_number, known};
-ghost use Rattle.sv_model.specs.Replay.{blank, applied, Fits, AllFit, stage_behind, stage_behind_if};
+ghost use Rattle.sv_model.specs.Replay.{blank, applied};
+ghost use Rattle.sv_model.specs.Fitting.{Fits, AllFit, stage_behind, stage_behind_if};
 ghost use Rattle.sv_model.specs.Journaled.{IsJournaled};
 ghost use Rattle.sv_model.specs.Ranges.{IsSetting, IsInput, IsRecord, IsRanged, IsRangedStep};
 ghost use Rattle.sv_model.specs.Node.{decided};
 ghost use Rattle.sv_model.specs.declared.node.Stage.TheVariants.{Blank};
 ghost use Rattle.sv_core.specs.declared.fault.ApplyFault.TheVariants.{BadRecord};
-ghost use Rattle.sv_model.specs.Step.{left, told};
+ghost use Rattle.sv_model.specs.Decision.{left};
+ghost use Rattle.sv_model.specs.Step.{told};
 ghost use Rattle.sv_core.specs.Decision.{outputs_in, entry_in, told_held, outputs_held};
 ghost use Rattle.sv_core.specs.Snapshot.{snapshot_of};
 ghost use Rattle.sv_core.specs.Waiting.{awaited};

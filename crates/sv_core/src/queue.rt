@@ -58,14 +58,15 @@ impl Kept {
     }
 
     /// Those leave that have waited for as long as requests do.
-    fn leave_late(&mut self, now: u64)
-        ensures node { node_of self.new ≡ rearranged self.old.setting (Late now) (node_of self.old) }
+    fn leave_late(&mut self, steady: u64)
+        ensures node { node_of self.new ≡ rearranged self.old.setting (Late steady) (node_of self.old) }
         ensures stage { self.new.stage ≡ self.old.stage }
         ensures setting { self.new.setting ≡ self.old.setting }
     {
         let setting = self.setting;
-        forget_late(&mut self.settled, &self.parked, setting, now);
-        self.parked.retain(|parked| !is_late(setting, parked, now));
+        forget_late(&mut self.settled, &self.parked, setting, steady);
+        self.parked
+            .retain(|parked| !is_late(setting, parked, steady));
         list_keys(&mut self.waited, &self.parked);
     }
 
@@ -83,7 +84,7 @@ impl Kept {
             Waiting::Stays => {}
             Waiting::Joins(arrival) => self.join(arrival),
             Waiting::Leaves(place) => self.leave(place),
-            Waiting::Late(now) => self.leave_late(now),
+            Waiting::Late(steady) => self.leave_late(steady),
         }
     }
 }

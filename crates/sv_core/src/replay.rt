@@ -3,8 +3,8 @@
 ghost use Rattle.std.specs.Prelude.{◌≡◌, List, IfErr, OnOk, OnErr, IfOk, option_copied, drop};
 ghost use Rattle.std.specs.Bool.{Decides};
 ghost use Rattle.std.specs.FinMap.{get};
-ghost use Rattle.sv_model.specs.Replay.{is_active, fits_named, is_next, fits_born, FitsSent, fits_taken, fits_gone};
-ghost use Rattle.sv_model.specs.Replay.{fits_state, fits_counters, Fits, AllFit, applied, replayed, stage_behind};
+ghost use Rattle.sv_model.specs.Fitting.{is_active, fits_named, is_next, fits_born, FitsSent, fits_taken, fits_gone, fits_state, fits_counters, Fits, AllFit, stage_behind};
+ghost use Rattle.sv_model.specs.Replay.{applied, replayed};
 ghost use Rattle.sv_core.specs.Snapshot.{staged};
 ghost use Rattle.sv_core.specs.Kept.{node_of};
 ghost use Rattle.sv_core.specs.Table.{keys_of};

@@ -246,7 +246,7 @@ pub fn decide<E: Engine>(
         Input::Ask { token, request } => ask(engine, kept, moment, token, request),
         Input::Packet(packed) => packet(engine, kept, moment, packed),
         Input::Poke => poke(engine, kept, moment),
-        Input::Tick => kept.on_tick(moment.now),
+        Input::Tick => kept.on_tick(moment.now, moment.steady),
         Input::Move { key, to } => kept.on_move(key, to, kept.known(key)),
     }
 }

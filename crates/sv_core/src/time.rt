@@ -17,11 +17,11 @@ use sv_model::{
 };
 
 /// The request has waited for as long as requests do.
-pub fn is_late(setting: Setting, parked: &Parked, now: u64) -> bool
-    ensures { result ≡ is_late setting now parked.now }
+pub fn is_late(setting: Setting, parked: &Parked, steady: u64) -> bool
+    ensures { result ≡ is_late setting steady parked.now }
 {
     match parked.since.checked_add(setting.deadline) {
-        Some(end) => end <= now,
+        Some(end) => end <= steady,
         None => false,
     }
 }
@@ -31,11 +31,11 @@ impl Kept {
     ghost use Rattle.sv_core.specs.Decision.{decision_of};
 
     /// The requests that have waited long enough are refused.
-    fn add_deadlines(&self, outputs: &mut Vec<Output>, now: u64) -> Result<(), AllocError>
-        ensures { OnOk result (outputs.new.items ≡ outputs.old.items ++ deadlines self.now.setting now self.now.parked.items) }
+    fn add_deadlines(&self, outputs: &mut Vec<Output>, steady: u64) -> Result<(), AllocError>
+        ensures { OnOk result (outputs.new.items ≡ outputs.old.items ++ deadlines self.now.setting steady self.now.parked.items) }
     {
         for parked in &self.parked {
-            if is_late(self.setting, parked, now) {
+            if is_late(self.setting, parked, steady) {
                 outputs.push(Output::Refuse {
                     token: parked.token,
                     cause: Cause::Deadline,
@@ -50,11 +50,11 @@ impl Kept {
         &self,
         outputs: &mut Vec<Output>,
         parked: &Parked,
-        now: u64,
+        steady: u64,
     ) -> Result<(), AllocError>
-        ensures { OnOk result (outputs.new.items ≡ outputs.old.items ++ wants_of self.now.setting (node_of self.now).durable now (parked.now ∷ [])) }
+        ensures { OnOk result (outputs.new.items ≡ outputs.old.items ++ wants_of self.now.setting (node_of self.now).durable steady (parked.now ∷ [])) }
     {
-        if is_late(self.setting, parked, now)
+        if is_late(self.setting, parked, steady)
             || self.is_settled(parked.key)
             || self.is_crowded(parked.key)
         {
@@ -65,11 +65,11 @@ impl Kept {
 
     /// The requests that go on waiting ask for their sessions again.
     #[tactic(auto, using(crate::proofs::TimeLemmas::wants_of_more))]
-    fn add_wants_again(&self, outputs: &mut Vec<Output>, now: u64) -> Result<(), AllocError>
-        ensures { OnOk result (outputs.new.items ≡ outputs.old.items ++ wants_of self.now.setting (node_of self.now).durable now self.now.parked.items) }
+    fn add_wants_again(&self, outputs: &mut Vec<Output>, steady: u64) -> Result<(), AllocError>
+        ensures { OnOk result (outputs.new.items ≡ outputs.old.items ++ wants_of self.now.setting (node_of self.now).durable steady self.now.parked.items) }
     {
         for parked in &self.parked {
-            self.add_wants_of(outputs, parked, now)?;
+            self.add_wants_of(outputs, parked, steady)?;
         }
         Ok(())
     }
@@ -120,13 +120,14 @@ impl Kept {
     fn ticked(
         &self,
         now: u64,
+        steady: u64,
         ended: Option<(Key, u8)>,
         outputs: Vec<Output>,
     ) -> Result<Decision, Memory>
-        ensures { IfOk result (λ d. d ≡ ticked now ended outputs.items) }
+        ensures { IfOk result (λ d. d ≡ ticked now steady ended outputs.items) }
     {
         let mut decision = Decision::put_out(self.alloc, outputs);
-        decision.waiting = Waiting::Late(now);
+        decision.waiting = Waiting::Late(steady);
         if let Some((key, context)) = ended {
             decision.entry = Some(Record::Expired(key));
             decision.commit = Some(Commit::Expired { key, now });
@@ -138,16 +139,16 @@ impl Kept {
         Ok(decision)
     }
 
-    /// Time has passed.
+    /// Time has passed: it is `now` by the machine's clock as it is set, and `steady` by the one that nobody sets.
     // Out of line, so that the step of a request doesn't clear the values of this one.
     #[inline(never)]
-    pub fn on_tick(&self, now: u64) -> Result<Decision, Memory>
-        ensures { IfOk result (λ d. decision_of self.now.setting (node_of self.now) d ≡ on_tick self.now.setting (node_of self.now) now) }
+    pub fn on_tick(&self, now: u64, steady: u64) -> Result<Decision, Memory>
+        ensures { IfOk result (λ d. decision_of self.now.setting (node_of self.now) d ≡ on_tick self.now.setting (node_of self.now) now steady) }
     {
         let mut outputs = Vec::new(self.alloc);
-        self.add_deadlines(&mut outputs, now)?;
-        self.add_wants_again(&mut outputs, now)?;
+        self.add_deadlines(&mut outputs, steady)?;
+        self.add_wants_again(&mut outputs, steady)?;
         self.add_grants_again(&mut outputs)?;
-        self.ticked(now, self.expiring(now), outputs)
+        self.ticked(now, steady, self.expiring(now), outputs)
     }
 }

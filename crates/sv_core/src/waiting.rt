@@ -81,7 +81,7 @@ impl Kept {
             token,
             request,
             key,
-            since: moment.now,
+            since: moment.steady,
         };
         Ok(Decision {
             entry: None,

@@ -182,23 +182,23 @@ pub fn settle_anew(wants: &mut Vec<u64>, all: &[Parked], keys: &Table, home: Opt
 }
 
 /// The want of the request is not among them, where it has waited for as long as requests do.
-fn forget_if_late(wants: &mut Vec<u64>, parked: &Parked, setting: Setting, now: u64)
+fn forget_if_late(wants: &mut Vec<u64>, parked: &Parked, setting: Setting, steady: u64)
     ensures items { (before : List ℕ) (was : Bool) (behind : List ℕ) → IsAround before parked.now.want was behind wants.old.items
-        → wants.new.items ≡ around before parked.now.want (cond (is_late setting now parked.now) false was) behind }
+        → wants.new.items ≡ around before parked.now.want (cond (is_late setting steady parked.now) false was) behind }
 {
-    if is_late(setting, parked, now) {
+    if is_late(setting, parked, steady) {
         forget(wants, parked.want);
     }
 }
 
 /// The wants of those that have waited for as long as requests do are not among them.
-pub fn forget_late(wants: &mut Vec<u64>, all: &[Parked], setting: Setting, now: u64)
+pub fn forget_late(wants: &mut Vec<u64>, all: &[Parked], setting: Setting, steady: u64)
     requires { Rise (wants_in all.now) }
     ensures { (test : Parked → Bool) → wants.old.items ≡ wants_where test all.now
-        → wants.new.items ≡ wants_where (λ p. cond (is_late setting now p) false (test p)) all.now }
+        → wants.new.items ≡ wants_where (λ p. cond (is_late setting steady p) false (test p)) all.now }
 {
     for parked in all {
-        forget_if_late(wants, parked, setting, now);
+        forget_if_late(wants, parked, setting, steady);
     }
 }
 

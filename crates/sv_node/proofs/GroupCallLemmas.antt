@@ -10,7 +10,8 @@ use Rattle.sv_model.specs.declared.site.StepFault.TheVariants.{Failed, Full, Dev
 use Rattle.sv_model.specs.Engine.{EngineMeaning, heard_all}
 use Rattle.sv_model.specs.Node.{decided}
 use Rattle.sv_model.specs.NodeState.{Durable, Node as State}
-use Rattle.sv_model.specs.Step.{left, told}
+use Rattle.sv_model.specs.Decision.{left}
+use Rattle.sv_model.specs.Step.{told}
 use Rattle.sv_node.specs.Call.{Unsaid, Stop, Given, quiet, kept, node_behind}
 use Rattle.sv_node.specs.Group.{Answer, Answered, behind, events_of, GroupEnds, IsGroup}
 use Rattle.sv_node.specs.GroupCalls.{all_given, put_out_by, done_in, turns_of, IsTurns, GivesGroup, GivesGroupOn}

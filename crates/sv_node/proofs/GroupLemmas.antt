@@ -24,14 +24,15 @@ use Rattle.sv_model.specs.declared.record.Record.{Record}
 use Rattle.sv_model.specs.declared.site.StepFault.{StepFault}
 use Rattle.sv_model.specs.declared.site.StepFault.TheVariants.{Failed, Full, Memory}
 use Rattle.sv_model.specs.declared.output.Output.{Output}
-use Rattle.sv_model.specs.Decision.{Decision}
+use Rattle.sv_model.specs.Decision.{Decision, left}
 use Rattle.sv_model.specs.Engine.{EngineMeaning, heard_all}
 use Rattle.sv_model.specs.Journaled.{IsJournaled}
 use Rattle.sv_model.specs.Node.{decided}
 use Rattle.sv_model.specs.NodeState.{Durable, Node as State}
-use Rattle.sv_model.specs.Replay.{Fits, applied_if}
+use Rattle.sv_model.specs.Fitting.{Fits}
+use Rattle.sv_model.specs.Replay.{applied_if}
 use Rattle.sv_model.specs.Site.{with_list}
-use Rattle.sv_model.specs.Step.{left, told}
+use Rattle.sv_model.specs.Step.{told}
 use Rattle.sv_record.specs.Record.{spelling, HasSpelling}
 use Rattle.sv_node.specs.declared.node.Node.{Node}
 use Rattle.sv_node.specs.Group.{Answer, IsAnswer, left_by, entries_by, events_by, behind, entries_of, events_of, Answered, outcomes, events_held, bytes_of, ReplaysMore, LacksRoom, StagesMore, TakesOne, TakesAll, FitsIn, GroupEnds, GroupWrites, IsGroup}

@@ -17,7 +17,8 @@ use Rattle.sv_model.specs.Ranges.{IsSetting, IsRecord, IsRanged}
 use Rattle.sv_model.specs.declared.record.Record.TheVariants.{Boot, Forgets}
 use Rattle.std.proofs.lemmas.Bool.{cond_both}
 use Rattle.sv_core.proofs.RangeLemmas.{starts_journaled, starts_ranged}
-use Rattle.sv_model.specs.Replay.{blank, boot_record, replayed, AllFit}
+use Rattle.sv_model.specs.Replay.{blank, boot_record, replayed}
+use Rattle.sv_model.specs.Fitting.{AllFit}
 use Rattle.sv_record.specs.Record.{record_format, IsSpelling}
 use Rattle.sv_record.proofs.KindLaws.{record_lawful}
 use Rattle.sv_record.proofs.WholeLaws.{one_value}

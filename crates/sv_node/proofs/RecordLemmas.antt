@@ -7,7 +7,8 @@ use Rattle.sv_model.specs.declared.node.Stage.{Stage}
 use Rattle.sv_model.specs.declared.node.Stage.TheVariants.{Blank}
 use Rattle.sv_model.specs.declared.record.Record.{Record}
 use Rattle.sv_model.specs.NodeState.{Durable}
-use Rattle.sv_model.specs.Replay.{blank, applied, replayed, Fits, AllFit, stage_behind}
+use Rattle.sv_model.specs.Replay.{blank, applied, replayed}
+use Rattle.sv_model.specs.Fitting.{Fits, AllFit, stage_behind}
 use Rattle.sv_record.specs.declared.version.Version.TheVariants.{Two}
 use Rattle.sv_record.specs.Record.{spelling, HasSpelling, IsSpelling}
 use Rattle.sv_record.specs.declared.fault.RecordFault.{RecordFault}

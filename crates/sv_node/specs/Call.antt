@@ -10,11 +10,11 @@ use Rattle.sv_model.specs.declared.node.Setting.{Setting}
 use Rattle.sv_model.specs.declared.output.Output.{Output}
 use Rattle.sv_model.specs.declared.site.StepFault.{StepFault}
 use Rattle.sv_model.specs.declared.site.StepFault.TheVariants as step
-use Rattle.sv_model.specs.Decision.{Decision}
+use Rattle.sv_model.specs.Decision.{Decision, left}
 use Rattle.sv_model.specs.Engine.{EngineMeaning}
 use Rattle.sv_model.specs.Node.{decided}
 use Rattle.sv_model.specs.NodeState.{Durable, Node, last_number}
-use Rattle.sv_model.specs.Step.{left, told}
+use Rattle.sv_model.specs.Step.{told}
 use Rattle.sv_node.specs.Opened.{restarted}
 use Rattle.sv_node.specs.declared.fault.OpenFault.{OpenFault}
 use Rattle.sv_node.specs.declared.fault.OpenFault.TheVariants as opening

@@ -19,12 +19,12 @@ use Rattle.sv_model.specs.declared.output.Output.{Output}
 use Rattle.sv_model.specs.declared.record.Record.{Record}
 use Rattle.sv_model.specs.declared.site.StepFault.{StepFault}
 use Rattle.sv_model.specs.declared.site.StepFault.TheVariants.{Failed, Full, Device, Memory}
-use Rattle.sv_model.specs.Decision.{Decision}
+use Rattle.sv_model.specs.Decision.{Decision, left}
 use Rattle.sv_model.specs.Engine.{EngineMeaning, heard_all}
 use Rattle.sv_model.specs.Node.{decided}
 use Rattle.sv_model.specs.NodeState.{Node as State}
 use Rattle.sv_model.specs.Site.{with_list}
-use Rattle.sv_model.specs.Step.{left, told}
+use Rattle.sv_model.specs.Step.{told}
 use Rattle.sv_record.specs.Record.{spelling}
 use Rattle.sv_node.specs.Node.{engine_of, setting_of, state_of, durable_of, journal_of, IsTooLongAt, IsUntouched}
 use Rattle.sv_node.specs.Records.{Replays}

@@ -8,7 +8,7 @@ use Rattle.sv_model.specs.declared.output.Output.{Output}
 use Rattle.sv_model.specs.Engine.{EngineMeaning, heard_all}
 use Rattle.sv_model.specs.Node.{decided}
 use Rattle.sv_model.specs.NodeState.{Node as State}
-use Rattle.sv_model.specs.Step.{left}
+use Rattle.sv_model.specs.Decision.{left}
 use Rattle.sv_node.specs.Call.{Step, Unsaid, Stop, Done, Refused, Given, quiet, carried_out}
 use Rattle.sv_node.specs.Cuts.{GivesCall, GivesCallOn}
 use Rattle.sv_node.specs.Group.{Answer}

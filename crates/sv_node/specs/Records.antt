@@ -5,7 +5,8 @@ use Rattle.sv_model.specs.declared.node.Stage.{Stage}
 use Rattle.sv_model.specs.declared.node.Stage.TheVariants.{Blank}
 use Rattle.sv_model.specs.declared.record.Record.{Record}
 use Rattle.sv_model.specs.NodeState.{Durable}
-use Rattle.sv_model.specs.Replay.{blank, replayed, Fits, AllFit}
+use Rattle.sv_model.specs.Replay.{blank, replayed}
+use Rattle.sv_model.specs.Fitting.{Fits, AllFit}
 use Rattle.sv_record.specs.Record.{IsSpelling}
 
 -- the entries are spellings of these records, one each, by whatever versions

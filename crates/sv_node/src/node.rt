@@ -1,6 +1,6 @@
 //! A running node.
 
-ghost use Rattle.std.specs.Prelude.{◌≡◌, ◌≢◌, ◌⊎◌, ℕ, List, length, IfOk, IfErr};
+ghost use Rattle.std.specs.Prelude.{◌≡◌, ◌≢◌, ◌⊎◌, ◌+◌, ℕ, List, length, IfOk, IfErr};
 ghost use Rattle.sv_journal.specs.Disk.{TellsOn, HasRisen};
 ghost use Rattle.sv_journal.specs.Format.{Opens};
 ghost use Rattle.sv_core.specs.Census.{census_of};
@@ -167,6 +167,13 @@ impl<E, D: Disk> Node<E, D> {
         self.core.census()
     }
 
+    /// The number of this start of it, of those that its journal has.
+    pub fn boot(&self) -> u64
+        ensures { result ≡ (durable_of self.now).boot }
+    {
+        self.core.boot()
+    }
+
     /// How many records were replayed when it was opened: those that the disks held, without that of the start itself.
     pub fn restored(&self) -> usize
         ensures { result ≡ restored_of self.now }
@@ -174,11 +181,12 @@ impl<E, D: Disk> Node<E, D> {
         self.restored
     }
 
-    /// The length of the journal's file in bytes when a call last succeeded.
+    /// How many bytes of the journal's file its entries take up, with the header before them and the gate that ends them, when a
+    /// call last succeeded. The file may be longer.
     pub fn journal_len(&self) -> u64
-        ensures { result ≡ (journal_of self.now).len }
+        ensures { result ≡ (journal_of self.now).end + 1 }
     {
-        self.journal.len()
+        self.journal.used()
     }
 
     /// Stops the node: the engine and the disks A and B.

@@ -40,13 +40,13 @@ loop-parked-preserved c =
     let i = c.loop-parked.parked-index in
     let before = c.args.outputs.now.items in
     elim c.if-is_late.branch [
-      | then-is_late+in_ok-push w ↦ late set c.args.now ps c.deref-parked-items.result.now i c.parked-item.result before c.loop-parked.outputs.items _ c.deref-parked-items.ensures.value c.loop-parked-test.true c.parked-item.is
+      | then-is_late+in_ok-push w ↦ late set c.args.steady ps c.deref-parked-items.result.now i c.parked-item.result before c.loop-parked.outputs.items _ c.deref-parked-items.ensures.value c.loop-parked-test.true c.parked-item.is
           (sym c.is_late.ensures ∙ w.if-is_late.true) c.loop-parked.invariant (ap (λ v. v.items) w.outputs-is ∙ w.in_ok-push.ensures.items)
-      | else-is_late w ↦ early set c.args.now ps c.deref-parked-items.result.now i c.parked-item.result before c.loop-parked.outputs.items _ c.deref-parked-items.ensures.value c.loop-parked-test.true c.parked-item.is
+      | else-is_late w ↦ early set c.args.steady ps c.deref-parked-items.result.now i c.parked-item.result before c.loop-parked.outputs.items _ c.deref-parked-items.ensures.value c.loop-parked-test.true c.parked-item.is
           (sym c.is_late.ensures ∙ w.if-is_late.false) c.loop-parked.invariant (ap (λ v. v.items) w.outputs-is)
     ]
 
 pub returns : goal.returns
 returns c =
     let ps = c.args.self.now.parked.items in
-    c.loop-parked.invariant ∙ ap (λ l. c.args.outputs.now.items ++ deadlines c.args.self.now.setting c.args.now l) (take_all c.loop-parked.parked-index ps (omega (arith, ap length c.deref-parked-items.ensures.value)))
+    c.loop-parked.invariant ∙ ap (λ l. c.args.outputs.now.items ++ deadlines c.args.self.now.setting c.args.steady l) (take_all c.loop-parked.parked-index ps (omega (arith, ap length c.deref-parked-items.ensures.value)))

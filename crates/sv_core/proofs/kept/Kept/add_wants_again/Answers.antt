@@ -20,10 +20,10 @@ step set d now ps qs i p before outs new same is read so more =
 pub loop-parked-preserved : goal.loop-parked-preserved
 loop-parked-preserved c =
     let k = c.args.self.now in
-    step k.setting (node_of k).durable c.args.now k.parked.items c.deref-parked-items.result.now c.loop-parked.parked-index c.parked-item.result c.args.outputs.now.items c.loop-parked.outputs.items _
+    step k.setting (node_of k).durable c.args.steady k.parked.items c.deref-parked-items.result.now c.loop-parked.parked-index c.parked-item.result c.args.outputs.now.items c.loop-parked.outputs.items _
     c.deref-parked-items.ensures.value c.loop-parked-test.true c.parked-item.is c.loop-parked.invariant c.in_ok-add_wants_of.ensures
 
 pub returns : goal.returns
 returns c =
     let k = c.args.self.now in
-    c.loop-parked.invariant ∙ ap (λ l. c.args.outputs.now.items ++ wants_of k.setting (node_of k).durable c.args.now l) (take_all c.loop-parked.parked-index k.parked.items (omega (arith, ap length c.deref-parked-items.ensures.value)))
+    c.loop-parked.invariant ∙ ap (λ l. c.args.outputs.now.items ++ wants_of k.setting (node_of k).durable c.args.steady l) (take_all c.loop-parked.parked-index k.parked.items (omega (arith, ap length c.deref-parked-items.ensures.value)))

@@ -3,5 +3,5 @@ use Rattle.sv_core.specs.Places.{seen}
 use Rattle.sv_core.specs.Census.{with_all}
 use Rattle.sv_core.proofs.kept.Kept.with_all.Given as goal
 
-abbrev pub invariant-loop-place : goal.invariant-loop-place
-invariant-loop-place l = l.census ≡ with_all (seen l.self.keys.states.items (take l.place-index l.places)) l.initial.census
+abbrev pub invariant-loop-key : goal.invariant-loop-key
+invariant-loop-key l = l.census ≡ with_all (seen l.self.keys.states.items (take l.key-index l.places)) l.initial.census

@@ -7,7 +7,8 @@ use Rattle.sv_model.specs.Ranges.{IsSetting, IsRanged, IsRecord}
 use Rattle.sv_model.specs.declared.node.Setting.{Setting}
 use Rattle.sv_model.specs.declared.node.Stage.TheVariants.{Blank}
 use Rattle.sv_model.specs.declared.record.Record.{Record}
-use Rattle.sv_model.specs.Replay.{blank, boot_record, replayed, AllFit}
+use Rattle.sv_model.specs.Replay.{blank, boot_record, replayed}
+use Rattle.sv_model.specs.Fitting.{AllFit}
 use Rattle.sv_journal.specs.Journal.{Holds, disk_a, disk_b}
 use Rattle.sv_record.specs.Record.{spelling}
 use Rattle.sv_node.specs.Fault.{open_fault}

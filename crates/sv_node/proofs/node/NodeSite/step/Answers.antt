@@ -5,7 +5,8 @@ use Rattle.sv_core.specs.Core as core
 use Rattle.sv_model.specs.Decision.{Decision}
 use Rattle.sv_model.specs.NodeState.{Durable, Node as State}
 use Rattle.sv_model.specs.Ranges.{IsSetting, IsRanged}
-use Rattle.sv_model.specs.Replay.{Fits, applied_if}
+use Rattle.sv_model.specs.Fitting.{Fits}
+use Rattle.sv_model.specs.Replay.{applied_if}
 use Rattle.sv_model.specs.Step.{View}
 use Rattle.sv_model.specs.declared.node.Setting.{Setting}
 use Rattle.sv_model.specs.declared.record.Record.{Record}
