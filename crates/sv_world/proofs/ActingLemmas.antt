@@ -5,12 +5,13 @@ use Rattle.sv_model.specs.declared.node.Setting.{Setting}
 use Rattle.sv_model.specs.declared.node.Stage.{Stage}
 use Rattle.sv_model.specs.declared.node.Stage.TheVariants.{Blank}
 use Rattle.sv_model.specs.declared.record.Record.{Record}
-use Rattle.sv_model.specs.Decision.{Decision}
+use Rattle.sv_model.specs.Decision.{Decision, left}
 use Rattle.sv_model.specs.Engine.{EngineMeaning}
 use Rattle.sv_model.specs.Journaled.{IsJournaled}
 use Rattle.sv_model.specs.NodeState.{Durable, Node}
-use Rattle.sv_model.specs.Replay.{blank, applied, applied_if, replayed, AllFit, stage_behind}
-use Rattle.sv_model.specs.Step.{View, left}
+use Rattle.sv_model.specs.Replay.{blank, applied, applied_if, replayed}
+use Rattle.sv_model.specs.Fitting.{AllFit, stage_behind}
+use Rattle.sv_model.specs.Step.{View}
 use Rattle.sv_core.specs.declared.node.Core.{Core}
 use Rattle.sv_core.specs.declared.decision.Decision as code
 use Rattle.sv_core.specs.Core.{setting_of, node_at, durable_at, decision_at, view_of, WasDecided}

@@ -10,9 +10,7 @@ use Rattle.sv_model.specs.declared.request.Request.{Request}
 use Rattle.sv_model.specs.declared.response.Response.{Response}
 use Rattle.sv_model.specs.declared.commit.Commit.{Commit}
 use Rattle.sv_model.specs.declared.commit.Commit.TheVariants.{Served, Expired}
-use Rattle.sv_model.specs.Engine.{EngineMeaning}
-use Rattle.sv_model.specs.Container.{Store, nothing_stored, after, reply_of, MayStand, AllMayStand}
-use Rattle.sv_model.specs.OneContainer.{store_with, replies_with}
+use Rattle.sv_model.specs.Container.{Meanings, after, reply_of, MayStand, AllMayStand, store_with, replies_with, Store, nothing_stored}
 use Rattle.sv_model.specs.Trace.{Item, commits_of, served_of, served_by, same_token, times, arrival_behind}
 use Rattle.sv_model.specs.Membership.{In}
 use Rattle.sv_world.specs.declared.line.Line.{Line}
@@ -22,12 +20,12 @@ use Rattle.sv_world.proofs.Arrivals.{one_if, token_self, times_more}
 use Rattle.sv_world.proofs.Told.{after_one}
 
 -- a line of a trace
-line_at : (m : EngineMeaning) (st : Store) (before behind : List Line) (l : Line) → AreLines (IsAnswered m) m st (before ++ l ∷ behind) → IsAnswered m (after m st (commits_of (items before))) l
+line_at : (m : Meanings) (st : Store) (before behind : List Line) (l : Line) → AreLines (IsAnswered m) m st (before ++ l ∷ behind) → IsAnswered m (after m st (commits_of (items before))) l
 line_at m st [] behind l h = h.0
 line_at m st (x ∷ before) behind l h = subst (λ s. IsAnswered m s l) (after_one m st x.commit (commits_of (items before))) (line_at m (store_with m st x.commit) before behind l h.1)
 
 -- a commit of a list
-commit_at : (m : EngineMeaning) (arr : Token → ℕ) (first before behind : List Commit) (c : Commit) → AllMayStand m arr first (before ++ c ∷ behind) → MayStand m arr (first ++ before) c
+commit_at : (m : Meanings) (arr : Token → ℕ) (first before behind : List Commit) (c : Commit) → AllMayStand m arr first (before ++ c ∷ behind) → MayStand m arr (first ++ before) c
 commit_at m arr first [] behind c h = subst (λ cs. MayStand m arr cs c) (sym (append-nil first)) h.0
 commit_at m arr first (x ∷ before) behind c h = subst (λ cs. MayStand m arr cs c) (append_assoc first (x ∷ []) before) (commit_at m arr (first ++ x ∷ []) before behind c h.1)
 
@@ -40,7 +38,7 @@ abbrev token_or : Token → Option (Token × Response) → Token
 token_or u None = u
 token_or u (Some p) = p.0
 
-module _ (m : EngineMeaning) (w : World) (stands : AllMayStand m (arrival_behind 0 (items w.trace)) [] (commits_in w)) (once : (t : Token) → times t (served_of (commits_in w)) ≤ 1) (before behind : List Line) (l : Line) (here : w.trace ≡ before ++ l ∷ behind) (t : Token) (response : Response) where
+module _ (m : Meanings) (w : World) (stands : AllMayStand m (arrival_behind 0 (items w.trace)) [] (commits_in w)) (once : (t : Token) → times t (served_of (commits_in w)) ≤ 1) (before behind : List Line) (l : Line) (here : w.trace ≡ before ++ l ∷ behind) (t : Token) (response : Response) where
   served_answer : (token : Token) (r : Request) (now : ℕ) (handed : Bool) (fresh : Key × Secret) → l.commit ≡ Some (Served token r now handed fresh)
       → reply_of m (after m nothing_stored (commits_of (items before))) (Served token r now handed fresh) ≡ Some (t, response) → IsAnswer m w before l t response
   served_answer token r now handed fresh is same =
@@ -65,5 +63,5 @@ module _ (m : EngineMeaning) (w : World) (stands : AllMayStand m (arrival_behind
   by_line true h i = by_commit l.commit refl (subst (In (t, response)) h i)
   by_line false h i = absurd (subst (In (t, response)) h.replies i)
 
-pub are_answers : (m : EngineMeaning) (w : World) → AreLines (IsAnswered m) m nothing_stored w.trace → AllMayStand m (arrival_behind 0 (items w.trace)) [] (commits_in w) → ((t : Token) → times t (served_of (commits_in w)) ≤ 1) → AreAnswers m w
+pub are_answers : (m : Meanings) (w : World) → AreLines (IsAnswered m) m nothing_stored w.trace → AllMayStand m (arrival_behind 0 (items w.trace)) [] (commits_in w) → ((t : Token) → times t (served_of (commits_in w)) ≤ 1) → AreAnswers m w
 are_answers m w fit stands once before l behind t response here i = by_line m w stands once before behind l here t response l.whole (line_at m nothing_stored before behind l (subst (AreLines (IsAnswered m) m nothing_stored) here fit)) i

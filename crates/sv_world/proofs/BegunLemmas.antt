@@ -8,14 +8,16 @@ use Rattle.std.proofs.lemmas.Option.{slice_get-get_or}
 use Rattle.sv_core.specs.declared.node.Core.{Core}
 use Rattle.sv_model.specs.declared.record.Record.{Record}
 use Rattle.sv_model.specs.declared.node.Stage.TheVariants.{Blank}
+use Rattle.sv_model.specs.Container.{always}
 use Rattle.sv_model.specs.Engine.{EngineMeaning}
-use Rattle.sv_model.specs.Replay.{blank, replayed, AllFit}
+use Rattle.sv_model.specs.Replay.{blank, replayed}
+use Rattle.sv_model.specs.Fitting.{AllFit}
 use Rattle.sv_world.specs.declared.rules.Rules.{Rules}
 use Rattle.sv_world.specs.Rules.{setting_by}
 use Rattle.sv_world.specs.declared.seat.Seat.{Seat}
 use Rattle.sv_world.specs.declared.world.World.{World as Nodes}
 use Rattle.sv_world.specs.Seat.{IsSeat, RunsOver, durable_of, engine_in, engine_by, place_of, place_by}
-use Rattle.sv_world.specs.World.{stopped, nothing_happened, run}
+use Rattle.sv_world.specs.World.{steady, stopped, nothing_happened, run}
 use Rattle.sv_world.specs.Worlds.{place_in, meant_in, noted_in, world_of, cluster_of, meanings_of, heard_of, IsWorld, AllMean}
 use Rattle.sv_world.specs.Happened.{AllAlike, AreStarted, AreBack, restarts}
 use Rattle.sv_world.specs.Making.{IsIdle, AreSeated, HaveBegun, AreOf}
@@ -115,7 +117,7 @@ module _ {E : Type 0} where
         → All (λ s. IsSeat fit s) new.seats.items → map Some engines ≡ map engine_in new.seats.items → AreOf meaning noted fit old engines
     are_of fit old new engines cluster meanings heard all is = record {
       valid = all_by fit engines (λ k. subst (λ o. IfSome o fit) (at_place new.seats.items engines (sym is) k) (seen_fit fit (slice_get new.seats.items k) (all_some (λ s. IsSeat fit s) new.seats.items all k)));
-      number = sym (number_is new.seats.items engines (sym is)) ∙ (λ i. (cluster i).nodes);
+      number = sym (number_is new.seats.items engines (sym is)) ∙ (λ i. (cluster i).nodes 0 0);
       meanings = λ n. sym (meanings_are new engines (sym is) n) ∙ (λ i. meanings i n);
       heard = λ n. sym (heard_are new engines (sym is) n) ∙ (λ i. heard i n);
     }
@@ -126,10 +128,10 @@ module _ {E : Type 0} where
           let number = number_is w.seats.items engines h.engines_in in
           let nothing : world_of w ≡ nothing_happened = λ i. record { places = λ n. place_is (slice_get w.seats.items n) (all_some IsIdle w.seats.items h.idle n) i; packets = packets i; trace = trace i } in
           record {
-            cluster = b.happened.cluster ∙ (λ i. record { nodes = number i; rules = w.rules });
+            cluster = b.happened.cluster ∙ (λ i. steady (number i) w.rules);
             world = λ m alike.
                 b.happened.world m (λ n less. meanings_are w engines h.engines_in n ∙ alike_at meaning m engines alike n (omega (arith, number, less)))
-                ∙ (λ i. run m (sym b.happened.cluster i) (nothing i) (restarts (number i)));
+                ∙ (λ i. run (always m) (sym b.happened.cluster i) (nothing i) (restarts (number i)));
             meanings = λ n. (λ i. b.happened.meanings i n) ∙ meanings_are w engines h.engines_in n;
             heard = λ n. (λ i. b.heard i n) ∙ heard_are w engines h.engines_in n;
           }
@@ -143,4 +145,4 @@ module _ {E : Type 0} where
       }
 
     pub all_mean : (engines : List E) (rules : Rules) (w : Nodes E) → AreStarted meaning noted engines rules w → (m : EngineMeaning) → AllAlike meaning m engines → AllMean meaning m w
-    all_mean engines rules w s m alike n less = s.meanings n ∙ alike_at meaning m engines alike n (subst (λ k. n < k) (λ i. (s.cluster i).nodes) less)
+    all_mean engines rules w s m alike n less = s.meanings n ∙ alike_at meaning m engines alike n (subst (λ k. n < k) (λ i. (s.cluster i).nodes 0 0) less)

@@ -3,7 +3,8 @@
 --
 -- Its engine answers with the request's own body, so what was put out tells which request it was: the calls can be met, what
 -- they show is that request's answer, and a list of events that asks for another request isn't theirs.
-use Rattle.std.proofs.Common.{◌≡◌, ◌≢◌, ◌<◌, ℕ, Bool, false, None, List, [], ◌∷◌, inr, arith, refl}
+use Rattle.std.proofs.Common.{◌≡◌, ◌≢◌, ◌<◌, ℕ, Bool, false, None, List, [], ◌∷◌, inr, arith, refl, sym, subst}
+use Rattle.std.proofs.lemmas.Bool.{ne_eqb}
 use Rattle.std.specs.Prelude.{zero, suc}
 use Rattle.std.specs.FinMap.{len-empty}
 use Rattle.sv_model.specs.declared.input.Input.{Input}
@@ -17,6 +18,7 @@ use Rattle.sv_model.specs.declared.response.Response.{Response}
 use Rattle.sv_model.specs.declared.session.Session.{Session}
 use Rattle.sv_model.specs.declared.state.KeyState.{KeyState}
 use Rattle.sv_model.specs.declared.site.StepFault.TheVariants.{Device}
+use Rattle.sv_model.specs.Container.{always}
 use Rattle.sv_model.specs.Engine.{EngineMeaning}
 use Rattle.sv_model.specs.Keys.{key_cmp}
 use Rattle.sv_model.specs.Node.{decided}
@@ -24,11 +26,12 @@ use Rattle.sv_model.specs.NodeState.{Node, last_number}
 use Rattle.sv_model.specs.Replay.{blank}
 use Rattle.sv_node.specs.Call.{Open, Step, Unsaid, Done, Refused, Given, After, quiet, kept, carried_out, node_behind}
 use Rattle.sv_node.specs.Opened.{restarted}
-use Rattle.sv_node.specs.History.{AreTurns, Rise, halted}
+use Rattle.sv_node.specs.History.{Rise, halted}
 use Rattle.sv_world.specs.declared.event.WorldEvent.{WorldEvent}
 use Rattle.sv_world.specs.declared.event.WorldEvent.TheVariants.{Ask, Crash, Restart, Silent, Torn}
 use Rattle.sv_world.specs.Disks.{NodeCall, AreCalls, AreOfAll, behind_all, nothing_called}
 use Rattle.sv_world.specs.Processes.{turns_at, AreOfProcesses}
+use Rattle.sv_world.specs.Starts.{AreTurnsBy}
 use Rattle.sv_world.specs.World.{setting_of}
 use Rattle.sv_world.proofs.Example.{two}
 
@@ -50,16 +53,16 @@ module _ (s : Session) (r : Request) (moment : Moment) where
 
   -- what the node keeps behind each call
   abbrev opened : Node
-  opened = kept (restarted (setting_of two 0) blank)
+  opened = kept (restarted (setting_of two 0 1) blank)
 
   abbrev answered : After
-  answered = carried_out (decided m (setting_of two 0) opened moment (input.Ask 7 r))
+  answered = carried_out (decided m (setting_of two 0 1) opened moment (input.Ask 7 r))
 
   abbrev moves : Input
   moves = input.Move (record { home = 0; serial = 1 }) 1
 
   abbrev handed_over : Node
-  handed_over = kept (decided m (setting_of two 0) answered.node moment moves).durable
+  handed_over = kept (decided m (setting_of two 0 1) answered.node moment moves).durable
 
   low : (n : ℕ) → n < 9 → n ≢ last_number
   low n less e = absurd (omega (arith, less, e))
@@ -71,7 +74,7 @@ module _ (s : Session) (r : Request) (moment : Moment) where
       ∷ record { node = 0; call = Step moment moves (Refused Device); after = quiet handed_over }
       ∷ []
 
-  calls : AreCalls m two nothing_called (λ _. []) list
+  calls : AreCalls (always m) two nothing_called (λ _. []) list
   calls = (
     record { inside = omega arith; comes = tt; does = (refl, low 0 (omega arith), refl) },
     (
@@ -80,19 +83,21 @@ module _ (s : Session) (r : Request) (moment : Moment) where
     ),
   )
 
+  -- no other node is called
+  elsewhere : (n : ℕ) → turns_at (suc n) list ≡ []
+  elsewhere n = rw (ne_eqb (suc n) 0 (λ e. omega (arith, e))) refl
+
   -- the same, by what is known of each node by itself
-  own : (n : ℕ) → n < 2 → AreTurns m (setting_of two n) (halted blank) (turns_at n list)
-  own zero less = ((refl, low 0 (omega arith), refl), ((refl, refl), ((refl, inr refl), tt)))
-  own (suc zero) less = tt
-  own (suc (suc n)) less = absurd (omega (arith, less))
+  own : (n : ℕ) → AreTurnsBy (λ boot. m) (setting_of two n) (halted blank) (turns_at n list)
+  own zero = ((refl, low 0 (omega arith), refl), ((refl, refl), ((refl, inr refl), tt)))
+  own (suc n) = subst (AreTurnsBy (λ boot. m) (setting_of two (suc n)) (halted blank)) (sym (elsewhere n)) tt
 
-  numbers : (n : ℕ) → n < 2 → (high : ℕ) × Rise 0 high (turns_at n list)
-  numbers zero less = (7, (tt, (omega arith, (tt, omega arith))))
-  numbers (suc zero) less = (0, omega arith)
-  numbers (suc (suc n)) less = absurd (omega (arith, less))
+  numbers : (n : ℕ) → (high : ℕ) × Rise 0 high (turns_at n list)
+  numbers zero = (7, (tt, (omega arith, (tt, omega arith))))
+  numbers (suc n) = (0, subst (Rise 0 0) (sym (elsewhere n)) (omega arith))
 
-  of_processes : AreOfProcesses m two list
-  of_processes = record { inside = (omega arith, (omega arith, (omega arith, tt))); turns = own; rise = numbers; sent = (tt, (tt, (tt, tt))) }
+  of_processes : AreOfProcesses (always m) two list
+  of_processes = record { inside = ((λ boot. omega arith), ((λ boot. omega arith), ((λ boot. omega arith), tt))); turns = own; rise = numbers; sent = (tt, (tt, (tt, tt))) }
 
   -- the only whole step has put out the answer to that request, and nothing else
   shown : (behind_all nothing_called list).shown ≡ record { node = 0; boot = 1; outputs = Answer 7 (echo r) ∷ []; told = answered.told } ∷ []
@@ -117,17 +122,17 @@ module _ (s : Session) (r : Request) (moment : Moment) where
   abbrev torn_away : List NodeCall
   torn_away =
       record { node = 0; call = Open Done; after = quiet opened }
-      ∷ record { node = 0; call = Unsaid both; after = quiet (kept (node_behind m (setting_of two 0) opened both).durable) }
+      ∷ record { node = 0; call = Unsaid both; after = quiet (kept (node_behind m (setting_of two 0 1) opened both).durable) }
       ∷ []
 
-  torn_calls : AreCalls m two nothing_called (λ _. []) torn_away
+  torn_calls : AreCalls (always m) two nothing_called (λ _. []) torn_away
   torn_calls = (
     record { inside = omega arith; comes = tt; does = (refl, low 0 (omega arith), refl) },
     (record { inside = omega arith; comes = ((tt, λ i. absurd i), ((tt, tt), tt)); does = (refl, refl) }, tt),
   )
 
   -- the node keeps what it keeps behind the same steps one by one
-  same_kept : (kept (node_behind m (setting_of two 0) opened both).durable) ≡ handed_over
+  same_kept : (kept (node_behind m (setting_of two 0 1) opened both).durable) ≡ handed_over
   same_kept = refl
 
   -- and their events are these

@@ -1,6 +1,6 @@
 -- A list of calls of nodes over their disks is a world: for each call an event or none.
-use Rattle.std.proofs.Common.{◌≡◌, ◌≢◌, ◌⊎◌, ⊎_elim, ℕ, ◌<◌, ◌==◌, ◌&&◌, ◌||◌, Bool, true, false, cond, Option, Some, None, List, [], ◌∷◌, ◌++◌, refl, sym, ap, ◌∙◌, subst, eq-eqb, append_assoc, append-nil}
-use Rattle.std.specs.Prelude.{zero, suc, nat_lt, is_some, not, map, slice_get}
+use Rattle.std.proofs.Common.{◌≡◌, ◌≢◌, ◌⊎◌, ⊎_elim, ℕ, ◌+◌, ◌<◌, ◌==◌, ◌&&◌, ◌||◌, Bool, true, false, cond, Option, Some, None, List, [], ◌∷◌, ◌++◌, refl, sym, ap, ◌∙◌, subst, eq-eqb, append_assoc, append-nil}
+use Rattle.std.specs.Prelude.{zero, suc, nat_lt, is_some, not, map, slice_get, IfSome}
 use Rattle.std.specs.List.{list_any, flat_map}
 use Rattle.std.specs.Option.{option_map, option_to_list}
 use Rattle.std.proofs.lemmas.Bool.{cases_eq, ne_eqb, eqb-true, lt-ltb, cond-true, cond-false}
@@ -15,16 +15,16 @@ use Rattle.sv_model.specs.declared.node.Setting.{Setting}
 use Rattle.sv_model.specs.declared.packet.Packet.{Packet}
 use Rattle.sv_model.specs.declared.record.Record.{Record}
 use Rattle.sv_model.specs.declared.site.StepFault.TheVariants as step
-use Rattle.sv_model.specs.Decision.{Decision, idle}
-use Rattle.sv_model.specs.Engine.{EngineMeaning, TouchesOnlyHanded}
+use Rattle.sv_model.specs.Decision.{Decision, idle, left}
+use Rattle.sv_model.specs.Container.{Meanings, always, AllTouchOnlyHanded}
+use Rattle.sv_model.specs.Engine.{EngineMeaning}
 use Rattle.sv_model.specs.Membership.{In}
 use Rattle.sv_model.specs.Migration.{addressee, sender, on_ours}
 use Rattle.sv_model.specs.Node.{decided}
-use Rattle.sv_model.specs.NodeState.{Durable, last_number}
+use Rattle.sv_model.specs.NodeState.{Durable, Node, last_number}
 use Rattle.sv_model.specs.Outputs.{sends_in}
 use Rattle.sv_model.specs.Replay.{applied_if}
 use Rattle.sv_model.specs.Serving.{token_of}
-use Rattle.sv_model.specs.Step.{left}
 use Rattle.sv_model.specs.Trace.{Item, asked_of, asked_by, times}
 use Rattle.sv_model.proofs.JournalLemmas.{journaled}
 use Rattle.sv_node.specs.declared.fault.OpenFault.TheVariants as opening
@@ -36,15 +36,18 @@ use Rattle.sv_world.specs.declared.event.WorldEvent.TheVariants.{Ask, Deliver, P
 use Rattle.sv_world.specs.declared.line.Line.{Line}
 use Rattle.sv_world.specs.declared.task.Task.TheVariants as task
 use Rattle.sv_world.specs.Deed.{Done, deed, line_of, heading_by, heading_at, halted, booted, quiet_at, start_by}
-use Rattle.sv_world.specs.Disks.{NodeCall, Seen, WasSent, IsNew, AllCome, MayCome, with_number, silent_event, IsCall, AreCalls, AreOfInput, AreOfStop, AreOf, AreOfAll, shown_at, is_own, all_numbers, behind, behind_all, seen_as, shown_by, nothing_called, AreWorld}
+use Rattle.sv_world.specs.Disks.{NodeCall, Seen, start_at, InTurnAt, AreOpenedInTurn, WasSent, IsNew, AllCome, MayCome, with_number, silent_event, IsCall, AreCalls, AreOfInput, AreOfStop, AreOf, AreOfAll, shown_at, is_own, all_numbers, behind, behind_all, seen_as, shown_by, nothing_called, AreWorld}
 use Rattle.sv_world.specs.Faults.{step_fault, start_fault, stop_fault, call_fault, fault_of}
 use Rattle.sv_world.specs.Order.{whole_order, torn_order, silent_order, order_of}
+use Rattle.sv_world.specs.Rolling.{start_in, IsTurn, AreInTurn}
+use Rattle.sv_world.specs.Starts.{number_of}
 use Rattle.sv_world.specs.Sent.{may_come, same_packet}
-use Rattle.sv_world.specs.World.{Cluster, Place, World, setting_of, set_place, stopped, started, items, item_at, is_there, is_unused, call_of, happens, run, nothing_happened}
-use Rattle.sv_world.proofs.DiskOrder.{asked_in, asked_at, IsDown, IsFresh, Orderly, step_fresh, stays_orderly, comes_new}
-use Rattle.sv_world.proofs.HeadlineLemmas.{headline}
+use Rattle.sv_world.specs.World.{Cluster, Place, World, steady, setting_of, set_place, stopped, started, items, item_at, is_there, is_unused, call_of, happens, run, nothing_happened}
+use Rattle.sv_world.proofs.DiskOrder.{asked_in, asked_at, IsDown, IsFresh, Orderly, behind_boot, step_fresh, stays_orderly, comes_new}
+use Rattle.sv_world.proofs.HeadlineLemmas.{kept as kept_fit, headline}
 use Rattle.sv_world.proofs.OrderLemmas.{done_by, goes}
-use Rattle.sv_world.proofs.RanLemmas.{run_more}
+use Rattle.sv_world.proofs.Events.{run_more}
+use Rattle.sv_world.proofs.Rolled.{in_turn}
 use Rattle.sv_world.proofs.SentLemmas.{packet_decides}
 use Rattle.sv_world.proofs.Thrift.{decide_thrifty}
 
@@ -115,7 +118,7 @@ asked_more trace l =
 shown_more : (trace : List Line) (l : Line) → flat_map shown_by (trace ++ l ∷ []) ≡ flat_map shown_by trace ++ shown_by l
 shown_more trace l = flat_map-append shown_by trace (l ∷ []) ∙ ap (λ s. flat_map shown_by trace ++ s) (append-nil (shown_by l))
 
-module _ (m : EngineMeaning) (c : Cluster) (w : World) (n : ℕ) (call : Call) (a : After) where
+module _ (m : Meanings) (c : Cluster) (w : World) (n : ℕ) (call : Call) (a : After) where
   abbrev here : Place
   here = w.places n
 
@@ -131,7 +134,12 @@ module _ (m : EngineMeaning) (c : Cluster) (w : World) (n : ℕ) (call : Call) (
     pub events : List WorldEvent
     pub own : Own events
     pub seen : seen_as (run m c w events) ≡ behind (seen_as w) made
-    pub asked : asked_of (items (run m c w events).trace) ≡ asked_of (items w.trace) ++ asked_at c n here.node.durable call
+    pub asked : asked_of (items (run m c w events).trace) ≡ asked_of (items w.trace) ++ asked_at n here.node.durable call
+    pub turns : InTurnAt c w.places n call → AreInTurn m c w events
+
+  -- an event that starts a node is of an opening
+  abbrev Starts : WorldEvent → Type 0
+  Starts e = InTurnAt c w.places n call → IfSome (start_in e) (IsTurn c w.places)
 
   -- what the call leaves of the node
   abbrev left_place : Place
@@ -144,7 +152,7 @@ module _ (m : EngineMeaning) (c : Cluster) (w : World) (n : ℕ) (call : Call) (
       (cases_eq x n)
 
   -- nothing happens
-  still : Own [] → here ≡ left_place → a.outputs ≡ [] → asked_at c n here.node.durable call ≡ [] → shown_at n here.node.durable call a ≡ [] → Simulated
+  still : Own [] → here ≡ left_place → a.outputs ≡ [] → asked_at n here.node.durable call ≡ [] → shown_at n here.node.durable call a ≡ [] → Simulated
   still own place silent none unseen = record {
     events = [];
     own = own;
@@ -154,12 +162,13 @@ module _ (m : EngineMeaning) (c : Cluster) (w : World) (n : ℕ) (call : Call) (
       shown = (sym (append-nil (flat_map shown_by w.trace)) ∙ ap (λ s. flat_map shown_by w.trace ++ s) (sym unseen)) i;
     };
     asked = sym (append-nil (asked_of (items w.trace))) ∙ ap (λ ts. asked_of (items w.trace) ++ ts) (sym none);
+    turns = λ _. tt;
   }
 
   -- an event happens that does this
-  does : (e : WorldEvent) (d : Done) → Own (e ∷ []) → happens m c w e ≡ done_by w e n d → d.place ≡ left_place → d.effect.outputs ≡ a.outputs
-      → option_to_list d.effect.heading.asked ≡ asked_at c n here.node.durable call → shown_by (line_of e d.effect) ≡ shown_at n here.node.durable call a → Simulated
-  does e d own happened place puts asks shows = record {
+  does : (e : WorldEvent) (d : Done) → Own (e ∷ []) → Starts e → happens m c w e ≡ done_by w e n d → d.place ≡ left_place → d.effect.outputs ≡ a.outputs
+      → option_to_list d.effect.heading.asked ≡ asked_at n here.node.durable call → shown_by (line_of e d.effect) ≡ shown_at n here.node.durable call a → Simulated
+  does e d own starts happened place puts asks shows = record {
     events = e ∷ [];
     own = own;
     seen = ap seen_as happened ∙ (λ i. record {
@@ -168,6 +177,7 @@ module _ (m : EngineMeaning) (c : Cluster) (w : World) (n : ℕ) (call : Call) (
       shown = (shown_more w.trace (line_of e d.effect) ∙ ap (λ s. flat_map shown_by w.trace ++ s) shows) i;
     });
     asked = ap (λ (v : World). asked_of (items v.trace)) happened ∙ asked_more w.trace (line_of e d.effect) ∙ ap (λ ts. asked_of (items w.trace) ++ ts) asks;
+    turns = λ t. (starts t, tt);
   }
 
 -- ---- steps of which nothing leaves their node
@@ -176,33 +186,38 @@ twice : {A : Type 0} (b : Bool) (x y z : A) → cond b x (cond b y z) ≡ cond b
 twice true x y z = refl
 twice false x y z = refl
 
-module _ (m : EngineMeaning) (c : Cluster) (n : ℕ) (inside : n < c.nodes) where
+module _ (m : Meanings) (c : Cluster) (n boot : ℕ) (inside : n < c.nodes n boot) where
   abbrev of_node : Setting
-  of_node = setting_of c n
+  of_node = setting_of c n boot
+
+  -- a step keeps the number of the start
+  boot_kept : (node : Node) (g : Given) → (decided (m n boot) of_node node g.at g.input).durable.boot ≡ node.durable.boot
+  boot_kept node g = (decide_thrifty (always (m n boot)) (steady (c.nodes n boot) (c.rules n boot)) n node g.at g.input).boot
 
   -- a request that comes is new
   new_by : (w : World) (numbers : List ℕ) → IsFresh (asked_of (items w.trace)) n (w.places n) numbers → (w.places n).up ≡ true → (i : Input) → IsNew numbers i
       → (o : Option Token) → asked_by (token_of of_node (w.places n).node.durable) i ≡ o → is_unused (asked_of (items w.trace)) o ≡ true
   new_by w numbers fresh up i new None is = refl
-  new_by w numbers fresh up i new (Some t) is = eq-eqb (times t (asked_of (items w.trace))) 0 (comes_new c (asked_of (items w.trace)) n (w.places n) numbers fresh up i new t is)
+  new_by w numbers fresh up i new (Some t) is = eq-eqb (times t (asked_of (items w.trace))) 0 (comes_new (asked_of (items w.trace)) n (w.places n) numbers fresh up i new t is)
 
   -- what one of them does
   abbrev silent_at : World → Given → Done
-  silent_at w g = deed m of_node (w.places n) (task.Silent g.at g.input)
+  silent_at w g = deed (m n boot) of_node (w.places n) (task.Silent g.at g.input)
 
   abbrev one_silent : World → Given → World
   one_silent w g = done_by w (silent_event n g) n (silent_at w g)
 
-  silent_is : (w : World) (numbers : List ℕ) (g : Given) → (w.places n).up ≡ true → IsFresh (asked_of (items w.trace)) n (w.places n) numbers → WasSent w.packets g.input → IsNew numbers g.input → happens m c w (silent_event n g) ≡ one_silent w g
-  silent_is w numbers g up fresh sent new =
+  silent_is : (w : World) (numbers : List ℕ) (g : Given) → (w.places n).node.durable.boot ≡ boot → (w.places n).up ≡ true → IsFresh (asked_of (items w.trace)) n (w.places n) numbers → WasSent w.packets g.input → IsNew numbers g.input → happens m c w (silent_event n g) ≡ one_silent w g
+  silent_is w numbers g same up fresh sent new =
       let call : Asked = record { node = n; moment = g.at; input = g.input } in
       (goes c w (silent_order call) (silent_event n g)
-      (no_step_fault (is_there c n) (w.places n).up (may_come w.packets g.input) (is_unused (asked_of (items w.trace)) (asked_by (token_of of_node (w.places n).node.durable) g.input))
-      (lt-ltb n c.nodes inside) up (comes w.packets g.input sent) (new_by w numbers fresh up g.input new _ refl)) refl).happens m
+      (no_step_fault (is_there c n (w.places n).node.durable.boot) (w.places n).up (may_come w.packets g.input) (is_unused (asked_of (items w.trace)) (asked_by (token_of of_node (w.places n).node.durable) g.input))
+      (lt-ltb n (c.nodes n (w.places n).node.durable.boot) (subst (λ b. n < c.nodes n b) (sym same) inside)) up (comes w.packets g.input sent) (new_by w numbers fresh up g.input new _ refl)) refl).happens m
+      ∙ ap (λ b. done_by w (silent_event n g) n (deed (m n b) (setting_of c n b) (w.places n) (task.Silent g.at g.input))) same
 
   -- what all of them make of a world
   pub record Silenced (w v : World) (gs : List Given) : Type 0 where
-    pub places : (x : ℕ) → v.places x ≡ set_place w.places n (record { up = true; node = node_behind m of_node (w.places n).node gs }) x
+    pub places : (x : ℕ) → v.places x ≡ set_place w.places n (record { up = true; node = node_behind (m n boot) of_node (w.places n).node gs }) x
     pub packets : v.packets ≡ w.packets
     pub shown : flat_map shown_by v.trace ≡ flat_map shown_by w.trace
     pub asked : asked_of (items v.trace) ≡ asked_of (items w.trace) ++ asked_in n (w.places n).node.durable.boot gs
@@ -210,8 +225,8 @@ module _ (m : EngineMeaning) (c : Cluster) (n : ℕ) (inside : n < c.nodes) wher
   at_own : (places : ℕ → Place) (p : Place) → set_place places n p n ≡ p
   at_own places p = cond-true (n == n) p (places n) (eq-eqb n n refl)
 
-  silenced : (w : World) (numbers : List ℕ) (gs : List Given) → (w.places n).up ≡ true → IsFresh (asked_of (items w.trace)) n (w.places n) numbers → AllCome w.packets numbers gs → Silenced w (run m c w (map (silent_event n) gs)) gs
-  silenced w numbers [] up fresh all = record {
+  silenced : (w : World) (numbers : List ℕ) (gs : List Given) → (w.places n).node.durable.boot ≡ boot → (w.places n).up ≡ true → IsFresh (asked_of (items w.trace)) n (w.places n) numbers → AllCome w.packets numbers gs → Silenced w (run m c w (map (silent_event n) gs)) gs
+  silenced w numbers [] same up fresh all = record {
     places = λ x. ⊎_elim
         (λ (e : x ≡ n). ap w.places e ∙ (λ j. record { up = up j; node = (w.places n).node }) ∙ sym (cond-true (x == n) (record { up = true; node = (w.places n).node }) (w.places x) (eq-eqb x n e)))
         (λ (e : x ≢ n). sym (cond-false (x == n) (record { up = true; node = (w.places n).node }) (w.places x) (ne_eqb x n e)))
@@ -220,102 +235,109 @@ module _ (m : EngineMeaning) (c : Cluster) (n : ℕ) (inside : n < c.nodes) wher
     shown = refl;
     asked = sym (append-nil (asked_of (items w.trace)));
   }
-  silenced w numbers (g ∷ gs) up fresh all =
+  silenced w numbers (g ∷ gs) same up fresh all =
       let node = (w.places n).node in
-      let d = decided m of_node node g.at g.input in
+      let d = decided (m n boot) of_node node g.at g.input in
       let p : Place = record { up = true; node = left d } in
       let v = one_silent w g in
       let l = line_of (silent_event n g) (silent_at w g).effect in
       let es = map (silent_event n) gs in
-      let is : happens m c w (silent_event n g) ≡ v = silent_is w numbers g up fresh all.0.0 all.0.1 in
+      let is : happens m c w (silent_event n g) ≡ v = silent_is w numbers g same up fresh all.0.0 all.0.1 in
       let here : v.places n ≡ p = at_own w.places p in
       let asked_v : asked_of (items v.trace) ≡ asked_of (items w.trace) ++ option_to_list (asked_by (token_of of_node node.durable) g.input) = asked_more w.trace l in
       let fresh_v : IsFresh (asked_of (items v.trace)) n (v.places n) (with_number g.input numbers) =
       subst (λ (ts : List Token). IsFresh ts n (v.places n) (with_number g.input numbers)) (sym asked_v)
       (subst (λ (q : Place). IsFresh (asked_of (items w.trace) ++ option_to_list (asked_by (token_of of_node node.durable) g.input)) n q (with_number g.input numbers)) (sym here)
-      (λ _. step_fresh m c n (w.places n) (carried_out d) (asked_of (items w.trace)) numbers g.at g.input (up, refl) fresh)) in
+      (λ _. step_fresh (m n boot) (c.nodes n boot) (c.rules n boot) n (w.places n) (carried_out d) (asked_of (items w.trace)) numbers g.at g.input (up, refl) fresh)) in
       let all_v : AllCome v.packets (with_number g.input numbers) gs = subst (λ ps. AllCome ps (with_number g.input numbers) gs) (sym (append-nil w.packets)) all.1 in
-      let rest = silenced v (with_number g.input numbers) gs (ap (λ (q : Place). q.up) here) fresh_v all_v in
-      let boot : (v.places n).node.durable.boot ≡ node.durable.boot = ap (λ (q : Place). q.node.durable.boot) here ∙ (decide_thrifty m c n node g.at g.input).boot in
+      let number : (v.places n).node.durable.boot ≡ node.durable.boot = ap (λ (q : Place). q.node.durable.boot) here ∙ boot_kept node g in
+      let rest = silenced v (with_number g.input numbers) gs (number ∙ same) (ap (λ (q : Place). q.up) here) fresh_v all_v in
       record {
         places = λ x. ap (λ u. (run m c u es).places x) is ∙ rest.places x
-            ∙ ap (λ (q : Place). set_place v.places n (record { up = true; node = node_behind m of_node q.node gs }) x) here
-            ∙ twice (x == n) (record { up = true; node = node_behind m of_node (left d) gs }) p (w.places x);
+            ∙ ap (λ (q : Place). set_place v.places n (record { up = true; node = node_behind (m n boot) of_node q.node gs }) x) here
+            ∙ twice (x == n) (record { up = true; node = node_behind (m n boot) of_node (left d) gs }) p (w.places x);
         packets = ap (λ u. (run m c u es).packets) is ∙ rest.packets ∙ append-nil w.packets;
         shown = ap (λ u. flat_map shown_by (run m c u es).trace) is ∙ rest.shown ∙ shown_more w.trace l ∙ append-nil (flat_map shown_by w.trace);
-        asked = ap (λ u. asked_of (items (run m c u es).trace)) is ∙ rest.asked ∙ (λ j. asked_v j ++ asked_in n (boot j) gs)
+        asked = ap (λ u. asked_of (items (run m c u es).trace)) is ∙ rest.asked ∙ (λ j. asked_v j ++ asked_in n (number j) gs)
             ∙ append_assoc (asked_of (items w.trace)) (option_to_list (asked_by (token_of of_node node.durable) g.input)) (asked_in n node.durable.boot gs);
       }
 
 -- ---- a step
 
-module _ (m : EngineMeaning) (touches : TouchesOnlyHanded m) (c : Cluster) (w : World) (n : ℕ) (inside : n < c.nodes) where
-  abbrev set : Setting
-  set = setting_of c n
-
+module _ (m : Meanings) (touches : AllTouchOnlyHanded m) (c : Cluster) (w : World) (n : ℕ) (inside : n < c.nodes n (w.places n).node.durable.boot) where
   abbrev at_node : Place
   at_node = w.places n
+
+  -- the number of its last start, with what it was started with
+  abbrev boot : ℕ
+  boot = at_node.node.durable.boot
+
+  abbrev means : EngineMeaning
+  means = m n boot
+
+  abbrev set : Setting
+  set = setting_of c n boot
 
   abbrev asked_with : Input → Option Token
   asked_with i = asked_by (token_of set at_node.node.durable) i
 
-  there : is_there c n ≡ true
-  there = lt-ltb n c.nodes inside
+  there : is_there c n boot ≡ true
+  there = lt-ltb n (c.nodes n boot) inside
 
   abbrev step_of : Moment → Input → Asked
   step_of at i = record { node = n; moment = at; input = i }
 
   -- a step may be taken
   ready : (at : Moment) (i : Input) (o : Option Asked) → o ≡ Some (step_of at i) → at_node.up ≡ true → WasSent w.packets i → is_unused (asked_of (items w.trace)) (asked_with i) ≡ true → call_fault c w o ≡ None
-  ready at i o is up sent unused = ap (call_fault c w) is ∙ no_step_fault (is_there c n) at_node.up (may_come w.packets i) (is_unused (asked_of (items w.trace)) (asked_with i)) there up (comes w.packets i sent) unused
+  ready at i o is up sent unused = ap (call_fault c w) is ∙ no_step_fault (is_there c n boot) at_node.up (may_come w.packets i) (is_unused (asked_of (items w.trace)) (asked_with i)) there up (comes w.packets i sent) unused
 
   module _ (at : Moment) (i : Input) (a : After) (up : at_node.up ≡ true)
       (sent : WasSent w.packets i) (unused : is_unused (asked_of (items w.trace)) (asked_with i) ≡ true) where
     abbrev decision : Decision
-    decision = decided m set at_node.node at i
+    decision = decided means set at_node.node at i
 
     -- the event that hands the input to its node
     whole_by : (e : WorldEvent) → Own m c w n (Step at i Finished) a (e ∷ []) → call_of w.packets e ≡ Some (step_of at i) → fault_of c w e ≡ call_fault c w (call_of w.packets e) → order_of w.packets e ≡ option_map whole_order (call_of w.packets e)
-        → is_own n i ≡ true → a ≡ carried_out decision → Simulated m c w n (Step at i Finished) a
-    whole_by e of_call call fault order own d =
-        does m c w n (Step at i Finished) a e (deed m set at_node (task.Step at i)) of_call
+        → start_in e ≡ None → is_own n i ≡ true → a ≡ carried_out decision → Simulated m c w n (Step at i Finished) a
+    whole_by e of_call call fault order none own d =
+        does m c w n (Step at i Finished) a e (deed means set at_node (task.Step at i)) of_call (λ _. subst (λ o. IfSome o (IsTurn c w.places)) (sym none) tt)
         ((goes c w (whole_order (step_of at i)) e (fault ∙ ready at i (call_of w.packets e) call up sent unused) (order ∙ ap (option_map whole_order) call)).happens m)
         (λ j. record { up = sym up j; node = sym (node_in d) j }) (sym (puts_in d)) refl
         ((λ j. record { node = n; boot = at_node.node.durable.boot; outputs = sym (puts_in d) j; told = sym (tells_in d) j } ∷ [])
         ∙ sym (cond-true (is_own n i) (record { node = n; boot = at_node.node.durable.boot; outputs = a.outputs; told = a.told } ∷ []) [] own))
 
     -- the event of a stop inside it
-    torn_by_event : (kept_too : Bool) → happens m c w (Torn n at i kept_too) ≡ done_by w (Torn n at i kept_too) n (deed m set at_node (task.Torn at i kept_too))
+    torn_by_event : (kept_too : Bool) → happens m c w (Torn n at i kept_too) ≡ done_by w (Torn n at i kept_too) n (deed means set at_node (task.Torn at i kept_too))
     torn_by_event kept_too = (goes c w (torn_order kept_too (step_of at i)) (Torn n at i kept_too) (ready at i (Some (step_of at i)) refl up sent unused) refl).happens m
 
-    torn_before : (call : Call) → Own m c w n call a (Torn n at i false ∷ []) → runs_behind at_node.up call ≡ false → asked_at c n at_node.node.durable call ≡ option_to_list (asked_with i) → shown_at n at_node.node.durable call a ≡ []
+    torn_before : (call : Call) → Own m c w n call a (Torn n at i false ∷ []) → runs_behind at_node.up call ≡ false → asked_at n at_node.node.durable call ≡ option_to_list (asked_with i) → shown_at n at_node.node.durable call a ≡ []
         → a ≡ quiet (kept at_node.node.durable) → Simulated m c w n call a
     torn_before call own ends asks shows l =
-        does m c w n call a (Torn n at i false) (deed m set at_node (task.Torn at i false)) own (torn_by_event false)
+        does m c w n call a (Torn n at i false) (deed means set at_node (task.Torn at i false)) own (λ _. tt) (torn_by_event false)
         (λ j. record { up = sym ends j; node = sym (node_in l) j }) (sym (puts_in l)) (sym asks) (sym shows)
 
     -- the record that the decision may have, and what is kept behind it
-    torn_behind_by : (call : Call) → ((kept_too : Bool) → Own m c w n call a (Torn n at i kept_too ∷ [])) → runs_behind at_node.up call ≡ false → asked_at c n at_node.node.durable call ≡ option_to_list (asked_with i) → shown_at n at_node.node.durable call a ≡ []
+    torn_behind_by : (call : Call) → ((kept_too : Bool) → Own m c w n call a (Torn n at i kept_too ∷ [])) → runs_behind at_node.up call ≡ false → asked_at n at_node.node.durable call ≡ option_to_list (asked_with i) → shown_at n at_node.node.durable call a ≡ []
         → (entry : Option Record) → decision.entry ≡ entry → decision.durable ≡ applied_if entry at_node.node.durable → a ≡ quiet (kept decision.durable) → Simulated m c w n call a
     torn_behind_by call own ends asks shows None is gives l = torn_before call (own false) ends asks shows (l ∙ ap (λ d. quiet (kept d)) gives)
     torn_behind_by call own ends asks shows (Some r) is gives l =
         let h = heading_by set at_node.node.durable i in
         let cut : Done = record { place = stopped decision.durable; effect = quiet_at h decision.entry decision.commit } in
-        does m c w n call a (Torn n at i true) cut (own true)
+        does m c w n call a (Torn n at i true) cut (own true) (λ _. tt)
         (torn_by_event true ∙ ap (done_by w (Torn n at i true) n) (cond-true (is_some decision.entry) cut (halted h at_node.node.durable) (ap is_some is)))
         (λ j. record { up = sym ends j; node = sym (node_in l) j }) (sym (puts_in l)) (sym asks) (sym shows)
 
-    torn_behind : (call : Call) → ((kept_too : Bool) → Own m c w n call a (Torn n at i kept_too ∷ [])) → runs_behind at_node.up call ≡ false → asked_at c n at_node.node.durable call ≡ option_to_list (asked_with i) → shown_at n at_node.node.durable call a ≡ []
+    torn_behind : (call : Call) → ((kept_too : Bool) → Own m c w n call a (Torn n at i kept_too ∷ [])) → runs_behind at_node.up call ≡ false → asked_at n at_node.node.durable call ≡ option_to_list (asked_with i) → shown_at n at_node.node.durable call a ≡ []
         → a ≡ quiet (kept decision.durable) → Simulated m c w n call a
-    torn_behind call own ends asks shows l = torn_behind_by call own ends asks shows decision.entry refl (journaled set at_node.node m touches at i).gives l
+    torn_behind call own ends asks shows l = torn_behind_by call own ends asks shows decision.entry refl (journaled set at_node.node means (touches n boot) at i).gives l
 
-    torn : (call : Call) → ((kept_too : Bool) → Own m c w n call a (Torn n at i kept_too ∷ [])) → runs_behind at_node.up call ≡ false → asked_at c n at_node.node.durable call ≡ option_to_list (asked_with i) → shown_at n at_node.node.durable call a ≡ []
+    torn : (call : Call) → ((kept_too : Bool) → Own m c w n call a (Torn n at i kept_too ∷ [])) → runs_behind at_node.up call ≡ false → asked_at n at_node.node.durable call ≡ option_to_list (asked_with i) → shown_at n at_node.node.durable call a ≡ []
         → (a ≡ quiet (kept at_node.node.durable)) ⊎ (a ≡ quiet (kept decision.durable)) → Simulated m c w n call a
     torn call own ends asks shows l = ⊎_elim (torn_before call (own false) ends asks shows) (torn_behind call own ends asks shows) l
 
   -- a packet for another node
-  not_ours : (at : Moment) (p : Packet) → (addressee p == n) ≡ false → decided m set at_node.node at (input.Packet p) ≡ idle at_node.node []
-  not_ours at p other = ap (λ b. cond (b && (not (sender p == n) && nat_lt (sender p) c.nodes)) (on_ours m set at_node.node at p) (idle at_node.node [])) other
+  not_ours : (at : Moment) (p : Packet) → (addressee p == n) ≡ false → decided means set at_node.node at (input.Packet p) ≡ idle at_node.node []
+  not_ours at p other = ap (λ b. cond (b && (not (sender p == n) && nat_lt (sender p) (c.nodes n boot))) (on_ours means set at_node.node at p) (idle at_node.node [])) other
 
   -- the events of a packet, as it is for this node or for another
   of_packet : (at : Moment) (p : Packet) (events : List WorldEvent) (b : Bool) → (addressee p == n) ≡ b
@@ -323,126 +345,67 @@ module _ (m : EngineMeaning) (touches : TouchesOnlyHanded m) (c : Cluster) (w : 
   of_packet at p events b is own = subst (λ (own_packet : Bool). cond own_packet ((place : ℕ) × (slice_get w.packets place ≡ Some p) × (events ≡ Deliver at place ∷ [])) (events ≡ [])) (sym is) own
 
   whole_packet : (at : Moment) (p : Packet) (a : After) → at_node.up ≡ true → WasSent w.packets (input.Packet p) → is_unused (asked_of (items w.trace)) (asked_with (input.Packet p)) ≡ true
-      → (b : Bool) → (addressee p == n) ≡ b → a ≡ carried_out (decided m set at_node.node at (input.Packet p)) → Simulated m c w n (Step at (input.Packet p) Finished) a
+      → (b : Bool) → (addressee p == n) ≡ b → a ≡ carried_out (decided means set at_node.node at (input.Packet p)) → Simulated m c w n (Step at (input.Packet p) Finished) a
   whole_packet at p a up sent unused true own d =
       let k = place_of p w.packets sent in
       let call : call_of w.packets (Deliver at k.0) ≡ Some (step_of at (input.Packet p)) =
       ap (option_map (λ q. record { node = addressee q; moment = at; input = input.Packet q })) k.1 ∙ (λ j. Some (record { node = eqb-true (addressee p) n own j; moment = at; input = input.Packet p })) in
-      whole_by at (input.Packet p) a up sent unused (Deliver at k.0) (of_packet at p (Deliver at k.0 ∷ []) true own (k.0, k.1, refl)) call refl refl own d
+      whole_by at (input.Packet p) a up sent unused (Deliver at k.0) (of_packet at p (Deliver at k.0 ∷ []) true own (k.0, k.1, refl)) call refl refl refl own d
   whole_packet at p a up sent unused false other d =
       let e : a ≡ carried_out (idle at_node.node []) = d ∙ ap carried_out (not_ours at p other) in
       still m c w n (Step at (input.Packet p) Finished) a (of_packet at p [] false other refl) (λ j. record { up = at_node.up; node = sym (node_in e) j }) (puts_in e) refl
       (cond-false (is_own n (input.Packet p)) (record { node = n; boot = at_node.node.durable.boot; outputs = a.outputs; told = a.told } ∷ []) [] other)
 
   whole : (at : Moment) (i : Input) (a : After) → at_node.up ≡ true → WasSent w.packets i → is_unused (asked_of (items w.trace)) (asked_with i) ≡ true
-      → a ≡ carried_out (decided m set at_node.node at i) → Simulated m c w n (Step at i Finished) a
-  whole at (input.Ask token r) a up sent unused d = whole_by at (input.Ask token r) a up sent unused (Ask n at token r) refl refl refl refl refl d
+      → a ≡ carried_out (decided means set at_node.node at i) → Simulated m c w n (Step at i Finished) a
+  whole at (input.Ask token r) a up sent unused d = whole_by at (input.Ask token r) a up sent unused (Ask n at token r) refl refl refl refl refl refl d
   whole at (input.Packet p) a up sent unused d = whole_packet at p a up sent unused (addressee p == n) refl d
-  whole at input.Poke a up sent unused d = whole_by at input.Poke a up sent unused (Poke n at) refl refl refl refl refl d
-  whole at input.Tick a up sent unused d = whole_by at input.Tick a up sent unused (Tick n at) refl refl refl refl refl d
-  whole at (input.Move k to) a up sent unused d = whole_by at (input.Move k to) a up sent unused (Move n at k to) refl refl refl refl refl d
-
-  -- ---- a start
-
-  start_ready : at_node.up ≡ false → start_fault (is_there c n) at_node.up ≡ None
-  start_ready down = no_start_fault (is_there c n) at_node.up there down
-
-  -- its record stands, and the node runs or has stopped again
-  started_by : (e : WorldEvent) (place : Durable → Place) (call : Call) (a : After) → happens m c w e ≡ done_by w e n (start_by set at_node.node.durable true place)
-      → Own m c w n call a (e ∷ []) → place (restarted set at_node.node.durable) ≡ left_place m c w n call a → at_node.node.durable.boot ≢ last_number → a.outputs ≡ []
-      → asked_at c n at_node.node.durable call ≡ [] → shown_at n at_node.node.durable call a ≡ [] → Simulated m c w n call a
-  started_by e place call a happened own is some silent asks shows =
-      let d = at_node.node.durable in
-      let h = heading_at set d None in
-      does m c w n call a e (booted set h d place) own
-      (happened ∙ ap (done_by w e n) (ap (λ b. cond (true && not b) (booted set h d place) (halted h d)) (ne_eqb d.boot last_number some)))
-      is (sym silent) (sym asks) (sym shows)
-
-  -- no record of it stands
-  halted_by : (e : WorldEvent) (kept_too : Bool) (place : Durable → Place) (call : Call) (a : After) → happens m c w e ≡ done_by w e n (start_by set at_node.node.durable kept_too place)
-      → Own m c w n call a (e ∷ []) → (kept_too && not (at_node.node.durable.boot == last_number)) ≡ false
-      → stopped at_node.node.durable ≡ left_place m c w n call a → a.outputs ≡ []
-      → asked_at c n at_node.node.durable call ≡ [] → shown_at n at_node.node.durable call a ≡ [] → Simulated m c w n call a
-  halted_by e kept_too place call a happened own unkept is silent asks shows =
-      let d = at_node.node.durable in
-      let h = heading_at set d None in
-      does m c w n call a e (halted h d) own
-      (happened ∙ ap (done_by w e n) (cond-false (kept_too && not (d.boot == last_number)) (booted set h d place) (halted h d) unkept))
-      is (sym silent) (sym asks) (sym shows)
-
-  restart_goes : at_node.up ≡ false → happens m c w (Restart n) ≡ done_by w (Restart n) n (start_by set at_node.node.durable true started)
-  restart_goes down = (goes c w (record { node = n; task = task.Start }) (Restart n) (start_ready down) refl).happens m
-
-  torn_restart_goes : (kept_too : Bool) → at_node.up ≡ false → happens m c w (TornRestart n kept_too) ≡ done_by w (TornRestart n kept_too) n (start_by set at_node.node.durable kept_too stopped)
-  torn_restart_goes kept_too down = (goes c w (record { node = n; task = task.TornStart kept_too }) (TornRestart n kept_too) (start_ready down) refl).happens m
-
-  module _ (a : After) (down : at_node.up ≡ false) (was : IsDown at_node.up at_node.node) where
-    opened : at_node.node.durable.boot ≢ last_number → a ≡ quiet (kept (restarted set at_node.node.durable)) → Simulated m c w n (Open Finished) a
-    opened some l =
-        started_by (Restart n) started (Open Finished) a (restart_goes down) refl (λ j. record { up = true; node = sym (node_in l) j }) some (puts_in l) refl refl
-
-    -- nothing is there but what was durable
-    same_stopped : a ≡ quiet at_node.node → a.node ≡ kept at_node.node.durable
-    same_stopped l = (node_in l) ∙ was down
-
-    open_spent : at_node.node.durable.boot ≡ last_number → a ≡ quiet at_node.node → Simulated m c w n (Open (Refused opening.Damaged)) a
-    open_spent last l =
-        halted_by (Restart n) true started (Open (Refused opening.Damaged)) a (restart_goes down) refl (ap not (eq-eqb at_node.node.durable.boot last_number last))
-        (λ j. record { up = false; node = sym (same_stopped l) j }) (puts_in l) refl refl
-
-    -- a stop before its record
-    open_before : (call : Call) → Own m c w n call a (TornRestart n false ∷ []) → runs_behind at_node.up call ≡ false → asked_at c n at_node.node.durable call ≡ [] → shown_at n at_node.node.durable call a ≡ []
-        → a.node ≡ kept at_node.node.durable → a.outputs ≡ [] → Simulated m c w n call a
-    open_before call own ends asks shows is silent =
-        halted_by (TornRestart n false) false stopped call a (torn_restart_goes false down) own refl (λ j. record { up = sym ends j; node = sym is j }) silent asks shows
-
-    -- a stop behind its record
-    open_behind : (call : Call) → Own m c w n call a (TornRestart n true ∷ []) → runs_behind at_node.up call ≡ false → asked_at c n at_node.node.durable call ≡ [] → shown_at n at_node.node.durable call a ≡ []
-        → at_node.node.durable.boot ≢ last_number → a ≡ quiet (kept (restarted set at_node.node.durable)) → Simulated m c w n call a
-    open_behind call own ends asks shows some l =
-        started_by (TornRestart n true) stopped call a (torn_restart_goes true down) own (λ j. record { up = sym ends j; node = sym (node_in l) j }) some (puts_in l) asks shows
-
-    open_stops : (call : Call) → ((kept_too : Bool) → Own m c w n call a (TornRestart n kept_too ∷ [])) → runs_behind at_node.up call ≡ false → asked_at c n at_node.node.durable call ≡ [] → shown_at n at_node.node.durable call a ≡ []
-        → (a ≡ quiet (kept at_node.node.durable)) ⊎ ((at_node.node.durable.boot ≢ last_number) × (a ≡ quiet (kept (restarted set at_node.node.durable)))) → Simulated m c w n call a
-    open_stops call own ends asks shows l = ⊎_elim
-        (λ (x : a ≡ quiet (kept at_node.node.durable)). open_before call (own false) ends asks shows (node_in x) (puts_in x))
-        (λ (x : (at_node.node.durable.boot ≢ last_number) × (a ≡ quiet (kept (restarted set at_node.node.durable)))). open_behind call (own true) ends asks shows x.0 x.1)
-        l
+  whole at input.Poke a up sent unused d = whole_by at input.Poke a up sent unused (Poke n at) refl refl refl refl refl refl d
+  whole at input.Tick a up sent unused d = whole_by at input.Tick a up sent unused (Tick n at) refl refl refl refl refl refl d
+  whole at (input.Move k to) a up sent unused d = whole_by at (input.Move k to) a up sent unused (Move n at k to) refl refl refl refl refl refl d
 
   -- ---- a stop between two calls
 
   crash_goes : at_node.up ≡ true → happens m c w (Crash n) ≡ done_by w (Crash n) n (halted (heading_at set at_node.node.durable None) at_node.node.durable)
-  crash_goes up = (goes c w (record { node = n; task = task.Stop }) (Crash n) (no_stop_fault (is_there c n) at_node.up there up) refl).happens m
+  crash_goes up = (goes c w (record { node = n; task = task.Stop }) (Crash n) (no_stop_fault (is_there c n boot) at_node.up there up) refl).happens m
 
-  stops_by : (call : Call) (a : After) → ((b : Bool) → at_node.up ≡ b → Own m c w n call a (cond b (Crash n ∷ []) [])) → runs_behind at_node.up call ≡ false → asked_at c n at_node.node.durable call ≡ [] → shown_at n at_node.node.durable call a ≡ []
+  stops_by : (call : Call) (a : After) → ((b : Bool) → at_node.up ≡ b → Own m c w n call a (cond b (Crash n ∷ []) [])) → runs_behind at_node.up call ≡ false → asked_at n at_node.node.durable call ≡ [] → shown_at n at_node.node.durable call a ≡ []
       → IsDown at_node.up at_node.node → a ≡ quiet (kept at_node.node.durable) → (b : Bool) → at_node.up ≡ b → Simulated m c w n call a
   stops_by call a own ends asks shows was l true up =
-      does m c w n call a (Crash n) (halted (heading_at set at_node.node.durable None) at_node.node.durable) (own true up) (crash_goes up) (λ j. record { up = sym ends j; node = sym (node_in l) j }) (sym (puts_in l)) (sym asks) (sym shows)
+      does m c w n call a (Crash n) (halted (heading_at set at_node.node.durable None) at_node.node.durable) (own true up) (λ _. tt) (crash_goes up) (λ j. record { up = sym ends j; node = sym (node_in l) j }) (sym (puts_in l)) (sym asks) (sym shows)
   stops_by call a own ends asks shows was l false down =
       still m c w n call a (own false down) (λ j. record { up = (down ∙ sym ends) j; node = (was down ∙ sym (node_in l)) j }) (puts_in l) asks shows
 
   -- a call that does nothing
-  nothing_by : (call : Call) (a : After) → Own m c w n call a [] → runs_behind at_node.up call ≡ at_node.up → asked_at c n at_node.node.durable call ≡ [] → shown_at n at_node.node.durable call a ≡ []
+  nothing_by : (call : Call) (a : After) → Own m c w n call a [] → runs_behind at_node.up call ≡ at_node.up → asked_at n at_node.node.durable call ≡ [] → shown_at n at_node.node.durable call a ≡ []
       → a ≡ quiet at_node.node → Simulated m c w n call a
   nothing_by call a own goes_on asks shows l = still m c w n call a own (λ j. record { up = sym goes_on j; node = sym (node_in l) j }) (puts_in l) asks shows
+
+  there_still : {b : ℕ} → boot ≡ b → is_there c n b ≡ true
+  there_still same = subst (λ b. is_there c n b ≡ true) same there
 
   stop_events : (b : Bool) → at_node.up ≡ b → AreOfStop at_node.up n (cond b (Crash n ∷ []) [])
   stop_events b is = λ j. cond (sym is j) (Crash n ∷ []) []
 
   -- ---- steps that were made durable at once, and of which nothing has left
 
-  unsaid : (numbers : List ℕ) → IsFresh (asked_of (items w.trace)) n at_node numbers → (gs : List Given) (a : After) → at_node.up ≡ true → AllCome w.packets numbers gs → a ≡ quiet (kept (node_behind m set at_node.node gs).durable) → Simulated m c w n (Unsaid gs) a
+  no_starts : (v : World) (gs : List Given) → AreInTurn m c v (map (silent_event n) gs ++ Crash n ∷ [])
+  no_starts v [] = (tt, tt)
+  no_starts v (g ∷ gs) = (tt, no_starts (happens m c v (silent_event n g)) gs)
+
+  unsaid : (numbers : List ℕ) → IsFresh (asked_of (items w.trace)) n at_node numbers → (gs : List Given) (a : After) → at_node.up ≡ true → AllCome w.packets numbers gs → a ≡ quiet (kept (node_behind means set at_node.node gs).durable) → Simulated m c w n (Unsaid gs) a
   unsaid numbers fresh gs a up all d =
       let es = map (silent_event n) gs in
       let v = run m c w es in
-      let s = silenced m c n inside w numbers gs up fresh all in
-      let behind_them = node_behind m set at_node.node gs in
+      let s = silenced m c n boot inside w numbers gs refl up fresh all in
+      let behind_them = node_behind means set at_node.node gs in
       let q : Place = record { up = true; node = behind_them } in
-      let here : v.places n ≡ q = s.places n ∙ at_own m c n inside w.places q in
+      let here : v.places n ≡ q = s.places n ∙ at_own m c n boot inside w.places q in
+      let number : (v.places n).node.durable.boot ≡ boot = ap (λ (p : Place). p.node.durable.boot) here ∙ behind_boot means (c.nodes n boot) (c.rules n boot) n at_node a at_node.node gs in
       let down : Done = halted (heading_at set (v.places n).node.durable None) (v.places n).node.durable in
       let l = line_of (Crash n) down.effect in
       let crash : run m c w (es ++ Crash n ∷ []) ≡ done_by v (Crash n) n down =
-      sym (run_more m c w es (Crash n ∷ [])) ∙ (goes c v (record { node = n; task = task.Stop }) (Crash n) (no_stop_fault (is_there c n) (v.places n).up there (ap (λ (p : Place). p.up) here)) refl).happens m in
+      sym (run_more m c w es (Crash n ∷ [])) ∙ (goes c v (record { node = n; task = task.Stop }) (Crash n) (no_stop_fault (is_there c n (v.places n).node.durable.boot) (v.places n).up (there_still (sym number)) (ap (λ (p : Place). p.up) here)) refl).happens m in
       record {
         events = es ++ Crash n ∷ [];
         own = refl;
@@ -453,69 +416,162 @@ module _ (m : EngineMeaning) (touches : TouchesOnlyHanded m) (c : Cluster) (w : 
           shown = (shown_more v.trace l ∙ append-nil (flat_map shown_by v.trace) ∙ s.shown ∙ sym (append-nil (flat_map shown_by w.trace))) j;
         });
         asked = ap (λ (u : World). asked_of (items u.trace)) crash ∙ asked_more v.trace l ∙ append-nil (asked_of (items v.trace)) ∙ s.asked;
+        turns = λ _. no_starts w gs;
       }
-
-  -- ---- each call
 
   unused_by : (numbers : List ℕ) → IsFresh (asked_of (items w.trace)) n at_node numbers → at_node.up ≡ true → (i : Input) → IsNew numbers i → (o : Option Token) → asked_with i ≡ o → is_unused (asked_of (items w.trace)) o ≡ true
   unused_by numbers fresh up i new None is = refl
-  unused_by numbers fresh up i new (Some t) is = eq-eqb (times t (asked_of (items w.trace))) 0 (comes_new c (asked_of (items w.trace)) n at_node numbers fresh up i new t is)
+  unused_by numbers fresh up i new (Some t) is = eq-eqb (times t (asked_of (items w.trace))) 0 (comes_new (asked_of (items w.trace)) n at_node numbers fresh up i new t is)
 
   unused_at : (numbers : List ℕ) → IsFresh (asked_of (items w.trace)) n at_node numbers → at_node.up ≡ true → (i : Input) → IsNew numbers i → is_unused (asked_of (items w.trace)) (asked_with i) ≡ true
   unused_at numbers fresh up i new = unused_by numbers fresh up i new (asked_with i) refl
 
-  simulated : (numbers : List ℕ) → IsFresh (asked_of (items w.trace)) n at_node numbers → (call : Call) (a : After) → IsDown at_node.up at_node.node → MayCome w.packets numbers call → Does m set at_node.up at_node.node call a → Simulated m c w n call a
-  simulated numbers fresh (Open Finished) a was comes d = opened a d.0 was d.1 d.2
-  simulated numbers fresh (Open (Refused opening.Damaged)) a was comes d = open_spent a d.0 was d.1 d.2
-  simulated numbers fresh (Open (Refused opening.Full)) a was comes d = open_before a d.0 was (Open (Refused opening.Full)) refl refl refl refl (same_stopped a d.0 was d.1) (puts_in d.1)
-  simulated numbers fresh (Open (Refused opening.Memory)) a was comes d = open_before a d.0 was (Open (Refused opening.Memory)) refl refl refl refl (same_stopped a d.0 was d.1) (puts_in d.1)
-  simulated numbers fresh (Open (Refused opening.Device)) a was comes d = open_stops a d.0 was (Open (Refused opening.Device)) (λ kept_too. (kept_too, refl)) refl refl refl d.1
-  simulated numbers fresh (Open Cut) a was comes d = open_stops a d.0 was (Open Cut) (λ kept_too. (kept_too, refl)) refl refl refl d.1
-  simulated numbers fresh (Step at i Finished) a was comes d = whole at i a d.0 comes.0 (unused_at numbers fresh d.0 i comes.1) d.1
-  simulated numbers fresh (Step at i (Refused step.Failed)) a was comes d = nothing_by (Step at i (Refused step.Failed)) a refl refl refl refl d.1
-  simulated numbers fresh (Step at i (Refused step.Full)) a was comes d = nothing_by (Step at i (Refused step.Full)) a refl refl refl refl d
-  simulated numbers fresh (Step at i (Refused step.Memory)) a was comes d = nothing_by (Step at i (Refused step.Memory)) a refl refl refl refl d
-  simulated numbers fresh (Step at i (Refused step.Device)) a was comes d = torn at i a d.0 comes.0 (unused_at numbers fresh d.0 i comes.1) (Step at i (Refused step.Device)) (λ kept_too. (kept_too, refl)) refl refl refl d.1
-  simulated numbers fresh (Step at i Cut) a was comes d = torn at i a d.0 comes.0 (unused_at numbers fresh d.0 i comes.1) (Step at i Cut) (λ kept_too. (kept_too, refl)) refl refl refl d.1
-  simulated numbers fresh (Unsaid gs) a was comes d = unsaid numbers fresh gs a d.0 comes d.1
-  simulated numbers fresh (Compact Finished) a was comes d = nothing_by (Compact Finished) a refl refl refl refl d
-  simulated numbers fresh (Compact (Refused journal.Damaged)) a was comes d = absurd d
-  simulated numbers fresh (Compact (Refused journal.Failed)) a was comes d = nothing_by (Compact (Refused journal.Failed)) a refl refl refl refl d
-  simulated numbers fresh (Compact (Refused journal.Full)) a was comes d = nothing_by (Compact (Refused journal.Full)) a refl refl refl refl d
-  simulated numbers fresh (Compact (Refused journal.Memory)) a was comes d = nothing_by (Compact (Refused journal.Memory)) a refl refl refl refl d
-  simulated numbers fresh (Compact (Refused journal.Device)) a was comes d = stops_by (Compact (Refused journal.Device)) a stop_events refl refl refl was d at_node.up refl
-  simulated numbers fresh (Compact Cut) a was comes d = stops_by (Compact Cut) a stop_events refl refl refl was d at_node.up refl
-  simulated numbers fresh Stop a was comes d = stops_by Stop a stop_events refl refl refl was d at_node.up refl
+-- ---- a start
+
+module _ (m : Meanings) (c : Cluster) (w : World) (n : ℕ) (inside : n < c.nodes n ((w.places n).node.durable.boot + 1)) where
+  abbrev old_place : Place
+  old_place = w.places n
+
+  -- the number of the start that is made, with what it is made with
+  abbrev next_boot : ℕ
+  next_boot = old_place.node.durable.boot + 1
+
+  abbrev next_set : Setting
+  next_set = setting_of c n next_boot
+
+  start_ready : old_place.up ≡ false → start_fault (is_there c n next_boot) old_place.up ≡ None
+  start_ready down = no_start_fault (is_there c n next_boot) old_place.up (lt-ltb n (c.nodes n next_boot) inside) down
+
+  -- its record stands, and the node runs or has stopped again
+  started_by : (e : WorldEvent) (place : Durable → Place) (call : Call) (a : After) → happens m c w e ≡ done_by w e n (start_by next_set old_place.node.durable true place)
+      → Own m c w n call a (e ∷ []) → Starts m c w n call a e → place (restarted next_set old_place.node.durable) ≡ left_place m c w n call a → old_place.node.durable.boot ≢ last_number → a.outputs ≡ []
+      → asked_at n old_place.node.durable call ≡ [] → shown_at n old_place.node.durable call a ≡ [] → Simulated m c w n call a
+  started_by e place call a happened own starts is some silent asks shows =
+      let d = old_place.node.durable in
+      let h = heading_at next_set d None in
+      does m c w n call a e (booted next_set h d place) own starts
+      (happened ∙ ap (done_by w e n) (ap (λ b. cond (true && not b) (booted next_set h d place) (halted h d)) (ne_eqb d.boot last_number some)))
+      is (sym silent) (sym asks) (sym shows)
+
+  -- no record of it stands
+  halted_by : (e : WorldEvent) (kept_too : Bool) (place : Durable → Place) (call : Call) (a : After) → happens m c w e ≡ done_by w e n (start_by next_set old_place.node.durable kept_too place)
+      → Own m c w n call a (e ∷ []) → Starts m c w n call a e → (kept_too && not (old_place.node.durable.boot == last_number)) ≡ false
+      → stopped old_place.node.durable ≡ left_place m c w n call a → a.outputs ≡ []
+      → asked_at n old_place.node.durable call ≡ [] → shown_at n old_place.node.durable call a ≡ [] → Simulated m c w n call a
+  halted_by e kept_too place call a happened own starts unkept is silent asks shows =
+      let d = old_place.node.durable in
+      let h = heading_at next_set d None in
+      does m c w n call a e (halted h d) own starts
+      (happened ∙ ap (done_by w e n) (cond-false (kept_too && not (d.boot == last_number)) (booted next_set h d place) (halted h d) unkept))
+      is (sym silent) (sym asks) (sym shows)
+
+  restart_goes : old_place.up ≡ false → happens m c w (Restart n) ≡ done_by w (Restart n) n (start_by next_set old_place.node.durable true started)
+  restart_goes down = (goes c w (record { node = n; task = task.Start }) (Restart n) (start_ready down) refl).happens m
+
+  torn_restart_goes : (kept_too : Bool) → old_place.up ≡ false → happens m c w (TornRestart n kept_too) ≡ done_by w (TornRestart n kept_too) n (start_by next_set old_place.node.durable kept_too stopped)
+  torn_restart_goes kept_too down = (goes c w (record { node = n; task = task.TornStart kept_too }) (TornRestart n kept_too) (start_ready down) refl).happens m
+
+  module _ (a : After) (down : old_place.up ≡ false) (was : IsDown old_place.up old_place.node) where
+    opened : old_place.node.durable.boot ≢ last_number → a ≡ quiet (kept (restarted next_set old_place.node.durable)) → Simulated m c w n (Open Finished) a
+    opened some l =
+        started_by (Restart n) started (Open Finished) a (restart_goes down) refl (λ t. t) (λ j. record { up = true; node = sym (node_in l) j }) some (puts_in l) refl refl
+
+    -- nothing is there but what was durable
+    same_stopped : a ≡ quiet old_place.node → a.node ≡ kept old_place.node.durable
+    same_stopped l = (node_in l) ∙ was down
+
+    open_spent : old_place.node.durable.boot ≡ last_number → a ≡ quiet old_place.node → Simulated m c w n (Open (Refused opening.Damaged)) a
+    open_spent last l =
+        halted_by (Restart n) true started (Open (Refused opening.Damaged)) a (restart_goes down) refl (λ t. t) (ap not (eq-eqb old_place.node.durable.boot last_number last))
+        (λ j. record { up = false; node = sym (same_stopped l) j }) (puts_in l) refl refl
+
+    -- a stop before its record
+    open_before : (call : Call) → Own m c w n call a (TornRestart n false ∷ []) → Starts m c w n call a (Restart n) → runs_behind old_place.up call ≡ false → asked_at n old_place.node.durable call ≡ [] → shown_at n old_place.node.durable call a ≡ []
+        → a.node ≡ kept old_place.node.durable → a.outputs ≡ [] → Simulated m c w n call a
+    open_before call own starts ends asks shows is silent =
+        halted_by (TornRestart n false) false stopped call a (torn_restart_goes false down) own starts refl (λ j. record { up = sym ends j; node = sym is j }) silent asks shows
+
+    -- a stop behind its record
+    open_behind : (call : Call) → Own m c w n call a (TornRestart n true ∷ []) → Starts m c w n call a (Restart n) → runs_behind old_place.up call ≡ false → asked_at n old_place.node.durable call ≡ [] → shown_at n old_place.node.durable call a ≡ []
+        → old_place.node.durable.boot ≢ last_number → a ≡ quiet (kept (restarted next_set old_place.node.durable)) → Simulated m c w n call a
+    open_behind call own starts ends asks shows some l =
+        started_by (TornRestart n true) stopped call a (torn_restart_goes true down) own starts (λ j. record { up = sym ends j; node = sym (node_in l) j }) some (puts_in l) asks shows
+
+    open_stops : (call : Call) → ((kept_too : Bool) → Own m c w n call a (TornRestart n kept_too ∷ [])) → Starts m c w n call a (Restart n) → runs_behind old_place.up call ≡ false → asked_at n old_place.node.durable call ≡ [] → shown_at n old_place.node.durable call a ≡ []
+        → (a ≡ quiet (kept old_place.node.durable)) ⊎ ((old_place.node.durable.boot ≢ last_number) × (a ≡ quiet (kept (restarted next_set old_place.node.durable)))) → Simulated m c w n call a
+    open_stops call own starts ends asks shows l = ⊎_elim
+        (λ (x : a ≡ quiet (kept old_place.node.durable)). open_before call (own false) starts ends asks shows (node_in x) (puts_in x))
+        (λ (x : (old_place.node.durable.boot ≢ last_number) × (a ≡ quiet (kept (restarted next_set old_place.node.durable)))). open_behind call (own true) starts ends asks shows x.0 x.1)
+        l
+
+-- ---- each call
+
+module _ (m : Meanings) (touches : AllTouchOnlyHanded m) (c : Cluster) (w : World) (n : ℕ) where
+  abbrev its_place : Place
+  its_place = w.places n
+
+  abbrev number : Call → ℕ
+  number call = number_of its_place.node.durable call
+
+  simulated : (numbers : List ℕ) → IsFresh (asked_of (items w.trace)) n its_place numbers → (call : Call) (a : After) → n < c.nodes n (number call) → IsDown its_place.up its_place.node → MayCome w.packets numbers call → Does (m n (number call)) (setting_of c n (number call)) its_place.up its_place.node call a → Simulated m c w n call a
+  simulated numbers fresh (Open Finished) a inside was comes d = opened m c w n inside a d.0 was d.1 d.2
+  simulated numbers fresh (Open (Refused opening.Damaged)) a inside was comes d = open_spent m c w n inside a d.0 was d.1 d.2
+  simulated numbers fresh (Open (Refused opening.Full)) a inside was comes d = open_before m c w n inside a d.0 was (Open (Refused opening.Full)) refl (λ t. t) refl refl refl (same_stopped m c w n inside a d.0 was d.1) (puts_in d.1)
+  simulated numbers fresh (Open (Refused opening.Memory)) a inside was comes d = open_before m c w n inside a d.0 was (Open (Refused opening.Memory)) refl (λ t. t) refl refl refl (same_stopped m c w n inside a d.0 was d.1) (puts_in d.1)
+  simulated numbers fresh (Open (Refused opening.Device)) a inside was comes d = open_stops m c w n inside a d.0 was (Open (Refused opening.Device)) (λ kept_too. (kept_too, refl)) (λ t. t) refl refl refl d.1
+  simulated numbers fresh (Open Cut) a inside was comes d = open_stops m c w n inside a d.0 was (Open Cut) (λ kept_too. (kept_too, refl)) (λ t. t) refl refl refl d.1
+  simulated numbers fresh (Step at i Finished) a inside was comes d = whole m touches c w n inside at i a d.0 comes.0 (unused_at m touches c w n inside numbers fresh d.0 i comes.1) d.1
+  simulated numbers fresh (Step at i (Refused step.Failed)) a inside was comes d = nothing_by m touches c w n inside (Step at i (Refused step.Failed)) a refl refl refl refl d.1
+  simulated numbers fresh (Step at i (Refused step.Full)) a inside was comes d = nothing_by m touches c w n inside (Step at i (Refused step.Full)) a refl refl refl refl d
+  simulated numbers fresh (Step at i (Refused step.Memory)) a inside was comes d = nothing_by m touches c w n inside (Step at i (Refused step.Memory)) a refl refl refl refl d
+  simulated numbers fresh (Step at i (Refused step.Device)) a inside was comes d = torn m touches c w n inside at i a d.0 comes.0 (unused_at m touches c w n inside numbers fresh d.0 i comes.1) (Step at i (Refused step.Device)) (λ kept_too. (kept_too, refl)) refl refl refl d.1
+  simulated numbers fresh (Step at i Cut) a inside was comes d = torn m touches c w n inside at i a d.0 comes.0 (unused_at m touches c w n inside numbers fresh d.0 i comes.1) (Step at i Cut) (λ kept_too. (kept_too, refl)) refl refl refl d.1
+  simulated numbers fresh (Unsaid gs) a inside was comes d = unsaid m touches c w n inside numbers fresh gs a d.0 comes d.1
+  simulated numbers fresh (Compact Finished) a inside was comes d = nothing_by m touches c w n inside (Compact Finished) a refl refl refl refl d
+  simulated numbers fresh (Compact (Refused journal.Damaged)) a inside was comes d = absurd d
+  simulated numbers fresh (Compact (Refused journal.Failed)) a inside was comes d = nothing_by m touches c w n inside (Compact (Refused journal.Failed)) a refl refl refl refl d
+  simulated numbers fresh (Compact (Refused journal.Full)) a inside was comes d = nothing_by m touches c w n inside (Compact (Refused journal.Full)) a refl refl refl refl d
+  simulated numbers fresh (Compact (Refused journal.Memory)) a inside was comes d = nothing_by m touches c w n inside (Compact (Refused journal.Memory)) a refl refl refl refl d
+  simulated numbers fresh (Compact (Refused journal.Device)) a inside was comes d = stops_by m touches c w n inside (Compact (Refused journal.Device)) a (stop_events m touches c w n inside) refl refl refl was d its_place.up refl
+  simulated numbers fresh (Compact Cut) a inside was comes d = stops_by m touches c w n inside (Compact Cut) a (stop_events m touches c w n inside) refl refl refl was d its_place.up refl
+  simulated numbers fresh Stop a inside was comes d = stops_by m touches c w n inside Stop a (stop_events m touches c w n inside) refl refl refl was d its_place.up refl
 
 -- ---- a list of calls
 
-module _ (m : EngineMeaning) (touches : TouchesOnlyHanded m) (c : Cluster) where
+module _ (m : Meanings) (touches : AllTouchOnlyHanded m) (c : Cluster) where
   -- a world leads on to what all calls make of it
   pub record Leads (w : World) (calls : List NodeCall) : Type 0 where
     pub events : List WorldEvent
     pub own : AreOfAll (seen_as w) calls events
     pub seen : seen_as (run m c w events) ≡ behind_all (seen_as w) calls
+    pub turns : AreOpenedInTurn c (seen_as w) calls → AreInTurn m c w events
+
+  turns_more : (w : World) (es fs : List WorldEvent) → AreInTurn m c w es → AreInTurn m c (run m c w es) fs → AreInTurn m c w (es ++ fs)
+  turns_more w [] fs a b = b
+  turns_more w (e ∷ es) fs a b = (a.0, turns_more (happens m c w e) es fs a.1 b)
 
   leads : (w : World) (numbers : ℕ → List ℕ) (calls : List NodeCall) → Orderly w.places (asked_of (items w.trace)) numbers → AreCalls m c (seen_as w) numbers calls → Leads w calls
-  leads w numbers [] o all = record { events = []; own = refl; seen = refl }
+  leads w numbers [] o all = record { events = []; own = refl; seen = refl; turns = λ _. tt }
   leads w numbers (l ∷ ls) o all =
       let is : IsCall m c (seen_as w) numbers l = all.0 in
       let n = l.node in
-      let one = simulated m touches c w n is.inside (numbers n) (o.fresh n) l.call l.after (o.down n) is.comes is.does in
+      let boot = start_at (seen_as w) l in
+      let one = simulated m touches c w n (numbers n) (o.fresh n) l.call l.after is.inside (o.down n) is.comes is.does in
       let v = run m c w one.events in
       let more = all_numbers numbers l in
-      let behind_it = stays_orderly m c w.places (asked_of (items w.trace)) numbers n l.call l.after is.does o in
+      let behind_it = stays_orderly (m n boot) (c.nodes n boot) (c.rules n boot) w.places (asked_of (items w.trace)) numbers n l.call l.after is.does o in
       let orderly : Orderly v.places (asked_of (items v.trace)) more =
-      subst (λ (ts : List Token). Orderly v.places ts more) (sym one.asked) (subst (λ (s : Seen). Orderly s.places (asked_of (items w.trace) ++ asked_at c n (w.places n).node.durable l.call) more) (sym one.seen) behind_it) in
+      subst (λ (ts : List Token). Orderly v.places ts more) (sym one.asked) (subst (λ (s : Seen). Orderly s.places (asked_of (items w.trace) ++ asked_at n (w.places n).node.durable l.call) more) (sym one.seen) behind_it) in
       let rest = leads v more ls orderly (subst (λ (s : Seen). AreCalls m c s more ls) (sym one.seen) all.1) in
       record {
         events = one.events ++ rest.events;
         own = (one.events, rest.events, refl, one.own, subst (λ (s : Seen). AreOfAll s ls rest.events) one.seen rest.own);
         seen = ap seen_as (sym (run_more m c w one.events rest.events)) ∙ rest.seen ∙ ap (λ s. behind_all s ls) one.seen;
+        turns = λ t. turns_more w one.events rest.events (one.turns t.0) (rest.turns (subst (λ (s : Seen). AreOpenedInTurn c s ls) (sym one.seen) t.1));
       }
 
   pub are_world : (calls : List NodeCall) → AreCalls m c nothing_called (λ _. []) calls → AreWorld m c calls
   are_world calls all =
       let first : Orderly nothing_happened.places [] (λ _. []) = record { down = λ n off. refl; fresh = λ n up number new. refl; past = λ n boot number less. refl } in
       let l = leads nothing_happened (λ _. []) calls first all in
-      record { events = l.events; own = l.own; seen = l.seen; headline = headline m touches c l.events }
+      record { events = l.events; own = l.own; seen = l.seen; headline = headline m touches c l.events; knows = λ t. in_turn m c touches l.events (l.turns t); fit = λ wide within. (kept_fit m touches c wide within l.events).fits }

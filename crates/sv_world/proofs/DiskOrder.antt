@@ -11,19 +11,21 @@ use Rattle.sv_model.specs.declared.key.Moment.{Moment}
 use Rattle.sv_model.specs.declared.key.Token.{Token}
 use Rattle.sv_model.specs.declared.node.Setting.{Setting}
 use Rattle.sv_model.specs.declared.site.StepFault.TheVariants as step
+use Rattle.sv_model.specs.Container.{always}
 use Rattle.sv_model.specs.Engine.{EngineMeaning}
 use Rattle.sv_model.specs.Membership.{In}
 use Rattle.sv_model.specs.Node.{decided}
 use Rattle.sv_model.specs.NodeState.{Durable, Node}
-use Rattle.sv_model.specs.Serving.{token_of}
-use Rattle.sv_model.specs.Step.{left}
+use Rattle.sv_model.specs.Decision.{left}
 use Rattle.sv_model.specs.Trace.{asked_by, same_token, times}
 use Rattle.sv_node.specs.declared.fault.OpenFault.TheVariants as opening
 use Rattle.sv_node.specs.Call.{Call, Open, Step, Unsaid, Compact, Stop, Done, Refused, Cut, Given, After, quiet, kept, node_behind, Does, step_ends, runs_behind}
 use Rattle.sv_node.specs.Opened.{restarted}
 use Rattle.sv_world.specs.Disks.{IsNew, with_number, numbers_behind}
 use Rattle.sv_world.specs.Waits.{tok, boot_of}
-use Rattle.sv_world.specs.World.{Cluster, Place, setting_of, set_place}
+use Rattle.sv_world.specs.declared.rules.Rules.{Rules}
+use Rattle.sv_world.specs.Rules.{setting_by}
+use Rattle.sv_world.specs.World.{Place, steady, set_place}
 use Rattle.sv_world.proofs.Arrivals.{one_if, times_more}
 use Rattle.sv_world.proofs.Events.{start_boot}
 use Rattle.sv_world.proofs.Thrift.{apart, decide_thrifty}
@@ -33,14 +35,14 @@ abbrev pub asked_in : ℕ → ℕ → List Given → List Token
 asked_in n boot gs = flat_map (λ g. option_to_list (asked_by (tok n boot) g.input)) gs
 
 -- the tokens of the request that came with a call, where a world hears of it
-abbrev pub asked_at : Cluster → ℕ → Durable → Call → List Token
-asked_at c n d (Open ending) = []
-asked_at c n d (Step at i Done) = option_to_list (asked_by (token_of (setting_of c n) d) i)
-asked_at c n d (Step at i (Refused fault)) = cond (step_ends fault) (option_to_list (asked_by (token_of (setting_of c n) d) i)) []
-asked_at c n d (Step at i Cut) = option_to_list (asked_by (token_of (setting_of c n) d) i)
-asked_at c n d (Unsaid gs) = asked_in n d.boot gs
-asked_at c n d (Compact ending) = []
-asked_at c n d Stop = []
+abbrev pub asked_at : ℕ → Durable → Call → List Token
+asked_at n d (Open ending) = []
+asked_at n d (Step at i Done) = option_to_list (asked_by (tok n d.boot) i)
+asked_at n d (Step at i (Refused fault)) = cond (step_ends fault) (option_to_list (asked_by (tok n d.boot) i)) []
+asked_at n d (Step at i Cut) = option_to_list (asked_by (tok n d.boot) i)
+asked_at n d (Unsaid gs) = asked_in n d.boot gs
+asked_at n d (Compact ending) = []
+asked_at n d Stop = []
 
 -- a node that doesn't run keeps what is durable, and nothing else
 abbrev pub IsDown : Bool → Node → Type 0
@@ -86,8 +88,8 @@ each_differs t n boot h input.Poke = tt
 each_differs t n boot h input.Tick = tt
 each_differs t n boot h (input.Move k to) = tt
 
-module _ (c : Cluster) (t : Token) (n : ℕ) (d : Durable) where
-  none_came : (i : Input) → Differs t n d.boot i → times t (option_to_list (asked_by (token_of (setting_of c n) d) i)) ≡ 0
+module _ (t : Token) (n : ℕ) (d : Durable) where
+  none_came : (i : Input) → Differs t n d.boot i → times t (option_to_list (asked_by (tok n d.boot) i)) ≡ 0
   none_came (input.Ask number r) h = omega (arith, ap one_if h)
   none_came (input.Packet p) h = refl
   none_came input.Poke h = refl
@@ -98,7 +100,7 @@ module _ (c : Cluster) (t : Token) (n : ℕ) (d : Durable) where
   none_in h [] = refl
   none_in h (g ∷ gs) = omega (arith, times_more t (option_to_list (asked_by (tok n d.boot) g.input)) (asked_in n d.boot gs), none_came g.input (h g.input), none_in h gs)
 
-  none_asked : ((i : Input) → Differs t n d.boot i) → (call : Call) → times t (asked_at c n d call) ≡ 0
+  none_asked : ((i : Input) → Differs t n d.boot i) → (call : Call) → times t (asked_at n d call) ≡ 0
   none_asked h (Open ending) = refl
   none_asked h (Step at i Done) = none_came i (h i)
   none_asked h (Step at i (Refused step.Failed)) = refl
@@ -115,9 +117,9 @@ still_none t us vs f g = omega (arith, times_more t us vs, f, g)
 
 -- ---- a call
 
-module _ (m : EngineMeaning) (c : Cluster) (n : ℕ) (p : Place) (a : After) where
+module _ (m : EngineMeaning) (nodes : ℕ) (rules : Rules) (n : ℕ) (p : Place) (a : After) where
   abbrev set : Setting
-  set = setting_of c n
+  set = setting_by rules n nodes
 
   abbrev Did : Call → Type 0
   Did call = Does m set p.up p.node call a
@@ -137,12 +139,12 @@ module _ (m : EngineMeaning) (c : Cluster) (n : ℕ) (p : Place) (a : After) whe
 
   -- a step keeps the number of the start
   step_boot : (call : Call) (at : _) (i : Input) → (decided m set p.node at i).durable.boot ≡ boot
-  step_boot call at i = (decide_thrifty m c n p.node at i).boot
+  step_boot call at i = (decide_thrifty (always m) (steady nodes rules) n p.node at i).boot
 
   -- so do several
-  behind_boot : (node : Node) (gs : List Given) → (node_behind m set node gs).durable.boot ≡ node.durable.boot
+  pub behind_boot : (node : Node) (gs : List Given) → (node_behind m set node gs).durable.boot ≡ node.durable.boot
   behind_boot node [] = refl
-  behind_boot node (g ∷ gs) = behind_boot (left (decided m set node g.at g.input)) gs ∙ (decide_thrifty m c n node g.at g.input).boot
+  behind_boot node (g ∷ gs) = behind_boot (left (decided m set node g.at g.input)) gs ∙ (decide_thrifty (always m) (steady nodes rules) n node g.at g.input).boot
 
   kept_down : (d : Durable) → a ≡ quiet (kept d) → a.node ≡ kept a.node.durable
   kept_down d l = ap (λ (b : After). b.node) l ∙ ap kept (sym (durable_is (kept d) l))
@@ -213,11 +215,11 @@ module _ (m : EngineMeaning) (c : Cluster) (n : ℕ) (p : Place) (a : After) whe
     abbrev place : Call → Place
     place call = record { up = runs_behind p.up call; node = a.node }
 
-    pub stays_past : (call : Call) → Did call → IsPastOf asked n p → IsPastOf (asked ++ asked_at c n p.node.durable call) n (place call)
+    pub stays_past : (call : Call) → Did call → IsPastOf asked n p → IsPastOf (asked ++ asked_at n p.node.durable call) n (place call)
     stays_past call d past later number less =
         let le = rises call d in
-        still_none (tok n later number) asked (asked_at c n p.node.durable call) (past later number (omega (arith, le, less)))
-        (none_asked c (tok n later number) n p.node.durable (each_differs (tok n later number) n boot (λ k. other_boot n later number boot k (λ e. absurd (omega (arith, e, le, less))))) call)
+        still_none (tok n later number) asked (asked_at n p.node.durable call) (past later number (omega (arith, le, less)))
+        (none_asked (tok n later number) n p.node.durable (each_differs (tok n later number) n boot (λ k. other_boot n later number boot k (λ e. absurd (omega (arith, e, le, less))))) call)
 
     -- the node runs on, and nothing came
     runs_on : a ≡ quiet p.node → IsFresh asked n p numbers → p.up ≡ true → (number : ℕ) → (¬ In number numbers) → times (tok n new_boot number) (asked ++ []) ≡ 0
@@ -240,15 +242,15 @@ module _ (m : EngineMeaning) (c : Cluster) (n : ℕ) (p : Place) (a : After) whe
     not_before (input.Move k to) number new = new
 
     abbrev Stays : Call → Type 0
-    Stays call = IsFresh (asked ++ asked_at c n p.node.durable call) n (place call) (numbers_behind call numbers)
+    Stays call = IsFresh (asked ++ asked_at n p.node.durable call) n (place call) (numbers_behind call numbers)
 
     -- behind a whole step
-    pub step_fresh : (at : Moment) (i : Input) → Did (Step at i Done) → IsFresh asked n p numbers → (number : ℕ) → (¬ In number (with_number i numbers)) → times (tok n new_boot number) (asked ++ option_to_list (asked_by (token_of set p.node.durable) i)) ≡ 0
+    pub step_fresh : (at : Moment) (i : Input) → Did (Step at i Done) → IsFresh asked n p numbers → (number : ℕ) → (¬ In number (with_number i numbers)) → times (tok n new_boot number) (asked ++ option_to_list (asked_by (tok n boot) i)) ≡ 0
     step_fresh at i d fresh number new =
         let same : new_boot ≡ boot = ap (λ (b : After). b.node.durable.boot) d.1 ∙ step_boot Stop at i in
-        still_none (tok n new_boot number) asked (option_to_list (asked_by (token_of set p.node.durable) i))
+        still_none (tok n new_boot number) asked (option_to_list (asked_by (tok n boot) i))
         (subst (λ b. times (tok n b number) asked ≡ 0) (sym same) (fresh d.0 number (not_before i number new)))
-        (none_came c (tok n new_boot number) n p.node.durable i (not_that i number new))
+        (none_came (tok n new_boot number) n p.node.durable i (not_that i number new))
 
     pub stays_fresh : (call : Call) → Did call → IsFresh asked n p numbers → IsPastOf asked n p → Stays call
     stays_fresh (Open Done) d fresh past up number new =
@@ -274,7 +276,7 @@ module _ (m : EngineMeaning) (c : Cluster) (n : ℕ) (p : Place) (a : After) whe
 
 -- ---- at all nodes
 
-module _ (m : EngineMeaning) (c : Cluster) (places : ℕ → Place) (asked : List Token) (numbers : ℕ → List ℕ) (n : ℕ) (call : Call) (a : After) where
+module _ (m : EngineMeaning) (nodes : ℕ) (rules : Rules) (places : ℕ → Place) (asked : List Token) (numbers : ℕ → List ℕ) (n : ℕ) (call : Call) (a : After) where
   abbrev here : Place
   here = places n
 
@@ -282,7 +284,7 @@ module _ (m : EngineMeaning) (c : Cluster) (places : ℕ → Place) (asked : Lis
   behind = record { up = runs_behind here.up call; node = a.node }
 
   abbrev more : List Token
-  more = asked ++ asked_at c n here.node.durable call
+  more = asked ++ asked_at n here.node.durable call
 
   -- a fact of the node behind the call, and of each other node as it was, is one of all nodes
   at_all : (P : ℕ → Place → List ℕ → Type 0) → P n behind (numbers_behind call (numbers n)) → ((x : ℕ) → x ≢ n → P x (places x) (numbers x))
@@ -293,25 +295,25 @@ module _ (m : EngineMeaning) (c : Cluster) (places : ℕ → Place) (asked : Lis
       (λ (e : x ≢ n). subst (λ b. P x (cond b behind (places x)) (cond b (numbers_behind call (numbers x)) (numbers x))) (sym (ne_eqb x n e)) (others x e))
       (cases_eq x n)
 
-  none_here : (x boot number : ℕ) → x ≢ n → times (tok x boot number) (asked_at c n here.node.durable call) ≡ 0
-  none_here x boot number e = none_asked c (tok x boot number) n here.node.durable (each_differs (tok x boot number) n here.node.durable.boot (λ k. apart (tok x boot number) n here.node.durable.boot k e)) call
+  none_here : (x boot number : ℕ) → x ≢ n → times (tok x boot number) (asked_at n here.node.durable call) ≡ 0
+  none_here x boot number e = none_asked (tok x boot number) n here.node.durable (each_differs (tok x boot number) n here.node.durable.boot (λ k. apart (tok x boot number) n here.node.durable.boot k e)) call
 
-  pub stays_orderly : Does m (setting_of c n) here.up here.node call a → Orderly places asked numbers
+  pub stays_orderly : Does m (setting_by rules n nodes) here.up here.node call a → Orderly places asked numbers
       → Orderly (set_place places n behind) more (λ x. cond (x == n) (numbers_behind call (numbers x)) (numbers x))
   stays_orderly d o = record {
-    down = at_all (λ x p used. IsDown p.up p.node) (stays_down m c n here a call d (o.down n)) (λ x e. o.down x);
-    fresh = at_all (λ x p used. IsFresh more x p used) (stays_fresh m c n here a asked (numbers n) call d (o.fresh n) (o.past n))
-        (λ x e up number new. still_none (tok x (boot_of (places x)) number) asked (asked_at c n here.node.durable call) (o.fresh x up number new) (none_here x (boot_of (places x)) number e));
-    past = at_all (λ x p used. IsPastOf more x p) (stays_past m c n here a asked (numbers n) call d (o.past n))
-        (λ x e boot number less. still_none (tok x boot number) asked (asked_at c n here.node.durable call) (o.past x boot number less) (none_here x boot number e));
+    down = at_all (λ x p used. IsDown p.up p.node) (stays_down m nodes rules n here a call d (o.down n)) (λ x e. o.down x);
+    fresh = at_all (λ x p used. IsFresh more x p used) (stays_fresh m nodes rules n here a asked (numbers n) call d (o.fresh n) (o.past n))
+        (λ x e up number new. still_none (tok x (boot_of (places x)) number) asked (asked_at n here.node.durable call) (o.fresh x up number new) (none_here x (boot_of (places x)) number e));
+    past = at_all (λ x p used. IsPastOf more x p) (stays_past m nodes rules n here a asked (numbers n) call d (o.past n))
+        (λ x e boot number less. still_none (tok x boot number) asked (asked_at n here.node.durable call) (o.past x boot number less) (none_here x boot number e));
   }
 
 -- ---- a request that may come has a token of its own
 
-pub comes_new : (c : Cluster) (asked : List Token) (n : ℕ) (p : Place) (numbers : List ℕ) → IsFresh asked n p numbers → p.up ≡ true → (i : Input) → IsNew numbers i
-    → (t : Token) → asked_by (token_of (setting_of c n) p.node.durable) i ≡ Some t → times t asked ≡ 0
-comes_new c asked n p numbers fresh up (input.Ask number r) new t is = subst (λ (u : Token). times u asked ≡ 0) (let same : Some (tok n (boot_of p) number) ≡ Some t = is in cc) (fresh up number new)
-comes_new c asked n p numbers fresh up (input.Packet q) new t is = absurd (let no : None ≡ Some t = is in cc)
-comes_new c asked n p numbers fresh up input.Poke new t is = absurd (let no : None ≡ Some t = is in cc)
-comes_new c asked n p numbers fresh up input.Tick new t is = absurd (let no : None ≡ Some t = is in cc)
-comes_new c asked n p numbers fresh up (input.Move k to) new t is = absurd (let no : None ≡ Some t = is in cc)
+pub comes_new : (asked : List Token) (n : ℕ) (p : Place) (numbers : List ℕ) → IsFresh asked n p numbers → p.up ≡ true → (i : Input) → IsNew numbers i
+    → (t : Token) → asked_by (tok n (boot_of p)) i ≡ Some t → times t asked ≡ 0
+comes_new asked n p numbers fresh up (input.Ask number r) new t is = subst (λ (u : Token). times u asked ≡ 0) (let same : Some (tok n (boot_of p) number) ≡ Some t = is in cc) (fresh up number new)
+comes_new asked n p numbers fresh up (input.Packet q) new t is = absurd (let no : None ≡ Some t = is in cc)
+comes_new asked n p numbers fresh up input.Poke new t is = absurd (let no : None ≡ Some t = is in cc)
+comes_new asked n p numbers fresh up input.Tick new t is = absurd (let no : None ≡ Some t = is in cc)
+comes_new asked n p numbers fresh up (input.Move k to) new t is = absurd (let no : None ≡ Some t = is in cc)

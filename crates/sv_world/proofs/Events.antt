@@ -1,12 +1,12 @@
 -- What an event does, one case at a time: a fact that holds behind each of these holds behind every event.
-use Rattle.std.proofs.Common.{◌≡◌, ◌<◌, ℕ, ◌+◌, ◌&&◌, Bool, true, cond, Option, Some, None, List, [], ◌∷◌, refl}
+use Rattle.std.proofs.Common.{◌≡◌, ◌<◌, ℕ, ◌+◌, ◌&&◌, Bool, true, cond, Option, Some, None, List, [], ◌∷◌, ◌++◌, refl}
 use Rattle.std.specs.Prelude.{not, is_some}
 use Rattle.std.proofs.lemmas.Bool.{cond_both, and_parts, ltb-true}
 use Rattle.sv_model.specs.declared.key.Token.{Token}
 use Rattle.sv_model.specs.declared.packet.Packet.{Packet}
 use Rattle.sv_model.specs.declared.input.Input.{Input}
 use Rattle.sv_model.specs.declared.input.Input.TheVariants as input
-use Rattle.sv_model.specs.Engine.{EngineMeaning}
+use Rattle.sv_model.specs.Container.{Meanings}
 use Rattle.sv_model.specs.NodeState.{Durable}
 use Rattle.sv_model.specs.Membership.{In}
 use Rattle.sv_model.specs.Replay.{boot_record, applied}
@@ -15,6 +15,7 @@ use Rattle.sv_model.specs.declared.record.Record.TheVariants.{Boot, Forgets}
 use Rattle.sv_model.specs.Trace.{asked_of}
 use Rattle.sv_world.specs.declared.event.WorldEvent.{WorldEvent}
 use Rattle.sv_world.specs.declared.event.WorldEvent.TheVariants.{Ask, Deliver, Poke, Tick, Move, Crash, Torn, Silent, Restart, TornRestart}
+use Rattle.sv_world.specs.Rolling.{start_in}
 use Rattle.sv_world.specs.Sent.{may_come}
 use Rattle.sv_world.specs.declared.call.Call.{Call}
 use Rattle.sv_world.specs.World.{Cluster, Place, World, durable_at, stopped, started, items, call_of, decision, token_of_call, is_unused, is_there, is_ready, whole, cut, silent, becomes, halt, record_of_start, boots, is_spent, steps, tears, hushes, starts, happens, run}
@@ -37,35 +38,40 @@ came ps (input.Move k to) h = tt
 
 -- a step that can be taken
 pub record IsReady (c : Cluster) (w : World) (call : Call) : Type 0 where
-  pub inside : call.node < c.nodes
+  pub inside : call.node < c.nodes call.node (durable_at w call.node).boot
   pub up : (w.places call.node).up ≡ true
   pub sent : IsSentIn w.packets call.input
   pub unused : is_unused (asked_of (items w.trace)) (token_of_call c w call) ≡ true
 
-readies : (c : Cluster) (w : World) (call : Call) → is_ready c w call ≡ true → IsReady c w call
+pub readies : (c : Cluster) (w : World) (call : Call) → is_ready c w call ≡ true → IsReady c w call
 readies c w call h =
     let up = (w.places call.node).up in
     let sent = may_come w.packets call.input in
     let unused = is_unused (asked_of (items w.trace)) (token_of_call c w call) in
-    let first = and_parts (is_there c call.node) (up && (sent && unused)) h in
+    let first = and_parts (is_there c call.node (durable_at w call.node).boot) (up && (sent && unused)) h in
     let second = and_parts up (sent && unused) first.1 in
     let third = and_parts sent unused second.1 in
-    record { inside = ltb-true call.node c.nodes first.0; up = second.0; sent = came w.packets call.input third.0; unused = third.1 }
+    record { inside = ltb-true call.node (c.nodes call.node (durable_at w call.node).boot) first.0; up = second.0; sent = came w.packets call.input third.0; unused = third.1 }
 
 -- a start has the next number
 pub start_boot : (set : Setting) (d : Durable) → (applied (boot_record set d) d).boot ≡ d.boot + 1
 start_boot set d = cond_both set.forget (Forgets set.node (d.boot + 1)) (Boot (d.boot + 1)) (λ r. (applied r d).boot ≡ d.boot + 1) (λ _. refl) (λ _. refl)
 
+-- the event starts the node, which is told of itself
+pub record MayStart (c : Cluster) (w : World) (e : WorldEvent) (n : ℕ) : Type 0 where
+  pub of : start_in e ≡ Some n
+  pub inside : n < c.nodes n ((durable_at w n).boot + 1)
+
 -- behind an event of this world
-pub record Behind (m : EngineMeaning) (c : Cluster) (w : World) (e : WorldEvent) (P : World → Type 0) : Type 0 where
+pub record Behind (m : Meanings) (c : Cluster) (w : World) (e : WorldEvent) (P : World → Type 0) : Type 0 where
   pub still : P w
   pub whole_by : (call : Call) → call_of w.packets e ≡ Some call → IsReady c w call → P (whole c w e call (decision m c w call))
   pub cut_by : (call : Call) → call_of w.packets e ≡ Some call → IsReady c w call → P (cut c w e call (decision m c w call))
   pub silent_by : (call : Call) → call_of w.packets e ≡ Some call → IsReady c w call → P (silent c w e call (decision m c w call))
   pub halt_by : (n : ℕ) (asked : Option Token) → is_unused (asked_of (items w.trace)) asked ≡ true → P (halt w e n asked)
-  pub boots_by : (n : ℕ) (p : Place) → p.node.parked ≡ [] → p.node.durable ≡ applied (record_of_start c w n) (durable_at w n) → P (becomes w e n p (Some (record_of_start c w n)) None)
+  pub boots_by : (n : ℕ) (p : Place) → MayStart c w e n → p.node.parked ≡ [] → p.node.durable ≡ applied (record_of_start c w n) (durable_at w n) → P (becomes w e n p (Some (record_of_start c w n)) None)
 
-module _ (m : EngineMeaning) (c : Cluster) (w : World) (P : World → Type 0) where
+module _ (m : Meanings) (c : Cluster) (w : World) (P : World → Type 0) where
   stepped : (e : WorldEvent) (call : Option Call) → call_of w.packets e ≡ call → Behind m c w e P → P (steps m c w e call)
   stepped e None is h = h.still
   stepped e (Some call) is h = cond_both (is_ready c w call) (whole c w e call (decision m c w call)) w P (λ t. h.whole_by call is (readies c w call t)) (λ _. h.still)
@@ -84,10 +90,16 @@ module _ (m : EngineMeaning) (c : Cluster) (w : World) (P : World → Type 0) wh
   hushed e None is h = h.still
   hushed e (Some call) is h = cond_both (is_ready c w call) (silent c w e call (decision m c w call)) w P (λ t. h.silent_by call is (readies c w call t)) (λ _. h.still)
 
-  start : (e : WorldEvent) (n : ℕ) (kept : Bool) (place : Durable → Place) → ((d : Durable) → (place d).node.parked ≡ []) → ((d : Durable) → (place d).node.durable ≡ d) → Behind m c w e P → P (starts c w e n kept place)
-  start e n kept place none same h =
-      cond_both (is_there c n && not (w.places n).up) (cond (kept && not (is_spent w n)) (boots c w e n place) (halt w e n None)) w P
-      (λ _. cond_both (kept && not (is_spent w n)) (boots c w e n place) (halt w e n None) P (λ _. let d = applied (record_of_start c w n) (durable_at w n) in h.boots_by n (place d) (none d) (same d)) (λ _. h.halt_by n None refl))
+  start : (e : WorldEvent) (n : ℕ) (kept : Bool) (place : Durable → Place) → start_in e ≡ Some n → ((d : Durable) → (place d).node.parked ≡ []) → ((d : Durable) → (place d).node.durable ≡ d) → Behind m c w e P → P (starts c w e n kept place)
+  start e n kept place of none same h =
+      let there = is_there c n ((durable_at w n).boot + 1) in
+      let d = applied (record_of_start c w n) (durable_at w n) in
+      cond_both (there && not (w.places n).up) (cond (kept && not (is_spent w n)) (boots c w e n place) (halt w e n None)) w P
+      (λ t.
+      let inside : n < c.nodes n ((durable_at w n).boot + 1) = ltb-true n (c.nodes n ((durable_at w n).boot + 1)) (and_parts there (not (w.places n).up) t).0 in
+      cond_both (kept && not (is_spent w n)) (boots c w e n place) (halt w e n None) P
+      (λ _. h.boots_by n (place d) (record { of = of; inside = inside }) (none d) (same d))
+      (λ _. h.halt_by n None refl))
       (λ _. h.still)
 
   pub behind : (e : WorldEvent) → Behind m c w e P → P (happens m c w e)
@@ -98,12 +110,17 @@ module _ (m : EngineMeaning) (c : Cluster) (w : World) (P : World → Type 0) wh
   behind (Move n moment k to) h = stepped (Move n moment k to) (call_of w.packets (Move n moment k to)) refl h
   behind (Torn n moment given kept) h = torn (Torn n moment given kept) kept (call_of w.packets (Torn n moment given kept)) refl h
   behind (Silent n moment given) h = hushed (Silent n moment given) (call_of w.packets (Silent n moment given)) refl h
-  behind (Crash n) h = cond_both (is_there c n && (w.places n).up) (halt w (Crash n) n None) w P (λ _. h.halt_by n None refl) (λ _. h.still)
-  behind (Restart n) h = start (Restart n) n true started (λ d. refl) (λ d. refl) h
-  behind (TornRestart n kept) h = start (TornRestart n kept) n kept stopped (λ d. refl) (λ d. refl) h
+  behind (Crash n) h = cond_both (is_there c n (durable_at w n).boot && (w.places n).up) (halt w (Crash n) n None) w P (λ _. h.halt_by n None refl) (λ _. h.still)
+  behind (Restart n) h = start (Restart n) n true started refl (λ d. refl) (λ d. refl) h
+  behind (TornRestart n kept) h = start (TornRestart n kept) n kept stopped refl (λ d. refl) (λ d. refl) h
 
 -- a fact that every event keeps, beside another, holds behind every list of events
-pub behind_all : (m : EngineMeaning) (c : Cluster) (P Q : World → Type 0) → ((w : World) (e : WorldEvent) → P w → P (happens m c w e)) → ((w : World) (e : WorldEvent) → P w → Q w → Q (happens m c w e))
+pub behind_all : (m : Meanings) (c : Cluster) (P Q : World → Type 0) → ((w : World) (e : WorldEvent) → P w → P (happens m c w e)) → ((w : World) (e : WorldEvent) → P w → Q w → Q (happens m c w e))
     → (w : World) (es : List WorldEvent) → P w → Q w → Q (run m c w es)
 behind_all m c P Q p q w [] a b = b
 behind_all m c P Q p q w (e ∷ es) a b = behind_all m c P Q p q (happens m c w e) es (p w e a) (q w e a b)
+
+-- some events, and then others
+pub run_more : (m : Meanings) (c : Cluster) (w : World) (es fs : List WorldEvent) → run m c (run m c w es) fs ≡ run m c w (es ++ fs)
+run_more m c w [] fs = refl
+run_more m c w (e ∷ es) fs = run_more m c (happens m c w e) es fs

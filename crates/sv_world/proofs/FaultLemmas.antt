@@ -1,19 +1,17 @@
 -- An event with a fault changes nothing; any other adds its line.
-use Rattle.std.proofs.Common.{◌≡◌, ◌&&◌, Bool, true, false, cond, Option, Some, None, [], ◌∷◌, ◌++◌, refl, sym, ap, subst}
+use Rattle.std.proofs.Common.{◌≡◌, ◌+◌, ◌&&◌, Bool, true, false, cond, Option, Some, None, [], ◌∷◌, ◌++◌, refl, sym, ap, subst, ℕ}
 use Rattle.std.specs.Prelude.{not, is_some}
-use Rattle.sv_model.specs.Engine.{EngineMeaning}
+use Rattle.sv_model.specs.Container.{Meanings}
 use Rattle.sv_model.specs.Trace.{asked_of}
 use Rattle.sv_world.specs.declared.event.WorldEvent.{WorldEvent}
 use Rattle.sv_world.specs.declared.event.WorldEvent.TheVariants.{Ask, Deliver, Poke, Tick, Move, Crash, Torn, Silent, Restart, TornRestart}
 use Rattle.sv_world.specs.declared.line.Line.{Line}
 use Rattle.sv_world.specs.declared.call.Call.{Call}
-use Rattle.sv_world.specs.World.{Cluster, World, stopped, started, items, whole, cut, silent, halt, call_of, is_unused, is_ready, decision, steps, tears, hushes, boots, happens, token_of_call, is_there, is_spent, starts}
+use Rattle.sv_world.specs.World.{Cluster, World, durable_at, stopped, started, items, whole, cut, silent, halt, call_of, is_unused, is_ready, decision, steps, tears, hushes, boots, happens, token_of_call, is_there, is_spent, starts, Place}
 use Rattle.sv_world.specs.declared.fault.WorldFault.{WorldFault}
 use Rattle.sv_world.specs.declared.fault.WorldFault.TheVariants.{NoNode, Running, NotRunning, NoPacket, TokenUsed}
 use Rattle.sv_world.specs.Sent.{may_come}
 use Rattle.sv_model.specs.NodeState.{Durable}
-use Rattle.sv_world.specs.World.{Place}
-use Rattle.std.proofs.Common.{ℕ}
 use Rattle.sv_world.specs.Faults.{step_fault, call_fault, start_fault, stop_fault, fault_of, IsFaulty}
 
 step_none : (a b s u : Bool) (f : WorldFault) → step_fault a b s u ≡ Some f → (a && (b && (s && u))) ≡ false
@@ -63,7 +61,7 @@ either : (b : Bool) (x y w : World) (e : WorldEvent) → Adds w x e → Adds w y
 either true x y w e g h = g
 either false x y w e g h = h
 
-module _ (m : EngineMeaning) (c : Cluster) (w : World) where
+module _ (m : Meanings) (c : Cluster) (w : World) where
   -- the four tests of a step
   abbrev up : Call → Bool
   up call = (w.places call.node).up
@@ -76,20 +74,20 @@ module _ (m : EngineMeaning) (c : Cluster) (w : World) where
 
   steps_still : (e : WorldEvent) (call : Option Call) (f : WorldFault) → call_fault c w call ≡ Some f → steps m c w e call ≡ w
   steps_still e None f h = refl
-  steps_still e (Some call) f h = ap (λ t. cond t (whole c w e call (decision m c w call)) w) (step_none (is_there c call.node) (up call) (sent call) (unused call) f h)
+  steps_still e (Some call) f h = ap (λ t. cond t (whole c w e call (decision m c w call)) w) (step_none (is_there c call.node (durable_at w call.node).boot) (up call) (sent call) (unused call) f h)
 
   tears_still : (e : WorldEvent) (kept : Bool) (call : Option Call) (f : WorldFault) → call_fault c w call ≡ Some f → tears m c w e kept call ≡ w
   tears_still e kept None f h = refl
   tears_still e kept (Some call) f h =
       let d = decision m c w call in
-      ap (λ t. cond t (cond (kept && is_some d.entry) (cut c w e call d) (halt w e call.node (token_of_call c w call))) w) (step_none (is_there c call.node) (up call) (sent call) (unused call) f h)
+      ap (λ t. cond t (cond (kept && is_some d.entry) (cut c w e call d) (halt w e call.node (token_of_call c w call))) w) (step_none (is_there c call.node (durable_at w call.node).boot) (up call) (sent call) (unused call) f h)
 
   hushes_still : (e : WorldEvent) (call : Option Call) (f : WorldFault) → call_fault c w call ≡ Some f → hushes m c w e call ≡ w
   hushes_still e None f h = refl
-  hushes_still e (Some call) f h = ap (λ t. cond t (silent c w e call (decision m c w call)) w) (step_none (is_there c call.node) (up call) (sent call) (unused call) f h)
+  hushes_still e (Some call) f h = ap (λ t. cond t (silent c w e call (decision m c w call)) w) (step_none (is_there c call.node (durable_at w call.node).boot) (up call) (sent call) (unused call) f h)
 
-  starts_still : (e : WorldEvent) (n : ℕ) (kept : Bool) (place : Durable → Place) (f : WorldFault) → start_fault (is_there c n) (w.places n).up ≡ Some f → starts c w e n kept place ≡ w
-  starts_still e n kept place f h = ap (λ t. cond t (cond (kept && not (is_spent w n)) (boots c w e n place) (halt w e n None)) w) (start_none (is_there c n) (w.places n).up f h)
+  starts_still : (e : WorldEvent) (n : ℕ) (kept : Bool) (place : Durable → Place) (f : WorldFault) → start_fault (is_there c n ((durable_at w n).boot + 1)) (w.places n).up ≡ Some f → starts c w e n kept place ≡ w
+  starts_still e n kept place f h = ap (λ t. cond t (cond (kept && not (is_spent w n)) (boots c w e n place) (halt w e n None)) w) (start_none (is_there c n ((durable_at w n).boot + 1)) (w.places n).up f h)
 
   still : (e : WorldEvent) (f : WorldFault) → fault_of c w e ≡ Some f → happens m c w e ≡ w
   still (Ask n moment token r) f h = steps_still (Ask n moment token r) (call_of w.packets (Ask n moment token r)) f h
@@ -99,13 +97,13 @@ module _ (m : EngineMeaning) (c : Cluster) (w : World) where
   still (Move n moment k to) f h = steps_still (Move n moment k to) (call_of w.packets (Move n moment k to)) f h
   still (Torn n moment given kept) f h = tears_still (Torn n moment given kept) kept (call_of w.packets (Torn n moment given kept)) f h
   still (Silent n moment given) f h = hushes_still (Silent n moment given) (call_of w.packets (Silent n moment given)) f h
-  still (Crash n) f h = ap (λ t. cond t (halt w (Crash n) n None) w) (stop_none (is_there c n) (w.places n).up f h)
+  still (Crash n) f h = ap (λ t. cond t (halt w (Crash n) n None) w) (stop_none (is_there c n (durable_at w n).boot) (w.places n).up f h)
   still (Restart n) f h = starts_still (Restart n) n true started f h
   still (TornRestart n kept) f h = starts_still (TornRestart n kept) n kept stopped f h
 
   steps_add : (e : WorldEvent) (call : Option Call) → call_fault c w call ≡ None → Adds w (steps m c w e call) e
   steps_add e None h = absurd (let no : Some NoPacket ≡ None = h in cc)
-  steps_add e (Some call) h = if_so (is_ready c w call) (whole c w e call (decision m c w call)) w w e (step_goes (is_there c call.node) (up call) (sent call) (unused call) h) (record { line = _; event = refl; trace = refl })
+  steps_add e (Some call) h = if_so (is_ready c w call) (whole c w e call (decision m c w call)) w w e (step_goes (is_there c call.node (durable_at w call.node).boot) (up call) (sent call) (unused call) h) (record { line = _; event = refl; trace = refl })
 
   tears_add : (e : WorldEvent) (kept : Bool) (call : Option Call) → call_fault c w call ≡ None → Adds w (tears m c w e kept call) e
   tears_add e kept None h = absurd (let no : Some NoPacket ≡ None = h in cc)
@@ -113,16 +111,16 @@ module _ (m : EngineMeaning) (c : Cluster) (w : World) where
       let d = decision m c w call in
       let cuts = cut c w e call d in
       let halts = halt w e call.node (token_of_call c w call) in
-      if_so (is_ready c w call) (cond (kept && is_some d.entry) cuts halts) w w e (step_goes (is_there c call.node) (up call) (sent call) (unused call) h)
+      if_so (is_ready c w call) (cond (kept && is_some d.entry) cuts halts) w w e (step_goes (is_there c call.node (durable_at w call.node).boot) (up call) (sent call) (unused call) h)
       (either (kept && is_some d.entry) cuts halts w e (record { line = _; event = refl; trace = refl }) (record { line = _; event = refl; trace = refl }))
 
   hushes_add : (e : WorldEvent) (call : Option Call) → call_fault c w call ≡ None → Adds w (hushes m c w e call) e
   hushes_add e None h = absurd (let no : Some NoPacket ≡ None = h in cc)
-  hushes_add e (Some call) h = if_so (is_ready c w call) (silent c w e call (decision m c w call)) w w e (step_goes (is_there c call.node) (up call) (sent call) (unused call) h) (record { line = _; event = refl; trace = refl })
+  hushes_add e (Some call) h = if_so (is_ready c w call) (silent c w e call (decision m c w call)) w w e (step_goes (is_there c call.node (durable_at w call.node).boot) (up call) (sent call) (unused call) h) (record { line = _; event = refl; trace = refl })
 
-  starts_add : (e : WorldEvent) (n : ℕ) (kept : Bool) (place : Durable → Place) → start_fault (is_there c n) (w.places n).up ≡ None → Adds w (starts c w e n kept place) e
+  starts_add : (e : WorldEvent) (n : ℕ) (kept : Bool) (place : Durable → Place) → start_fault (is_there c n ((durable_at w n).boot + 1)) (w.places n).up ≡ None → Adds w (starts c w e n kept place) e
   starts_add e n kept place h =
-      if_so (is_there c n && not (w.places n).up) (cond (kept && not (is_spent w n)) (boots c w e n place) (halt w e n None)) w w e (start_goes (is_there c n) (w.places n).up h)
+      if_so (is_there c n ((durable_at w n).boot + 1) && not (w.places n).up) (cond (kept && not (is_spent w n)) (boots c w e n place) (halt w e n None)) w w e (start_goes (is_there c n ((durable_at w n).boot + 1)) (w.places n).up h)
       (either (kept && not (is_spent w n)) (boots c w e n place) (halt w e n None) w e (record { line = _; event = refl; trace = refl }) (record { line = _; event = refl; trace = refl }))
 
   added : (e : WorldEvent) → fault_of c w e ≡ None → Adds w (happens m c w e) e
@@ -133,7 +131,7 @@ module _ (m : EngineMeaning) (c : Cluster) (w : World) where
   added (Move n moment k to) h = steps_add (Move n moment k to) (call_of w.packets (Move n moment k to)) h
   added (Torn n moment given kept) h = tears_add (Torn n moment given kept) kept (call_of w.packets (Torn n moment given kept)) h
   added (Silent n moment given) h = hushes_add (Silent n moment given) (call_of w.packets (Silent n moment given)) h
-  added (Crash n) h = if_so (is_there c n && (w.places n).up) (halt w (Crash n) n None) w w (Crash n) (stop_goes (is_there c n) (w.places n).up h) (record { line = _; event = refl; trace = refl })
+  added (Crash n) h = if_so (is_there c n (durable_at w n).boot && (w.places n).up) (halt w (Crash n) n None) w w (Crash n) (stop_goes (is_there c n (durable_at w n).boot) (w.places n).up h) (record { line = _; event = refl; trace = refl })
   added (Restart n) h = starts_add (Restart n) n true started h
   added (TornRestart n kept) h = starts_add (TornRestart n kept) n kept stopped h
 

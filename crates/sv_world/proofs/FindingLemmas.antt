@@ -20,7 +20,8 @@ use Rattle.sv_world.specs.Faults.{step_fault, call_fault, stop_fault}
 use Rattle.sv_world.specs.Finding.{boot_by, boot_in, stop_by, number_in, token_by, step_by, delivery_by}
 use Rattle.sv_world.specs.Seat.{boot_of, durable_of, place_by}
 use Rattle.sv_world.specs.Sent.{may_come}
-use Rattle.sv_world.specs.World.{items, is_unused, is_there, setting_of}
+use Rattle.sv_world.specs.World.{items, is_unused, is_there}
+use Rattle.sv_world.specs.Rules.{setting_by}
 use Rattle.sv_world.specs.Worlds.{place_in, places_by, state_by, cluster_by}
 
 there : {X : Type 0} (xs : List X) (n : ℕ) → is_some (slice_get xs n) ≡ nat_lt n (length xs)
@@ -46,7 +47,7 @@ module _ {E : Type 0} where
   seat_stops (Some s) = core_stops s.core (durable_of s)
 
 module _ {E : Type 0} (seats : List (Seat E)) (packets : List Packet) (trace : List Line) (rules : Rules) where
-  asked : (n : ℕ) (d : Durable) (input : Input) → token_by n d.boot (number_in input) ≡ asked_by (token_of (setting_of (cluster_by seats rules) n) d) input
+  asked : (n : ℕ) (d : Durable) (input : Input) → token_by n d.boot (number_in input) ≡ asked_by (token_of (setting_by rules n (length seats)) d) input
   asked n d (Ask token r) = refl
   asked n d (Comes p) = refl
   asked n d Poke = refl
@@ -66,5 +67,5 @@ module _ {E : Type 0} (seats : List (Seat E)) (packets : List Packet) (trace : L
   delivers None moment = refl
   delivers (Some p) moment = steps (addressee p) moment (Comes p)
 
-  pub stops : (n : ℕ) → stop_by (boot_in (slice_get seats n)) ≡ stop_fault (is_there (cluster_by seats rules) n) (places_by seats n).up
+  pub stops : (n : ℕ) → stop_by (boot_in (slice_get seats n)) ≡ stop_fault (is_there (cluster_by seats rules) n (places_by seats n).node.durable.boot) (places_by seats n).up
   stops n = seat_stops (slice_get seats n) ∙ ap (λ b. stop_fault b (places_by seats n).up) (there seats n)

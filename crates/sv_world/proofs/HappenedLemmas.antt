@@ -10,6 +10,7 @@ use Rattle.sv_core.specs.Core.{engine_of}
 use Rattle.sv_model.specs.declared.event.Told.{Told}
 use Rattle.sv_model.specs.declared.packet.Packet.{Packet}
 use Rattle.sv_model.specs.declared.node.Setting.{Setting}
+use Rattle.sv_model.specs.Container.{always}
 use Rattle.sv_model.specs.Engine.{EngineMeaning, heard_all}
 use Rattle.sv_model.specs.NodeState.{last_number}
 use Rattle.sv_model.specs.Outputs.{sends_in}
@@ -25,7 +26,8 @@ use Rattle.sv_world.specs.declared.world.World.{World as Nodes}
 use Rattle.sv_world.specs.Deed.{Done, deed, told_by, line_of, quiet_at, heading_at, heading_by, halted, booted}
 use Rattle.sv_world.specs.Seat.{IsSeat, engine_by}
 use Rattle.sv_world.specs.Order.{order_of}
-use Rattle.sv_world.specs.World.{Place, set_place, setting_of, stopped, started}
+use Rattle.sv_world.specs.World.{Place, steady, set_place, stopped, started}
+use Rattle.sv_world.specs.Rules.{setting_by}
 use Rattle.sv_world.specs.Worlds.{places_by, settings_by, meant_in, meanings_by, world_of, cluster_of, meanings_of, heard_of, IsWorld, AllMean}
 use Rattle.sv_world.specs.Happened.{HaveDone, AreUndone, HaveHappened, HasActed, IsStill, told_at, is_start}
 use Rattle.sv_world.proofs.OrderLemmas.{Goes, done_at, goes}
@@ -76,12 +78,12 @@ module _ {E : Type 0} (meaning : E → EngineMeaning) where
 
 module _ {E : Type 0} (valid : E → Type 0) (old new : Nodes E) (number : length new.seats.items ≡ length old.seats.items) (rules : new.rules ≡ old.rules) where
   pub same_cluster : cluster_of new ≡ cluster_of old
-  same_cluster = λ i. record { nodes = number i; rules = rules i }
+  same_cluster = λ i. steady (number i) (rules i)
 
   pub still_world : IsWorld valid old → All (λ s. IsSeat valid s) new.seats.items → settings_by new.seats.items ≡ settings_by old.seats.items → IsWorld valid new
   still_world w all same = record {
     seats = all;
-    settings = λ n less. (λ i. same i n) ∙ w.settings n (omega (arith, number)) ∙ (λ i. setting_of (sym same_cluster i) n);
+    settings = λ n less. (λ i. same i n) ∙ w.settings n (omega (arith, number)) ∙ (λ i. setting_by (sym rules i) n (sym number i));
     some = omega (arith, number, w.some);
     few = omega (arith, number, w.few);
   }
@@ -90,7 +92,7 @@ module _ {E : Type 0} (meaning : E → EngineMeaning) (noted : E → List (List 
     (meanings : meanings_of meaning new ≡ meanings_of meaning old) where
   pub stays : AreUndone noted old.seats.items new.seats.items → new.packets.items ≡ old.packets.items → new.trace.items ≡ old.trace.items → IsStill meaning noted old new
   stays undone packets trace = record {
-    cluster = λ i. record { nodes = number i; rules = rules i };
+    cluster = λ i. steady (number i) (rules i);
     world = λ i. record { places = undone.places i; packets = packets i; trace = trace i };
     meanings = meanings;
     heard = undone.heard;
@@ -104,21 +106,21 @@ option_same f (Some x) h = ap Some (h x)
 
 module _ {E : Type 0} (meaning : E → EngineMeaning) (noted : E → List (List ℕ)) (old new : Nodes E) (number : length new.seats.items ≡ length old.seats.items) (rules : new.rules ≡ old.rules)
     (meanings : meanings_of meaning new ≡ meanings_of meaning old) (e : WorldEvent) (o : Order) (f : Effect) (goes : Goes (cluster_of old) (world_of old) e o)
-    (set : settings_by old.seats.items o.node ≡ setting_of (cluster_of old) o.node) (means : (m : EngineMeaning) × (meanings_of meaning old o.node ≡ Some m))
+    (set : settings_by old.seats.items o.node ≡ setting_by old.rules o.node (length old.seats.items)) (means : (m : EngineMeaning) × (meanings_of meaning old o.node ≡ Some m))
     (done : (m : EngineMeaning) → meanings_of meaning old o.node ≡ Some m → HaveDone noted m old.seats.items new.seats.items o f) where
   abbrev deeds : EngineMeaning → Done
   deeds m = deed m (settings_by old.seats.items o.node) (places_by old.seats.items o.node) o.task
 
-  as_set : (m : EngineMeaning) → deeds m ≡ deed m (setting_of (cluster_of old) o.node) (places_by old.seats.items o.node) o.task
+  as_set : (m : EngineMeaning) → deeds m ≡ deed m (setting_by old.rules o.node (length old.seats.items)) (places_by old.seats.items o.node) o.task
   as_set m = ap (λ s. deed m s (places_by old.seats.items o.node) o.task) set
 
   at_node : f.heading.node ≡ o.node
   at_node = ap (λ (x : Effect). x.heading.node) (done means.0 means.1).effect ∙ deed_node means.0 (settings_by old.seats.items o.node) (places_by old.seats.items o.node) o.task ∙ ap (λ (s : Setting). s.node) set
 
-  world_is : new.packets.items ≡ old.packets.items ++ sends_in f.outputs → new.trace.items ≡ old.trace.items ++ line_of e f ∷ [] → (m : EngineMeaning) → AllMean meaning m old → world_of new ≡ done_at m (cluster_of old) (world_of old) e o
+  world_is : new.packets.items ≡ old.packets.items ++ sends_in f.outputs → new.trace.items ≡ old.trace.items ++ line_of e f ∷ [] → (m : EngineMeaning) → AllMean meaning m old → world_of new ≡ done_at (always m) (cluster_of old) (world_of old) e o
   world_is packets trace m all =
       let h = done m (all o.node goes.there) in
-      let is : f ≡ (deed m (setting_of (cluster_of old) o.node) (places_by old.seats.items o.node) o.task).effect = h.effect ∙ ap (λ (d : Done). d.effect) (as_set m) in
+      let is : f ≡ (deed m (setting_by old.rules o.node (length old.seats.items)) (places_by old.seats.items o.node) o.task).effect = h.effect ∙ ap (λ (d : Done). d.effect) (as_set m) in
       λ i. record {
         places = (h.places ∙ ap (λ (d : Done). set_place (places_by old.seats.items) o.node d.place) (as_set m)) i;
         packets = (packets ∙ ap (λ (x : Effect). old.packets.items ++ sends_in x.outputs) is) i;
@@ -142,8 +144,8 @@ module _ {E : Type 0} (meaning : E → EngineMeaning) (noted : E → List (List 
 
   pub happened : new.packets.items ≡ old.packets.items ++ sends_in f.outputs → new.trace.items ≡ old.trace.items ++ line_of e f ∷ [] → HaveHappened meaning noted old new (e ∷ [])
   happened packets trace = record {
-    cluster = λ i. record { nodes = number i; rules = rules i };
-    world = λ m all. world_is packets trace m all ∙ sym (goes.happens m);
+    cluster = λ i. steady (number i) (rules i);
+    world = λ m all. world_is packets trace m all ∙ sym (goes.happens (always m));
     lines = line_of e f ∷ [];
     trace = trace;
     each = refl;

@@ -1,12 +1,13 @@
 -- An event that has no fault is the task that it asks for.
-use Rattle.std.proofs.Common.{◌≡◌, ℕ, ◌<◌, ◌&&◌, Bool, true, false, cond, Option, Some, None, [], ◌∷◌, ◌++◌, refl, sym, ap, ◌∙◌, subst, append-nil}
+use Rattle.std.proofs.Common.{◌≡◌, ℕ, ◌+◌, ◌<◌, ◌&&◌, Bool, true, false, cond, Option, Some, None, [], ◌∷◌, ◌++◌, refl, sym, ◌∙◌, subst, append-nil}
 use Rattle.std.specs.Prelude.{not, is_some, IsSome}
 use Rattle.std.specs.Option.{option_map}
 use Rattle.std.proofs.lemmas.Bool.{and_parts, ltb-true, cond-true}
 use Rattle.std.proofs.lemmas.Option.{same_Some}
 use Rattle.sv_model.specs.declared.record.Record.{Record}
 use Rattle.sv_model.specs.declared.key.Token.{Token}
-use Rattle.sv_model.specs.Engine.{EngineMeaning}
+use Rattle.sv_model.specs.Container.{Meanings}
+use Rattle.sv_model.specs.declared.node.Setting.{Setting}
 use Rattle.sv_model.specs.NodeState.{Durable}
 use Rattle.sv_model.specs.Outputs.{sends_in}
 use Rattle.sv_model.specs.Trace.{asked_of}
@@ -17,7 +18,7 @@ use Rattle.sv_world.specs.declared.fault.WorldFault.TheVariants.{NoPacket}
 use Rattle.sv_world.specs.declared.order.Order.{Order}
 use Rattle.sv_world.specs.declared.task.Task.{Task}
 use Rattle.sv_world.specs.declared.task.Task.TheVariants as task
-use Rattle.sv_world.specs.Deed.{Done, deed, wants_up, line_of, quiet_at, heading_at, heading_by, halted, booted, start_by}
+use Rattle.sv_world.specs.Deed.{Done, deed, wants_up, number_for, line_of, quiet_at, heading_at, heading_by, halted, booted, start_by}
 use Rattle.sv_world.specs.Faults.{call_fault, start_fault, fault_of}
 use Rattle.sv_world.specs.Order.{whole_order, torn_order, silent_order, order_of}
 use Rattle.sv_world.specs.Sent.{may_come}
@@ -28,13 +29,15 @@ use Rattle.sv_world.proofs.FaultLemmas.{step_goes, start_goes, stop_goes}
 abbrev pub done_by : World → WorldEvent → ℕ → Done → World
 done_by w e n d = record { places = set_place w.places n d.place; packets = w.packets ++ sends_in d.effect.outputs; trace = w.trace ++ line_of e d.effect ∷ [] }
 
-abbrev pub done_at : EngineMeaning → Cluster → World → WorldEvent → Order → World
-done_at m c w e o = done_by w e o.node (deed m (setting_of c o.node) (w.places o.node) o.task)
+abbrev pub done_at : Meanings → Cluster → World → WorldEvent → Order → World
+done_at m c w e o =
+    let boot = number_for (durable_at w o.node) o.task in
+    done_by w e o.node (deed (m o.node boot) (setting_of c o.node boot) (w.places o.node) o.task)
 
 -- an event that can happen asks for this
 pub record Goes (c : Cluster) (w : World) (e : WorldEvent) (o : Order) : Type 0 where
-  pub happens : (m : EngineMeaning) → happens m c w e ≡ done_at m c w e o
-  pub there : o.node < c.nodes
+  pub happens : (m : Meanings) → happens m c w e ≡ done_at m c w e o
+  pub there : o.node < c.nodes o.node (number_for (durable_at w o.node) o.task)
   pub up : (w.places o.node).up ≡ wants_up o.task
 
 not_true : (b : Bool) → not b ≡ true → b ≡ false
@@ -46,57 +49,68 @@ module _ (c : Cluster) (w : World) (e : WorldEvent) where
   split n true x y p q f g = f
   split n false x y p q f g = g
 
-  quiet : (n : ℕ) (p : Place) (entry : Option Record) (asked : Option Token) → becomes w e n p entry asked ≡ done_by w e n (record { place = p; effect = quiet_at (heading_at (setting_of c n) (durable_at w n) asked) entry None })
-  quiet n p entry asked = λ i. record (becomes w e n p entry asked) { packets = sym (append-nil w.packets) i }
+  quiet : (n boot : ℕ) (p : Place) (entry : Option Record) (asked : Option Token) → becomes w e n p entry asked ≡ done_by w e n (record { place = p; effect = quiet_at (heading_at (setting_of c n boot) (durable_at w n) asked) entry None })
+  quiet n boot p entry asked = λ i. record (becomes w e n p entry asked) { packets = sym (append-nil w.packets) i }
 
   ready : (call : Call) → call_fault c w (Some call) ≡ None → is_ready c w call ≡ true
-  ready call h = step_goes (is_there c call.node) (w.places call.node).up (may_come w.packets call.input) (is_unused (asked_of (items w.trace)) (token_of_call c w call)) h
+  ready call h = step_goes (is_there c call.node (durable_at w call.node).boot) (w.places call.node).up (may_come w.packets call.input) (is_unused (asked_of (items w.trace)) (token_of_call c w call)) h
 
-  there_up : (call : Call) → call_fault c w (Some call) ≡ None → (call.node < c.nodes) × ((w.places call.node).up ≡ true)
+  there_up : (call : Call) → call_fault c w (Some call) ≡ None → (call.node < c.nodes call.node (durable_at w call.node).boot) × ((w.places call.node).up ≡ true)
   there_up call h =
-      let a = and_parts (is_there c call.node) _ (ready call h) in
-      (ltb-true call.node c.nodes a.0, (and_parts (w.places call.node).up _ a.1).0)
+      let a = and_parts (is_there c call.node (durable_at w call.node).boot) _ (ready call h) in
+      (ltb-true call.node (c.nodes call.node (durable_at w call.node).boot) a.0, (and_parts (w.places call.node).up _ a.1).0)
 
-  steps_go : (m : EngineMeaning) (call : Call) → call_fault c w (Some call) ≡ None → steps m c w e (Some call) ≡ done_at m c w e (whole_order call)
+  steps_go : (m : Meanings) (call : Call) → call_fault c w (Some call) ≡ None → steps m c w e (Some call) ≡ done_at m c w e (whole_order call)
   steps_go m call h = cond-true (is_ready c w call) (whole c w e call (decision m c w call)) w (ready call h)
 
-  tears_go : (m : EngineMeaning) (kept : Bool) (call : Call) → call_fault c w (Some call) ≡ None → tears m c w e kept (Some call) ≡ done_at m c w e (torn_order kept call)
+  tears_go : (m : Meanings) (kept : Bool) (call : Call) → call_fault c w (Some call) ≡ None → tears m c w e kept (Some call) ≡ done_at m c w e (torn_order kept call)
   tears_go m kept call h =
       let d = decision m c w call in
-      let heading = heading_by (setting_of c call.node) (durable_at w call.node) call.input in
+      let heading = heading_by (setting_of c call.node (durable_at w call.node).boot) (durable_at w call.node) call.input in
       cond-true (is_ready c w call) (cond (kept && is_some d.entry) (cut c w e call d) (halt w e call.node (token_of_call c w call))) w (ready call h)
       ∙ split call.node (kept && is_some d.entry) (cut c w e call d) (halt w e call.node (token_of_call c w call)) (record { place = stopped d.durable; effect = quiet_at heading d.entry d.commit }) (halted heading (durable_at w call.node))
-      (λ i. record (cut c w e call d) { packets = sym (append-nil w.packets) i }) (quiet call.node (stopped (durable_at w call.node)) None (token_of_call c w call))
+      (λ i. record (cut c w e call d) { packets = sym (append-nil w.packets) i }) (quiet call.node (durable_at w call.node).boot (stopped (durable_at w call.node)) None (token_of_call c w call))
 
-  hushes_go : (m : EngineMeaning) (call : Call) → call_fault c w (Some call) ≡ None → hushes m c w e (Some call) ≡ done_at m c w e (silent_order call)
+  hushes_go : (m : Meanings) (call : Call) → call_fault c w (Some call) ≡ None → hushes m c w e (Some call) ≡ done_at m c w e (silent_order call)
   hushes_go m call h =
       let d = decision m c w call in
       cond-true (is_ready c w call) (silent c w e call d) w (ready call h) ∙ (λ i. record (silent c w e call d) { packets = sym (append-nil w.packets) i })
 
-  starts_go : (n : ℕ) (kept : Bool) (place : Durable → Place) → start_fault (is_there c n) (w.places n).up ≡ None → starts c w e n kept place ≡ done_by w e n (start_by (setting_of c n) (durable_at w n) kept place)
-  starts_go n kept place h =
-      let heading = heading_at (setting_of c n) (durable_at w n) None in
-      cond-true (is_there c n && not (w.places n).up) (cond (kept && not (is_spent w n)) (boots c w e n place) (halt w e n None)) w (start_goes (is_there c n) (w.places n).up h)
-      ∙ split n (kept && not (is_spent w n)) (boots c w e n place) (halt w e n None) (booted (setting_of c n) heading (durable_at w n) place) (halted heading (durable_at w n))
-      (quiet n _ _ None) (quiet n (stopped (durable_at w n)) None None)
+  -- the setting of the start that is to come
+  abbrev next_setting : ℕ → Setting
+  next_setting n = setting_of c n ((durable_at w n).boot + 1)
 
-  whole_goes : (o : Order) (call : Option Call) → ((m : EngineMeaning) → happens m c w e ≡ steps m c w e call) → call_fault c w call ≡ None → option_map whole_order call ≡ Some o → Goes c w e o
+  abbrev there_next : ℕ → Bool
+  there_next n = is_there c n ((durable_at w n).boot + 1)
+
+  starts_go : (n : ℕ) (kept : Bool) (place : Durable → Place) → start_fault (there_next n) (w.places n).up ≡ None → starts c w e n kept place ≡ done_by w e n (start_by (next_setting n) (durable_at w n) kept place)
+  starts_go n kept place h =
+      let heading = heading_at (next_setting n) (durable_at w n) None in
+      cond-true (there_next n && not (w.places n).up) (cond (kept && not (is_spent w n)) (boots c w e n place) (halt w e n None)) w (start_goes (there_next n) (w.places n).up h)
+      ∙ split n (kept && not (is_spent w n)) (boots c w e n place) (halt w e n None) (booted (next_setting n) heading (durable_at w n) place) (halted heading (durable_at w n))
+      (quiet n ((durable_at w n).boot + 1) _ _ None) (quiet n ((durable_at w n).boot + 1) (stopped (durable_at w n)) None None)
+
+  whole_goes : (o : Order) (call : Option Call) → ((m : Meanings) → happens m c w e ≡ steps m c w e call) → call_fault c w call ≡ None → option_map whole_order call ≡ Some o → Goes c w e o
   whole_goes o None is fault order = absurd (let no : Some NoPacket ≡ None = fault in cc)
   whole_goes o (Some call) is fault order = subst (Goes c w e) (same_Some (whole_order call) o order) (record { happens = λ m. is m ∙ steps_go m call fault; there = (there_up call fault).0; up = (there_up call fault).1 })
 
-  torn_goes : (o : Order) (kept : Bool) (call : Option Call) → ((m : EngineMeaning) → happens m c w e ≡ tears m c w e kept call) → call_fault c w call ≡ None → option_map (torn_order kept) call ≡ Some o → Goes c w e o
+  torn_goes : (o : Order) (kept : Bool) (call : Option Call) → ((m : Meanings) → happens m c w e ≡ tears m c w e kept call) → call_fault c w call ≡ None → option_map (torn_order kept) call ≡ Some o → Goes c w e o
   torn_goes o kept None is fault order = absurd (let no : Some NoPacket ≡ None = fault in cc)
   torn_goes o kept (Some call) is fault order = subst (Goes c w e) (same_Some (torn_order kept call) o order) (record { happens = λ m. is m ∙ tears_go m kept call fault; there = (there_up call fault).0; up = (there_up call fault).1 })
 
-  silent_goes : (o : Order) (call : Option Call) → ((m : EngineMeaning) → happens m c w e ≡ hushes m c w e call) → call_fault c w call ≡ None → option_map silent_order call ≡ Some o → Goes c w e o
+  silent_goes : (o : Order) (call : Option Call) → ((m : Meanings) → happens m c w e ≡ hushes m c w e call) → call_fault c w call ≡ None → option_map silent_order call ≡ Some o → Goes c w e o
   silent_goes o None is fault order = absurd (let no : Some NoPacket ≡ None = fault in cc)
   silent_goes o (Some call) is fault order = subst (Goes c w e) (same_Some (silent_order call) o order) (record { happens = λ m. is m ∙ hushes_go m call fault; there = (there_up call fault).0; up = (there_up call fault).1 })
 
-  start_goes_by : (n : ℕ) (kept : Bool) (place : Durable → Place) (t : Task) → wants_up t ≡ false → ((m : EngineMeaning) → happens m c w e ≡ starts c w e n kept place)
-      → ((m : EngineMeaning) → start_by (setting_of c n) (durable_at w n) kept place ≡ deed m (setting_of c n) (w.places n) t) → start_fault (is_there c n) (w.places n).up ≡ None → Goes c w e (record { node = n; task = t })
-  start_goes_by n kept place t down is same fault =
-      let a = and_parts (is_there c n) (not (w.places n).up) (start_goes (is_there c n) (w.places n).up fault) in
-      record { happens = λ m. is m ∙ starts_go n kept place fault ∙ ap (done_by w e n) (same m); there = ltb-true n c.nodes a.0; up = not_true (w.places n).up a.1 ∙ sym down }
+  start_goes_by : (n : ℕ) (kept : Bool) (place : Durable → Place) (t : Task) → wants_up t ≡ false → number_for (durable_at w n) t ≡ (durable_at w n).boot + 1 → ((m : Meanings) → happens m c w e ≡ starts c w e n kept place)
+      → ((m : Meanings) → done_by w e n (start_by (next_setting n) (durable_at w n) kept place) ≡ done_at m c w e (record { node = n; task = t })) → start_fault (there_next n) (w.places n).up ≡ None → Goes c w e (record { node = n; task = t })
+  start_goes_by n kept place t down number is same fault =
+      let a = and_parts (there_next n) (not (w.places n).up) (start_goes (there_next n) (w.places n).up fault) in
+      record {
+        happens = λ m. is m ∙ starts_go n kept place fault ∙ same m;
+        there = subst (λ boot. n < c.nodes n boot) (sym number) (ltb-true n (c.nodes n ((durable_at w n).boot + 1)) a.0);
+        up = not_true (w.places n).up a.1 ∙ sym down;
+      }
 
 module _ (c : Cluster) (w : World) (o : Order) where
   pub goes : (e : WorldEvent) → fault_of c w e ≡ None → order_of w.packets e ≡ Some o → Goes c w e o
@@ -108,15 +122,16 @@ module _ (c : Cluster) (w : World) (o : Order) where
   goes (Torn n moment given kept) f h = torn_goes c w (Torn n moment given kept) o kept (call_of w.packets (Torn n moment given kept)) (λ m. refl) f h
   goes (Silent n moment given) f h = silent_goes c w (Silent n moment given) o (call_of w.packets (Silent n moment given)) (λ m. refl) f h
   goes (Crash n) f h =
-      let both = stop_goes (is_there c n) (w.places n).up f in
-      let a = and_parts (is_there c n) (w.places n).up both in
+      let boot = (durable_at w n).boot in
+      let both = stop_goes (is_there c n boot) (w.places n).up f in
+      let a = and_parts (is_there c n boot) (w.places n).up both in
       subst (Goes c w (Crash n)) (same_Some (record { node = n; task = task.Stop }) o h) (record {
-        happens = λ m. cond-true (is_there c n && (w.places n).up) (halt w (Crash n) n None) w both ∙ quiet c w (Crash n) n (stopped (durable_at w n)) None None;
-        there = ltb-true n c.nodes a.0;
+        happens = λ m. cond-true (is_there c n boot && (w.places n).up) (halt w (Crash n) n None) w both ∙ quiet c w (Crash n) n boot (stopped (durable_at w n)) None None;
+        there = ltb-true n (c.nodes n boot) a.0;
         up = a.1;
       })
-  goes (Restart n) f h = subst (Goes c w (Restart n)) (same_Some (record { node = n; task = task.Start }) o h) (start_goes_by c w (Restart n) n true started task.Start refl (λ m. refl) (λ m. refl) f)
-  goes (TornRestart n kept) f h = subst (Goes c w (TornRestart n kept)) (same_Some (record { node = n; task = task.TornStart kept }) o h) (start_goes_by c w (TornRestart n kept) n kept stopped (task.TornStart kept) refl (λ m. refl) (λ m. refl) f)
+  goes (Restart n) f h = subst (Goes c w (Restart n)) (same_Some (record { node = n; task = task.Start }) o h) (start_goes_by c w (Restart n) n true started task.Start refl refl (λ m. refl) (λ m. refl) f)
+  goes (TornRestart n kept) f h = subst (Goes c w (TornRestart n kept)) (same_Some (record { node = n; task = task.TornStart kept }) o h) (start_goes_by c w (TornRestart n kept) n kept stopped (task.TornStart kept) refl refl (λ m. refl) (λ m. refl) f)
 
 -- an event that can happen asks for something
 module _ (c : Cluster) (w : World) where

@@ -6,12 +6,14 @@ use Rattle.sv_model.specs.declared.input.Input.{Input}
 use Rattle.sv_model.specs.declared.input.Input.TheVariants as input
 use Rattle.sv_model.specs.declared.node.Setting.{Setting}
 use Rattle.sv_model.specs.declared.packet.Packet.{Packet}
+use Rattle.sv_model.specs.Container.{Meanings}
 use Rattle.sv_model.specs.Engine.{EngineMeaning}
 use Rattle.sv_model.specs.Membership.{In}
 use Rattle.sv_node.specs.Call.{Call, Open, Step, Unsaid, Compact, Stop, Given, Done, Refused, Cut, runs_behind}
-use Rattle.sv_node.specs.History.{Turn, Stand, AreTurns, IsAbove, number_in, RiseIn, numbers_in, RisesAt, lowest_behind, Rise}
-use Rattle.sv_world.specs.Disks.{NodeCall, Seen, IsNew, AllCome, MayCome, IsCall, AreCalls, with_number, numbers_behind, all_numbers, behind, nothing_called}
+use Rattle.sv_node.specs.History.{Turn, Stand, IsAbove, number_in, RiseIn, numbers_in, RisesAt, lowest_behind, Rise}
+use Rattle.sv_world.specs.Disks.{NodeCall, Seen, start_at, IsNew, AllCome, MayCome, IsCall, AreCalls, with_number, numbers_behind, all_numbers, behind, nothing_called}
 use Rattle.sv_world.specs.Processes.{turn_of, turns_at, BringAll, BringsSent, BringSent, AreOfProcesses}
+use Rattle.sv_world.specs.Starts.{AreTurnsBy}
 use Rattle.sv_world.specs.World.{Cluster, Place, setting_of}
 
 -- ---- numbers
@@ -82,9 +84,9 @@ stand_in p = record { up = p.up; node = p.node }
 abbrev place_behind : Place → Turn → Place
 place_behind p t = record { up = runs_behind p.up t.call; node = t.after.node }
 
-turns_on : (b : Bool) (m : EngineMeaning) (set : Setting) (p q : Place) (t : Turn) (ts : List Turn) → (b ≡ true → p ≡ q)
-    → AreTurns m set (stand_in p) (cond b (t ∷ ts) ts) → AreTurns m set (stand_in (cond b (place_behind q t) p)) ts
-turns_on true m set p q t ts same are = subst (λ (x : Place). AreTurns m set (stand_in (place_behind x t)) ts) (same refl) are.1
+turns_on : (b : Bool) (m : ℕ → EngineMeaning) (set : ℕ → Setting) (p q : Place) (t : Turn) (ts : List Turn) → (b ≡ true → p ≡ q)
+    → AreTurnsBy m set (stand_in p) (cond b (t ∷ ts) ts) → AreTurnsBy m set (stand_in (cond b (place_behind q t) p)) ts
+turns_on true m set p q t ts same are = subst (λ (x : Place). AreTurnsBy m set (stand_in (place_behind x t)) ts) (same refl) are.1
 turns_on false m set p q t ts same are = are
 
 rise_on : (b : Bool) (low high : ℕ) (t : Turn) (ts : List Turn) → Rise low high (cond b (t ∷ ts) ts) → Rise (cond b (lowest_behind low t.call) low) high ts
@@ -98,13 +100,13 @@ upto_on false low high numbers t ts upto rise = upto
 
 -- ---- all of them
 
-module _ (m : EngineMeaning) (c : Cluster) where
+module _ (m : Meanings) (c : Cluster) where
   -- what is known of the calls that are left
   record AreLeft (s : Seen) (numbers : ℕ → List ℕ) (low : ℕ → ℕ) (calls : List NodeCall) : Type 0 where
-    inside : AllByRecursion (λ (l : NodeCall). l.node < c.nodes) calls
-    turns : (n : ℕ) → n < c.nodes → AreTurns m (setting_of c n) (stand_in (s.places n)) (turns_at n calls)
-    rise : (n : ℕ) → n < c.nodes → (high : ℕ) × Rise (low n) high (turns_at n calls)
-    upto : (n : ℕ) → n < c.nodes → UpTo (low n) (numbers n)
+    inside : AllByRecursion (λ (l : NodeCall). (boot : ℕ) → l.node < c.nodes l.node boot) calls
+    turns : (n : ℕ) → AreTurnsBy (m n) (setting_of c n) (stand_in (s.places n)) (turns_at n calls)
+    rise : (n : ℕ) → (high : ℕ) × Rise (low n) high (turns_at n calls)
+    upto : (n : ℕ) → UpTo (low n) (numbers n)
     sent : BringSent s.packets calls
 
   module _ (s : Seen) (numbers : ℕ → List ℕ) (low : ℕ → ℕ) (l : NodeCall) (ls : List NodeCall) (left : AreLeft s numbers low (l ∷ ls)) where
@@ -116,24 +118,23 @@ module _ (m : EngineMeaning) (c : Cluster) where
 
     is_call : IsCall m c s numbers l
     is_call =
-        let inside = left.inside.0 in
-        let turns : AreTurns m (setting_of c l.node) (stand_in (s.places l.node)) (turn_of l ∷ turns_at l.node ls) =
-        subst (λ (ts : List Turn). AreTurns m (setting_of c l.node) (stand_in (s.places l.node)) ts) own (left.turns l.node inside) in
-        let r = left.rise l.node inside in
+        let turns : AreTurnsBy (m l.node) (setting_of c l.node) (stand_in (s.places l.node)) (turn_of l ∷ turns_at l.node ls) =
+        subst (λ (ts : List Turn). AreTurnsBy (m l.node) (setting_of c l.node) (stand_in (s.places l.node)) ts) own (left.turns l.node) in
+        let r = left.rise l.node in
         let rise : Rise (low l.node) r.0 (turn_of l ∷ turns_at l.node ls) = subst (λ (ts : List Turn). Rise (low l.node) r.0 ts) own r.1 in
         record {
-          inside = inside;
-          comes = may_come s.packets (low l.node) (numbers l.node) l.call (left.upto l.node inside) rise.0 left.sent.0;
+          inside = left.inside.0 (start_at s l);
+          comes = may_come s.packets (low l.node) (numbers l.node) l.call (left.upto l.node) rise.0 left.sent.0;
           does = turns.0;
         }
 
     left_behind : AreLeft (behind s l) (all_numbers numbers l) low_behind ls
     left_behind = record {
       inside = left.inside.1;
-      turns = λ n inside.
-          turns_on (n == l.node) m (setting_of c n) (s.places n) (s.places l.node) (turn_of l) (turns_at n ls) (λ is i. s.places (eqb-true n l.node is i)) (left.turns n inside);
-      rise = λ n inside. let r = left.rise n inside in (r.0, rise_on (n == l.node) (low n) r.0 (turn_of l) (turns_at n ls) r.1);
-      upto = λ n inside. let r = left.rise n inside in upto_on (n == l.node) (low n) r.0 (numbers n) (turn_of l) (turns_at n ls) (left.upto n inside) r.1;
+      turns = λ n.
+          turns_on (n == l.node) (m n) (setting_of c n) (s.places n) (s.places l.node) (turn_of l) (turns_at n ls) (λ is i. s.places (eqb-true n l.node is i)) (left.turns n);
+      rise = λ n. let r = left.rise n in (r.0, rise_on (n == l.node) (low n) r.0 (turn_of l) (turns_at n ls) r.1);
+      upto = λ n. let r = left.rise n in upto_on (n == l.node) (low n) r.0 (numbers n) (turn_of l) (turns_at n ls) (left.upto n) r.1;
       sent = left.sent.1;
     }
 
@@ -146,6 +147,6 @@ module _ (m : EngineMeaning) (c : Cluster) where
     inside = are.inside;
     turns = are.turns;
     rise = are.rise;
-    upto = λ n inside. no_number;
+    upto = λ n. no_number;
     sent = are.sent;
   })

@@ -6,6 +6,7 @@ use Rattle.std.proofs.lemmas.List.{map-append}
 use Rattle.std.proofs.lemmas.List.Concat.{flat_map-append}
 use Rattle.std.proofs.lemmas.Option.{same_Some, slice_get_cases}
 use Rattle.sv_model.specs.declared.event.Told.{Told}
+use Rattle.sv_model.specs.Container.{always}
 use Rattle.sv_model.specs.Engine.{EngineMeaning, TouchesOnlyHanded, heard_all}
 use Rattle.sv_world.specs.declared.event.WorldEvent.{WorldEvent}
 use Rattle.sv_world.specs.declared.fault.WorldFault.{WorldFault}
@@ -15,15 +16,15 @@ use Rattle.sv_world.specs.declared.seat.Seat.{Seat}
 use Rattle.sv_world.specs.declared.world.World.{World as Nodes}
 use Rattle.sv_world.specs.Faults.{fault_of}
 use Rattle.sv_world.specs.Headline.{IsHeadline}
+use Rattle.sv_world.specs.Journals.{HaveFitted}
+use Rattle.sv_world.specs.Progress.{IsProgress}
 use Rattle.sv_world.specs.Seat.{IsSeat, engine_in}
-use Rattle.sv_world.specs.World.{Cluster, World, run, happens, nothing_happened}
-use Rattle.sv_world.specs.Worlds.{meant_in, world_of, cluster_of, meanings_of, heard_of, IsWorld, AllMean}
+use Rattle.sv_world.specs.World.{Cluster, World, run, nothing_happened}
+use Rattle.sv_world.specs.Worlds.{meant_in, world_of, size_of, rules_of, cluster_of, meanings_of, heard_of, IsWorld, AllMean}
 use Rattle.sv_world.specs.Happened.{HaveHappened, IsStill, IsRefused, HaveStopped, Ran, refusal, told_in, told_at}
-use Rattle.sv_world.proofs.HeadlineLemmas.{headline}
-
-pub run_more : (m : EngineMeaning) (c : Cluster) (w : World) (es fs : List WorldEvent) → run m c (run m c w es) fs ≡ run m c w (es ++ fs)
-run_more m c w [] fs = refl
-run_more m c w (e ∷ es) fs = run_more m c (happens m c w e) es fs
+use Rattle.sv_world.proofs.Events.{run_more}
+use Rattle.sv_world.proofs.HeadlineLemmas.{same, same_fit}
+use Rattle.sv_world.proofs.PromiseLemmas.{progress}
 
 heard_more : (m : EngineMeaning) (h : List (List ℕ)) (a b : List Told) → heard_all m (heard_all m h a) b ≡ heard_all m h (a ++ b)
 heard_more m h [] b = refl
@@ -39,7 +40,7 @@ option_still f (Some x) h = ap Some (sym (h x))
 
 module _ {E : Type 0} (meaning : E → EngineMeaning) (noted : E → List (List ℕ)) where
   pub mean_still : (m : EngineMeaning) (old new : Nodes E) → cluster_of new ≡ cluster_of old → meanings_of meaning new ≡ meanings_of meaning old → AllMean meaning m old → AllMean meaning m new
-  mean_still m old new cluster same all n less = (λ i. same i n) ∙ all n (subst (λ (c : Cluster). n < c.nodes) cluster less)
+  mean_still m old new cluster same all n less = (λ i. same i n) ∙ all n (subst (λ (c : Cluster). n < c.nodes n 0) cluster less)
 
   -- nothing is no events
   pub none_happened : (old new : Nodes E) → IsStill meaning noted old new → HaveHappened meaning noted old new []
@@ -60,7 +61,7 @@ module _ {E : Type 0} (meaning : E → EngineMeaning) (noted : E → List (List 
     pub joined : HaveHappened meaning noted old mid es → HaveHappened meaning noted mid new fs → HaveHappened meaning noted old new (es ++ fs)
     joined h g = record {
       cluster = g.cluster ∙ h.cluster;
-      world = λ m all. g.world m (mean_still m old mid h.cluster h.meanings all) ∙ (λ i. run m (h.cluster i) (h.world m all i) fs) ∙ run_more m (cluster_of old) (world_of old) es fs;
+      world = λ m all. g.world m (mean_still m old mid h.cluster h.meanings all) ∙ (λ i. run (always m) (h.cluster i) (h.world m all i) fs) ∙ run_more (always m) (cluster_of old) (world_of old) es fs;
       lines = h.lines ++ g.lines;
       trace = g.trace ∙ ap (λ ls. ls ++ g.lines) h.trace ∙ append_assoc (world_of old).trace h.lines g.lines;
       each = map-append (λ (l : Line). l.event) h.lines g.lines ∙ (λ i. h.each i ++ g.each i);
@@ -78,7 +79,7 @@ module _ {E : Type 0} (meaning : E → EngineMeaning) (noted : E → List (List 
     pub ran_more : HaveHappened meaning noted old new es → AllMean meaning m old → Ran m old → Ran m new
     ran_more h all r = record {
       events = r.events ++ es;
-      world = h.world m all ∙ ap (λ w. run m (cluster_of old) w es) r.world ∙ run_more m (cluster_of old) nothing_happened r.events es ∙ (λ i. run m (sym h.cluster i) nothing_happened (r.events ++ es));
+      world = h.world m all ∙ ap (λ w. run (always m) (cluster_of old) w es) r.world ∙ run_more (always m) (cluster_of old) nothing_happened r.events es ∙ (λ i. run (always m) (sym h.cluster i) nothing_happened (r.events ++ es));
     }
 
   -- ---- the law of one engine is that of all
@@ -95,8 +96,14 @@ module _ {E : Type 0} (meaning : E → EngineMeaning) (noted : E → List (List 
       (λ (h : (length w.seats.items ≤ 0) × (slice_get w.seats.items 0 ≡ None)). absurd (omega (arith, is.some)))
       (slice_get_cases w.seats.items 0).1
 
-  pub ran_headline : (valid : E → Type 0) → ((e : E) → valid e → TouchesOnlyHanded (meaning e)) → (m : EngineMeaning) (w : Nodes E) → IsWorld valid w → AllMean meaning m w → Ran m w → IsHeadline m (cluster_of w) (world_of w)
-  ran_headline valid law m w is all r = subst (IsHeadline m (cluster_of w)) (sym r.world) (headline m (touches_at valid law m w is all) (cluster_of w) r.events)
+  pub ran_headline : (valid : E → Type 0) → ((e : E) → valid e → TouchesOnlyHanded (meaning e)) → (m : EngineMeaning) (w : Nodes E) → IsWorld valid w → AllMean meaning m w → Ran m w → IsHeadline (always m) (world_of w)
+  ran_headline valid law m w is all r = subst (IsHeadline (always m)) (sym r.world) (same m (touches_at valid law m w is all) (size_of w) (rules_of w) r.events)
+
+  pub ran_fit : (valid : E → Type 0) → ((e : E) → valid e → TouchesOnlyHanded (meaning e)) → (m : EngineMeaning) (w : Nodes E) → IsWorld valid w → AllMean meaning m w → Ran m w → HaveFitted (rules_of w) (world_of w)
+  ran_fit valid law m w is all r = subst (HaveFitted (rules_of w)) (sym r.world) (same_fit m (touches_at valid law m w is all) (size_of w) (rules_of w) r.events)
+
+  pub ran_progress : (valid : E → Type 0) → ((e : E) → valid e → TouchesOnlyHanded (meaning e)) → (m : EngineMeaning) (w : Nodes E) → IsWorld valid w → AllMean meaning m w → Ran m w → IsProgress (always m) (cluster_of w) (world_of w)
+  ran_progress valid law m w is all r = subst (IsProgress (always m) (cluster_of w)) (sym r.world) (progress (always m) (λ n b. touches_at valid law m w is all) (cluster_of w) r.events)
 
   -- ---- by the answer of a call
 
@@ -112,9 +119,15 @@ module _ {E : Type 0} (meaning : E → EngineMeaning) (noted : E → List (List 
   run_some (Ok x) old new es happened stopped = (es, happened)
   run_some (Err f) old new es happened stopped = (take f.place es, stopped.before)
 
-  pub some_headline : (valid : E → Type 0) → ((e : E) → valid e → TouchesOnlyHanded (meaning e)) → (m : EngineMeaning) (old new : Nodes E) → IsWorld valid new → SomeHappened old new → AllMean meaning m old → Ran m old → IsHeadline m (cluster_of new) (world_of new)
-  some_headline valid law m old new is some all r =
-      ran_headline valid law m new is (mean_still m old new some.1.cluster some.1.meanings all) (ran_more m old new some.0 some.1 all r)
+  module _ (valid : E → Type 0) (law : (e : E) → valid e → TouchesOnlyHanded (meaning e)) (m : EngineMeaning) (old new : Nodes E) (is : IsWorld valid new) (some : SomeHappened old new) (all : AllMean meaning m old) (r : Ran m old) where
+    pub some_headline : IsHeadline (always m) (world_of new)
+    some_headline = ran_headline valid law m new is (mean_still m old new some.1.cluster some.1.meanings all) (ran_more m old new some.0 some.1 all r)
+
+    pub some_fit : HaveFitted (rules_of new) (world_of new)
+    some_fit = ran_fit valid law m new is (mean_still m old new some.1.cluster some.1.meanings all) (ran_more m old new some.0 some.1 all r)
+
+    pub some_progress : IsProgress (always m) (cluster_of new) (world_of new)
+    some_progress = ran_progress valid law m new is (mean_still m old new some.1.cluster some.1.meanings all) (ran_more m old new some.0 some.1 all r)
 
   -- ---- up to a place
 

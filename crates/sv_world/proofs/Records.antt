@@ -1,34 +1,37 @@
 -- What is durable at a node is its records, one behind the other.
-use Rattle.std.proofs.Common.{◌≡◌, ◌≢◌, ℕ, ◌==◌, true, cond, Option, Some, None, List, [], ◌∷◌, ◌++◌, refl, sym, ap, ◌∙◌, subst, ⊎_elim, eq-eqb, append-nil}
+use Rattle.std.proofs.Common.{◌≡◌, ◌≢◌, ℕ, ◌+◌, ◌==◌, true, cond, Option, Some, None, List, [], ◌∷◌, ◌++◌, refl, sym, ap, ◌∙◌, subst, ⊎_elim, eq-eqb, append-nil}
 use Rattle.std.specs.Option.{option_to_list}
-use Rattle.std.proofs.lemmas.Bool.{cases_eq, ne_eqb, cond-true, cond-false}
+use Rattle.std.proofs.lemmas.Bool.{cases_eq, ne_eqb, cond_both, cond-true, cond-false}
 use Rattle.std.proofs.lemmas.List.Concat.{flat_map-append}
 use Rattle.sv_model.specs.declared.packet.Packet.{Packet}
 use Rattle.sv_model.specs.declared.record.Record.{Record}
-use Rattle.sv_model.specs.Engine.{EngineMeaning, TouchesOnlyHanded}
-use Rattle.sv_model.specs.NodeState.{Durable, Node}
+use Rattle.sv_model.specs.declared.record.Record.TheVariants.{Boot, Forgets}
+use Rattle.sv_model.specs.Container.{Meanings, AllTouchOnlyHanded}
+use Rattle.sv_model.specs.NodeState.{Durable}
 use Rattle.std.specs.Prelude.{IfSome}
 use Rattle.sv_model.specs.declared.node.Setting.{Setting}
 use Rattle.sv_model.specs.declared.node.Stage.{Stage}
 use Rattle.sv_model.specs.declared.node.Stage.TheVariants.{Blank}
-use Rattle.sv_model.specs.Replay.{blank, boot_record, applied, applied_if, replayed, Fits, AllFit, stage_behind}
+use Rattle.sv_model.specs.Replay.{blank, boot_record, applied, applied_if, replayed}
+use Rattle.sv_model.specs.Fitting.{Fits, AllFit, stage_behind}
 use Rattle.sv_model.proofs.JournalLemmas.{journaled}
-use Rattle.sv_core.proofs.RangeLemmas.{starts_journaled}
-use Rattle.sv_model.specs.Step.{left}
+use Rattle.sv_model.specs.Decision.{left}
 use Rattle.sv_world.specs.declared.event.WorldEvent.{WorldEvent}
 use Rattle.sv_world.specs.declared.line.Line.{Line}
 use Rattle.sv_world.specs.declared.call.Call.{Call}
+use Rattle.sv_world.specs.declared.rules.Rules.{Rules}
+use Rattle.sv_world.specs.Rules.{setting_by}
 use Rattle.sv_world.specs.World.{Cluster, setting_of, Place, World, set_place, durable_at, stopped, nothing_happened, records_at, decision, happens, run}
 use Rattle.sv_world.proofs.Waiting.{by_node}
 use Rattle.sv_world.proofs.Events.{behind, behind_all}
 use Rattle.sv_world.proofs.Runs.{Inv, sound_at, happens_keeps}
 
-pub record Kept (c : Cluster) (w : World) : Type 0 where
+pub record Kept (wide : Rules) (w : World) : Type 0 where
   pub replay : (n : ℕ) → durable_at w n ≡ replayed blank (records_at n w.trace)
-  pub fits : (n : ℕ) → AllFit (setting_of c n) Blank blank (records_at n w.trace)
+  pub fits : (n : ℕ) → AllFit (setting_by wide n 0) Blank blank (records_at n w.trace)
 
-start_fits : (set : Setting) (n : Node) (stage : Stage) → Fits set stage n.durable (boot_record set n.durable)
-start_fits set n = (starts_journaled set n).fits
+start_fits : (set : Setting) (d : Durable) (stage : Stage) → Fits set stage d (boot_record set d)
+start_fits set d stage = cond_both set.forget (Forgets set.node (d.boot + 1)) (Boot (d.boot + 1)) (Fits set stage d) (λ _. (refl, refl)) (λ _. refl)
 
 -- the record that may be there fits
 abbrev pub FitsIf : Setting → Durable → Option Record → Type 0
@@ -47,8 +50,8 @@ one_more : (d : Durable) (o : Option Record) → replayed d (option_to_list o ++
 one_more d None = refl
 one_more d (Some r) = refl
 
-grows : (c : Cluster) (w : World) (n : ℕ) (p : Place) (l : Line) (packets : List Packet) → l.node ≡ n → p.node.durable ≡ applied_if l.entry (durable_at w n) → FitsIf (setting_of c n) (durable_at w n) l.entry → Kept c w → Kept c (record { places = set_place w.places n p; packets = packets; trace = w.trace ++ l ∷ [] })
-grows c w n p l packets at applies fit j = record {
+grows : (wide : Rules) (w : World) (n : ℕ) (p : Place) (l : Line) (packets : List Packet) → l.node ≡ n → p.node.durable ≡ applied_if l.entry (durable_at w n) → FitsIf (setting_by wide n 0) (durable_at w n) l.entry → Kept wide w → Kept wide (record { places = set_place w.places n p; packets = packets; trace = w.trace ++ l ∷ [] })
+grows wide w n p l packets at applies fit j = record {
   replay = λ y.
       let split : replayed blank (records_at y (w.trace ++ l ∷ [])) ≡ replayed (durable_at w y) (cond (l.node == y) (option_to_list l.entry) [] ++ []) =
       ap (replayed blank) (flat_map-append (λ (x : Line). cond (x.node == y) (option_to_list x.entry) []) w.trace (l ∷ [])) ∙ replayed_more blank (records_at y w.trace) _ ∙ ap (λ d. replayed d (cond (l.node == y) (option_to_list l.entry) [] ++ [])) (sym (j.replay y)) in
@@ -57,25 +60,25 @@ grows c w n p l packets at applies fit j = record {
       (λ e _. ap (λ rs. replayed (durable_at w y) (rs ++ [])) (sym (cond-false (l.node == y) (option_to_list l.entry) [] (ne_eqb l.node y (λ h. e (sym h ∙ at))))) ∙ sym split) refl;
   fits = λ y.
       let now : records_at y (w.trace ++ l ∷ []) ≡ records_at y w.trace ++ (cond (l.node == y) (option_to_list l.entry) [] ++ []) = flat_map-append (λ (x : Line). cond (x.node == y) (option_to_list x.entry) []) w.trace (l ∷ []) in
-      subst (AllFit (setting_of c y) Blank blank) (sym now) (⊎_elim
-      (λ (e : y ≡ n). subst (λ rs. AllFit (setting_of c y) Blank blank (records_at y w.trace ++ (rs ++ []))) (sym (cond-true (l.node == y) (option_to_list l.entry) [] (eq-eqb l.node y (at ∙ sym e))))
-      (fits_more (setting_of c y) Blank blank (records_at y w.trace) l.entry (j.fits y) (subst (λ d. FitsIf (setting_of c y) d l.entry) (j.replay y) (subst (λ z. FitsIf (setting_of c z) (durable_at w z) l.entry) (sym e) fit))))
-      (λ (e : y ≢ n). subst (λ rs. AllFit (setting_of c y) Blank blank (records_at y w.trace ++ (rs ++ []))) (sym (cond-false (l.node == y) (option_to_list l.entry) [] (ne_eqb l.node y (λ h. e (sym h ∙ at)))))
-      (subst (AllFit (setting_of c y) Blank blank) (sym (append-nil (records_at y w.trace))) (j.fits y)))
+      subst (AllFit (setting_by wide y 0) Blank blank) (sym now) (⊎_elim
+      (λ (e : y ≡ n). subst (λ rs. AllFit (setting_by wide y 0) Blank blank (records_at y w.trace ++ (rs ++ []))) (sym (cond-true (l.node == y) (option_to_list l.entry) [] (eq-eqb l.node y (at ∙ sym e))))
+      (fits_more (setting_by wide y 0) Blank blank (records_at y w.trace) l.entry (j.fits y) (subst (λ d. FitsIf (setting_by wide y 0) d l.entry) (j.replay y) (subst (λ z. FitsIf (setting_by wide z 0) (durable_at w z) l.entry) (sym e) fit))))
+      (λ (e : y ≢ n). subst (λ rs. AllFit (setting_by wide y 0) Blank blank (records_at y w.trace ++ (rs ++ []))) (sym (cond-false (l.node == y) (option_to_list l.entry) [] (ne_eqb l.node y (λ h. e (sym h ∙ at)))))
+      (subst (AllFit (setting_by wide y 0) Blank blank) (sym (append-nil (records_at y w.trace))) (j.fits y)))
       (cases_eq y n));
 }
 
 -- what fits under the rules of an event fits under those that the journals are seen by
-abbrev pub IsWider : Cluster → Cluster → Type 0
-IsWider wide c = (n : ℕ) (stage : Stage) (d : Durable) (r : Record) → Fits (setting_of c n) stage d r → Fits (setting_of wide n) stage d r
+abbrev pub IsWider : Rules → Cluster → Type 0
+IsWider wide c = (n boot : ℕ) (stage : Stage) (d : Durable) (r : Record) → Fits (setting_of c n boot) stage d r → Fits (setting_by wide n 0) stage d r
 
-module _ (m : EngineMeaning) (touches : TouchesOnlyHanded m) (c wide : Cluster) (wider : IsWider wide c) where
-  if_wider : (n : ℕ) (d : Durable) (o : Option Record) → FitsIf (setting_of c n) d o → FitsIf (setting_of wide n) d o
-  if_wider n d None h stage = tt
-  if_wider n d (Some r) h stage = wider n stage d r (h stage)
+module _ (m : Meanings) (touches : AllTouchOnlyHanded m) (c : Cluster) (wide : Rules) (wider : IsWider wide c) where
+  if_wider : (n boot : ℕ) (d : Durable) (o : Option Record) → FitsIf (setting_of c n boot) d o → FitsIf (setting_by wide n 0) d o
+  if_wider n boot d None h stage = tt
+  if_wider n boot d (Some r) h stage = wider n boot stage d r (h stage)
 
-  fits_at : (w : World) (call : Call) → FitsIf (setting_of wide call.node) (durable_at w call.node) (decision m c w call).entry
-  fits_at w call = if_wider call.node (durable_at w call.node) (decision m c w call).entry (journaled (setting_of c call.node) (w.places call.node).node m touches call.moment call.input).fits
+  fits_at : (w : World) (call : Call) → FitsIf (setting_by wide call.node 0) (durable_at w call.node) (decision m c w call).entry
+  fits_at w call = if_wider call.node (durable_at w call.node).boot (durable_at w call.node) (decision m c w call).entry (journaled (setting_of c call.node (durable_at w call.node).boot) (w.places call.node).node (m call.node (durable_at w call.node).boot) (touches call.node (durable_at w call.node).boot) call.moment call.input).fits
 
   pub happens_kept : (w : World) (e : WorldEvent) → Inv m c w → Kept wide w → Kept wide (happens m c w e)
   happens_kept w e inv j = behind m c w (Kept wide) e (record {
@@ -84,12 +87,11 @@ module _ (m : EngineMeaning) (touches : TouchesOnlyHanded m) (c wide : Cluster) 
     cut_by = λ call is r. grows wide w call.node (stopped (decision m c w call).durable) _ w.packets refl (sound_at m touches c w call inv r).applies (fits_at w call) j;
     silent_by = λ call is r. grows wide w call.node (record { up = true; node = left (decision m c w call) }) _ w.packets refl (sound_at m touches c w call inv r).applies (fits_at w call) j;
     halt_by = λ n asked _. grows wide w n (stopped (durable_at w n)) _ w.packets refl refl (λ stage. tt) j;
-    boots_by = λ n p none same. grows wide w n p _ w.packets refl same (if_wider n (durable_at w n) (Some (boot_record (setting_of c n) (durable_at w n))) (start_fits (setting_of c n) (w.places n).node)) j;
+    boots_by = λ n p may none same. grows wide w n p _ w.packets refl same (if_wider n ((durable_at w n).boot + 1) (durable_at w n) (Some (boot_record (setting_of c n ((durable_at w n).boot + 1)) (durable_at w n))) (start_fits (setting_of c n ((durable_at w n).boot + 1)) (durable_at w n))) j;
   })
 
-module _ (m : EngineMeaning) (touches : TouchesOnlyHanded m) (c : Cluster) where
-  pub run_kept : (w : World) (es : List WorldEvent) → Inv m c w → Kept c w → Kept c (run m c w es)
-  run_kept w es inv j = behind_all m c (Inv m c) (Kept c) (happens_keeps m touches c) (happens_kept m touches c c (λ n stage d r f. f)) w es inv j
+  pub run_kept : (w : World) (es : List WorldEvent) → Inv m c w → Kept wide w → Kept wide (run m c w es)
+  run_kept w es inv j = behind_all m c (Inv m c) (Kept wide) (happens_keeps m touches c) happens_kept w es inv j
 
-pub first_kept : (c : Cluster) → Kept c nothing_happened
-first_kept c = record { replay = λ n. refl; fits = λ n. tt }
+pub first_kept : (wide : Rules) → Kept wide nothing_happened
+first_kept wide = record { replay = λ n. refl; fits = λ n. tt }

@@ -16,10 +16,9 @@ use Rattle.sv_model.specs.declared.input.Input.{Input}
 use Rattle.sv_model.specs.declared.input.Input.TheVariants.{Ask, Packet as Incoming, Poke, Tick, Move}
 use Rattle.sv_model.specs.declared.record.Record.{Record}
 use Rattle.sv_model.specs.Keys.{key_cmp}
-use Rattle.sv_model.specs.Engine.{EngineMeaning, TouchesOnlyHanded}
+use Rattle.sv_model.specs.Container.{Meanings, AllTouchOnlyHanded}
 use Rattle.sv_model.specs.NodeState.{Durable, known}
-use Rattle.sv_model.specs.Decision.{Decision}
-use Rattle.sv_model.specs.Step.{left}
+use Rattle.sv_model.specs.Decision.{Decision, left}
 use Rattle.sv_model.specs.Trace.{Item, commits_of}
 use Rattle.sv_model.specs.Membership.{with_last}
 use Rattle.sv_model.specs.Outputs.{sends_in}
@@ -33,11 +32,10 @@ use Rattle.sv_world.specs.Life.{Life, Unborn}
 use Rattle.sv_world.specs.declared.event.WorldEvent.{WorldEvent}
 use Rattle.sv_world.specs.declared.line.Line.{Line}
 use Rattle.sv_world.specs.declared.call.Call.{Call}
-use Rattle.sv_world.specs.World.{Cluster, Place, World, set_place, durable_at, stopped, nothing_happened, items, commits_in, openings_of, whole, cut, silent, becomes, decision, happens, run, item_at, record_of_start, quiet_line, commit_with, token_of_call}
+use Rattle.sv_world.specs.World.{Cluster, Place, World, set_place, durable_at, stopped, nothing_happened, items, commits_in, openings_of, whole, cut, silent, becomes, decision, happens, run, item_at, record_of_start, quiet_line, commit_with, token_of_call, setting_of}
 use Rattle.sv_world.specs.Sane.{Sane, acked, store_of}
 use Rattle.sv_world.specs.Headline.{states, IsLiveAt, IsOpening, IsLive, granted, opened}
 use Rattle.sv_model.specs.Node.{decided}
-use Rattle.sv_world.specs.World.{setting_of}
 use Rattle.sv_world.proofs.Events.{IsSentIn, IsReady, behind, behind_all}
 use Rattle.sv_world.proofs.Sending.{lives_packets}
 use Rattle.sv_world.proofs.OneKey.{lives_once, map_has_live, live_of_map}
@@ -47,7 +45,7 @@ abbrev pub disks_of : (ℕ → Place) → ℕ → Durable
 disks_of places x = (places x).node.durable
 
 -- a record, so that its arguments are found
-pub record Inv (m : EngineMeaning) (c : Cluster) (w : World) : Type 0 where
+pub record Inv (m : Meanings) (c : Cluster) (w : World) : Type 0 where
   pub sane : Sane m c (disks_of w.places) w.packets (openings_of w.trace) (commits_in w)
 
 -- ---- a trace with one more line
@@ -63,7 +61,7 @@ pub commits_snoc : (trace : List Line) (l : Line) → commits_of (items (trace +
 commits_snoc trace l = ap commits_of (map-append item_at trace (l ∷ [])) ∙ flat_map-append (λ (i : Item). option_to_list i.commit) (items trace) (item_at l ∷ []) ∙ last_is (commits_of (items trace)) l.commit
 
 -- the invariant of a world, from that of its lists
-pub inv_by : (m : EngineMeaning) (c : Cluster) (places : ℕ → Place) (packets : List Packet) (trace : List Line) (l : Line) → Sane m c (disks_of places) packets (with_last (openings_of trace) (opening_of l.entry)) (with_last (commits_of (items trace)) l.commit)
+pub inv_by : (m : Meanings) (c : Cluster) (places : ℕ → Place) (packets : List Packet) (trace : List Line) (l : Line) → Sane m c (disks_of places) packets (with_last (openings_of trace) (opening_of l.entry)) (with_last (commits_of (items trace)) l.commit)
     → Inv m c (record { places = places; packets = packets; trace = trace ++ l ∷ [] })
 inv_by m c places packets trace l s = record { sane = subst (λ os. Sane m c (disks_of places) packets os (commits_of (items (trace ++ l ∷ [])))) (sym (openings_snoc trace l)) (subst (λ cs. Sane m c (disks_of places) packets (with_last (openings_of trace) (opening_of l.entry)) cs) (sym (commits_snoc trace l)) s) }
 
@@ -72,10 +70,10 @@ inv_by m c places packets trace l s = record { sane = subst (λ os. Sane m c (di
 redisk : (places : ℕ → Place) (n : ℕ) (p : Place) → Redisk (disks_of places) (disks_of (set_place places n p)) n p.node.durable
 redisk places n p = record { mine = ap (λ (z : Place). z.node.durable) (cond-true (n == n) p (places n) (eq-eqb n n refl)); others = λ y ne. ap (λ (z : Place). z.node.durable) (cond-false (y == n) p (places y) (ne_eqb y n ne)) }
 
-abbrev pub SoundAt : EngineMeaning → Cluster → World → ℕ → Decision → Type 0
+abbrev pub SoundAt : Meanings → Cluster → World → ℕ → Decision → Type 0
 SoundAt m c w n d = Sound m c (disks_of w.places) w.packets (openings_of w.trace) (commits_in w) n (durable_at w n) d
 
-whole_keeps : (m : EngineMeaning) (c : Cluster) (w : World) (e : WorldEvent) (call : Call) (d : Decision) → SoundAt m c w call.node d → Inv m c (whole c w e call d)
+whole_keeps : (m : Meanings) (c : Cluster) (w : World) (e : WorldEvent) (call : Call) (d : Decision) → SoundAt m c w call.node d → Inv m c (whole c w e call d)
 whole_keeps m c w e call d s =
     let n = call.node in
     let p : Place = record { up = true; node = left d } in
@@ -84,7 +82,7 @@ whole_keeps m c w e call d s =
     let l = lives_packets (keys_of (disks_of (set_place w.places n p))) w.packets _ _ (sends_in d.outputs) (s.just _ r) (record { each = a.lives }) in
     inv_by m c (set_place w.places n p) (w.packets ++ sends_in d.outputs) w.trace _ (record { lives = l.each; unmade = a.unmade; made = a.made; lawful = a.lawful; counts = a.counts; own = a.own; full = a.full })
 
-cut_keeps : (m : EngineMeaning) (c : Cluster) (w : World) (e : WorldEvent) (call : Call) (d : Decision) → SoundAt m c w call.node d → Inv m c (cut c w e call d)
+cut_keeps : (m : Meanings) (c : Cluster) (w : World) (e : WorldEvent) (call : Call) (d : Decision) → SoundAt m c w call.node d → Inv m c (cut c w e call d)
 cut_keeps m c w e call d s = inv_by m c (set_place w.places call.node (stopped d.durable)) w.packets w.trace _ (s.durable _ (redisk w.places call.node (stopped d.durable)))
 
 -- a node knows what it knew, and keeps what it kept; it may begin to forget its own keys
@@ -94,7 +92,7 @@ record IsAlike (n : ℕ) (old new : Durable) : Type 0 where
   next : new.next ≡ old.next
   home : (new.home ≡ old.home) ⊎ (new.home ≡ Some n)
 
-alike_keeps : (m : EngineMeaning) (c : Cluster) (w : World) (e : WorldEvent) (n : ℕ) (p : Place) (entry : Option Record) (asked : Option Token) → opening_of entry ≡ None → IsAlike n (durable_at w n) p.node.durable → Inv m c w → Inv m c (becomes w e n p entry asked)
+alike_keeps : (m : Meanings) (c : Cluster) (w : World) (e : WorldEvent) (n : ℕ) (p : Place) (entry : Option Record) (asked : Option Token) → opening_of entry ≡ None → IsAlike n (durable_at w n) p.node.durable → Inv m c w → Inv m c (becomes w e n p entry asked)
 alike_keeps m c w e n p entry asked none alike inv =
     let j = inv.sane in
     let r = redisk w.places n p in
@@ -111,7 +109,7 @@ alike_keeps m c w e n p entry asked none alike inv =
     (cases_eq y n) in
     inv_by m c (set_place w.places n p) w.packets w.trace _ (subst (λ o. Sane m c new w.packets (with_last (openings_of w.trace) o) (commits_in w)) (sym none) (record {
       lives = λ q. subst (λ (g : ℕ → Option KeyState). Life g (granted w.packets q) (acked w.packets q) (opened (openings_of w.trace) q) ((store_of m (commits_in w)).map q)) (λ i y. sym (f y q) i) (j.lives q);
-      unmade = λ y q u. f y q ∙ j.unmade y q (⊎_elim (λ (l : c.nodes ≤ q.home). inl l) (λ (l : ((new q.home).next ≤ q.serial) ⊎ (q.serial ≡ 0)). inr (⊎_elim (λ (l : (new q.home).next ≤ q.serial). inl (omega (arith, s q.home))) (λ (z : q.serial ≡ 0). inr z) l)) u);
+      unmade = λ y q u. f y q ∙ j.unmade y q (⊎_elim (λ (l : (new q.home).next ≤ q.serial). inl (omega (arith, s q.home))) (λ (z : q.serial ≡ 0). inr z) u);
       made = λ q u. omega (arith, s q.home, j.made q u);
       lawful = j.lawful;
       counts = λ y. omega (arith, s y, j.counts y);
@@ -134,16 +132,16 @@ forgets_known d n boot None is own full q = known_begun d n q is (λ given.
     full is q (eqb-true q.home n a.0) (ltb-true 0 q.serial b.0) (ltb-true q.serial d.next b.1))
 forgets_known d n boot (Some h) is own full q = ap (λ x. known (record d { home = x }) q) (ap Some (sym (own h is)) ∙ sym is)
 
-start_alike : (m : EngineMeaning) (c : Cluster) (w : World) (n : ℕ) → Inv m c w → IsAlike n (durable_at w n) (applied (record_of_start c w n) (durable_at w n))
+start_alike : (m : Meanings) (c : Cluster) (w : World) (n : ℕ) → Inv m c w → IsAlike n (durable_at w n) (applied (record_of_start c w n) (durable_at w n))
 start_alike m c w n inv =
     let j = inv.sane in
     let d = durable_at w n in
-    cond_both (setting_of c n).forget (Forgets n (d.boot + 1)) (Boot (d.boot + 1)) (λ r. IsAlike n d (applied r d))
+    cond_both (setting_of c n ((durable_at w n).boot + 1)).forget (Forgets n (d.boot + 1)) (Boot (d.boot + 1)) (λ r. IsAlike n d (applied r d))
     (λ _. record { known_is = forgets_known d n (d.boot + 1) d.home refl (j.own n) (j.full n); keys = refl; next = refl; home = inr refl })
     (λ _. record { known_is = λ q. refl; keys = refl; next = refl; home = inl refl })
 
 -- a step of which nothing leaves its node: what it made durable, and nothing where it has no record
-silent_by : (m : EngineMeaning) (c : Cluster) (w : World) (e : WorldEvent) (call : Call) (d : Decision) → SoundAt m c w call.node d → Inv m c w → (o : Option Record) → d.entry ≡ o
+silent_by : (m : Meanings) (c : Cluster) (w : World) (e : WorldEvent) (call : Call) (d : Decision) → SoundAt m c w call.node d → Inv m c w → (o : Option Record) → d.entry ≡ o
     → Inv m c (record { places = set_place w.places call.node (record { up = true; node = left d }); packets = w.packets; trace = w.trace ++ quiet_line w e call.node (token_of_call c w call) o (commit_with o d.commit) ∷ [] })
 silent_by m c w e call d s inv None is =
     let same : d.durable ≡ durable_at w call.node = s.applies ∙ ap (λ o. applied_if o (durable_at w call.node)) is in
@@ -153,24 +151,24 @@ silent_by m c w e call d s inv (Some r) is =
     let new = disks_of (set_place w.places call.node p) in
     inv_by m c (set_place w.places call.node p) w.packets w.trace _ (subst (λ o. Sane m c new w.packets (with_last (openings_of w.trace) (opening_of o)) (with_last (commits_in w) d.commit)) is (s.durable _ (redisk w.places call.node p)))
 
-silent_keeps : (m : EngineMeaning) (c : Cluster) (w : World) (e : WorldEvent) (call : Call) (d : Decision) → SoundAt m c w call.node d → Inv m c w → Inv m c (silent c w e call d)
+silent_keeps : (m : Meanings) (c : Cluster) (w : World) (e : WorldEvent) (call : Call) (d : Decision) → SoundAt m c w call.node d → Inv m c w → Inv m c (silent c w e call d)
 silent_keeps m c w e call d s inv = silent_by m c w e call d s inv d.entry refl
 
 start_opens : (c : Cluster) (w : World) (n : ℕ) → opening_of (Some (record_of_start c w n)) ≡ None
-start_opens c w n = cond_both (setting_of c n).forget (Forgets n ((durable_at w n).boot + 1)) (Boot ((durable_at w n).boot + 1)) (λ r. opening_of (Some r) ≡ None) (λ _. refl) (λ _. refl)
+start_opens c w n = cond_both (setting_of c n ((durable_at w n).boot + 1)).forget (Forgets n ((durable_at w n).boot + 1)) (Boot ((durable_at w n).boot + 1)) (λ r. opening_of (Some r) ≡ None) (λ _. refl) (λ _. refl)
 
 -- ---- an event
 
-module _ (m : EngineMeaning) (touches : TouchesOnlyHanded m) (c : Cluster) where
-  sound_by : (w : World) (n : ℕ) (moment : Moment) (i : Input) → Inv m c w → n < c.nodes → IsSentIn w.packets i → SoundAt m c w n (decided m (setting_of c n) (w.places n).node moment i)
-  sound_by w n moment (Ask token r) j inside sent = decide_sound m touches c (disks_of w.places) w.packets (openings_of w.trace) (commits_in w) j.sane n inside (w.places n).node refl moment (Ask token r) sent
-  sound_by w n moment (Incoming p) j inside sent = decide_sound m touches c (disks_of w.places) w.packets (openings_of w.trace) (commits_in w) j.sane n inside (w.places n).node refl moment (Incoming p) sent
-  sound_by w n moment Poke j inside sent = decide_sound m touches c (disks_of w.places) w.packets (openings_of w.trace) (commits_in w) j.sane n inside (w.places n).node refl moment Poke sent
-  sound_by w n moment Tick j inside sent = decide_sound m touches c (disks_of w.places) w.packets (openings_of w.trace) (commits_in w) j.sane n inside (w.places n).node refl moment Tick sent
-  sound_by w n moment (Move k to) j inside sent = decide_sound m touches c (disks_of w.places) w.packets (openings_of w.trace) (commits_in w) j.sane n inside (w.places n).node refl moment (Move k to) sent
+module _ (m : Meanings) (touches : AllTouchOnlyHanded m) (c : Cluster) where
+  sound_by : (w : World) (n : ℕ) (moment : Moment) (i : Input) → Inv m c w → IsSentIn w.packets i → SoundAt m c w n (decided (m n (durable_at w n).boot) (setting_of c n (durable_at w n).boot) (w.places n).node moment i)
+  sound_by w n moment (Ask token r) j sent = decide_sound m touches c (disks_of w.places) w.packets (openings_of w.trace) (commits_in w) j.sane n (w.places n).node refl moment (Ask token r) sent
+  sound_by w n moment (Incoming p) j sent = decide_sound m touches c (disks_of w.places) w.packets (openings_of w.trace) (commits_in w) j.sane n (w.places n).node refl moment (Incoming p) sent
+  sound_by w n moment Poke j sent = decide_sound m touches c (disks_of w.places) w.packets (openings_of w.trace) (commits_in w) j.sane n (w.places n).node refl moment Poke sent
+  sound_by w n moment Tick j sent = decide_sound m touches c (disks_of w.places) w.packets (openings_of w.trace) (commits_in w) j.sane n (w.places n).node refl moment Tick sent
+  sound_by w n moment (Move k to) j sent = decide_sound m touches c (disks_of w.places) w.packets (openings_of w.trace) (commits_in w) j.sane n (w.places n).node refl moment (Move k to) sent
 
   pub sound_at : (w : World) (call : Call) → Inv m c w → IsReady c w call → SoundAt m c w call.node (decision m c w call)
-  sound_at w call j r = sound_by w call.node call.moment call.input j r.inside r.sent
+  sound_at w call j r = sound_by w call.node call.moment call.input j r.sent
 
   pub happens_keeps : (w : World) (e : WorldEvent) → Inv m c w → Inv m c (happens m c w e)
   happens_keeps w e j = behind m c w (Inv m c) e (record {
@@ -179,7 +177,7 @@ module _ (m : EngineMeaning) (touches : TouchesOnlyHanded m) (c : Cluster) where
     cut_by = λ call is r. cut_keeps m c w e call (decision m c w call) (sound_at w call j r);
     silent_by = λ call is r. silent_keeps m c w e call (decision m c w call) (sound_at w call j r) j;
     halt_by = λ n asked _. alike_keeps m c w e n (stopped (durable_at w n)) None asked refl (same_alike n (durable_at w n) (durable_at w n) refl) j;
-    boots_by = λ n p none same. alike_keeps m c w e n p (Some (record_of_start c w n)) None (start_opens c w n) (subst (IsAlike n (durable_at w n)) (sym same) (start_alike m c w n j)) j;
+    boots_by = λ n p may none same. alike_keeps m c w e n p (Some (record_of_start c w n)) None (start_opens c w n) (subst (IsAlike n (durable_at w n)) (sym same) (start_alike m c w n j)) j;
   })
 
   pub run_keeps : (w : World) (es : List WorldEvent) → Inv m c w → Inv m c (run m c w es)
@@ -188,7 +186,7 @@ module _ (m : EngineMeaning) (touches : TouchesOnlyHanded m) (c : Cluster) where
 blank_knows : (q : Key) → known blank q ≡ None
 blank_knows q = plainly_known blank q refl ∙ get-empty key_cmp q
 
-pub at_first : (m : EngineMeaning) (c : Cluster) → Inv m c nothing_happened
+pub at_first : (m : Meanings) (c : Cluster) → Inv m c nothing_happened
 at_first m c = record {
   sane = record {
     lives = λ q. record {
@@ -215,7 +213,7 @@ at_first m c = record {
 }
 
 -- what the invariant says of a world
-module _ (m : EngineMeaning) (c : Cluster) (w : World) (j : Inv m c w) where
+module _ (m : Meanings) (c : Cluster) (w : World) (j : Inv m c w) where
   pub copies : (k : Key) (x y : ℕ) (s u : Session) → IsLiveAt w k x s → IsLiveAt w k y u → x ≡ y
   copies k x y s u a b = lives_once _ _ _ _ _ (j.sane.lives k) x y s u a b
 

@@ -8,13 +8,13 @@ use Rattle.sv_model.specs.declared.key.Moment.{Moment}
 use Rattle.sv_model.specs.declared.node.Setting.{Setting}
 use Rattle.sv_model.specs.declared.node.Stage.TheVariants.{Blank}
 use Rattle.sv_model.specs.declared.record.Record.{Record}
-use Rattle.sv_model.specs.Decision.{Decision}
+use Rattle.sv_model.specs.Decision.{Decision, left}
 use Rattle.sv_model.specs.Engine.{EngineMeaning, heard_all}
 use Rattle.sv_model.specs.Journaled.{IsJournaled}
 use Rattle.sv_model.specs.NodeState.{Durable, Node}
 use Rattle.sv_model.specs.Node.{decided}
-use Rattle.sv_model.specs.Replay.{blank, replayed, applied_if, AllFit}
-use Rattle.sv_model.specs.Step.{left}
+use Rattle.sv_model.specs.Replay.{blank, replayed, applied_if}
+use Rattle.sv_model.specs.Fitting.{AllFit}
 use Rattle.sv_core.specs.declared.node.Core.{Core}
 use Rattle.sv_core.specs.Core as core
 use Rattle.sv_world.specs.declared.line.Effect.{Effect}

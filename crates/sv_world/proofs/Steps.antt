@@ -32,11 +32,9 @@ use Rattle.sv_model.specs.declared.outcome.Fate.TheVariants.{Untouched, Kept, En
 use Rattle.sv_model.specs.declared.outcome.Birth.{Birth}
 use Rattle.sv_model.specs.declared.outcome.Birth.TheVariants.{Absent, Alive, Ended as BirthEnded}
 use Rattle.sv_model.specs.declared.record.Record.TheVariants.{Gone as GoneRecord}
-use Rattle.sv_model.specs.Engine.{EngineMeaning, TouchesOnlyHanded}
+use Rattle.sv_model.specs.Container.{Meanings, AllTouchOnlyHanded, committed, after, IsLawful, AreLawful, events_with, replies_with, Store, nothing_stored, held_by, handed_if, outcome_of, fated, born, made_with, stored, IsNewKey, expiry_events}
 use Rattle.sv_model.specs.Keys.{set_key}
-use Rattle.sv_model.specs.Container.{Store, nothing_stored, held_by, handed_if, outcome_of, fated, born, made_with, stored, committed, after, IsNewKey, IsLawful, AreLawful, expiry_events}
-use Rattle.sv_model.specs.OneContainer.{events_with, replies_with}
-use Rattle.sv_model.specs.NodeState.{Keys, Durable, Node, last_number, session_in, epoch_in, is_own, was_given, known_by, known, is_settled, is_unmade, is_full, lacks_room, is_crowded}
+use Rattle.sv_model.specs.NodeState.{Keys, Durable, Node, last_number, session_in, epoch_in, is_own, was_given, known, is_settled, is_unmade, is_full, lacks_room, is_crowded}
 use Rattle.sv_model.specs.Decision.{Decision, idle, with_record}
 use Rattle.sv_model.specs.Serving.{fresh_of, held_in, answer_of, kept_at, over_at, ended_at, fated_keys, born_keys, next_with, named_change, born_change, entry_of, token_of, answered, refused, no_birth, answered_unless, served}
 use Rattle.sv_model.specs.Waiting.{wants, parks, waits, on_ask, first_of, without, serve_first, serve_parked}
@@ -46,7 +44,7 @@ use Rattle.sv_model.specs.Node.{decided}
 use Rattle.sv_model.specs.Replay.{applied_if}
 use Rattle.sv_model.specs.Trace.{reply_in}
 use Rattle.sv_model.proofs.KeyLemmas.{keys_tell}
-use Rattle.sv_model.proofs.KnownLemmas.{active_kept, sent_kept, kept_known, known_insert, known_remove, known_born, known_spent}
+use Rattle.sv_model.proofs.KnownLemmas.{active_kept, kept_known, known_insert, known_remove, known_born, known_spent}
 use Rattle.sv_model.proofs.EntryLemmas.{Entry, entry_kept, over_in}
 use Rattle.sv_model.specs.Membership.{In, with_last}
 use Rattle.sv_model.specs.Outputs.{sends_in}
@@ -80,8 +78,8 @@ next_of disks new n disk r l y = ⊎_elim
     (cases_eq y n)
 
 -- what has no maker afterwards had none before
-unmade_before : (c : Cluster) (disks new : ℕ → Durable) → ((y : ℕ) → (disks y).next ≤ (new y).next) → (q : Key) → IsUnmade c new q → IsUnmade c disks q
-unmade_before c disks new up q h = ⊎_elim (λ (l : c.nodes ≤ q.home). inl l) (λ (r : ((new q.home).next ≤ q.serial) ⊎ (q.serial ≡ 0)). inr (⊎_elim (λ (l : (new q.home).next ≤ q.serial). inl (omega (arith, up q.home))) (λ (z : q.serial ≡ 0). inr z) r)) h
+unmade_before : (disks new : ℕ → Durable) → ((y : ℕ) → (disks y).next ≤ (new y).next) → (q : Key) → IsUnmade new q → IsUnmade disks q
+unmade_before disks new up q h = ⊎_elim (λ (l : (new q.home).next ≤ q.serial). inl (omega (arith, up q.home))) (λ (z : q.serial ≡ 0). inr z) h
 
 -- ---- one key is known to be something else
 
@@ -92,13 +90,13 @@ set_some f k st q there is = ⊎_elim
     (keys_tell q k)
 
 -- what is durable now says of one key that its state is this, and of all others what it said
-record IsRow (old disk : Durable) (k : Key) (st : KeyState) : Type 0 where
-  known_is : (q : Key) → known disk q ≡ set_key (known old) k (Some st) q
+pub record IsRow (old disk : Durable) (k : Key) (st : KeyState) : Type 0 where
+  pub known_is : (q : Key) → known disk q ≡ set_key (known old) k (Some st) q
   next_is : disk.next ≡ old.next
   home_is : disk.home ≡ old.home
   keeps : disk.home ≡ None → (q : Key) → get old.keys q ≢ None → get disk.keys q ≢ None
 
-put_row : (d : Durable) (k : Key) (st : KeyState) → IsRow d (with_key d k st) k st
+pub put_row : (d : Durable) (k : Key) (st : KeyState) → IsRow d (with_key d k st) k st
 put_row d k st = record {
   known_is = known_insert d k st;
   next_is = refl;
@@ -107,7 +105,7 @@ put_row d k st = record {
 }
 
 -- an end: the epoch that it leaves is the last one where the key is forgotten
-abbrev over_epoch : Option ℕ → Key → ℕ → ℕ
+abbrev pub over_epoch : Option ℕ → Key → ℕ → ℕ
 over_epoch home k e = cond (is_own home k) last_number e
 
 abbrev with_over : Durable → Key → ℕ → Durable
@@ -126,7 +124,7 @@ over_by d k e false is given = put_row d k (Ended e)
 over_row : (d : Durable) (k : Key) (e : ℕ) → (is_own d.home k ≡ true → was_given d k ≡ true) → IsRow d (with_over d k e) k (Ended (over_epoch d.home k e))
 over_row d k e given = over_by d k e (is_own d.home k) refl given
 
-over_up : (home : Option ℕ) (k : Key) (e : ℕ) → e ≤ last_number → e ≤ over_epoch home k e
+pub over_up : (home : Option ℕ) (k : Key) (e : ℕ) → e ≤ last_number → e ≤ over_epoch home k e
 over_up home k e le = cond_both (is_own home k) last_number e (λ d. e ≤ d) (λ _. le) (λ _. omega arith)
 
 over_last : (home : Option ℕ) (k : Key) (e : ℕ) → e ≤ last_number → over_epoch home k e ≤ last_number
@@ -137,11 +135,11 @@ own_home : (home : Option ℕ) (k : Key) → is_own home k ≡ true → (h : ℕ
 own_home None k is = absurd (let no : false ≡ true = is in cc)
 own_home (Some h) k is = (h, refl, eqb-true k.home h is)
 
-pub after_snoc : (m : EngineMeaning) (st : Store) (cs : List Commit) (c : Commit) → after m st (cs ++ c ∷ []) ≡ committed m (after m st cs) c
+pub after_snoc : (m : Meanings) (st : Store) (cs : List Commit) (c : Commit) → after m st (cs ++ c ∷ []) ≡ committed m (after m st cs) c
 after_snoc m st [] c = refl
 after_snoc m st (x ∷ cs) c = after_snoc m (committed m st x) cs c
 
-pub lawful_snoc : (m : EngineMeaning) (st : Store) (cs : List Commit) (c : Commit) → AreLawful m st cs → IsLawful m (after m st cs) c → AreLawful m st (cs ++ c ∷ [])
+pub lawful_snoc : (m : Meanings) (st : Store) (cs : List Commit) (c : Commit) → AreLawful m st cs → IsLawful m (after m st cs) c → AreLawful m st (cs ++ c ∷ [])
 lawful_snoc m st [] c h l = (l, tt)
 lawful_snoc m st (x ∷ cs) c h l = (h.0, lawful_snoc m (committed m st x) cs c h.1 l)
 
@@ -273,10 +271,10 @@ apart_from d k q e s is none same = let a : known d k ≡ Some (Active e s) = ke
 abbrev with_fate : Durable → Option (Key × Secret) → Fate → Durable
 with_fate d named f = record d { keys = fated_keys d.home named f d.keys }
 
-keeps_row : (d : Durable) (k : Key) (e : ℕ) (old s : Session) → get d.keys k ≡ Some (Active e old) → IsRow d (record d { keys = kept_at k s (get d.keys k) d.keys }) k (Active e s)
+pub keeps_row : (d : Durable) (k : Key) (e : ℕ) (old s : Session) → get d.keys k ≡ Some (Active e old) → IsRow d (record d { keys = kept_at k s (get d.keys k) d.keys }) k (Active e s)
 keeps_row d k e old s is = subst (λ st. IsRow d (record d { keys = kept_at k s st d.keys }) k (Active e s)) (sym is) (put_row d k (Active e s))
 
-ends_row : (d : Durable) (k : Key) (e : ℕ) (old : Session) → get d.keys k ≡ Some (Active e old) → (is_own d.home k ≡ true → was_given d k ≡ true) → IsRow d (record d { keys = ended_at d.home k (get d.keys k) d.keys }) k (Ended (over_epoch d.home k e))
+pub ends_row : (d : Durable) (k : Key) (e : ℕ) (old : Session) → get d.keys k ≡ Some (Active e old) → (is_own d.home k ≡ true → was_given d k ≡ true) → IsRow d (record d { keys = ended_at d.home k (get d.keys k) d.keys }) k (Ended (over_epoch d.home k e))
 ends_row d k e old is given = subst (λ st. IsRow d (record d { keys = ended_at d.home k st d.keys }) k (Ended (over_epoch d.home k e))) (sym is) (over_row d k e given)
 
 fated_unknown : (d : Durable) (named : Option (Key × Secret)) (f : Fate) (q : Key) → FateFits d.keys named f → ((k : Key) (e : ℕ) (s : Session) → get d.keys k ≡ Some (Active e s) → is_own d.home k ≡ true → was_given d k ≡ true)
@@ -312,20 +310,20 @@ not_true true h = absurd (let no : false ≡ true = h in cc)
 not_true false h = refl
 
 -- the decision keeps the invariant, once its record is there, and its packets may leave then
-pub record Sound (m : EngineMeaning) (c : Cluster) (disks : ℕ → Durable) (ps : List Packet) (os : List Opening) (cs : List Commit) (n : ℕ) (old : Durable) (d : Decision) : Type 0 where
+pub record Sound (m : Meanings) (c : Cluster) (disks : ℕ → Durable) (ps : List Packet) (os : List Opening) (cs : List Commit) (n : ℕ) (old : Durable) (d : Decision) : Type 0 where
   pub durable : (new : ℕ → Durable) → Redisk disks new n d.durable → Sane m c new ps (with_last os (opening_of d.entry)) (with_last cs d.commit)
   pub just : (new : ℕ → Durable) → Redisk disks new n d.durable → AllJustified (keys_of new) ps (sends_in d.outputs)
   pub events : d.events ≡ events_with m (store_of m cs) d.commit
-  pub replies : filter_map (reply_in (token_of (setting_of c n) old)) d.outputs ≡ replies_with m (store_of m cs) d.commit
+  pub replies : filter_map (reply_in (token_of (setting_of c n old.boot) old)) d.outputs ≡ replies_with m (store_of m cs) d.commit
   pub mark : d.mark ≡ mark_of d.entry
   pub applies : d.durable ≡ applied_if d.entry old
 
-module _ (m : EngineMeaning) (touches : TouchesOnlyHanded m) (c : Cluster) (disks : ℕ → Durable) (ps : List Packet) (os : List Opening) (cs : List Commit) (j : Sane m c disks ps os cs) (n : ℕ) (inside : n < c.nodes) (node : Node) (here : disks n ≡ node.durable) where
+module _ (m : Meanings) (touches : AllTouchOnlyHanded m) (c : Cluster) (disks : ℕ → Durable) (ps : List Packet) (os : List Opening) (cs : List Commit) (j : Sane m c disks ps os cs) (n : ℕ) (node : Node) (here : disks n ≡ node.durable) where
   abbrev set : Setting
-  set = setting_of c n
+  set = setting_of c n node.durable.boot
 
   abbrev token_at : ℕ → Token
-  token_at number = token_of (setting_of c n) node.durable number
+  token_at number = token_of (setting_of c n node.durable.boot) node.durable number
 
   all : LivesOf (keys_of disks) ps os (store_of m cs).map
   all = record { each = j.lives }
@@ -337,10 +335,10 @@ module _ (m : EngineMeaning) (touches : TouchesOnlyHanded m) (c : Cluster) (disk
   sane_same : (new : ℕ → Durable) → Redisk disks new n node.durable → Sane m c new ps os cs
   sane_same new r = subst (λ ds. Sane m c ds ps os cs) (new_is new r) j
 
-  quiet_sound : (outs : List Output) (waiting : List Parked) (want : ℕ) → IsPlain (keys_of disks) ps (λ number. token_of (setting_of c n) node.durable number) outs → Sound m c disks ps os cs n node.durable (record { entry = None; commit = None; events = []; mark = None; outputs = outs; durable = node.durable; parked = waiting; next_want = want })
+  quiet_sound : (outs : List Output) (waiting : List Parked) (want : ℕ) → IsPlain (keys_of disks) ps (λ number. token_of (setting_of c n node.durable.boot) node.durable number) outs → Sound m c disks ps os cs n node.durable (record { entry = None; commit = None; events = []; mark = None; outputs = outs; durable = node.durable; parked = waiting; next_want = want })
   quiet_sound outs waiting want h = record { durable = sane_same; just = λ new r. subst (λ ds. AllJustified (keys_of ds) ps (sends_in outs)) (new_is new r) h.just; events = refl; replies = h.silent; mark = refl; applies = refl }
 
-  idle_sound : (outs : List Output) → AllJustified (keys_of disks) ps (sends_in outs) → filter_map (reply_in (λ number. token_of (setting_of c n) node.durable number)) outs ≡ [] → Sound m c disks ps os cs n node.durable (idle node outs)
+  idle_sound : (outs : List Output) → AllJustified (keys_of disks) ps (sends_in outs) → filter_map (reply_in (λ number. token_of (setting_of c n node.durable.boot) node.durable number)) outs ≡ [] → Sound m c disks ps os cs n node.durable (idle node outs)
   idle_sound outs h r = quiet_sound outs node.parked node.next_want (record { just = h; silent = r })
 
   nothing_sound : Sound m c disks ps os cs n node.durable (idle node [])
@@ -367,17 +365,17 @@ module _ (m : EngineMeaning) (touches : TouchesOnlyHanded m) (c : Cluster) (disk
   given_here k there is =
       let h = own_home node.durable.home k is in
       let home : k.home ≡ n = h.2 ∙ home_here h.0 h.1 in
-      let unknown : IsUnmade c disks k → known node.durable k ≡ None = λ u. ap (λ (d : Durable). known d k) (sym here) ∙ j.unmade n k u in
-      let positive : nat_lt 0 k.serial ≡ true = ⊎_elim (λ (l : 0 < k.serial). lt-ltb 0 k.serial l) (λ (z : k.serial ≤ 0). absurd (there (unknown (inr (inr (omega (arith, z))))))) (cases_lt 0 k.serial) in
+      let unknown : IsUnmade disks k → known node.durable k ≡ None = λ u. ap (λ (d : Durable). known d k) (sym here) ∙ j.unmade n k u in
+      let positive : nat_lt 0 k.serial ≡ true = ⊎_elim (λ (l : 0 < k.serial). lt-ltb 0 k.serial l) (λ (z : k.serial ≤ 0). absurd (there (unknown (inr (omega (arith, z)))))) (cases_lt 0 k.serial) in
       let below : nat_lt k.serial node.durable.next ≡ true = ⊎_elim (λ (l : k.serial < node.durable.next). lt-ltb k.serial node.durable.next l)
-      (λ (z : node.durable.next ≤ k.serial). absurd (there (unknown (inr (inl (omega (arith, z, ap (λ y. (disks y).next) home, ap (λ (d : Durable). d.next) here))))))) (cases_lt k.serial node.durable.next) in
+      (λ (z : node.durable.next ≤ k.serial). absurd (there (unknown (inl (omega (arith, z, ap (λ y. (disks y).next) home, ap (λ (d : Durable). d.next) here)))))) (cases_lt k.serial node.durable.next) in
       (λ i. is i && (positive i && below i))
 
-  active_given : (k : Key) (e : ℕ) (s : Session) → get node.durable.keys k ≡ Some (Active e s) → is_own node.durable.home k ≡ true → was_given node.durable k ≡ true
+  pub active_given : (k : Key) (e : ℕ) (s : Session) → get node.durable.keys k ≡ Some (Active e s) → is_own node.durable.home k ≡ true → was_given node.durable k ≡ true
   active_given k e s is own = given_here k (λ none. let a : known node.durable k ≡ Some (Active e s) = kept_known node.durable k (Active e s) is in cc) own
 
   -- no epoch is past the last
-  active_within : (k : Key) (e : ℕ) (s : Session) → get node.durable.keys k ≡ Some (Active e s) → e ≤ last_number
+  pub active_within : (k : Key) (e : ℕ) (s : Session) → get node.durable.keys k ≡ Some (Active e s) → e ≤ last_number
   active_within k e s is =
       let l = j.lives k in
       let h : l.phase ≡ Here n e s = is_here l.phase (λ x. keys_of disks x k) n e s l.stands (kept_here k (Active e s) is) in
@@ -410,9 +408,9 @@ module _ (m : EngineMeaning) (touches : TouchesOnlyHanded m) (c : Cluster) (disk
     up_row : (y : ℕ) → (disks y).next ≤ (new y).next
     up_row = up_after disk (omega (arith, row.next_is)) new r
 
-    unmade_row : (x : ℕ) → (keys_of disks x k ≢ None) → (y : ℕ) (q : Key) → IsUnmade c new q → known (new y) q ≡ None
+    unmade_row : (x : ℕ) → (keys_of disks x k ≢ None) → (y : ℕ) (q : Key) → IsUnmade new q → known (new y) q ≡ None
     unmade_row x there y q h =
-        let before = unmade_before c disks new up_row q h in
+        let before = unmade_before disks new up_row q h in
         let old = j.unmade y q before in
         let unknown : q ≢ k = λ e. there (ap (keys_of disks x) (sym e) ∙ j.unmade x q before) in
         ⊎_elim
@@ -446,7 +444,7 @@ module _ (m : EngineMeaning) (touches : TouchesOnlyHanded m) (c : Cluster) (disk
     at_new : keys_of new n k ≡ Some st
     at_new = ap (λ (d : Durable). known d k) r.mine ∙ row.known_is k ∙ set_here (known node.durable) k (Some st)
 
-  hands_sound : (k : Key) (e : ℕ) (s : Session) (to : ℕ) (more : List Output) → sends_in more ≡ [] → filter_map (reply_in (λ number. token_of (setting_of c n) node.durable number)) more ≡ [] → get node.durable.keys k ≡ Some (Active e s) → to ≢ n → e ≢ last_number → Sound m c disks ps os cs n node.durable (hands_over (setting_of c n) node k e s to more)
+  hands_sound : (k : Key) (e : ℕ) (s : Session) (to : ℕ) (more : List Output) → sends_in more ≡ [] → filter_map (reply_in (λ number. token_of (setting_of c n node.durable.boot) node.durable number)) more ≡ [] → get node.durable.keys k ≡ Some (Active e s) → to ≢ n → e ≢ last_number → Sound m c disks ps os cs n node.durable (hands_over (setting_of c n node.durable.boot) node k e s to more)
   hands_sound k e s to more none silent is apart left =
       let row = put_row node.durable k (Sent (e + 1) s to) in
       let disk = with_key node.durable k (Sent (e + 1) s to) in
@@ -467,7 +465,7 @@ module _ (m : EngineMeaning) (touches : TouchesOnlyHanded m) (c : Cluster) (disk
       let st = subst (λ p. Stands p (λ x. keys_of disks x k)) away l.stands in
       let a = st.0 in cc
 
-  takes_sound : (k : Key) (e : ℕ) (s : Session) (from : ℕ) → granted ps k e s from n → epoch_in (known node.durable k) < e → Sound m c disks ps os cs n node.durable (takes_over (setting_of c n) node from k e s)
+  takes_sound : (k : Key) (e : ℕ) (s : Session) (from : ℕ) → granted ps k e s from n → epoch_in (known node.durable k) < e → Sound m c disks ps os cs n node.durable (takes_over (setting_of c n node.durable.boot) node from k e s)
   takes_sound k e s from g newer =
       let newer' : epoch_in (keys_of disks n k) < e = omega (arith, ap epoch_in (at_here k _ refl)) in
       let row = put_row node.durable k (Active e s) in
@@ -497,8 +495,8 @@ module _ (m : EngineMeaning) (touches : TouchesOnlyHanded m) (c : Cluster) (disk
 
   -- a session expires, and this is put out beside it
   expires_sound : (k : Key) (now e : ℕ) (s : Session) (outs : List Output) (waiting : List Parked) → get node.durable.keys k ≡ Some (Active e s) → is_over now (Active e s) ≡ true
-      → ((new : ℕ → Durable) → Redisk disks new n (with_over node.durable k e) → IsPlain (keys_of new) ps (λ number. token_of (setting_of c n) node.durable number) outs)
-      → filter_map (reply_in (λ number. token_of (setting_of c n) node.durable number)) outs ≡ []
+      → ((new : ℕ → Durable) → Redisk disks new n (with_over node.durable k e) → IsPlain (keys_of new) ps (λ number. token_of (setting_of c n node.durable.boot) node.durable number) outs)
+      → filter_map (reply_in (λ number. token_of (setting_of c n node.durable.boot) node.durable number)) outs ≡ []
       → Sound m c disks ps os cs n node.durable (record (expire node now (Some (k, Active e s)) []) { outputs = outs; parked = waiting })
   expires_sound k now e s outs waiting is over plain silent =
       let held : (store_of m cs).map k ≡ Some s = map_has_live _ _ _ _ _ (j.lives k) n s (subst (λ st. IsLive (λ x. keys_of disks x k) st s) (sym (kept_here k _ is)) refl) in
@@ -541,19 +539,19 @@ module _ (m : EngineMeaning) (touches : TouchesOnlyHanded m) (c : Cluster) (disk
   handed_same (Some k) = handed_state k.0 (get node.durable.keys k.0) refl
 
   -- by the law, a session is touched only where the key is active
-  fits_state : (k : Key × Secret) (st : Option KeyState) (r : Request) (now : ℕ) (fresh : Key × Secret) → get node.durable.keys k.0 ≡ st → FateFits node.durable.keys (Some k) (m.serve r (option_map (λ s. (k.0, s)) (session_in st)) now fresh).fate
-  fits_state k None r now fresh is = subst (FateFits node.durable.keys (Some k)) (sym (touches r now fresh)) tt
-  fits_state k (Some (Active e s)) r now fresh is = touched (m.serve r (Some (k.0, s)) now fresh).fate
+  fits_state : (k : Key × Secret) (st : Option KeyState) (r : Request) (now : ℕ) (fresh : Key × Secret) → get node.durable.keys k.0 ≡ st → FateFits node.durable.keys (Some k) ((m n node.durable.boot).serve r (option_map (λ s. (k.0, s)) (session_in st)) now fresh).fate
+  fits_state k None r now fresh is = subst (FateFits node.durable.keys (Some k)) (sym (touches n node.durable.boot r now fresh)) tt
+  fits_state k (Some (Active e s)) r now fresh is = touched ((m n node.durable.boot).serve r (Some (k.0, s)) now fresh).fate
     where
       touched : (f : Fate) → FateFits node.durable.keys (Some k) f
       touched Untouched = tt
       touched (Kept u) = (e, s, is)
       touched FateEnded = (e, s, is)
-  fits_state k (Some (Sent e s to)) r now fresh is = subst (FateFits node.durable.keys (Some k)) (sym (touches r now fresh)) tt
-  fits_state k (Some (Gone e)) r now fresh is = subst (FateFits node.durable.keys (Some k)) (sym (touches r now fresh)) tt
-  fits_state k (Some (Ended e)) r now fresh is = subst (FateFits node.durable.keys (Some k)) (sym (touches r now fresh)) tt
+  fits_state k (Some (Sent e s to)) r now fresh is = subst (FateFits node.durable.keys (Some k)) (sym (touches n node.durable.boot r now fresh)) tt
+  fits_state k (Some (Gone e)) r now fresh is = subst (FateFits node.durable.keys (Some k)) (sym (touches n node.durable.boot r now fresh)) tt
+  fits_state k (Some (Ended e)) r now fresh is = subst (FateFits node.durable.keys (Some k)) (sym (touches n node.durable.boot r now fresh)) tt
 
-  fits_named : (named : Option (Key × Secret)) (r : Request) (now : ℕ) (fresh : Key × Secret) → FateFits node.durable.keys named (m.serve r (held_in node.durable.keys named) now fresh).fate
+  fits_named : (named : Option (Key × Secret)) (r : Request) (now : ℕ) (fresh : Key × Secret) → FateFits node.durable.keys named ((m n node.durable.boot).serve r (held_in node.durable.keys named) now fresh).fate
   fits_named None r now fresh = tt
   fits_named (Some k) r now fresh = fits_state k (get node.durable.keys k.0) r now fresh refl
 
@@ -576,28 +574,28 @@ module _ (m : EngineMeaning) (touches : TouchesOnlyHanded m) (c : Cluster) (disk
   abbrev next_key : Key
   next_key = record { home = n; serial = node.durable.next }
 
-  next_unmade : IsUnmade c disks (record { home = n; serial = node.durable.next })
-  next_unmade = inr (inl (omega (arith, ap (λ (d : Durable). d.next) here)))
+  next_unmade : IsUnmade disks (record { home = n; serial = node.durable.next })
+  next_unmade = inl (omega (arith, ap (λ (d : Durable). d.next) here))
 
   next_new : (store_of m cs).made (record { home = n; serial = node.durable.next }) ≡ false
   next_new = false_from_ne_true _ (λ h. absurd (omega (arith, j.made (record { home = n; serial = node.durable.next }) h, ap (λ (d : Durable). d.next) here)))
 
   module _ (moment : Moment) (token : ℕ) (r : Request) (waiting : List Parked) where
     out : Outcome
-    out = answer_of m (setting_of c n) node.durable moment r
+    out = answer_of (m n node.durable.boot) (setting_of c n node.durable.boot) node.durable moment r
 
     fresh : Key × Secret
-    fresh = fresh_of (setting_of c n) node.durable moment
+    fresh = fresh_of (setting_of c n node.durable.boot) node.durable moment
 
-    fits : FateFits node.durable.keys (m.names r) out.fate
+    fits : FateFits node.durable.keys ((m n node.durable.boot).names r) out.fate
     unfolding out
-    fits = fits_named (m.names r) r moment.now (fresh_of (setting_of c n) node.durable moment)
+    fits = fits_named ((m n node.durable.boot).names r) r moment.now (fresh_of (setting_of c n node.durable.boot) node.durable moment)
 
     -- with the session's fate, before the birth
     middle : ℕ → Durable
-    middle x = cond (x == n) (with_fate node.durable (m.names r) out.fate) (disks x)
+    middle x = cond (x == n) (with_fate node.durable ((m n node.durable.boot).names r) out.fate) (disks x)
 
-    middle_here : middle n ≡ with_fate node.durable (m.names r) out.fate
+    middle_here : middle n ≡ with_fate node.durable ((m n node.durable.boot).names r) out.fate
     unfolding middle
     middle_here = cond-true _ _ _ (eq-eqb n n refl)
 
@@ -605,36 +603,36 @@ module _ (m : EngineMeaning) (touches : TouchesOnlyHanded m) (c : Cluster) (disk
     unfolding middle
     middle_there x ne = cond-false _ _ _ (ne_eqb x n ne)
 
-    middle_lives : LivesOf (keys_of middle) ps os (fated (m.names r) out.fate (store_of m cs).map)
-    middle_lives = fate_lives (m.names r) out.fate fits middle (λ q. ap (λ (d : Durable). known d q) middle_here) middle_there
+    middle_lives : LivesOf (keys_of middle) ps os (fated ((m n node.durable.boot).names r) out.fate (store_of m cs).map)
+    middle_lives = fate_lives ((m n node.durable.boot).names r) out.fate fits middle (λ q. ap (λ (d : Durable). known d q) middle_here) middle_there
 
-    middle_unknown : (x : ℕ) (q : Key) → IsUnmade c disks q → keys_of middle x q ≡ None
+    middle_unknown : (x : ℕ) (q : Key) → IsUnmade disks q → keys_of middle x q ≡ None
     middle_unknown x q un = ⊎_elim
-        (λ (e : x ≡ n). ap (λ z. known (middle z) q) e ∙ ap (λ (d : Durable). known d q) middle_here ∙ fated_unknown node.durable (m.names r) out.fate q fits active_given (ap (λ (d : Durable). known d q) (sym here) ∙ j.unmade n q un))
+        (λ (e : x ≡ n). ap (λ z. known (middle z) q) e ∙ ap (λ (d : Durable). known d q) middle_here ∙ fated_unknown node.durable ((m n node.durable.boot).names r) out.fate q fits active_given (ap (λ (d : Durable). known d q) (sym here) ∙ j.unmade n q un))
         (λ (e : x ≢ n). ap (λ (d : Durable). known d q) (middle_there x e) ∙ j.unmade x q un)
         (cases_eq x n)
 
     the_commit : Commit
-    the_commit = Served (token_of (setting_of c n) node.durable token) r moment.now (is_some (held_in node.durable.keys (m.names r))) fresh
+    the_commit = Served (token_of (setting_of c n node.durable.boot) node.durable token) r moment.now (is_some (held_in node.durable.keys ((m n node.durable.boot).names r))) fresh
 
     -- the container's outcome is the node's
-    outcome_same : outcome_of m (store_of m cs) r moment.now (is_some (held_in node.durable.keys (m.names r))) fresh ≡ out
+    outcome_same : outcome_of (m n node.durable.boot) (store_of m cs) r moment.now (is_some (held_in node.durable.keys ((m n node.durable.boot).names r))) fresh ≡ out
     unfolding out fresh
-    outcome_same = ap (λ h. m.serve r h moment.now (fresh_of (setting_of c n) node.durable moment)) (handed_same (m.names r))
+    outcome_same = ap (λ h. (m n node.durable.boot).serve r h moment.now (fresh_of (setting_of c n node.durable.boot) node.durable moment)) (handed_same ((m n node.durable.boot).names r))
 
-    stored_served : store_of m (cs ++ the_commit ∷ []) ≡ stored (m.names r) fresh.0 out (store_of m cs)
+    stored_served : store_of m (cs ++ the_commit ∷ []) ≡ stored ((m n node.durable.boot).names r) fresh.0 out (store_of m cs)
     unfolding the_commit
-    stored_served = after_snoc m nothing_stored cs the_commit ∙ ap (λ o. stored (m.names r) fresh.0 o (store_of m cs)) outcome_same
+    stored_served = after_snoc m nothing_stored cs the_commit ∙ ap (λ o. stored ((m n node.durable.boot).names r) fresh.0 o (store_of m cs)) outcome_same
 
-    module _ (allowed : no_birth (setting_of c n) node.durable out.birth ≡ None) where
+    module _ (allowed : no_birth (setting_of c n node.durable.boot) node.durable out.birth ≡ None) where
       fresh_is : out.birth ≢ Absent → fresh.0 ≡ record { home = n; serial = node.durable.next }
       unfolding fresh
-      fresh_is some = let at : Bool → Key = λ b. record { home = n; serial = cond b 0 node.durable.next } in ap at (serial_left (setting_of c n) node.durable out.birth allowed some)
+      fresh_is some = let at : Bool → Key = λ b. record { home = n; serial = cond b 0 node.durable.next } in ap at (serial_left (setting_of c n node.durable.boot) node.durable out.birth allowed some)
 
       -- all that was handed out is kept, and the new key, at a node that forgets none
-      full_birth : node.durable.home ≡ None → (q : Key) → q.home ≡ n → 0 < q.serial → q.serial < next_with out.birth node.durable.next → get (born_keys node.durable.home fresh.0 out.birth (with_fate node.durable (m.names r) out.fate).keys) q ≢ None
+      full_birth : node.durable.home ≡ None → (q : Key) → q.home ≡ n → 0 < q.serial → q.serial < next_with out.birth node.durable.next → get (born_keys node.durable.home fresh.0 out.birth (with_fate node.durable ((m n node.durable.boot).names r) out.fate).keys) q ≢ None
       full_birth none q home some less = ⊎_elim
-          (λ (l : q.serial < node.durable.next). born_kept node.durable.home _ fresh.0 out.birth q none (fated_full node.durable (m.names r) out.fate q fits active_given none (full_here none q home some l)))
+          (λ (l : q.serial < node.durable.next). born_kept node.durable.home _ fresh.0 out.birth q none (fated_full node.durable ((m n node.durable.boot).names r) out.fate q fits active_given none (full_here none q home some l)))
           (λ (l : node.durable.next ≤ q.serial).
           let birth : out.birth ≢ Absent = λ absent. absurd (omega (arith, less, l, ap (λ b. next_with b node.durable.next) absent)) in
           let serial : q.serial ≡ node.durable.next = omega (arith, l, less, next_raised out.birth node.durable.next birth) in
@@ -642,7 +640,7 @@ module _ (m : EngineMeaning) (touches : TouchesOnlyHanded m) (c : Cluster) (disk
           born_is node.durable.home _ fresh.0 out.birth q none birth at)
           (cases_lt q.serial node.durable.next)
 
-      answered_sound : Sound m c disks ps os cs n node.durable (answered m (setting_of c n) node moment token r out waiting)
+      answered_sound : Sound m c disks ps os cs n node.durable (answered (m n node.durable.boot) (setting_of c n node.durable.boot) node moment token r out waiting)
       unfolding fresh the_commit
       answered_sound = record {
         durable = λ new red.
@@ -660,18 +658,15 @@ module _ (m : EngineMeaning) (touches : TouchesOnlyHanded m) (c : Cluster) (disk
             }) in
             let raised : out.birth ≢ Absent → (new n).next ≡ node.durable.next + 1 = λ some. next_is ∙ next_raised out.birth node.durable.next some in
             record {
-              lives = λ q. subst (λ (st : Store). Life (λ x. known (new x) q) (granted ps q) (acked ps q) (opened (with_last os (opening_of (entry_of (named_change (m.names r) out.fate) (born_change fresh.0 out.birth)))) q) (st.map q)) (sym stored_served)
-                  (subst (λ o. Life (λ x. known (new x) q) (granted ps q) (acked ps q) (opened (with_last os o) q) (born fresh.0 out.birth (fated (m.names r) out.fate (store_of m cs).map) q)) (sym (noted_opens (m.names r) fresh.0 out.fate out.birth)) (lives.each q));
+              lives = λ q. subst (λ (st : Store). Life (λ x. known (new x) q) (granted ps q) (acked ps q) (opened (with_last os (opening_of (entry_of (named_change ((m n node.durable.boot).names r) out.fate) (born_change fresh.0 out.birth)))) q) (st.map q)) (sym stored_served)
+                  (subst (λ o. Life (λ x. known (new x) q) (granted ps q) (acked ps q) (opened (with_last os o) q) (born fresh.0 out.birth (fated ((m n node.durable.boot).names r) out.fate (store_of m cs).map) q)) (sym (noted_opens ((m n node.durable.boot).names r) fresh.0 out.fate out.birth)) (lives.each q));
               unmade = λ y q h.
-                  let before = unmade_before c disks new up q h in
+                  let before = unmade_before disks new up q h in
                   ⊎_elim
-                  (λ (e : y ≡ n). ap (λ z. known (new z) q) e ∙ ap (λ (d : Durable). known d q) red.mine ∙ born_unknown (with_fate node.durable (m.names r) out.fate) n fresh.0 out.birth q next_here home_here fresh_is
+                  (λ (e : y ≡ n). ap (λ z. known (new z) q) e ∙ ap (λ (d : Durable). known d q) red.mine ∙ born_unknown (with_fate node.durable ((m n node.durable.boot).names r) out.fate) n fresh.0 out.birth q next_here home_here fresh_is
                   (λ some same. let at : q ≡ record { home = n; serial = node.durable.next } = same ∙ fresh_is some in ⊎_elim
-                  (λ (l : c.nodes ≤ q.home). absurd (omega (arith, inside, ap (λ (z : Key). z.home) at)))
-                  (λ (l : ((new q.home).next ≤ q.serial) ⊎ (q.serial ≡ 0)). ⊎_elim
                   (λ (l : (new q.home).next ≤ q.serial). absurd (omega (arith, raised some, ap (λ (z : Key). z.serial) at, ap (λ z. (new z).next) (ap (λ (z : Key). z.home) at))))
                   (λ (z : q.serial ≡ 0). absurd (omega (arith, z, next_here, ap (λ (z : Key). z.serial) at)))
-                  l)
                   h)
                   (ap (λ (d : Durable). known d q) (sym middle_here) ∙ middle_unknown n q before))
                   (λ (e : y ≢ n). ap (λ (d : Durable). known d q) (red.others y e) ∙ j.unmade y q before)
@@ -687,18 +682,18 @@ module _ (m : EngineMeaning) (touches : TouchesOnlyHanded m) (c : Cluster) (disk
             };
         just = λ new red. tt;
         events = ap (λ (o : Outcome). o.events) (sym outcome_same);
-        replies = ap (λ (o : Outcome). (token_of (setting_of c n) node.durable token, o.response) ∷ []) (sym outcome_same);
-        mark = sym (noted_mark (m.names r) fresh.0 out.fate out.birth);
-        applies = sym (noted_applies (m.names r) fresh.0 out.fate out.birth node.durable);
+        replies = ap (λ (o : Outcome). (token_of (setting_of c n node.durable.boot) node.durable token, o.response) ∷ []) (sym outcome_same);
+        mark = sym (noted_mark ((m n node.durable.boot).names r) fresh.0 out.fate out.birth);
+        applies = sym (noted_applies ((m n node.durable.boot).names r) fresh.0 out.fate out.birth node.durable);
       }
 
-  unless_sound : (cause : Option Cause) (moment : Moment) (token : ℕ) (r : Request) (waiting : List Parked) → no_birth (setting_of c n) node.durable (answer_of m (setting_of c n) node.durable moment r).birth ≡ cause → Sound m c disks ps os cs n node.durable (answered_unless cause m (setting_of c n) node moment token r (answer_of m (setting_of c n) node.durable moment r) waiting)
+  unless_sound : (cause : Option Cause) (moment : Moment) (token : ℕ) (r : Request) (waiting : List Parked) → no_birth (setting_of c n node.durable.boot) node.durable (answer_of (m n node.durable.boot) (setting_of c n node.durable.boot) node.durable moment r).birth ≡ cause → Sound m c disks ps os cs n node.durable (answered_unless cause (m n node.durable.boot) (setting_of c n node.durable.boot) node moment token r (answer_of (m n node.durable.boot) (setting_of c n node.durable.boot) node.durable moment r) waiting)
   unfolding out
   unless_sound None moment token r waiting is = answered_sound moment token r waiting is
   unless_sound (Some cause) moment token r waiting is = quiet_sound _ waiting node.next_want (record { just = tt; silent = refl })
 
-  serve_sound : (moment : Moment) (token : ℕ) (r : Request) (waiting : List Parked) → Sound m c disks ps os cs n node.durable (served m (setting_of c n) node moment token r waiting)
-  serve_sound moment token r waiting = unless_sound (no_birth (setting_of c n) node.durable (answer_of m (setting_of c n) node.durable moment r).birth) moment token r waiting refl
+  serve_sound : (moment : Moment) (token : ℕ) (r : Request) (waiting : List Parked) → Sound m c disks ps os cs n node.durable (served (m n node.durable.boot) (setting_of c n node.durable.boot) node moment token r waiting)
+  serve_sound moment token r waiting = unless_sound (no_birth (setting_of c n node.durable.boot) node.durable (answer_of (m n node.durable.boot) (setting_of c n node.durable.boot) node.durable moment r).birth) moment token r waiting refl
 
   -- ---- the rows
 
@@ -706,43 +701,43 @@ module _ (m : EngineMeaning) (touches : TouchesOnlyHanded m) (c : Cluster) (disk
   either : (b : Bool) (x y : Decision) → (b ≡ true → Sound m c disks ps os cs n node.durable x) → (b ≡ false → Sound m c disks ps os cs n node.durable y) → Sound m c disks ps os cs n node.durable (cond b x y)
   either b x y f g = cond_both b x y (λ d. Sound m c disks ps os cs n node.durable d) f g
 
-  waits_sound : (moment : Moment) (token : ℕ) (r : Request) (k : Key) → Sound m c disks ps os cs n node.durable (waits (setting_of c n) node moment token r k)
+  waits_sound : (moment : Moment) (token : ℕ) (r : Request) (k : Key) → Sound m c disks ps os cs n node.durable (waits (setting_of c n node.durable.boot) node moment token r k)
   waits_sound moment token r k =
-      either (is_crowded (setting_of c n) node.durable k) (refused node token TableFull node.parked) _ (λ t. quiet_sound _ node.parked node.next_want (record { just = tt; silent = refl }))
-      (λ t. either (nat_le PARK_LIMIT (length node.parked)) (refused node token ParkFull node.parked) (cond (node.next_want == last_number) (refused node token WantsSpent node.parked) (parks (setting_of c n) node moment token r k))
+      either (is_crowded (setting_of c n node.durable.boot) node.durable k) (refused node token TableFull node.parked) _ (λ t. quiet_sound _ node.parked node.next_want (record { just = tt; silent = refl }))
+      (λ t. either (nat_le PARK_LIMIT (length node.parked)) (refused node token ParkFull node.parked) (cond (node.next_want == last_number) (refused node token WantsSpent node.parked) (parks (setting_of c n node.durable.boot) node moment token r k))
       (λ t. quiet_sound _ node.parked node.next_want (record { just = tt; silent = refl }))
-      (λ t. either (node.next_want == last_number) (refused node token WantsSpent node.parked) (parks (setting_of c n) node moment token r k) (λ u. quiet_sound _ node.parked node.next_want (record { just = tt; silent = refl }))
-      (λ u. quiet_sound (wants (setting_of c n) node.durable k node.next_want) _ (node.next_want + 1) (plain_wants (keys_of disks) ps _ (setting_of c n) node.durable k node.next_want))))
+      (λ t. either (node.next_want == last_number) (refused node token WantsSpent node.parked) (parks (setting_of c n node.durable.boot) node moment token r k) (λ u. quiet_sound _ node.parked node.next_want (record { just = tt; silent = refl }))
+      (λ u. quiet_sound (wants (setting_of c n node.durable.boot) node.durable k node.next_want) _ (node.next_want + 1) (plain_wants (keys_of disks) ps _ (setting_of c n node.durable.boot) node.durable k node.next_want))))
 
-  ask_sound : (moment : Moment) (token : ℕ) (r : Request) (named : Option (Key × Secret)) → Sound m c disks ps os cs n node.durable (on_ask m (setting_of c n) node moment token r named)
+  ask_sound : (moment : Moment) (token : ℕ) (r : Request) (named : Option (Key × Secret)) → Sound m c disks ps os cs n node.durable (on_ask (m n node.durable.boot) (setting_of c n node.durable.boot) node moment token r named)
   ask_sound moment token r None = serve_sound moment token r node.parked
-  ask_sound moment token r (Some k) = either _ (served m (setting_of c n) node moment token r node.parked) (waits (setting_of c n) node moment token r k.0) (λ t. serve_sound moment token r node.parked) (λ t. waits_sound moment token r k.0)
+  ask_sound moment token r (Some k) = either _ (served (m n node.durable.boot) (setting_of c n node.durable.boot) node moment token r node.parked) (waits (setting_of c n node.durable.boot) node moment token r k.0) (λ t. serve_sound moment token r node.parked) (λ t. waits_sound moment token r k.0)
 
-  first_sound : (moment : Moment) (p : Option Parked) (rest : List Parked) → Sound m c disks ps os cs n node.durable (serve_first m (setting_of c n) node moment p rest)
+  first_sound : (moment : Moment) (p : Option Parked) (rest : List Parked) → Sound m c disks ps os cs n node.durable (serve_first (m n node.durable.boot) (setting_of c n node.durable.boot) node moment p rest)
   first_sound moment None rest = nothing_sound
   first_sound moment (Some p) rest = serve_sound moment p.token p.request rest
 
-  parked_sound : (moment : Moment) (test : Parked → Bool) → Sound m c disks ps os cs n node.durable (serve_parked m (setting_of c n) node moment test)
+  parked_sound : (moment : Moment) (test : Parked → Bool) → Sound m c disks ps os cs n node.durable (serve_parked (m n node.durable.boot) (setting_of c n node.durable.boot) node moment test)
   parked_sound moment test = first_sound moment (first_of test node.parked) (without test node.parked)
 
-  no_sound : (from : ℕ) (k : Key) (boot want : ℕ) → Sound m c disks ps os cs n node.durable (says_no (setting_of c n) node from k boot want)
+  no_sound : (from : ℕ) (k : Key) (boot want : ℕ) → Sound m c disks ps os cs n node.durable (says_no (setting_of c n node.durable.boot) node from k boot want)
   no_sound from k boot want = idle_sound _ (tt, tt) refl
 
-  unmade_sound : (from : ℕ) (k : Key) (boot want : ℕ) → Sound m c disks ps os cs n node.durable (no_if_unmade (setting_of c n) node from k boot want)
-  unmade_sound from k boot want = either _ (says_no (setting_of c n) node from k boot want) (idle node []) (λ t. no_sound from k boot want) (λ t. nothing_sound)
+  unmade_sound : (from : ℕ) (k : Key) (boot want : ℕ) → Sound m c disks ps os cs n node.durable (no_if_unmade (setting_of c n node.durable.boot) node from k boot want)
+  unmade_sound from k boot want = either _ (says_no (setting_of c n node.durable.boot) node from k boot want) (idle node []) (λ t. no_sound from k boot want) (λ t. nothing_sound)
 
-  want_sound : (from : ℕ) (k : Key) (boot want : ℕ) (st : Option KeyState) → from ≢ n → known node.durable k ≡ st → Sound m c disks ps os cs n node.durable (on_want (setting_of c n) node from k boot want st)
+  want_sound : (from : ℕ) (k : Key) (boot want : ℕ) (st : Option KeyState) → from ≢ n → known node.durable k ≡ st → Sound m c disks ps os cs n node.durable (on_want (setting_of c n node.durable.boot) node from k boot want st)
   want_sound from k boot want None apart is = unmade_sound from k boot want
-  want_sound from k boot want (Some (Active e s)) apart is = either _ (idle node []) (hands_over (setting_of c n) node k e s from []) (λ t. nothing_sound) (λ t. hands_sound k e s from [] refl refl (active_kept (was_given node.durable k) (get node.durable.keys k) e s is) apart (eqb-false e last_number t))
-  want_sound from k boot want (Some (Sent e s to)) apart is = either (to == from) (idle node (_ ∷ [])) (no_if_unmade (setting_of c n) node from k boot want)
+  want_sound from k boot want (Some (Active e s)) apart is = either _ (idle node []) (hands_over (setting_of c n node.durable.boot) node k e s from []) (λ t. nothing_sound) (λ t. hands_sound k e s from [] refl refl (active_kept (was_given node.durable k) (get node.durable.keys k) e s is) apart (eqb-false e last_number t))
+  want_sound from k boot want (Some (Sent e s to)) apart is = either (to == from) (idle node (_ ∷ [])) (no_if_unmade (setting_of c n node.durable.boot) node from k boot want)
       (λ t. idle_sound _ (at_here k _ is ∙ ap (λ z. Some (Sent e s z)) (eqb-true to from t), tt) refl) (λ t. unmade_sound from k boot want)
   want_sound from k boot want (Some (Gone e)) apart is = unmade_sound from k boot want
   want_sound from k boot want (Some (Ended e)) apart is = no_sound from k boot want
 
-  grant_sound : (from : ℕ) (k : Key) (e : ℕ) (s : Session) → granted ps k e s from n → Sound m c disks ps os cs n node.durable (on_grant (setting_of c n) node from k e s (known node.durable k))
-  grant_sound from k e s g = either (is_unmade (setting_of c n) node.durable k) (idle node []) _ (λ t. nothing_sound)
+  grant_sound : (from : ℕ) (k : Key) (e : ℕ) (s : Session) → granted ps k e s from n → Sound m c disks ps os cs n node.durable (on_grant (setting_of c n node.durable.boot) node from k e s (known node.durable k))
+  grant_sound from k e s g = either (is_unmade (setting_of c n node.durable.boot) node.durable k) (idle node []) _ (λ t. nothing_sound)
       (λ t. either (nat_le e (epoch_in (known node.durable k))) (idle node (Send (Ack n from k e) ∷ [])) _ (λ u. idle_sound (Send (Ack n from k e) ∷ []) ((s, g, omega (arith, leb-true _ _ u, ap epoch_in (at_here k _ refl))), tt) refl)
-      (λ u. either (lacks_room (setting_of c n) node.durable k) (idle node []) (takes_over (setting_of c n) node from k e s) (λ v. nothing_sound) (λ v. takes_sound k e s from g (leb-false _ _ u))))
+      (λ u. either (lacks_room (setting_of c n node.durable.boot) node.durable k) (idle node []) (takes_over (setting_of c n node.durable.boot) node from k e s) (λ v. nothing_sound) (λ v. takes_sound k e s from g (leb-false _ _ u))))
 
   ack_sound : (k : Key) (e : ℕ) (st : Option KeyState) → known node.durable k ≡ st → acked ps k e n → Sound m c disks ps os cs n node.durable (on_ack node k e st)
   ack_sound k e None is a = nothing_sound
@@ -751,44 +746,44 @@ module _ (m : EngineMeaning) (touches : TouchesOnlyHanded m) (c : Cluster) (disk
   ack_sound k e (Some (Gone f)) is a = nothing_sound
   ack_sound k e (Some (Ended f)) is a = nothing_sound
 
-  move_sound : (k : Key) (to : ℕ) (st : Option KeyState) → known node.durable k ≡ st → Sound m c disks ps os cs n node.durable (on_move (setting_of c n) node k to st)
+  move_sound : (k : Key) (to : ℕ) (st : Option KeyState) → known node.durable k ≡ st → Sound m c disks ps os cs n node.durable (on_move (setting_of c n node.durable.boot) node k to st)
   move_sound k to None is = idle_sound _ tt refl
-  move_sound k to (Some (Active e s)) is = either ((to == n) || nat_le c.nodes to) (move_refused node _) _ (λ t. idle_sound _ tt refl)
-      (λ t. either (e == last_number) (move_refused node _) (hands_over (setting_of c n) node k e s to _) (λ u. idle_sound _ tt refl) (λ u. hands_sound k e s to _ refl refl (active_kept (was_given node.durable k) (get node.durable.keys k) e s is) (eqb-false to n (or_left (to == n) (nat_le c.nodes to) t)) (eqb-false e last_number u)))
+  move_sound k to (Some (Active e s)) is = either ((to == n) || nat_le (c.nodes n node.durable.boot) to) (move_refused node _) _ (λ t. idle_sound _ tt refl)
+      (λ t. either (e == last_number) (move_refused node _) (hands_over (setting_of c n node.durable.boot) node k e s to _) (λ u. idle_sound _ tt refl) (λ u. hands_sound k e s to _ refl refl (active_kept (was_given node.durable k) (get node.durable.keys k) e s is) (eqb-false to n (or_left (to == n) (nat_le (c.nodes n node.durable.boot) to) t)) (eqb-false e last_number u)))
   move_sound k to (Some (Sent e s there)) is = idle_sound _ tt refl
   move_sound k to (Some (Gone e)) is = idle_sound _ tt refl
   move_sound k to (Some (Ended e)) is = idle_sound _ tt refl
 
   -- what a tick puts out may leave, whatever is durable behind it
-  tick_plain : (now : ℕ) (d : Durable) (new : ℕ → Durable) → new n ≡ d → IsPlain (keys_of new) ps (λ number. token_of (setting_of c n) node.durable number)
-      (deadlines (setting_of c n) now node.parked ++ wants_again (setting_of c n) node.durable (filter (λ p. not (is_late (setting_of c n) now p)) node.parked) ++ filter_map (grant_again (setting_of c n)) (entries d.keys))
-  tick_plain now d new is =
-      plain_both _ _ _ _ _ (plain_both _ _ _ _ _ (plain_deadlines _ _ _ (setting_of c n) now node.parked) (plain_again _ _ _ (setting_of c n) node.durable (filter (λ p. not (is_late (setting_of c n) now p)) node.parked)))
-      (plain_grants (keys_of new) ps _ (setting_of c n) (entries d.keys) (λ e i. ap (λ (x : Durable). known x e.0) is ∙ kept_known d e.0 e.1 (entry_kept d.keys e i)))
+  tick_plain : (steady : ℕ) (d : Durable) (new : ℕ → Durable) → new n ≡ d → IsPlain (keys_of new) ps (λ number. token_of (setting_of c n node.durable.boot) node.durable number)
+      (deadlines (setting_of c n node.durable.boot) steady node.parked ++ wants_again (setting_of c n node.durable.boot) node.durable (filter (λ p. not (is_late (setting_of c n node.durable.boot) steady p)) node.parked) ++ filter_map (grant_again (setting_of c n node.durable.boot)) (entries d.keys))
+  tick_plain steady d new is =
+      plain_both _ _ _ _ _ (plain_both _ _ _ _ _ (plain_deadlines _ _ _ (setting_of c n node.durable.boot) steady node.parked) (plain_again _ _ _ (setting_of c n node.durable.boot) node.durable (filter (λ p. not (is_late (setting_of c n node.durable.boot) steady p)) node.parked)))
+      (plain_grants (keys_of new) ps _ (setting_of c n node.durable.boot) (entries d.keys) (λ e i. ap (λ (x : Durable). known x e.0) is ∙ kept_known d e.0 e.1 (entry_kept d.keys e i)))
 
-  tick_by : (now : ℕ) (found : Option Entry) → first_over now (entries node.durable.keys) ≡ found →
+  tick_by : (now steady : ℕ) (found : Option Entry) → first_over now (entries node.durable.keys) ≡ found →
       let d = expire node now found [] in
-      let waiting = filter (λ p. not (is_late (setting_of c n) now p)) node.parked in
-      Sound m c disks ps os cs n node.durable (record d { outputs = deadlines (setting_of c n) now node.parked ++ wants_again (setting_of c n) node.durable waiting ++ filter_map (grant_again (setting_of c n)) (entries d.durable.keys); parked = waiting })
-  tick_by now None is = quiet_sound _ _ node.next_want (tick_plain now node.durable disks here)
-  tick_by now (Some (k, Active e s)) is =
+      let waiting = filter (λ p. not (is_late (setting_of c n node.durable.boot) steady p)) node.parked in
+      Sound m c disks ps os cs n node.durable (record d { outputs = deadlines (setting_of c n node.durable.boot) steady node.parked ++ wants_again (setting_of c n node.durable.boot) node.durable waiting ++ filter_map (grant_again (setting_of c n node.durable.boot)) (entries d.durable.keys); parked = waiting })
+  tick_by now steady None is = quiet_sound _ _ node.next_want (tick_plain steady node.durable disks here)
+  tick_by now steady (Some (k, Active e s)) is =
       let f = over_in now (entries node.durable.keys) (k, Active e s) is in
       let d = with_over node.durable k e in
-      expires_sound k now e s _ _ (entry_kept node.durable.keys (k, Active e s) f.0) f.1 (λ new red. tick_plain now d new red.mine) (tick_plain now d (λ x. d) refl).silent
-  tick_by now (Some (k, Sent e s to)) is = quiet_sound _ _ node.next_want (tick_plain now node.durable disks here)
-  tick_by now (Some (k, Gone e)) is = quiet_sound _ _ node.next_want (tick_plain now node.durable disks here)
-  tick_by now (Some (k, Ended e)) is = quiet_sound _ _ node.next_want (tick_plain now node.durable disks here)
+      expires_sound k now e s _ _ (entry_kept node.durable.keys (k, Active e s) f.0) f.1 (λ new red. tick_plain steady d new red.mine) (tick_plain steady d (λ x. d) refl).silent
+  tick_by now steady (Some (k, Sent e s to)) is = quiet_sound _ _ node.next_want (tick_plain steady node.durable disks here)
+  tick_by now steady (Some (k, Gone e)) is = quiet_sound _ _ node.next_want (tick_plain steady node.durable disks here)
+  tick_by now steady (Some (k, Ended e)) is = quiet_sound _ _ node.next_want (tick_plain steady node.durable disks here)
 
-  ours_sound : (moment : Moment) (p : Packet) → sender p ≢ n → addressee p ≡ n → In p ps → Sound m c disks ps os cs n node.durable (on_ours m (setting_of c n) node moment p)
+  ours_sound : (moment : Moment) (p : Packet) → sender p ≢ n → addressee p ≡ n → In p ps → Sound m c disks ps os cs n node.durable (on_ours (m n node.durable.boot) (setting_of c n node.durable.boot) node moment p)
   ours_sound moment (Want from to k boot want) apart me i = want_sound from k boot want (known node.durable k) apart refl
   ours_sound moment (Grant from to k e s) apart me i = grant_sound from k e s (subst (granted ps k e s from) me i)
   ours_sound moment (Ack from to k e) apart me i = ack_sound k e (known node.durable k) refl (from, subst (λ z. In (Ack from z k e) ps) me i)
-  ours_sound moment (No from to k boot want) apart me i = either (boot == node.durable.boot) (serve_parked m (setting_of c n) node moment (is_wanted k want)) (idle node []) (λ t. parked_sound moment (is_wanted k want)) (λ t. nothing_sound)
+  ours_sound moment (No from to k boot want) apart me i = either (boot == node.durable.boot) (serve_parked (m n node.durable.boot) (setting_of c n node.durable.boot) node moment (is_wanted k want)) (idle node []) (λ t. parked_sound moment (is_wanted k want)) (λ t. nothing_sound)
 
-  packet_sound : (moment : Moment) (p : Packet) → In p ps → Sound m c disks ps os cs n node.durable (on_packet m (setting_of c n) node moment p)
-  packet_sound moment p i = either (is_ours (setting_of c n) p) (on_ours m (setting_of c n) node moment p) (idle node [])
-      (λ t. let a = and_parts (addressee p == n) (not (sender p == n) && nat_lt (sender p) c.nodes) t in
-      let b = and_parts (not (sender p == n)) (nat_lt (sender p) c.nodes) a.1 in
+  packet_sound : (moment : Moment) (p : Packet) → In p ps → Sound m c disks ps os cs n node.durable (on_packet (m n node.durable.boot) (setting_of c n node.durable.boot) node moment p)
+  packet_sound moment p i = either (is_ours (setting_of c n node.durable.boot) p) (on_ours (m n node.durable.boot) (setting_of c n node.durable.boot) node moment p) (idle node [])
+      (λ t. let a = and_parts (addressee p == n) (not (sender p == n) && nat_lt (sender p) (c.nodes n node.durable.boot)) t in
+      let b = and_parts (not (sender p == n)) (nat_lt (sender p) (c.nodes n node.durable.boot)) a.1 in
       ours_sound moment p (eqb-false (sender p) n (not_true _ b.0)) (eqb-true (addressee p) n a.0) i)
       (λ t. nothing_sound)
 
@@ -800,9 +795,9 @@ module _ (m : EngineMeaning) (touches : TouchesOnlyHanded m) (c : Cluster) (disk
   IsSent Tick = Unit {0}
   IsSent (Move k to) = Unit {0}
 
-  pub decide_sound : (moment : Moment) (i : Input) → IsSent i → Sound m c disks ps os cs n node.durable (decided m (setting_of c n) node moment i)
-  decide_sound moment (Ask token r) h = ask_sound moment token r (m.names r)
+  pub decide_sound : (moment : Moment) (i : Input) → IsSent i → Sound m c disks ps os cs n node.durable (decided (m n node.durable.boot) (setting_of c n node.durable.boot) node moment i)
+  decide_sound moment (Ask token r) h = ask_sound moment token r ((m n node.durable.boot).names r)
   decide_sound moment (Incoming p) h = packet_sound moment p h
   decide_sound moment Poke h = parked_sound moment (λ p. is_settled (known node.durable p.key))
-  decide_sound moment Tick h = tick_by moment.now (first_over moment.now (entries node.durable.keys)) refl
+  decide_sound moment Tick h = tick_by moment.now moment.steady (first_over moment.now (entries node.durable.keys)) refl
   decide_sound moment (Move k to) h = move_sound k to (known node.durable k) refl

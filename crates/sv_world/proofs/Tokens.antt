@@ -10,29 +10,29 @@ use Rattle.sv_model.specs.declared.input.Input.TheVariants.{Ask, Packet as Incom
 use Rattle.sv_model.specs.declared.packet.Packet.{Packet}
 use Rattle.sv_model.specs.declared.record.Record.{Record}
 use Rattle.sv_model.specs.declared.commit.Commit.{Commit}
-use Rattle.sv_model.specs.Engine.{EngineMeaning}
-use Rattle.sv_model.specs.Step.{left}
+use Rattle.sv_model.specs.Container.{Meanings}
+use Rattle.sv_model.specs.Decision.{left}
 use Rattle.sv_model.specs.Trace.{Item, commits_of, asked_of, refused_of, served_of, served_by, asked_by, refusal_in, same_token, times, is_of}
 use Rattle.sv_model.specs.Membership.{with_last}
 use Rattle.sv_world.specs.declared.event.WorldEvent.{WorldEvent}
 use Rattle.sv_world.specs.declared.line.Line.{Line}
 use Rattle.sv_world.specs.declared.call.Call.{Call}
-use Rattle.sv_world.specs.World.{Cluster, Place, World, set_place, durable_at, stopped, nothing_happened, items, commits_in, whole, cut, silent, becomes, commit_with, is_unused, decision, happens, run, item_at, token_of_call, record_of_start}
+use Rattle.sv_world.specs.World.{Cluster, Place, World, set_place, durable_at, stopped, nothing_happened, items, commits_in, whole, cut, silent, becomes, commit_with, is_unused, decision, happens, run, item_at, token_of_call, record_of_start, setting_of}
 use Rattle.sv_world.specs.Waits.{boot_of}
 use Rattle.sv_world.proofs.Arrivals.{one_if, token_same, times_more, times_one, asked_snoc, items_snoc}
 use Rattle.sv_world.proofs.Waiting.{by_node}
-use Rattle.sv_world.proofs.Thrift.{waiting, apart, waiting_none, Thrifty, decide_thrifty}
+use Rattle.sv_world.specs.Progress.{waiting}
+use Rattle.sv_world.proofs.Thrift.{apart, waiting_none, Thrifty, decide_thrifty}
 use Rattle.sv_model.specs.NodeState.{Durable}
 use Rattle.sv_model.specs.Serving.{token_of}
-use Rattle.sv_world.specs.World.{setting_of}
 use Rattle.sv_world.proofs.Events.{behind, behind_all}
 use Rattle.sv_world.proofs.Runs.{commits_snoc}
 
-served_snoc : (t : Token) (cs : List Commit) (o : Option Commit) → times t (served_of (with_last cs o)) ≡ times t (served_of cs) + times t (served_of (option_to_list o))
+pub served_snoc : (t : Token) (cs : List Commit) (o : Option Commit) → times t (served_of (with_last cs o)) ≡ times t (served_of cs) + times t (served_of (option_to_list o))
 served_snoc t cs None = omega arith
 served_snoc t cs (Some c) = omega (arith, ap (times t) (flat_map-append served_by cs (c ∷ [])), times_more t (served_of cs) (served_of (c ∷ [])))
 
-refused_snoc : (t : Token) (is : List Item) (i : Item) → times t (refused_of (is ++ i ∷ [])) ≡ times t (refused_of is) + times t i.refused
+pub refused_snoc : (t : Token) (is : List Item) (i : Item) → times t (refused_of (is ++ i ∷ [])) ≡ times t (refused_of is) + times t i.refused
 refused_snoc t is i = omega (arith, ap (times t) (flat_map-append (λ (x : Item). x.refused) is (i ∷ [])), times_more t (refused_of is) (i.refused ++ []), times_more t i.refused [])
 
 -- what was served and refused, and what waits, is of what was asked
@@ -70,20 +70,20 @@ grows w n p l unused here there packets j =
       once = λ t. omega (arith, asked t, once_more t (asked_of (items w.trace)) l.asked unused (j.once t));
     }
 
-module _ (m : EngineMeaning) (c : Cluster) where
+module _ (m : Meanings) (c : Cluster) where
   -- the token of an input is of its node
-  elsewhere : (d : Durable) (n : ℕ) (i : Input) (t : Token) → t.node ≢ n → is_of t (asked_by (token_of (setting_of c n) d) i) ≡ false
+  pub elsewhere : (d : Durable) (n : ℕ) (i : Input) (t : Token) → t.node ≢ n → is_of t (asked_by (token_of (setting_of c n d.boot) d) i) ≡ false
   elsewhere d n (Ask number r) t ne = apart t n d.boot number ne
   elsewhere d n (Incoming p) t ne = refl
   elsewhere d n Poke t ne = refl
   elsewhere d n Tick t ne = refl
   elsewhere d n (Move k to) t ne = refl
 
-  thrifty_at : (w : World) (call : Call) → Thrifty c call.node (w.places call.node).node (option_to_list (token_of_call c w call)) (decision m c w call)
+  pub thrifty_at : (w : World) (call : Call) → Thrifty c call.node (w.places call.node).node (option_to_list (token_of_call c w call)) (decision m c w call)
   thrifty_at w call = decide_thrifty m c call.node (w.places call.node).node call.moment call.input
 
   outside : (w : World) (call : Call) (t : Token) → t.node ≢ call.node
-      → times t (served_of (option_to_list (decision m c w call).commit)) + times t (filter_map (refusal_in (token_of (setting_of c call.node) (durable_at w call.node))) (decision m c w call).outputs) ≤ 0
+      → times t (served_of (option_to_list (decision m c w call).commit)) + times t (filter_map (refusal_in (token_of (setting_of c call.node (durable_at w call.node).boot) (durable_at w call.node))) (decision m c w call).outputs) ≤ 0
   outside w call t ne =
       let h = thrifty_at w call in
       omega (arith, h.count t, waiting_none t call.node (durable_at w call.node).boot (w.places call.node).node.parked ne, times_one t (token_of_call c w call), ap one_if (elsewhere (durable_at w call.node) call.node call.input t ne))
@@ -124,7 +124,7 @@ module _ (m : EngineMeaning) (c : Cluster) where
     cut_by = λ call is r. cut_spent w e call r.unused j;
     silent_by = λ call is r. silent_spent w e call r.unused j;
     halt_by = λ n asked unused. becomes_spent w e n (stopped (durable_at w n)) None asked refl unused j;
-    boots_by = λ n p none same. becomes_spent w e n p (Some (record_of_start c w n)) None none refl j;
+    boots_by = λ n p may none same. becomes_spent w e n p (Some (record_of_start c w n)) None none refl j;
   })
 
   pub run_spent : (w : World) (es : List WorldEvent) → Spent w → Spent (run m c w es)

@@ -8,61 +8,58 @@ use Rattle.sv_model.specs.declared.response.Response.{Response}
 use Rattle.sv_model.specs.declared.record.Record.{Record}
 use Rattle.sv_model.specs.declared.commit.Commit.{Commit}
 use Rattle.sv_model.specs.declared.commit.Commit.TheVariants.{Served, Expired}
-use Rattle.sv_model.specs.Engine.{EngineMeaning, TouchesOnlyHanded}
-use Rattle.sv_model.specs.Container.{Store, nothing_stored, after}
-use Rattle.sv_model.specs.OneContainer.{store_with, events_with, replies_with, tokens_in}
-use Rattle.sv_model.specs.Trace.{commits_of, told_of, replies_of, served_of, times}
+use Rattle.sv_model.specs.Container.{Meanings, AllTouchOnlyHanded, after, store_with, events_with, replies_with, Store, nothing_stored}
+use Rattle.sv_model.specs.Trace.{tokens_in, commits_of, told_of, replies_of, served_of, times}
 use Rattle.sv_world.specs.declared.event.WorldEvent.{WorldEvent}
 use Rattle.sv_world.specs.declared.line.Line.{Line}
 use Rattle.sv_world.specs.declared.call.Call.{Call}
-use Rattle.sv_world.specs.World.{Cluster, Place, World, nothing_happened, items, commits_in, whole, decision, happens, run, item_at}
+use Rattle.sv_world.specs.World.{Cluster, Place, World, nothing_happened, items, commits_in, whole, decision, happens, run, item_at, quiet_line}
 use Rattle.sv_world.specs.Sane.{store_of}
 use Rattle.sv_world.specs.Headline.{AreLines, IsUnanswered, IsAnswered, IsUnheard, IsHeard, IsToldLine, wholes, whole_events}
 use Rattle.sv_world.proofs.Arrivals.{times_more}
 use Rattle.sv_world.proofs.Events.{behind, behind_all}
 use Rattle.sv_world.proofs.Runs.{Inv, SoundAt, sound_at, happens_keeps}
-use Rattle.sv_world.specs.World.{quiet_line}
 
 -- the store behind a trace
-stores : EngineMeaning → Store → List Line → Store
+stores : Meanings → Store → List Line → Store
 stores m st [] = st
 stores m st (l ∷ ls) = stores m (store_with m st l.commit) ls
 
-pub after_one : (m : EngineMeaning) (st : Store) (o : Option Commit) (cs : List Commit) → after m (store_with m st o) cs ≡ after m st (option_to_list o ++ cs)
+pub after_one : (m : Meanings) (st : Store) (o : Option Commit) (cs : List Commit) → after m (store_with m st o) cs ≡ after m st (option_to_list o ++ cs)
 after_one m st None cs = refl
 after_one m st (Some x) cs = refl
 
-stores_are : (m : EngineMeaning) (st : Store) (ls : List Line) → stores m st ls ≡ after m st (commits_of (items ls))
+stores_are : (m : Meanings) (st : Store) (ls : List Line) → stores m st ls ≡ after m st (commits_of (items ls))
 unfolding stores
 stores_are m st [] = refl
 stores_are m st (l ∷ ls) = stores_are m (store_with m st l.commit) ls ∙ after_one m st l.commit (commits_of (items ls))
 
-lines_snoc : (P : Store → Line → Type 0) (m : EngineMeaning) (st : Store) (ls : List Line) (l : Line) → AreLines P m st ls → P (stores m st ls) l → AreLines P m st (ls ++ l ∷ [])
+lines_snoc : (P : Store → Line → Type 0) (m : Meanings) (st : Store) (ls : List Line) (l : Line) → AreLines P m st ls → P (stores m st ls) l → AreLines P m st (ls ++ l ∷ [])
 unfolding stores
 lines_snoc P m st [] l h p = (p, tt)
 lines_snoc P m st (x ∷ ls) l h p = (h.0, lines_snoc P m (store_with m st x.commit) ls l h.1 p)
 
 -- each line answers what its commit replies, and refuses nobody where it was cut
-pub record Answering (m : EngineMeaning) (w : World) : Type 0 where
+pub record Answering (m : Meanings) (w : World) : Type 0 where
   pub lines : AreLines (IsAnswered m) m nothing_stored w.trace
 
 -- each line tells what its commit and its record say
-pub record Telling (m : EngineMeaning) (w : World) : Type 0 where
+pub record Telling (m : Meanings) (w : World) : Type 0 where
   pub lines : AreLines (IsToldLine m) m nothing_stored w.trace
 
-more : (P : Store → Line → Type 0) (m : EngineMeaning) (w : World) (l : Line) → AreLines P m nothing_stored w.trace → P (store_of m (commits_in w)) l → AreLines P m nothing_stored (w.trace ++ l ∷ [])
+more : (P : Store → Line → Type 0) (m : Meanings) (w : World) (l : Line) → AreLines P m nothing_stored w.trace → P (store_of m (commits_in w)) l → AreLines P m nothing_stored (w.trace ++ l ∷ [])
 more P m w l h p = lines_snoc P m nothing_stored w.trace l h (subst (λ st. P st l) (sym (stores_are m nothing_stored w.trace)) p)
 
 -- the line of what a stop has cut, or of what isn't a step
-quiet_answers : (m : EngineMeaning) (w : World) (e : WorldEvent) (n : ℕ) (asked : Option Token) (entry : Option Record) (o : Option Commit) (places : ℕ → Place) → Answering m w
+quiet_answers : (m : Meanings) (w : World) (e : WorldEvent) (n : ℕ) (asked : Option Token) (entry : Option Record) (o : Option Commit) (places : ℕ → Place) → Answering m w
     → Answering m (record { places = places; packets = w.packets; trace = w.trace ++ quiet_line w e n asked entry o ∷ [] })
 quiet_answers m w e n asked entry o places h = record { lines = more (IsAnswered m) m w _ h.lines (record { replies = refl; refused = refl }) }
 
-quiet_tells : (m : EngineMeaning) (w : World) (e : WorldEvent) (n : ℕ) (asked : Option Token) (entry : Option Record) (o : Option Commit) (places : ℕ → Place) → Telling m w
+quiet_tells : (m : Meanings) (w : World) (e : WorldEvent) (n : ℕ) (asked : Option Token) (entry : Option Record) (o : Option Commit) (places : ℕ → Place) → Telling m w
     → Telling m (record { places = places; packets = w.packets; trace = w.trace ++ quiet_line w e n asked entry o ∷ [] })
 quiet_tells m w e n asked entry o places h = record { lines = more (IsToldLine m) m w _ h.lines (record { events = refl; mark = refl }) }
 
-module _ (m : EngineMeaning) (touches : TouchesOnlyHanded m) (c : Cluster) where
+module _ (m : Meanings) (touches : AllTouchOnlyHanded m) (c : Cluster) where
   whole_answers : (w : World) (e : WorldEvent) (call : Call) → SoundAt m c w call.node (decision m c w call) → Answering m w → Answering m (whole c w e call (decision m c w call))
   whole_answers w e call s h = record { lines = more (IsAnswered m) m w _ h.lines s.replies }
 
@@ -76,7 +73,7 @@ module _ (m : EngineMeaning) (touches : TouchesOnlyHanded m) (c : Cluster) where
     cut_by = λ call is r. record { lines = more (IsAnswered m) m w _ h.lines (record { replies = refl; refused = refl }) };
     silent_by = λ call is r. quiet_answers m w e call.node _ _ _ _ h;
     halt_by = λ n asked _. quiet_answers m w e n _ _ _ _ h;
-    boots_by = λ n p none same. quiet_answers m w e n _ _ _ _ h;
+    boots_by = λ n p may none same. quiet_answers m w e n _ _ _ _ h;
   })
 
   pub happens_tells : (w : World) (e : WorldEvent) → Inv m c w → Telling m w → Telling m (happens m c w e)
@@ -86,7 +83,7 @@ module _ (m : EngineMeaning) (touches : TouchesOnlyHanded m) (c : Cluster) where
     cut_by = λ call is r. record { lines = more (IsToldLine m) m w _ h.lines (record { events = refl; mark = refl }) };
     silent_by = λ call is r. quiet_tells m w e call.node _ _ _ _ h;
     halt_by = λ n asked _. quiet_tells m w e n _ _ _ _ h;
-    boots_by = λ n p none same. quiet_tells m w e n _ _ _ _ h;
+    boots_by = λ n p may none same. quiet_tells m w e n _ _ _ _ h;
   })
 
   pub run_answers : (w : World) (es : List WorldEvent) → Inv m c w → Answering m w → Answering m (run m c w es)
@@ -95,15 +92,15 @@ module _ (m : EngineMeaning) (touches : TouchesOnlyHanded m) (c : Cluster) where
   pub run_tells : (w : World) (es : List WorldEvent) → Inv m c w → Telling m w → Telling m (run m c w es)
   run_tells w es inv h = behind_all m c (Inv m c) (Telling m) (happens_keeps m touches c) happens_tells w es inv h
 
-pub first_answers : (m : EngineMeaning) → Answering m nothing_happened
+pub first_answers : (m : Meanings) → Answering m nothing_happened
 first_answers m = record { lines = tt }
 
-pub first_tells : (m : EngineMeaning) → Telling m nothing_happened
+pub first_tells : (m : Meanings) → Telling m nothing_happened
 first_tells m = record { lines = tt }
 
 -- ---- what the lines say of the whole trace
 
-replied : (m : EngineMeaning) (st : Store) (o : Option Commit) → tokens_in (replies_with m st o) ≡ served_of (option_to_list o)
+replied : (m : Meanings) (st : Store) (o : Option Commit) → tokens_in (replies_with m st o) ≡ served_of (option_to_list o)
 replied m st None = refl
 replied m st (Some (Served token r now handed fresh)) = refl
 replied m st (Some (Expired k now)) = refl
@@ -117,12 +114,12 @@ served_more t (Some (Served token r now handed fresh)) cs = omega arith
 served_more t (Some (Expired k now)) cs = omega arith
 
 -- each answer is of a request that was served in a whole step
-answered_by : (m : EngineMeaning) (st : Store) (t : Token) (l : Line) (ls rest : List Line) (b : Bool) → cond b ((item_at l).replies ≡ replies_with m st l.commit) (IsUnanswered l) → times t (tokens_in (replies_of (items ls))) ≡ times t (served_of (commits_of (items rest)))
+answered_by : (m : Meanings) (st : Store) (t : Token) (l : Line) (ls rest : List Line) (b : Bool) → cond b ((item_at l).replies ≡ replies_with m st l.commit) (IsUnanswered l) → times t (tokens_in (replies_of (items ls))) ≡ times t (served_of (commits_of (items rest)))
     → times t (tokens_in (replies_of (items (l ∷ ls)))) ≡ times t (served_of (commits_of (items (cond b (l ∷ rest) rest))))
 answered_by m st t l ls rest true h same = omega (arith, same, tokens_more t (item_at l).replies (replies_of (items ls)), served_more t l.commit (commits_of (items rest)), ap (λ rs. times t (tokens_in rs)) h, ap (times t) (replied m st l.commit))
 answered_by m st t l ls rest false h same = omega (arith, same, tokens_more t (item_at l).replies (replies_of (items ls)), ap (λ rs. times t (tokens_in rs)) h.replies)
 
-pub answered : (m : EngineMeaning) (st : Store) (t : Token) (ls : List Line) → AreLines (IsAnswered m) m st ls → times t (tokens_in (replies_of (items ls))) ≡ times t (served_of (commits_of (wholes ls)))
+pub answered : (m : Meanings) (st : Store) (t : Token) (ls : List Line) → AreLines (IsAnswered m) m st ls → times t (tokens_in (replies_of (items ls))) ≡ times t (served_of (commits_of (wholes ls)))
 answered m st t [] h = refl
 answered m st t (l ∷ ls) h = answered_by m st t l ls (filter (λ x. x.whole) ls) l.whole h.0 (answered m (store_with m st l.commit) t ls h.1)
 
@@ -134,10 +131,10 @@ pub fewer : (t : Token) (ls : List Line) → times t (served_of (commits_of (who
 fewer t [] = omega arith
 fewer t (l ∷ ls) = fewer_by t l ls (filter (λ x. x.whole) ls) l.whole (fewer t ls)
 
-told_by : (m : EngineMeaning) (st : Store) (l : Line) (b : Bool) → cond b (IsHeard m st l) (IsUnheard l) → l.events ≡ cond b (events_with m st l.commit) []
+told_by : (m : Meanings) (st : Store) (l : Line) (b : Bool) → cond b (IsHeard m st l) (IsUnheard l) → l.events ≡ cond b (events_with m st l.commit) []
 told_by m st l true h = h.events
 told_by m st l false h = h.events
 
-pub told : (m : EngineMeaning) (st : Store) (ls : List Line) → AreLines (IsToldLine m) m st ls → told_of (items ls) ≡ whole_events m st ls
+pub told : (m : Meanings) (st : Store) (ls : List Line) → AreLines (IsToldLine m) m st ls → told_of (items ls) ≡ whole_events m st ls
 told m st [] h = refl
 told m st (l ∷ ls) h = λ i. told_by m st l l.whole h.0 i ++ told m (store_with m st l.commit) ls h.1 i

@@ -16,12 +16,10 @@ use Rattle.sv_model.specs.declared.packet.Packet.TheVariants.{Want, Grant, Ack, 
 use Rattle.sv_model.specs.declared.commit.Commit.{Commit}
 use Rattle.sv_model.specs.declared.record.Record.{Record}
 use Rattle.sv_model.specs.declared.commit.Commit.TheVariants.{Served, Expired}
-use Rattle.sv_model.specs.Engine.{EngineMeaning}
-use Rattle.sv_model.specs.Container.{IsExcused, MayStand, AllMayStand}
+use Rattle.sv_model.specs.Container.{Meanings, IsExcused, MayStand, AllMayStand}
 use Rattle.sv_model.specs.NodeState.{Durable}
-use Rattle.sv_model.specs.Decision.{Decision}
+use Rattle.sv_model.specs.Decision.{Decision, left}
 use Rattle.sv_model.specs.Waiting.{first_of, without}
-use Rattle.sv_model.specs.Step.{left}
 use Rattle.sv_model.specs.Membership.{In, with_last}
 use Rattle.sv_model.specs.Outputs.{sends_in}
 use Rattle.sv_world.specs.Life.{Phase, Unborn, Here, Away, Over, Stands, IsBelow, IsBehind, session_of}
@@ -46,10 +44,10 @@ over_none (Over y f) at n e h is = refl
 
 -- ---- excuses, as the list grows
 
-pub excused_now : (m : EngineMeaning) (cs : List Commit) (a : ℕ) (k : Key) → a ≤ length cs → (store_of m cs).map k ≡ None → IsExcused m cs a k
+pub excused_now : (m : Meanings) (cs : List Commit) (a : ℕ) (k : Key) → a ≤ length cs → (store_of m cs).map k ≡ None → IsExcused m cs a k
 excused_now m cs a k l is = record { place = length cs; since = l; within = omega arith; lacks = ap (λ xs. (store_of m xs).map k) (take-length cs) ∙ is }
 
-excused_with : (m : EngineMeaning) (cs : List Commit) (c : Option Commit) (a : ℕ) (k : Key) → IsExcused m cs a k → IsExcused m (with_last cs c) a k
+excused_with : (m : Meanings) (cs : List Commit) (c : Option Commit) (a : ℕ) (k : Key) → IsExcused m cs a k → IsExcused m (with_last cs c) a k
 excused_with m cs None a k e = e
 excused_with m cs (Some c) a k e = record { place = e.place; since = e.since; within = omega (arith, length-append cs (c ∷ []), e.within); lacks = ap (λ xs. (store_of m xs).map k) (take-append-le e.place cs (c ∷ []) e.within) ∙ e.lacks }
 
@@ -57,15 +55,15 @@ longer : (cs : List Commit) (c : Option Commit) → length cs ≤ length (with_l
 longer cs None = omega arith
 longer cs (Some c) = omega (arith, length-append cs (c ∷ []))
 
-stand_snoc : (m : EngineMeaning) (arr : Token → ℕ) (before cs : List Commit) (c : Commit) → AllMayStand m arr before cs → MayStand m arr (before ++ cs) c → AllMayStand m arr before (cs ++ c ∷ [])
+stand_snoc : (m : Meanings) (arr : Token → ℕ) (before cs : List Commit) (c : Commit) → AllMayStand m arr before cs → MayStand m arr (before ++ cs) c → AllMayStand m arr before (cs ++ c ∷ [])
 stand_snoc m arr before [] c h s = (subst (λ xs. MayStand m arr xs c) (append-nil before) s, tt)
 stand_snoc m arr before (x ∷ cs) c h s = (h.0, stand_snoc m arr (before ++ x ∷ []) cs c h.1 (subst (λ xs. MayStand m arr xs c) (sym (append_assoc before (x ∷ []) cs)) s))
 
-abbrev pub MayAdd : EngineMeaning → (Token → ℕ) → List Commit → Option Commit → Type 0
+abbrev pub MayAdd : Meanings → (Token → ℕ) → List Commit → Option Commit → Type 0
 MayAdd m arr cs None = Unit {0}
 MayAdd m arr cs (Some c) = MayStand m arr cs c
 
-stand_with : (m : EngineMeaning) (arr : Token → ℕ) (cs : List Commit) (c : Option Commit) → AllMayStand m arr [] cs → MayAdd m arr cs c → AllMayStand m arr [] (with_last cs c)
+stand_with : (m : Meanings) (arr : Token → ℕ) (cs : List Commit) (c : Option Commit) → AllMayStand m arr [] cs → MayAdd m arr cs c → AllMayStand m arr [] (with_last cs c)
 stand_with m arr cs None h s = h
 stand_with m arr cs (Some c) h s = stand_snoc m arr [] cs c h s
 
@@ -83,7 +81,7 @@ served_with asked cs None h s = h
 served_with asked cs (Some c) h s = served_snoc asked cs c h s
 
 -- a commit that is kept with its record alone
-may_with : (m : EngineMeaning) (arr : Token → ℕ) (cs : List Commit) (o : Option Record) (c : Option Commit) → MayAdd m arr cs c → MayAdd m arr cs (commit_with o c)
+may_with : (m : Meanings) (arr : Token → ℕ) (cs : List Commit) (o : Option Record) (c : Option Commit) → MayAdd m arr cs c → MayAdd m arr cs (commit_with o c)
 may_with m arr cs None c h = tt
 may_with m arr cs (Some r) c h = h
 
@@ -93,7 +91,7 @@ served_if asked (Some r) c h = h
 
 -- ---- the arrivals that are known stay
 
-module _ (m : EngineMeaning) (arr brr : Token → ℕ) (asked basked : Token → Request → Type 0) (still : (t : Token) (r : Request) → asked t r → brr t ≡ arr t) (more : (t : Token) (r : Request) → asked t r → basked t r) where
+module _ (m : Meanings) (arr brr : Token → ℕ) (asked basked : Token → Request → Type 0) (still : (t : Token) (r : Request) → asked t r → brr t ≡ arr t) (more : (t : Token) (r : Request) → asked t r → basked t r) where
   may_still : (before : List Commit) (c : Commit) → AllServed asked (c ∷ []) → MayStand m arr before c → MayStand m brr before c
   may_still before (Served token r now handed fresh) a h =
       let e = sym (still token r a.0) in
@@ -140,7 +138,7 @@ fit_in map ps n boot want x [] h i = absurd i
 fit_in map ps n boot want x (y ∷ xs) h i = ⊎_elim (λ (e : y ≡ x). subst (FitsPacket map ps n boot want) e h.0) (λ (t : In x xs). fit_in map ps n boot want x xs h.1 t) i
 
 -- the volatile part of a decision
-pub record Patient (m : EngineMeaning) (places : ℕ → Place) (ps : List Packet) (cs : List Commit) (arr : Token → ℕ) (asked : Token → Request → Type 0) (n : ℕ) (d : Decision) : Type 0 where
+pub record Patient (m : Meanings) (places : ℕ → Place) (ps : List Packet) (cs : List Commit) (arr : Token → ℕ) (asked : Token → Request → Type 0) (n : ℕ) (d : Decision) : Type 0 where
   pub parked : (p : Parked) → In p d.parked → In p (places n).node.parked ⊎ ((p.want ≡ (places n).node.next_want) × IsParked m (length cs) arr asked (tok n (boot_of (places n)) p.token) d.next_want p)
   pub next_want : (places n).node.next_want ≤ d.next_want
   pub boot : d.durable.boot ≡ (places n).node.durable.boot
@@ -183,10 +181,10 @@ not_new p b v up h same new = ⊎_elim
     (λ (o : (b ≡ p.node.durable.boot) × ((v < p.node.next_want) ⊎ (p.up ≡ false))). ⊎_elim (λ (c : v < p.node.next_want). absurd (omega arith)) (λ (c : p.up ≡ false). absurd (true≢false (sym up ∙ c))) o.1)
     h
 
-parked_longer : (m : EngineMeaning) (size more : ℕ) (arr : Token → ℕ) (asked : Token → Request → Type 0) (t : Token) (want want' : ℕ) (p : Parked) → size ≤ more → want ≤ want' → IsParked m size arr asked t want p → IsParked m more arr asked t want' p
+parked_longer : (m : Meanings) (size more : ℕ) (arr : Token → ℕ) (asked : Token → Request → Type 0) (t : Token) (want want' : ℕ) (p : Parked) → size ≤ more → want ≤ want' → IsParked m size arr asked t want p → IsParked m more arr asked t want' p
 parked_longer m size more arr asked t want want' p l k h = record { arrived = omega (arith, h.arrived); came = h.came; named = h.named; names = h.names; key = h.key; below = omega (arith, h.below) }
 
-module _ (m : EngineMeaning) (places : ℕ → Place) (ps : List Packet) (cs : List Commit) (arr : Token → ℕ) (asked : Token → Request → Type 0) (j : Waits m places ps cs arr asked) (n : ℕ) where
+module _ (m : Meanings) (places : ℕ → Place) (ps : List Packet) (cs : List Commit) (arr : Token → ℕ) (asked : Token → Request → Type 0) (j : Waits m places ps cs arr asked) (n : ℕ) where
   pub whole_waits : (d : Decision) → (places n).up ≡ true → Patient m places ps cs arr asked n d → Waits m (set_place places n (record { up = true; node = left d })) (ps ++ sends_in d.outputs) (with_last cs d.commit) arr asked
   whole_waits d up s =
       let x : Place = record { up = true; node = left d } in

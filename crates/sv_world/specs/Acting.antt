@@ -11,8 +11,10 @@ use Rattle.sv_model.specs.NodeState.{Durable, Node, last_number}
 use Rattle.sv_model.specs.Decision as model
 use Rattle.sv_model.specs.Journaled.{IsJournaled}
 use Rattle.sv_model.specs.Node.{decided}
-use Rattle.sv_model.specs.Replay.{blank, boot_record, applied_if, replayed, Fits, AllFit}
-use Rattle.sv_model.specs.Step.{left, told}
+use Rattle.sv_model.specs.Replay.{blank, boot_record, applied_if, replayed}
+use Rattle.sv_model.specs.Fitting.{Fits, AllFit}
+use Rattle.sv_model.specs.Decision.{left}
+use Rattle.sv_model.specs.Step.{told}
 use Rattle.sv_core.specs.declared.node.Core.{Core}
 use Rattle.sv_core.specs.declared.decision.Decision as code
 use Rattle.sv_core.specs.Core as core

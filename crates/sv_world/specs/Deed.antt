@@ -1,5 +1,5 @@
 -- What a task does at a node, and what has been done, as a line of the trace.
-use Rattle.std.specs.Prelude.{◌==◌, ◌&&◌, false, true, Bool, cond, is_some, not, Option, Some, None, List, []}
+use Rattle.std.specs.Prelude.{ℕ, ◌+◌, ◌==◌, ◌&&◌, false, true, Bool, cond, is_some, not, Option, Some, None, List, []}
 use Rattle.sv_model.specs.declared.input.Input.{Input}
 use Rattle.sv_model.specs.declared.key.Token.{Token}
 use Rattle.sv_model.specs.declared.node.Setting.{Setting}
@@ -9,11 +9,11 @@ use Rattle.sv_model.specs.declared.record.Record.{Record}
 use Rattle.sv_model.specs.declared.commit.Commit.{Commit}
 use Rattle.sv_model.specs.Engine.{EngineMeaning}
 use Rattle.sv_model.specs.NodeState.{Durable, last_number}
-use Rattle.sv_model.specs.Decision.{Decision}
+use Rattle.sv_model.specs.Decision.{Decision, left}
 use Rattle.sv_model.specs.Node.{decided}
 use Rattle.sv_model.specs.Replay.{boot_record, applied}
 use Rattle.sv_model.specs.Serving.{token_of}
-use Rattle.sv_model.specs.Step.{left, with_mark}
+use Rattle.sv_model.specs.Step.{with_mark}
 use Rattle.sv_model.specs.Trace.{asked_by}
 use Rattle.sv_world.specs.declared.event.WorldEvent.{WorldEvent}
 use Rattle.sv_world.specs.declared.line.Line.{Line}
@@ -103,6 +103,15 @@ deed m set p (Silent moment input) = silenced (heading_by set p.node.durable inp
 deed m set p Stop = halted (heading_at set p.node.durable None) p.node.durable
 deed m set p Start = start_by set p.node.durable true started
 deed m set p (TornStart kept) = start_by set p.node.durable kept stopped
+
+-- the number of the start that a task is of: a start is of the one that it makes, any other task of the last one
+abbrev pub number_for : Durable → Task → ℕ
+number_for d (Step moment input) = d.boot
+number_for d (Torn moment input kept) = d.boot
+number_for d (Silent moment input) = d.boot
+number_for d Stop = d.boot
+number_for d Start = d.boot + 1
+number_for d (TornStart kept) = d.boot + 1
 
 -- whether a node has to run to be given it
 abbrev pub wants_up : Task → Bool

@@ -13,7 +13,7 @@ use Rattle.sv_model.specs.declared.key.Moment.{Moment}
 use Rattle.sv_model.specs.declared.output.Output.{Output}
 use Rattle.sv_model.specs.declared.packet.Packet.{Packet}
 use Rattle.sv_model.specs.declared.site.StepFault.TheVariants as step
-use Rattle.sv_model.specs.Engine.{EngineMeaning}
+use Rattle.sv_model.specs.Container.{Meanings}
 use Rattle.sv_model.specs.Membership.{In}
 use Rattle.sv_model.specs.Migration.{addressee}
 use Rattle.sv_model.specs.NodeState.{Durable}
@@ -25,8 +25,12 @@ use Rattle.sv_node.specs.Call.{Call, Open, Step, Unsaid, Compact, Stop, Done, Re
 use Rattle.sv_world.specs.declared.event.WorldEvent.{WorldEvent}
 use Rattle.sv_world.specs.declared.event.WorldEvent.TheVariants.{Ask, Deliver, Poke, Tick, Move, Crash, Torn, Silent, Restart, TornRestart}
 use Rattle.sv_world.specs.declared.line.Line.{Line}
-use Rattle.sv_world.specs.World.{Cluster, Place, World, setting_of, set_place, stopped, nothing_happened, run}
+use Rattle.sv_world.specs.World.{Cluster, Place, World, setting_of, set_place, stopped, nothing_happened, run, AlwaysKnows}
+use Rattle.sv_world.specs.declared.rules.Rules.{Rules}
 use Rattle.sv_world.specs.Headline.{IsHeadline}
+use Rattle.sv_world.specs.Journals.{AreWithin, HaveFitted}
+use Rattle.sv_world.specs.Rolling.{IsTurn}
+use Rattle.sv_world.specs.Starts.{number_of}
 
 -- a call at a node, and what there is behind it
 pub record NodeCall : Type 0 where
@@ -90,11 +94,17 @@ MayCome packets numbers (Unsaid givens) = AllCome packets numbers givens
 MayCome packets numbers (Compact ending) = ⊤
 MayCome packets numbers Stop = ⊤
 
--- the call is one of the nodes', was given what it may be given, and did what such a call does
-pub record IsCall (m : EngineMeaning) (c : Cluster) (s : Seen) (numbers : ℕ → List ℕ) (l : NodeCall) : Type 0 where
-  pub inside : l.node < c.nodes
+-- the number of the start that a call is of
+abbrev pub start_at : Seen → NodeCall → ℕ
+start_at s l = number_of (s.places l.node).node.durable l.call
+
+-- the start that the call is of was told of its own node; the call was given what it may be given, and did what such a call does
+-- with the application and the setting of that start
+pub record IsCall (m : Meanings) (c : Cluster) (s : Seen) (numbers : ℕ → List ℕ) (l : NodeCall) : Type 0 where
+  pub inside : l.node < c.nodes l.node (start_at s l)
   pub comes : MayCome s.packets (numbers l.node) l.call
-  pub does : Does m (setting_of c l.node) (s.places l.node).up (s.places l.node).node l.call l.after
+  pub does :
+      Does (m l.node (start_at s l)) (setting_of c l.node (start_at s l)) (s.places l.node).up (s.places l.node).node l.call l.after
 
 -- ---- what comes of it
 
@@ -145,7 +155,7 @@ abbrev pub all_numbers : (ℕ → List ℕ) → NodeCall → ℕ → List ℕ
 all_numbers numbers l n = cond (n == l.node) (numbers_behind l.call (numbers n)) (numbers n)
 
 -- each of them, where those before it have led
-abbrev pub AreCalls : EngineMeaning → Cluster → Seen → (ℕ → List ℕ) → List NodeCall → Type 0
+abbrev pub AreCalls : Meanings → Cluster → Seen → (ℕ → List ℕ) → List NodeCall → Type 0
 AreCalls m c s numbers [] = ⊤
 AreCalls m c s numbers (l ∷ ls) = IsCall m c s numbers l × AreCalls m c (behind s l) (all_numbers numbers l) ls
 
@@ -219,10 +229,28 @@ shown_by l = cond l.whole (record { node = l.node; boot = l.boot; outputs = l.ou
 abbrev pub seen_as : World → Seen
 seen_as w = record { places = w.places; packets = w.packets; shown = flat_map shown_by w.trace }
 
+-- ---- nodes that are added while others run
+
+-- an opening comes when it is the node's turn
+abbrev pub InTurnAt : Cluster → (ℕ → Place) → ℕ → Call → Type 0
+InTurnAt c places n (Open ending) = IsTurn c places n
+InTurnAt c places n (Step at input ending) = ⊤
+InTurnAt c places n (Unsaid givens) = ⊤
+InTurnAt c places n (Compact ending) = ⊤
+InTurnAt c places n Stop = ⊤
+
+-- so does each of these
+abbrev pub AreOpenedInTurn : Cluster → Seen → List NodeCall → Type 0
+AreOpenedInTurn c s [] = ⊤
+AreOpenedInTurn c s (l ∷ ls) = InTurnAt c s.places l.node l.call × AreOpenedInTurn c (behind s l) ls
+
 -- The calls are a world: the list of their events leads to just what has come of them. So the theorem holds of the requests
--- that came, of what the nodes keep, of what was put out and of what was told.
-pub record AreWorld (m : EngineMeaning) (c : Cluster) (calls : List NodeCall) : Type 0 where
+-- that came, of what the nodes keep, of what was put out and of what was told, as long as each node that runs was told of each
+-- node whose sessions live; which is so where nodes are opened in turn.
+pub record AreWorld (m : Meanings) (c : Cluster) (calls : List NodeCall) : Type 0 where
   pub events : List WorldEvent
   pub own : AreOfAll nothing_called calls events
   pub seen : seen_as (run m c nothing_happened events) ≡ behind_all nothing_called calls
-  pub headline : IsHeadline m c (run m c nothing_happened events)
+  pub headline : AlwaysKnows m c nothing_happened events → IsHeadline m (run m c nothing_happened events)
+  pub knows : AreOpenedInTurn c nothing_called calls → AlwaysKnows m c nothing_happened events
+  pub fit : (wide : Rules) → AreWithin wide c → HaveFitted wide (run m c nothing_happened events)

@@ -1,6 +1,6 @@
 -- The events that can't happen in a world, and why.
-use Rattle.std.specs.Prelude.{Bool, cond, Option, Some, None, ◌≡◌, [], ◌∷◌, ◌++◌}
-use Rattle.sv_model.specs.Engine.{EngineMeaning}
+use Rattle.std.specs.Prelude.{◌+◌, Bool, cond, Option, Some, None, ◌≡◌, [], ◌∷◌, ◌++◌}
+use Rattle.sv_model.specs.Container.{Meanings}
 use Rattle.sv_model.specs.Trace.{asked_of}
 use Rattle.sv_world.specs.declared.event.WorldEvent.{WorldEvent}
 use Rattle.sv_world.specs.declared.event.WorldEvent.TheVariants.{Ask, Deliver, Poke, Tick, Move, Crash, Torn, Silent, Restart, TornRestart}
@@ -9,7 +9,7 @@ use Rattle.sv_world.specs.declared.fault.WorldFault.TheVariants.{NoNode, Running
 use Rattle.sv_world.specs.declared.line.Line.{Line}
 use Rattle.sv_world.specs.Sent.{may_come}
 use Rattle.sv_world.specs.declared.call.Call.{Call}
-use Rattle.sv_world.specs.World.{Cluster, World, items, call_of, token_of_call, is_unused, is_there, happens}
+use Rattle.sv_world.specs.World.{Cluster, World, durable_at, items, call_of, token_of_call, is_unused, is_there, happens}
 
 -- of a step: whether its node is there, whether it runs, whether a packet was sent, whether a token is new
 abbrev pub step_fault : Bool → Bool → Bool → Bool → Option WorldFault
@@ -19,7 +19,7 @@ step_fault there up sent unused =
 abbrev pub call_fault : Cluster → World → Option Call → Option WorldFault
 call_fault c w None = Some NoPacket
 call_fault c w (Some call) =
-    step_fault (is_there c call.node) (w.places call.node).up (may_come w.packets call.input)
+    step_fault (is_there c call.node (durable_at w call.node).boot) (w.places call.node).up (may_come w.packets call.input)
     (is_unused (asked_of (items w.trace)) (token_of_call c w call))
 
 abbrev pub start_fault : Bool → Bool → Option WorldFault
@@ -37,11 +37,11 @@ fault_of c w (Tick n moment) = call_fault c w (call_of w.packets (Tick n moment)
 fault_of c w (Move n moment k to) = call_fault c w (call_of w.packets (Move n moment k to))
 fault_of c w (Torn n moment given kept) = call_fault c w (call_of w.packets (Torn n moment given kept))
 fault_of c w (Silent n moment given) = call_fault c w (call_of w.packets (Silent n moment given))
-fault_of c w (Crash n) = stop_fault (is_there c n) (w.places n).up
-fault_of c w (Restart n) = start_fault (is_there c n) (w.places n).up
-fault_of c w (TornRestart n kept) = start_fault (is_there c n) (w.places n).up
+fault_of c w (Crash n) = stop_fault (is_there c n (durable_at w n).boot) (w.places n).up
+fault_of c w (Restart n) = start_fault (is_there c n ((durable_at w n).boot + 1)) (w.places n).up
+fault_of c w (TornRestart n kept) = start_fault (is_there c n ((durable_at w n).boot + 1)) (w.places n).up
 
 -- an event with a fault changes nothing; any other adds one line, its own
-pub record IsFaulty (m : EngineMeaning) (c : Cluster) (w : World) (e : WorldEvent) : Type 0 where
+pub record IsFaulty (m : Meanings) (c : Cluster) (w : World) (e : WorldEvent) : Type 0 where
   pub still : (f : WorldFault) → fault_of c w e ≡ Some f → happens m c w e ≡ w
   pub adds : fault_of c w e ≡ None → (l : Line) × (l.event ≡ e) × ((happens m c w e).trace ≡ w.trace ++ l ∷ [])

@@ -3,6 +3,7 @@ use Rattle.std.specs.Prelude.{◌≡◌, ℕ, ◌==◌, ◌<◌, zero, suc, Bool
 use Rattle.std.specs.List.{All, flat_map}
 use Rattle.std.specs.Option.{option_map}
 use Rattle.sv_model.specs.declared.event.Told.{Told}
+use Rattle.sv_model.specs.Container.{always}
 use Rattle.sv_model.specs.Engine.{EngineMeaning, heard_all}
 use Rattle.sv_model.specs.Outputs.{sends_in}
 use Rattle.sv_model.specs.Step.{with_mark}
@@ -20,8 +21,8 @@ use Rattle.sv_world.specs.declared.world.World.{World as Nodes}
 use Rattle.sv_world.specs.Deed.{deed, told_by}
 use Rattle.sv_world.specs.Faults.{fault_of}
 use Rattle.sv_world.specs.Order.{order_of}
-use Rattle.sv_world.specs.World.{set_place, nothing_happened, run}
-use Rattle.sv_world.specs.Worlds.{places_by, settings_by, heard_by, world_of, cluster_of, meanings_of, heard_of, AllMean}
+use Rattle.sv_world.specs.World.{steady, set_place, nothing_happened, run}
+use Rattle.sv_world.specs.Worlds.{places_by, settings_by, heard_by, world_of, size_of, rules_of, cluster_of, meanings_of, heard_of, AllMean}
 
 -- ---- a task
 
@@ -49,7 +50,7 @@ told_at n lines = flat_map (told_in n) lines
 -- meant, and its listeners have noted what its node has told
 pub record HaveHappened {E : Type 0} (meaning : E → EngineMeaning) (noted : E → List (List ℕ)) (old new : Nodes E) (events : List WorldEvent) : Type 0 where
   pub cluster : cluster_of new ≡ cluster_of old
-  pub world : (m : EngineMeaning) → AllMean meaning m old → world_of new ≡ run m (cluster_of old) (world_of old) events
+  pub world : (m : EngineMeaning) → AllMean meaning m old → world_of new ≡ run (always m) (cluster_of old) (world_of old) events
   pub lines : List Line
   pub trace : (world_of new).trace ≡ (world_of old).trace ++ lines
   pub each : map (λ l. l.event) lines ≡ events
@@ -62,8 +63,8 @@ pub record HasActed {E : Type 0} (meaning : E → EngineMeaning) (noted : E → 
   pub possible : fault_of (cluster_of old) (world_of old) e ≡ None
   pub order : Order
   pub asked : order_of (world_of old).packets e ≡ Some order
-  pub number : (cluster_of new).nodes ≡ (cluster_of old).nodes
-  pub rules : (cluster_of new).rules ≡ (cluster_of old).rules
+  pub number : size_of new ≡ size_of old
+  pub rules : rules_of new ≡ rules_of old
   pub meanings : meanings_of meaning new ≡ meanings_of meaning old
   pub done : (m : EngineMeaning) → meanings_of meaning old order.node ≡ Some m → HaveDone noted m old.seats.items new.seats.items order f
   pub packets : (world_of new).packets ≡ (world_of old).packets ++ sends_in f.outputs
@@ -107,8 +108,8 @@ AllAlike meaning m engines = All (λ e. meaning e ≡ m) engines
 
 -- nodes that have just started, each over the engine of its number
 pub record AreStarted {E : Type 0} (meaning : E → EngineMeaning) (noted : E → List (List ℕ)) (engines : List E) (rules : Rules) (w : Nodes E) : Type 0 where
-  pub cluster : cluster_of w ≡ record { nodes = length engines; rules = rules }
-  pub world : (m : EngineMeaning) → AllAlike meaning m engines → world_of w ≡ run m (cluster_of w) nothing_happened (restarts (length engines))
+  pub cluster : cluster_of w ≡ steady (length engines) rules
+  pub world : (m : EngineMeaning) → AllAlike meaning m engines → world_of w ≡ run (always m) (cluster_of w) nothing_happened (restarts (length engines))
   pub meanings : (n : ℕ) → meanings_of meaning w n ≡ option_map meaning (slice_get engines n)
   pub heard : (n : ℕ) → heard_of noted w n ≡ option_map noted (slice_get engines n)
 
@@ -122,7 +123,7 @@ pub record AreBack {E : Type 0} (meaning : E → EngineMeaning) (noted : E → L
 -- the world is what some events have made of one in which nothing had happened
 pub record Ran {E : Type 0} (m : EngineMeaning) (w : Nodes E) : Type 0 where
   pub events : List WorldEvent
-  pub world : world_of w ≡ run m (cluster_of w) nothing_happened events
+  pub world : world_of w ≡ run (always m) (cluster_of w) nothing_happened events
 
 -- a start that no stop cuts
 abbrev pub is_start : WorldEvent → Bool

@@ -1,19 +1,23 @@
 -- The theorem that the project is for, statement by statement.
 --
--- How to read it. Three files of definitions have to be believed, under a thousand lines with the four that `Node.antt` names:
---     sv_model  `Container.antt`   one container without nodes: a map of sessions, and a list of commits that leads to it
---     sv_model  `Node.antt`        a node's step as a table of cases, with `Serving`, `Waiting`, `Migration`, `Time`
---     here      `World.antt`       all nodes, all packets ever sent, and the ten events with what they do
--- Then, of every list of events from a world in which nothing has happened, `IsHeadline` below says five things of the world
--- behind them, and one more of its journals:
+-- How to read it. What has to be believed are these 862 lines of definitions, in this order; `check/believed` counts them, and with
+-- --print it writes them out:
+--     sv_model  `Session`, `Engine`, `Keys`, `Container`   one container without nodes: a map of sessions, and a list of commits
+--     sv_model  `Trace`                                    what a step has done, and what is read off a list of that
+--     sv_model  `NodeState`, `Decision`, `Serving`, `Waiting`, `Migration`, `Time`, `Node`   a node's step, as a table of cases
+--     sv_model  `Replay`, `Opening`, `Outputs`, `Membership`   what a record makes of what a node keeps, and what steps put out
+--     here      `Rules`, `Sent`, `World`                   all nodes, all packets ever sent, and the ten events with what they do
+-- Each start of a node has an application, rules and a number of nodes of its own, told by a plan (`Meanings`, `Cluster`). Then, of
+-- every list of events from a world in which nothing has happened, `IsHeadline` below says six things of the world behind them,
+-- as long as each node that runs was told of each node whose sessions live (`AlwaysKnows`):
 --     1  `AtMostOne`       a session lives at one node at most
 --     2  `Agree`           nodes that open the same epoch of a session open it with the same session
 --     3  `IsOneContainer`  the commits of all nodes are a run of one container, whose map is what lives
 --     4  `IsAcknowledged`  each answer is that container's reply to its own request, and no request is served twice
 --     5  `IsTold`          listeners are told the events of that run, in its order
 --     6  `IsReplay`        what is durable at a node is what its journal's records give, one behind the other
--- `IsFaulty` in `Faults.antt` says which events can't happen, and that these change nothing. `Life`, `Sane` and `Waits` are the
--- invariant by which it is proved; nobody has to believe them.
+-- `IsFaulty` in `Faults.antt` says which events can't happen, and that these change nothing. `HaveFitted` in `Journals.antt` says
+-- what an opening may rely on. `IsProgress` in `Progress.antt` says what may be relied on while nodes run and packets get through. `Life`, `Sane` and `Waits` are the invariant by which it is proved; nobody has to believe them.
 --
 -- What no statement refuses is only read: that `World.antt` says what a stop can leave and what a start does; and that a step
 -- which a stop has cut before its record leaves no commit, nor one without a record of which nothing has left its node, so that a
@@ -24,8 +28,7 @@ use Rattle.sv_model.specs.declared.key.Key.{Key}
 use Rattle.sv_model.specs.declared.session.Session.{Session}
 use Rattle.sv_model.specs.declared.state.KeyState.{KeyState}
 use Rattle.sv_model.specs.declared.state.KeyState.TheVariants.{Active, Sent, Gone, Ended}
-use Rattle.sv_model.specs.Engine.{EngineMeaning}
-use Rattle.sv_model.specs.Container.{Store, nothing_stored, after, AreLawful, AllMayStand, reply_of}
+use Rattle.sv_model.specs.Container.{Meanings, after, AreLawful, AllMayStand, reply_of, store_with, events_with, replies_with, Store, nothing_stored}
 use Rattle.sv_model.specs.declared.key.Token.{Token}
 use Rattle.sv_model.specs.declared.event.Told.{Told}
 use Rattle.sv_model.specs.declared.packet.Packet.{Packet}
@@ -36,17 +39,15 @@ use Rattle.sv_model.specs.declared.input.Input.{Input}
 use Rattle.sv_model.specs.declared.input.Input.TheVariants as input
 use Rattle.sv_model.specs.declared.commit.Commit.{Commit}
 use Rattle.sv_model.specs.declared.commit.Commit.TheVariants.{Served, Expired}
-use Rattle.sv_model.specs.Trace.{Item, commits_of, asked_of, told_of, replies_of, refused_of, served_of, times, arrival_behind}
-use Rattle.sv_model.specs.OneContainer.{store_with, events_with, replies_with, AreDistinct, tokens_in}
-use Rattle.sv_model.specs.Replay.{blank, replayed, AllFit}
-use Rattle.sv_model.specs.declared.node.Stage.TheVariants.{Blank}
+use Rattle.sv_model.specs.Trace.{Item, commits_of, asked_of, told_of, replies_of, refused_of, served_of, times, arrival_behind, AreDistinct, tokens_in}
+use Rattle.sv_model.specs.Replay.{blank, replayed}
 use Rattle.sv_model.specs.NodeState.{epoch_in, known}
 use Rattle.sv_model.specs.Membership.{In}
 use Rattle.sv_model.specs.Opening.{Opening, mark_of}
 use Rattle.sv_world.specs.declared.event.WorldEvent.{WorldEvent}
 use Rattle.sv_world.specs.declared.event.WorldEvent.TheVariants.{Ask, Deliver, Poke, Tick, Move, Crash, Torn, Silent, Restart, TornRestart}
 use Rattle.sv_world.specs.declared.line.Line.{Line}
-use Rattle.sv_world.specs.World.{Cluster, setting_of, World, durable_at, items, item_at, commits_in, records_at, openings_of}
+use Rattle.sv_world.specs.World.{World, durable_at, items, item_at, commits_in, records_at, openings_of}
 
 -- ---- 1. a session lives at one node at most
 
@@ -92,7 +93,7 @@ Agree w = (k : Key) (e : ℕ) (s u : Session) → IsOpening w k e s → IsOpenin
 -- the commits are a run of the container; a request that was served without the session that it names has its excuse, a place
 -- in the order since it came at which the container had no such session; and the container's map behind all commits is just
 -- what lives at the nodes
-pub record IsOneContainer (m : EngineMeaning) (w : World) : Type 0 where
+pub record IsOneContainer (m : Meanings) (w : World) : Type 0 where
   pub lawful : AreLawful m nothing_stored (commits_in w)
   pub stands : AllMayStand m (arrival_behind 0 (items w.trace)) [] (commits_in w)
   pub has : (k : Key) (x : ℕ) (s : Session) → IsLiveAt w k x s → (after m nothing_stored (commits_in w)).map k ≡ Some s
@@ -132,7 +133,7 @@ AllServed came (Served token r now handed fresh ∷ cs) = came token r × AllSer
 AllServed came (Expired k now ∷ cs) = AllServed came cs
 
 -- each line, with the container as it was before its commit
-abbrev pub AreLines : (Store → Line → Type 0) → EngineMeaning → Store → List Line → Type 0
+abbrev pub AreLines : (Store → Line → Type 0) → Meanings → Store → List Line → Type 0
 AreLines P m store [] = ⊤
 AreLines P m store (l ∷ ls) = P store l × AreLines P m (store_with m store l.commit) ls
 
@@ -142,7 +143,7 @@ pub record IsUnanswered (l : Line) : Type 0 where
   pub refused : (item_at l).refused ≡ []
 
 -- a whole step puts out its own commit's reply and no other; without a commit it answers nobody
-abbrev pub IsAnswered : EngineMeaning → Store → Line → Type 0
+abbrev pub IsAnswered : Meanings → Store → Line → Type 0
 IsAnswered m store l = cond l.whole ((item_at l).replies ≡ replies_with m store l.commit) (IsUnanswered l)
 
 -- the whole steps
@@ -151,21 +152,22 @@ wholes trace = items (filter (λ l. l.whole) trace)
 
 -- an answer: the list has one commit that served its token, that of the answering line, whose place isn't below the
 -- number of commits at the request's arrival; and the response is that commit's reply there
-pub record IsAnswer (m : EngineMeaning) (w : World) (before : List Line) (l : Line) (t : Token) (response : Response) : Type 0 where
+pub record IsAnswer (m : Meanings) (w : World) (before : List Line) (l : Line) (t : Token) (response : Response) : Type 0 where
   pub commit : Commit
   pub stands : l.commit ≡ Some commit
   pub reply : reply_of m (after m nothing_stored (commits_of (items before))) commit ≡ Some (t, response)
   pub arrived : arrival_behind 0 (items w.trace) t ≤ length (commits_of (items before))
   pub once : times t (served_of (commits_in w)) ≡ 1
 
-abbrev pub AreAnswers : EngineMeaning → World → Type 0
+abbrev pub AreAnswers : Meanings → World → Type 0
 AreAnswers m w =
     (before : List Line) (l : Line) (behind : List Line) (t : Token) (response : Response)
     → w.trace ≡ before ++ l ∷ behind → In (t, response) (item_at l).replies → IsAnswer m w before l t response
 
--- what is served is a request that came, under its own token; a request comes under a token of its own; one that is answered is served, and one that was served in a whole step is
--- answered; no token is served twice or refused twice, and one that is refused is not served
-pub record IsAcknowledged (m : EngineMeaning) (w : World) : Type 0 where
+-- what is served is a request that came, under its own token; a request comes under a token of its own; one that is answered is
+-- served, and one that was served in a whole step is answered; no token is served twice or refused twice, and one that is refused
+-- is not served
+pub record IsAcknowledged (m : Meanings) (w : World) : Type 0 where
   pub lines : AreLines (IsAnswered m) m nothing_stored w.trace
   pub answers : AreAnswers m w
   pub own : AllServed (WasAsked w.trace) (commits_in w)
@@ -182,36 +184,35 @@ pub record IsUnheard (l : Line) : Type 0 where
   pub mark : l.mark ≡ None
 
 -- a whole step tells the events of its commit, and behind them that a session has come or gone, where its record says so
-pub record IsHeard (m : EngineMeaning) (store : Store) (l : Line) : Type 0 where
+pub record IsHeard (m : Meanings) (store : Store) (l : Line) : Type 0 where
   pub events : l.events ≡ events_with m store l.commit
   pub mark : l.mark ≡ mark_of l.entry
 
-abbrev pub IsToldLine : EngineMeaning → Store → Line → Type 0
+abbrev pub IsToldLine : Meanings → Store → Line → Type 0
 IsToldLine m store l = cond l.whole (IsHeard m store l) (IsUnheard l)
 
 -- the events of the commits of whole steps, in the order of all commits
-abbrev pub whole_events : EngineMeaning → Store → List Line → List Told
+abbrev pub whole_events : Meanings → Store → List Line → List Told
 whole_events m store [] = []
 whole_events m store (l ∷ ls) = cond l.whole (events_with m store l.commit) [] ++ whole_events m (store_with m store l.commit) ls
 
 -- so what was told at all nodes, without the marks, is the events of the commits of whole steps, in their order
-pub record IsTold (m : EngineMeaning) (w : World) : Type 0 where
+pub record IsTold (m : Meanings) (w : World) : Type 0 where
   pub lines : AreLines (IsToldLine m) m nothing_stored w.trace
   pub told : told_of (items w.trace) ≡ whole_events m nothing_stored w.trace
 
 -- ---- 6. journals
 
--- what is durable at a node is its records, one behind the other, and each of them fitted
-pub record IsReplay (c : Cluster) (w : World) : Type 0 where
-  pub replay : (n : ℕ) → durable_at w n ≡ replayed blank (records_at n w.trace)
-  pub fits : (n : ℕ) → AllFit (setting_of c n) Blank blank (records_at n w.trace)
+-- what is durable at a node is its records, one behind the other
+abbrev pub IsReplay : World → Type 0
+IsReplay w = (n : ℕ) → durable_at w n ≡ replayed blank (records_at n w.trace)
 
 -- ---- all of it
 
-pub record IsHeadline (m : EngineMeaning) (c : Cluster) (w : World) : Type 0 where
+pub record IsHeadline (m : Meanings) (w : World) : Type 0 where
   pub one : AtMostOne w
   pub agree : Agree w
   pub container : IsOneContainer m w
   pub acknowledged : IsAcknowledged m w
   pub told : IsTold m w
-  pub replay : IsReplay c w
+  pub replay : IsReplay w

@@ -8,7 +8,7 @@ use Rattle.sv_world.specs.declared.rules.Rules.{Rules}
 use Rattle.sv_world.specs.Rules.{setting_by}
 use Rattle.sv_world.specs.declared.world.World.{World as Nodes}
 use Rattle.sv_world.specs.Seat.{engine_in}
-use Rattle.sv_world.specs.Worlds.{settings_by, cluster_of, meanings_of, heard_of}
+use Rattle.sv_world.specs.Worlds.{settings_by, size_of, meanings_of, heard_of}
 use Rattle.sv_world.specs.Happened.{HaveHappened, restarts}
 
 -- it has yet to start
@@ -25,12 +25,12 @@ pub record AreSeated {E : Type 0} (nodes : ℕ) (rules : Rules) (engines : List 
 
 -- all nodes were started, and nothing was told
 pub record HaveBegun {E : Type 0} (meaning : E → EngineMeaning) (noted : E → List (List ℕ)) (old new : Nodes E) : Type 0 where
-  pub happened : HaveHappened meaning noted old new (restarts (cluster_of old).nodes)
+  pub happened : HaveHappened meaning noted old new (restarts (size_of old))
   pub heard : heard_of noted new ≡ heard_of noted old
 
 -- the engines of a world's nodes
 pub record AreOf {E : Type 0} (meaning : E → EngineMeaning) (noted : E → List (List ℕ)) (fit : E → Type 0) (w : Nodes E) (engines : List E) : Type 0 where
   pub valid : All fit engines
-  pub number : length engines ≡ (cluster_of w).nodes
+  pub number : length engines ≡ size_of w
   pub meanings : (n : ℕ) → option_map meaning (slice_get engines n) ≡ meanings_of meaning w n
   pub heard : (n : ℕ) → option_map noted (slice_get engines n) ≡ heard_of noted w n

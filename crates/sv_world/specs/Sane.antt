@@ -5,8 +5,7 @@ use Rattle.sv_model.specs.declared.key.Key.{Key}
 use Rattle.sv_model.specs.declared.packet.Packet.{Packet}
 use Rattle.sv_model.specs.declared.packet.Packet.TheVariants.{Ack}
 use Rattle.sv_model.specs.declared.commit.Commit.{Commit}
-use Rattle.sv_model.specs.Engine.{EngineMeaning}
-use Rattle.sv_model.specs.Container.{Store, nothing_stored, after, AreLawful}
+use Rattle.sv_model.specs.Container.{Meanings, after, AreLawful, Store, nothing_stored}
 use Rattle.sv_model.specs.NodeState.{Durable, known}
 use Rattle.sv_model.specs.Membership.{In}
 use Rattle.sv_model.specs.Opening.{Opening}
@@ -18,16 +17,16 @@ use Rattle.sv_world.specs.Headline.{granted, opened}
 abbrev pub acked : List Packet → Key → ℕ → ℕ → Type 0
 acked packets k e to = (from : ℕ) × In (Ack from to k e) packets
 
-abbrev pub store_of : EngineMeaning → List Commit → Store
+abbrev pub store_of : Meanings → List Commit → Store
 store_of m cs = after m nothing_stored cs
 
--- its home is no node, or has not yet handed it out, or never will
-abbrev pub IsUnmade : Cluster → (ℕ → Durable) → Key → Type 0
-IsUnmade c disks q = (c.nodes ≤ q.home) ⊎ (((disks q.home).next ≤ q.serial) ⊎ (q.serial ≡ 0))
+-- its home has not yet handed it out, or never will
+abbrev pub IsUnmade : (ℕ → Durable) → Key → Type 0
+IsUnmade disks q = ((disks q.home).next ≤ q.serial) ⊎ (q.serial ≡ 0)
 
-pub record Sane (m : EngineMeaning) (c : Cluster) (disks : ℕ → Durable) (packets : List Packet) (openings : List Opening) (commits : List Commit) : Type 0 where
+pub record Sane (m : Meanings) (c : Cluster) (disks : ℕ → Durable) (packets : List Packet) (openings : List Opening) (commits : List Commit) : Type 0 where
   pub lives : (q : Key) → Life (λ x. known (disks x) q) (granted packets q) (acked packets q) (opened openings q) ((store_of m commits).map q)
-  pub unmade : (x : ℕ) (q : Key) → IsUnmade c disks q → known (disks x) q ≡ None
+  pub unmade : (x : ℕ) (q : Key) → IsUnmade disks q → known (disks x) q ≡ None
   pub made : (q : Key) → (store_of m commits).made q ≡ true → q.serial < (disks q.home).next
   pub lawful : AreLawful m nothing_stored commits
   pub counts : (x : ℕ) → 0 < (disks x).next

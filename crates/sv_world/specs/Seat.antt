@@ -5,7 +5,8 @@ use Rattle.sv_model.specs.Engine.{EngineMeaning, heard_all}
 use Rattle.sv_model.specs.declared.node.Setting.{Setting}
 use Rattle.sv_model.specs.declared.node.Stage.TheVariants.{Blank}
 use Rattle.sv_model.specs.NodeState.{Durable}
-use Rattle.sv_model.specs.Replay.{blank, replayed, AllFit}
+use Rattle.sv_model.specs.Replay.{blank, replayed}
+use Rattle.sv_model.specs.Fitting.{AllFit}
 use Rattle.sv_core.specs.declared.node.Core.{Core}
 use Rattle.sv_core.specs.Core as core
 use Rattle.sv_world.specs.declared.seat.Seat.{Seat}

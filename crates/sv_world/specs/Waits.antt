@@ -8,8 +8,7 @@ use Rattle.sv_model.specs.declared.request.Request.{Request}
 use Rattle.sv_model.specs.declared.packet.Packet.{Packet}
 use Rattle.sv_model.specs.declared.packet.Packet.TheVariants.{Want, No}
 use Rattle.sv_model.specs.declared.commit.Commit.{Commit}
-use Rattle.sv_model.specs.Engine.{EngineMeaning}
-use Rattle.sv_model.specs.Container.{IsExcused, AllMayStand}
+use Rattle.sv_model.specs.Container.{Meanings, IsExcused, AllMayStand}
 use Rattle.sv_model.specs.Membership.{In}
 use Rattle.sv_world.specs.Headline.{AllServed}
 use Rattle.sv_world.specs.World.{Place}
@@ -25,15 +24,15 @@ abbrev pub IsPast : Place → ℕ → ℕ → Type 0
 IsPast p b w = (b < p.node.durable.boot) ⊎ ((b ≡ p.node.durable.boot) × ((w < p.node.next_want) ⊎ (p.up ≡ false)))
 
 -- a request that waits came before now, names its key, and its want is of the past
-pub record IsParked (m : EngineMeaning) (size : ℕ) (arr : Token → ℕ) (asked : Token → Request → Type 0) (t : Token) (want : ℕ) (p : Parked) : Type 0 where
+pub record IsParked (m : Meanings) (size : ℕ) (arr : Token → ℕ) (asked : Token → Request → Type 0) (t : Token) (want : ℕ) (p : Parked) : Type 0 where
   pub arrived : arr t ≤ size
   pub came : asked t p.request
   pub named : Key × Secret
-  pub names : m.names p.request ≡ Some named
+  pub names : (m t.node t.boot).names p.request ≡ Some named
   pub key : named.0 ≡ p.key
   pub below : p.want < want
 
-pub record Waits (m : EngineMeaning) (places : ℕ → Place) (packets : List Packet) (cs : List Commit) (arr : Token → ℕ)
+pub record Waits (m : Meanings) (places : ℕ → Place) (packets : List Packet) (cs : List Commit) (arr : Token → ℕ)
     (asked : Token → Request → Type 0) : Type 0 where
   pub want_past : (from to : ℕ) (k : Key) (b x : ℕ) → In (Want from to k b x) packets → IsPast (places from) b x
   pub no_past : (from to : ℕ) (k : Key) (b x : ℕ) → In (No from to k b x) packets → IsPast (places to) b x

@@ -10,24 +10,24 @@
 --     a start          one record, under the next boot number                                 `boots`
 -- Read this file with care: what isn't true of real nodes here, no law makes true.
 use Rattle.std.specs.Option.{option_map, option_to_list}
-use Rattle.std.specs.Prelude.{ℕ, ◌+◌, ◌==◌, ◌&&◌, nat_lt, not, is_some, Bool, true, false, cond, Option, Some, None, List, [], ◌∷◌, ◌++◌, map, slice_get}
+use Rattle.std.specs.Prelude.{◌≡◌, ◌≤◌, ⊤, ℕ, ◌+◌, ◌==◌, ◌&&◌, nat_lt, not, is_some, Bool, true, false, cond, Option, Some, None, List, [], ◌∷◌, ◌++◌, map, slice_get}
 use Rattle.std.specs.List.{filter_map, flat_map}
+use Rattle.sv_model.specs.declared.key.Key.{Key}
 use Rattle.sv_model.specs.declared.key.Token.{Token}
 use Rattle.sv_model.specs.declared.node.Setting.{Setting}
 use Rattle.sv_model.specs.declared.packet.Packet.{Packet}
 use Rattle.sv_model.specs.declared.input.Input.TheVariants as input
 use Rattle.sv_model.specs.declared.record.Record.{Record}
 use Rattle.sv_model.specs.declared.commit.Commit.{Commit}
-use Rattle.sv_model.specs.Engine.{EngineMeaning}
+use Rattle.sv_model.specs.Container.{nothing_stored, Meanings, after}
 use Rattle.sv_model.specs.NodeState.{Durable, Node, last_number}
-use Rattle.sv_model.specs.Decision.{Decision}
+use Rattle.sv_model.specs.Decision.{Decision, left}
 use Rattle.sv_model.specs.Serving.{token_of}
 use Rattle.sv_model.specs.Migration.{addressee}
 use Rattle.sv_model.specs.Node.{decided}
 use Rattle.sv_model.specs.Replay.{blank, boot_record, applied}
 use Rattle.sv_model.specs.Opening.{Opening, opening_of}
 use Rattle.sv_model.specs.Outputs.{sends_in}
-use Rattle.sv_model.specs.Step.{left}
 use Rattle.sv_model.specs.Trace.{Item, asked_by, reply_in, refusal_in, commits_of, asked_of, times}
 use Rattle.sv_world.specs.declared.event.WorldEvent.{WorldEvent}
 use Rattle.sv_world.specs.declared.event.WorldEvent.TheVariants.{Ask, Deliver, Poke, Tick, Move, Crash, Torn, Silent, Restart, TornRestart}
@@ -37,13 +37,18 @@ use Rattle.sv_world.specs.Rules.{setting_by}
 use Rattle.sv_world.specs.declared.call.Call.{Call}
 use Rattle.sv_world.specs.Sent.{may_come}
 
--- how many nodes there are, and what holds at each of them
+-- what each node is started with, by the node and the number of its start: how many nodes it is told that there are, and its rules
 pub record Cluster : Type 0 where
-  pub nodes : ℕ
-  pub rules : Rules
+  pub nodes : ℕ → ℕ → ℕ
+  pub rules : ℕ → ℕ → Rules
 
-abbrev pub setting_of : Cluster → ℕ → Setting
-setting_of c n = setting_by c.rules n c.nodes
+-- the same at all nodes, from start to start
+abbrev pub steady : ℕ → Rules → Cluster
+steady nodes rules = record { nodes = λ n boot. nodes; rules = λ n boot. rules }
+
+-- the setting of a node, by the number of its start
+abbrev pub setting_of : Cluster → ℕ → ℕ → Setting
+setting_of c n boot = setting_by (c.rules n boot) n (c.nodes n boot)
 
 -- ---- the world
 
@@ -124,26 +129,28 @@ call_of sent (Crash n) = None
 call_of sent (Restart n) = None
 call_of sent (TornRestart n kept) = None
 
-abbrev pub decision : EngineMeaning → Cluster → World → Call → Decision
-decision m c w call = decided m (setting_of c call.node) (w.places call.node).node call.moment call.input
+abbrev pub decision : Meanings → Cluster → World → Call → Decision
+decision m c w call =
+    let boot = (durable_at w call.node).boot in
+    decided (m call.node boot) (setting_of c call.node boot) (w.places call.node).node call.moment call.input
 
 -- the token of a request that comes with a step
 abbrev pub token_of_call : Cluster → World → Call → Option Token
-token_of_call c w call = asked_by (token_of (setting_of c call.node) (durable_at w call.node)) call.input
+token_of_call c w call = asked_by (token_of (setting_of c call.node (durable_at w call.node).boot) (durable_at w call.node)) call.input
 
 -- a token is used once
 abbrev pub is_unused : List Token → Option Token → Bool
 is_unused used None = true
 is_unused used (Some t) = times t used == 0
 
--- there is such a node
-abbrev pub is_there : Cluster → ℕ → Bool
-is_there c n = nat_lt n c.nodes
+-- a start is told of its own node
+abbrev pub is_there : Cluster → ℕ → ℕ → Bool
+is_there c n boot = nat_lt n (c.nodes n boot)
 
 -- the node is there and runs, a packet was sent, and a request comes under a token of its own
 abbrev pub is_ready : Cluster → World → Call → Bool
 is_ready c w call =
-    is_there c call.node && ((w.places call.node).up
+    is_there c call.node (durable_at w call.node).boot && ((w.places call.node).up
     && (may_come w.packets call.input && is_unused (asked_of (items w.trace)) (token_of_call c w call)))
 
 -- ---- what an event does
@@ -227,21 +234,22 @@ halt w e n asked = becomes w e n (stopped (durable_at w n)) None asked
 
 -- a node's record of its start
 abbrev pub record_of_start : Cluster → World → ℕ → Record
-record_of_start c w n = boot_record (setting_of c n) (durable_at w n)
+record_of_start c w n = boot_record (setting_of c n ((durable_at w n).boot + 1)) (durable_at w n)
 
 abbrev pub boots : Cluster → World → WorldEvent → ℕ → (Durable → Place) → World
-boots c w e n place = becomes w e n (place (applied (record_of_start c w n) (durable_at w n))) (Some (record_of_start c w n)) None
+boots c w e n place =
+    becomes w e n (place (applied (record_of_start c w n) (durable_at w n))) (Some (record_of_start c w n)) None
 
 -- the boot numbers of a node are used up
 abbrev pub is_spent : World → ℕ → Bool
 is_spent w n = (durable_at w n).boot == last_number
 
-abbrev pub steps : EngineMeaning → Cluster → World → WorldEvent → Option Call → World
+abbrev pub steps : Meanings → Cluster → World → WorldEvent → Option Call → World
 steps m c w e None = w
 steps m c w e (Some call) = cond (is_ready c w call) (whole c w e call (decision m c w call)) w
 
 -- a commit is kept only with its record: what a step does without one leaves nothing where it is cut
-abbrev pub tears : EngineMeaning → Cluster → World → WorldEvent → Bool → Option Call → World
+abbrev pub tears : Meanings → Cluster → World → WorldEvent → Bool → Option Call → World
 tears m c w e kept None = w
 tears m c w e kept (Some call) =
     let d = decision m c w call in
@@ -249,17 +257,18 @@ tears m c w e kept (Some call) =
 
 -- a step of which nothing leaves its node; the node runs on. So several steps that are made durable at once, behind which a
 -- stop falls before anything of them has left, are as many silent steps and a stop.
-abbrev pub hushes : EngineMeaning → Cluster → World → WorldEvent → Option Call → World
+abbrev pub hushes : Meanings → Cluster → World → WorldEvent → Option Call → World
 hushes m c w e None = w
 hushes m c w e (Some call) = cond (is_ready c w call) (silent c w e call (decision m c w call)) w
 
 -- a start, that leaves the node running (`started`) or stopped, with its record or without
 abbrev pub starts : Cluster → World → WorldEvent → ℕ → Bool → (Durable → Place) → World
 starts c w e n kept place =
-    cond (is_there c n && not (w.places n).up) (cond (kept && not (is_spent w n)) (boots c w e n place) (halt w e n None)) w
+    cond (is_there c n ((durable_at w n).boot + 1) && not (w.places n).up)
+    (cond (kept && not (is_spent w n)) (boots c w e n place) (halt w e n None)) w
 
 -- an event that can't happen changes nothing
-abbrev pub happens : EngineMeaning → Cluster → World → WorldEvent → World
+abbrev pub happens : Meanings → Cluster → World → WorldEvent → World
 happens m c w (Ask n moment token r) = steps m c w (Ask n moment token r) (call_of w.packets (Ask n moment token r))
 happens m c w (Deliver moment place) = steps m c w (Deliver moment place) (call_of w.packets (Deliver moment place))
 happens m c w (Poke n moment) = steps m c w (Poke n moment) (call_of w.packets (Poke n moment))
@@ -267,11 +276,24 @@ happens m c w (Tick n moment) = steps m c w (Tick n moment) (call_of w.packets (
 happens m c w (Move n moment k to) = steps m c w (Move n moment k to) (call_of w.packets (Move n moment k to))
 happens m c w (Torn n moment given kept) = tears m c w (Torn n moment given kept) kept (call_of w.packets (Torn n moment given kept))
 happens m c w (Silent n moment given) = hushes m c w (Silent n moment given) (call_of w.packets (Silent n moment given))
-happens m c w (Crash n) = cond (is_there c n && (w.places n).up) (halt w (Crash n) n None) w
+happens m c w (Crash n) = cond (is_there c n (durable_at w n).boot && (w.places n).up) (halt w (Crash n) n None) w
 happens m c w (Restart n) = starts c w (Restart n) n true started
 happens m c w (TornRestart n kept) = starts c w (TornRestart n kept) n kept stopped
 
 -- all of them, one behind the other
-abbrev pub run : EngineMeaning → Cluster → World → List WorldEvent → World
+abbrev pub run : Meanings → Cluster → World → List WorldEvent → World
 run m c w [] = w
 run m c w (e ∷ es) = run m c (happens m c w e) es
+
+-- ---- nodes that are added, or taken away at the end
+
+-- no session lives that was made at a node of which a node that runs wasn't told; such a node takes its key for one that never was
+abbrev pub KnowsAll : Meanings → Cluster → World → Type 0
+KnowsAll m c w =
+    (x : ℕ) (k : Key) → (w.places x).up ≡ true → c.nodes x (durable_at w x).boot ≤ k.home
+    → (after m nothing_stored (commits_in w)).map k ≡ None
+
+-- that holds before each of these events
+abbrev pub AlwaysKnows : Meanings → Cluster → World → List WorldEvent → Type 0
+AlwaysKnows m c w [] = ⊤
+AlwaysKnows m c w (e ∷ es) = KnowsAll m c w × AlwaysKnows m c (happens m c w e) es

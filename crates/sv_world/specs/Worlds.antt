@@ -11,7 +11,7 @@ use Rattle.sv_world.specs.Rules.{rules_for, setting_by}
 use Rattle.sv_world.specs.declared.seat.Seat.{Seat}
 use Rattle.sv_world.specs.declared.world.World.{World as Nodes}
 use Rattle.sv_world.specs.Seat.{IsSeat, place_of, meaning_in, heard_in}
-use Rattle.sv_world.specs.World.{Cluster, Place, World, setting_of, stopped}
+use Rattle.sv_world.specs.World.{Cluster, Place, World, steady, stopped}
 
 -- ---- nodes, by their numbers
 
@@ -49,13 +49,21 @@ abbrev pub state_by : {E : Type 0} → List (Seat E) → List Packet → List Li
 state_by seats packets trace = record { places = places_by seats; packets = packets; trace = trace }
 
 abbrev pub cluster_by : {E : Type 0} → List (Seat E) → Rules → Cluster
-cluster_by seats rules = record { nodes = length seats; rules = rules }
+cluster_by seats rules = steady (length seats) rules
 
 -- ---- a world
 
 abbrev pub world_of : {E : Type 0} → Nodes E → World
 world_of w = state_by w.seats.items w.packets.items w.trace.items
 
+-- how many nodes there are
+abbrev pub size_of : {E : Type 0} → Nodes E → ℕ
+size_of w = length w.seats.items
+
+abbrev pub rules_of : {E : Type 0} → Nodes E → Rules
+rules_of w = w.rules
+
+-- each start is told of all of them, and has these rules
 abbrev pub cluster_of : {E : Type 0} → Nodes E → Cluster
 cluster_of w = cluster_by w.seats.items w.rules
 
@@ -68,10 +76,10 @@ heard_of noted w = heard_by noted w.seats.items
 -- what holds between the events: each node has its journal and a core or an engine, and its own number
 pub record IsWorld {E : Type 0} (valid : E → Type 0) (w : Nodes E) : Type 0 where
   pub seats : All (λ s. IsSeat valid s) w.seats.items
-  pub settings : (n : ℕ) → n < length w.seats.items → settings_by w.seats.items n ≡ setting_of (cluster_of w) n
+  pub settings : (n : ℕ) → n < length w.seats.items → settings_by w.seats.items n ≡ setting_by w.rules n (length w.seats.items)
   pub some : 0 < length w.seats.items
   pub few : length w.seats.items ≤ 8
 
 -- all engines mean the same
 abbrev pub AllMean : {E : Type 0} → (E → EngineMeaning) → EngineMeaning → Nodes E → Type 0
-AllMean meaning m w = (n : ℕ) → n < (cluster_of w).nodes → meanings_of meaning w n ≡ Some m
+AllMean meaning m w = (n : ℕ) → n < size_of w → meanings_of meaning w n ≡ Some m

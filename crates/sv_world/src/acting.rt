@@ -6,7 +6,8 @@ ghost use Rattle.sv_core.specs.Core.{node_at, setting_of, engine_of, decision_at
 ghost use Rattle.sv_core.specs.Decision.{outputs_in};
 ghost use Rattle.sv_model.specs.Engine.{heard_all};
 ghost use Rattle.sv_model.specs.Outputs.{sends_in};
-ghost use Rattle.sv_model.specs.Step.{left, told};
+ghost use Rattle.sv_model.specs.Decision.{left};
+ghost use Rattle.sv_model.specs.Step.{told};
 ghost use Rattle.sv_world.specs.Acting.{row_at, IsOver, IsCarriedOut};
 ghost use Rattle.sv_world.specs.Deed.{whole_by};
 

@@ -1,9 +1,12 @@
 //! One event.
 
 ghost use Rattle.std.specs.Prelude.{◌≡◌, ◌<◌, [], ◌∷◌, None, true, IfOk, IfErr, OnOk, vec_len, vec_capacity};
+ghost use Rattle.sv_model.specs.Container.{always};
 ghost use Rattle.sv_model.specs.Engine.{EngineMeaning};
 ghost use Rattle.sv_world.specs.Faults.{fault_of};
 ghost use Rattle.sv_world.specs.Headline.{IsHeadline};
+ghost use Rattle.sv_world.specs.Journals.{HaveFitted};
+ghost use Rattle.sv_world.specs.Progress.{IsProgress};
 
 use crate::event::WorldEvent;
 use crate::fault::WorldFault;
@@ -15,7 +18,7 @@ use crate::world::World;
 use sv_model::Engine;
 
 impl<E: Engine + Drop> World<E> {
-    ghost use Rattle.sv_world.specs.Worlds.{world_of, cluster_of, heard_of, IsWorld, AllMean};
+    ghost use Rattle.sv_world.specs.Worlds.{world_of, rules_of, cluster_of, heard_of, IsWorld, AllMean};
     ghost use Rattle.sv_world.specs.Happened.{HaveHappened, HasActed, IsRefused, Ran, is_start};
 
     /// A node does what an event asks of it, where the event can happen. The trace then has room for its line.
@@ -51,7 +54,7 @@ impl<E: Engine + Drop> World<E> {
     /// What an event does, or the first reason why it can't happen; then all is as it was.
     ///
     /// Where all engines mean the same, and the world is what some events have made of one in which nothing had happened, it
-    /// is so behind this event too, and the theorem of `Headline.antt` holds of it.
+    /// is so behind this event too, and the theorem of `Headline.antt` and what `Progress.antt` promises hold of it.
     pub fn step(&mut self, event: WorldEvent) -> Result<(), WorldFault>
         requires { IsWorld E.valid self.old }
         ensures world { IsWorld E.valid self.new }
@@ -59,7 +62,9 @@ impl<E: Engine + Drop> World<E> {
         ensures happened { OnOk result (HaveHappened E.meaning E.heard self.old self.new (event ∷ [])) }
         ensures refused { IfErr result (λ f. IsRefused E.meaning E.heard self.old self.new event f) }
         ensures ran { (m : EngineMeaning) → AllMean E.meaning m self.old → Ran m self.old → Ran m self.new }
-        ensures headline { (m : EngineMeaning) → AllMean E.meaning m self.old → Ran m self.old → IsHeadline m (cluster_of self.new) (world_of self.new) }
+        ensures headline { (m : EngineMeaning) → AllMean E.meaning m self.old → Ran m self.old → IsHeadline (always m) (world_of self.new) }
+        ensures fit { (m : EngineMeaning) → AllMean E.meaning m self.old → Ran m self.old → HaveFitted (rules_of self.new) (world_of self.new) }
+        ensures progress { (m : EngineMeaning) → AllMean E.meaning m self.old → Ran m self.old → IsProgress (always m) (cluster_of self.new) (world_of self.new) }
     {
         self.happen(event)
     }

@@ -3,7 +3,7 @@
 ghost use Rattle.std.specs.Prelude.{◌≡◌, ◌<◌, ◌++◌, IfOk, OnErr, vec_len, vec_capacity};
 ghost use Rattle.std.specs.Option.{option_to_list};
 ghost use Rattle.sv_core.specs.Core.{node_at, setting_of, engine_of, decision_at, WasDecided};
-ghost use Rattle.sv_model.specs.Step.{left};
+ghost use Rattle.sv_model.specs.Decision.{left};
 ghost use Rattle.sv_world.specs.Acting.{row_at, IsOver, IsSilenced};
 ghost use Rattle.sv_world.specs.Deed.{quiet_at};
 ghost use Rattle.sv_world.specs.World.{commit_with};

@@ -2,9 +2,11 @@
 
 ghost use Rattle.std.specs.Prelude.{◌≡◌, ◌<◌, ◌≤◌, [], length, IfOk, IfErr, OnOk, OnErr, vec_len, vec_capacity};
 ghost use Rattle.std.specs.List.{All};
+ghost use Rattle.sv_model.specs.Container.{always};
 ghost use Rattle.sv_model.specs.Engine.{EngineMeaning};
 ghost use Rattle.sv_world.specs.Rules.{rules_for};
 ghost use Rattle.sv_world.specs.Headline.{IsHeadline};
+ghost use Rattle.sv_world.specs.Journals.{HaveFitted};
 
 use crate::event::WorldEvent;
 use crate::fault::WorldFault;
@@ -22,7 +24,7 @@ pub struct Unmade<E> {
 }
 
 impl<E: Engine + Drop> World<E> {
-    ghost use Rattle.sv_world.specs.Worlds.{world_of, cluster_of, meanings_of, heard_of, IsWorld, AllMean};
+    ghost use Rattle.sv_world.specs.Worlds.{world_of, size_of, rules_of, cluster_of, meanings_of, heard_of, IsWorld, AllMean};
     ghost use Rattle.sv_world.specs.Happened.{HaveHappened, AreStarted, AreBack, AllAlike, Ran, restarts};
     ghost use Rattle.sv_world.specs.Making.{HaveBegun, AreOf, AreSeated};
 
@@ -44,7 +46,7 @@ impl<E: Engine + Drop> World<E> {
     /// Starts all nodes. After want of memory their engines are moved into the vector, which has room for them.
     fn begin(&mut self, nodes: u8, engines: &mut Vec<E>) -> Result<(), WorldFault>
         requires world { IsWorld E.valid self.old }
-        requires nodes { nodes ≡ (cluster_of self.old).nodes }
+        requires nodes { nodes ≡ size_of self.old }
         requires empty { engines.old.items ≡ [] }
         requires room { nodes ≤ vec_capacity engines.old }
         ensures world { OnOk result (IsWorld E.valid self.new) }
@@ -99,7 +101,8 @@ impl<E: Engine + Drop> World<E> {
         ensures started { IfOk result (λ w. AreStarted E.meaning E.heard engines.items rules w) }
         ensures alike { IfOk result (λ w. (m : EngineMeaning) → AllAlike E.meaning m engines.items → AllMean E.meaning m w) }
         ensures ran { IfOk result (λ w. (m : EngineMeaning) → AllAlike E.meaning m engines.items → Ran m w) }
-        ensures headline { IfOk result (λ w. (m : EngineMeaning) → AllAlike E.meaning m engines.items → IsHeadline m (cluster_of w) (world_of w)) }
+        ensures headline { IfOk result (λ w. (m : EngineMeaning) → AllAlike E.meaning m engines.items → IsHeadline (always m) (world_of w)) }
+        ensures fit { IfOk result (λ w. (m : EngineMeaning) → AllAlike E.meaning m engines.items → HaveFitted (rules_of w) (world_of w)) }
         ensures back { IfErr result (λ u. AreBack E.meaning E.heard E.valid engines.items u.engines.items) }
     {
         match Vec::with_capacity(alloc, engines.len()) {
@@ -117,7 +120,8 @@ impl<E: Engine + Drop> World<E> {
         ensures started { IfOk result (λ w. AreStarted E.meaning E.heard engines.items (rules_for deadline) w) }
         ensures alike { IfOk result (λ w. (m : EngineMeaning) → AllAlike E.meaning m engines.items → AllMean E.meaning m w) }
         ensures ran { IfOk result (λ w. (m : EngineMeaning) → AllAlike E.meaning m engines.items → Ran m w) }
-        ensures headline { IfOk result (λ w. (m : EngineMeaning) → AllAlike E.meaning m engines.items → IsHeadline m (cluster_of w) (world_of w)) }
+        ensures headline { IfOk result (λ w. (m : EngineMeaning) → AllAlike E.meaning m engines.items → IsHeadline (always m) (world_of w)) }
+        ensures fit { IfOk result (λ w. (m : EngineMeaning) → AllAlike E.meaning m engines.items → HaveFitted (rules_of w) (world_of w)) }
         ensures back { IfErr result (λ u. AreBack E.meaning E.heard E.valid engines.items u.engines.items) }
     {
         World::with(alloc, engines, Rules::of(deadline))

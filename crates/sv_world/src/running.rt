@@ -1,9 +1,12 @@
 //! Events, one behind the other.
 
 ghost use Rattle.std.specs.Prelude.{◌≡◌, [], ◌∷◌, None, IfErr, OnOk};
+ghost use Rattle.sv_model.specs.Container.{always};
 ghost use Rattle.sv_model.specs.Engine.{EngineMeaning};
 ghost use Rattle.sv_world.specs.Faults.{fault_of};
 ghost use Rattle.sv_world.specs.Headline.{IsHeadline};
+ghost use Rattle.sv_world.specs.Journals.{HaveFitted};
+ghost use Rattle.sv_world.specs.Progress.{IsProgress};
 
 use crate::event::WorldEvent;
 use crate::fault::WorldFault;
@@ -21,7 +24,7 @@ pub struct RunFault {
 }
 
 impl<E: Engine + Drop> World<E> {
-    ghost use Rattle.sv_world.specs.Worlds.{world_of, cluster_of, IsWorld, AllMean};
+    ghost use Rattle.sv_world.specs.Worlds.{world_of, rules_of, cluster_of, IsWorld, AllMean};
     ghost use Rattle.sv_world.specs.Happened.{HaveHappened, HaveStopped, IsRefused, Ran, refusal};
 
     /// Why an event does not happen for which there was no memory.
@@ -65,14 +68,16 @@ impl<E: Engine + Drop> World<E> {
     /// What these events do, one behind the other, up to the first that can't happen.
     ///
     /// Where all engines mean the same, and the world is what some events have made of one in which nothing had happened, it
-    /// is so behind these events too, and the theorem of `Headline.antt` holds of it.
+    /// is so behind these events too, and the theorem of `Headline.antt` and what `Progress.antt` promises hold of it.
     pub fn run(&mut self, events: &[WorldEvent]) -> Result<(), RunFault>
         requires { IsWorld E.valid self.old }
         ensures world { IsWorld E.valid self.new }
         ensures happened { OnOk result (HaveHappened E.meaning E.heard self.old self.new events.now) }
         ensures stopped { IfErr result (λ f. HaveStopped E.meaning E.heard self.old self.new events.now f) }
         ensures ran { (m : EngineMeaning) → AllMean E.meaning m self.old → Ran m self.old → Ran m self.new }
-        ensures headline { (m : EngineMeaning) → AllMean E.meaning m self.old → Ran m self.old → IsHeadline m (cluster_of self.new) (world_of self.new) }
+        ensures headline { (m : EngineMeaning) → AllMean E.meaning m self.old → Ran m self.old → IsHeadline (always m) (world_of self.new) }
+        ensures fit { (m : EngineMeaning) → AllMean E.meaning m self.old → Ran m self.old → HaveFitted (rules_of self.new) (world_of self.new) }
+        ensures progress { (m : EngineMeaning) → AllMean E.meaning m self.old → Ran m self.old → IsProgress (always m) (cluster_of self.new) (world_of self.new) }
     {
         self.happen_all(events)
     }

@@ -46,6 +46,7 @@ pub enum Act {
 fn at(now: u64) -> Moment {
     Moment {
         now,
+        steady: now,
         secret: SECRET,
     }
 }

@@ -298,6 +298,7 @@ fn outputs_text(rt: &impl Abort, alloc: Global, kept: bool, outputs: &[Output]) 
 fn taken(rt: &impl Abort, core: &mut Core<Counter>, alloc: Global, given: Given) -> String {
     let moment = Moment {
         now: second(given),
+        steady: second(given),
         secret: SECRET,
     };
     let input = input(rt, alloc, given);
@@ -313,8 +314,13 @@ fn census_text(rt: &impl Abort, alloc: Global, census: &Census) -> String {
         sent,
         gone,
         ended,
+        homes,
     } = census;
-    text(rt, alloc, format_args!("{active} {sent} {gone} {ended}"))
+    text(
+        rt,
+        alloc,
+        format_args!("{active} {sent} {gone} {ended} below {homes}"),
+    )
 }
 
 fn told(rt: &impl Abort, core: &mut Core<Counter>, alloc: Global, given: Given) -> String {

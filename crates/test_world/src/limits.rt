@@ -43,7 +43,7 @@ pub static STORIES: [Story; 6] = [
         records: &[],
         parts: &[Part {
             times: 1,
-            rows: &[(Given::Census, "0 0 0 0")],
+            rows: &[(Given::Census, "0 0 0 0 below 0")],
             left: Left::Any,
         }],
     },
@@ -78,7 +78,7 @@ pub static STORIES: [Story; 6] = [
         records: &MIXED,
         parts: &[Part {
             times: 1,
-            rows: &[(Given::Census, "1 1 2 2")],
+            rows: &[(Given::Census, "1 1 2 2 below 2")],
             left: Left::Any,
         }],
     },

@@ -1,9 +1,12 @@
-use Rattle.sv_world.specs.World.{nothing_happened}
-use Rattle.sv_world.proofs.Runs.{at_first}
-use Rattle.sv_world.proofs.Records.{run_kept, first_kept}
+use Rattle.sv_world.proofs.HeadlineLemmas.{kept, replays}
+use Rattle.sv_world.proofs.Wider.{widest}
 use Rattle.sv_world.proofs.laws.journals.Goals as goal
 
-pub returns : goal.returns
-returns k m touches c es =
-    let j = run_kept m touches c nothing_happened es (at_first m c) (first_kept c) in
-    record { replay = j.replay; fits = j.fits }
+pub returns-clause-replay : goal.returns-clause-replay
+returns-clause-replay k m touches c es = replays m touches c es
+
+pub returns-clause-fit : goal.returns-clause-fit
+returns-clause-fit k m touches c wide within es = (kept m touches c wide within es).fits
+
+pub returns-clause-widest : goal.returns-clause-widest
+returns-clause-widest k wide rules many = widest wide rules many

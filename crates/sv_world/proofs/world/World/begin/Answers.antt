@@ -1,8 +1,16 @@
+use Rattle.std.proofs.Common.{◌≡◌, ap, arith}
+use Rattle.sv_world.specs.World.{Cluster}
+use Rattle.sv_world.specs.Worlds.{size_of}
 use Rattle.sv_world.proofs.BegunLemmas.{all_engines, are_of}
 use Rattle.sv_world.proofs.world.World.begin.Goals as goal
 
 pub unseat_all-requires-clause-all : goal.unseat_all-requires-clause-all
 unseat_all-requires-clause-all g c = all_engines g.E.Engine.valid c.start_all.new.self.seats.items c.start_all.ensures.world.seats
+
+pub unseat_all-requires-clause-room : goal.unseat_all-requires-clause-room
+unseat_all-requires-clause-room g c =
+    let same : size_of c.start_all.new.self ≡ size_of c.args.self.now = ap (λ (k : Cluster). k.nodes 0 0) c.start_all.ensures.cluster in
+    omega (arith, same, c.requires.nodes, c.requires.room)
 
 pub returns-in-Err-clause-back : goal.returns-in-Err-clause-back
 returns-in-Err-clause-back g c =

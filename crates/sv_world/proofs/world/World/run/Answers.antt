@@ -1,4 +1,4 @@
-use Rattle.sv_world.proofs.RanLemmas.{ran_more, run_some, some_headline}
+use Rattle.sv_world.proofs.RanLemmas.{ran_more, run_some, some_headline, some_fit, some_progress}
 use Rattle.sv_world.proofs.world.World.run.Goals as goal
 
 pub returns-clause-ran : goal.returns-clause-ran
@@ -14,3 +14,17 @@ returns-clause-headline g c m all r =
     let new = c.happen_all.new.self in
     let some = run_some g.E.Engine.meaning g.E.Engine.heard c.happen_all.result old new c.args.events.now c.happen_all.ensures.happened c.happen_all.ensures.stopped in
     some_headline g.E.Engine.meaning g.E.Engine.heard g.E.Engine.valid g.met.E.Engine.untouched m old new c.happen_all.ensures.world some all r
+
+pub returns-clause-fit : goal.returns-clause-fit
+returns-clause-fit g c m all r =
+    let old = c.args.self.now in
+    let new = c.happen_all.new.self in
+    let some = run_some g.E.Engine.meaning g.E.Engine.heard c.happen_all.result old new c.args.events.now c.happen_all.ensures.happened c.happen_all.ensures.stopped in
+    some_fit g.E.Engine.meaning g.E.Engine.heard g.E.Engine.valid g.met.E.Engine.untouched m old new c.happen_all.ensures.world some all r
+
+pub returns-clause-progress : goal.returns-clause-progress
+returns-clause-progress g c m all r =
+    let old = c.args.self.now in
+    let new = c.happen_all.new.self in
+    let some = run_some g.E.Engine.meaning g.E.Engine.heard c.happen_all.result old new c.args.events.now c.happen_all.ensures.happened c.happen_all.ensures.stopped in
+    some_progress g.E.Engine.meaning g.E.Engine.heard g.E.Engine.valid g.met.E.Engine.untouched m old new c.happen_all.ensures.world some all r
