@@ -27,22 +27,23 @@ use Rattle.sv_model.specs.declared.input.Input.TheVariants.{Ask, Packet as Incom
 use Rattle.sv_model.specs.declared.output.Output.{Output}
 use Rattle.sv_model.specs.declared.output.Output.TheVariants.{Refuse, MoveRefused}
 use Rattle.sv_model.specs.declared.output.Cause.{Cause}
-use Rattle.sv_model.specs.Engine.{EngineMeaning, TouchesOnlyHanded, NamesKeys}
+use Rattle.sv_model.specs.Engine.{EngineMeaning, TouchesOnlyHanded}
+use Rattle.sv_model.specs.Limits.{NamesKeys}
 use Rattle.sv_model.specs.Keys.{same_key, set_key}
-use Rattle.sv_model.specs.Container.{Store, nothing_stored, after, stored, fated, born, made_with, outcome_of, handed_if, IsLawful, IsNewKey, IsExcused, MayStand, expiry_events}
+use Rattle.sv_model.specs.Container.{Store, always, nothing_stored, after, stored, fated, born, made_with, outcome_of, handed_if, IsLawful, IsNewKey, IsExcused, MayStand, expiry_events, store_with}
 use Rattle.sv_model.specs.Session.{is_expired}
 use Rattle.sv_model.specs.NodeState.{known, Node, session_in}
-use Rattle.sv_model.specs.Decision.{Decision, idle}
+use Rattle.sv_model.specs.Decision.{Decision, idle, left}
 use Rattle.sv_model.specs.Node.{decided}
 use Rattle.sv_model.specs.Migration.{on_packet, on_move}
 use Rattle.sv_model.specs.Time.{on_tick, first_over, is_over, expire, grant_again}
 use Rattle.sv_model.specs.Waiting.{on_ask}
 use Rattle.sv_model.specs.Serving.{held_in, answer_of, answered, answered_unless, no_birth, fresh_of, token_of, born_keys, kept_with}
-use Rattle.sv_model.specs.Step.{left}
 use Rattle.sv_model.proofs.KeyLemmas.{keys_tell}
 use Rattle.sv_connection.specs.Table.{own_key, keys_of, IsPlace, IsMade, if_active, fated_at, born_behind, alone, node_of, state_of, refusal_for, numbered, is_past}
-use Rattle.sv_model.specs.Trace.{item_of, asked_by, reply_in, refusal_in, served_of, times}
-use Rattle.sv_model.specs.OneContainer.{store_with, IsFit}
+use Rattle.sv_model.specs.Alone.{item_of}
+use Rattle.sv_model.specs.Trace.{asked_by, reply_in, refusal_in, served_of, times}
+use Rattle.sv_model.specs.OneContainer.{IsFit}
 use Rattle.sv_model.proofs.KeptLemmas.{Agree, set_agrees, held_agrees, handed_held, fated_agrees, born_agrees}
 use Rattle.sv_connection.proofs.SoloLemmas.{packets, moves, ended_node}
 use Rattle.sv_connection.proofs.TableLemmas.{IsForeign, key_cases, get_own, is_place, held_unmade, fates, births, length_fated, kept, asks, fresh_is, few_born, put_own, no_grants, entries_are, over}
@@ -63,10 +64,10 @@ HasArrived arrival before (Some t) = arrival t ≤ before
 pub record Follows (m : EngineMeaning) (xs : List (Option Session)) (store : Store) (input : Input) (d : Decision) : Type 0 where
   pub next : List (Option Session)
   pub left_is : left d ≡ node_of next
-  pub holds : Holds next (store_with m store d.commit)
-  pub lawful : IfSome d.commit (IsLawful m store)
+  pub holds : Holds next (store_with (always m) store d.commit)
+  pub lawful : IfSome d.commit (IsLawful (always m) store)
   pub stands : (arrival : Token → ℕ) (before : List Commit) → HasArrived arrival (length before) (asked_by (token_of alone (node_of xs).durable) input)
-      → after m nothing_stored before ≡ store → IfSome d.commit (MayStand m arrival before)
+      → after (always m) nothing_stored before ≡ store → IfSome d.commit (MayStand (always m) arrival before)
   -- no session comes from another node or goes there
   pub unmarked : d.mark ≡ None
   pub fit : IsFit m store (item_of alone (node_of xs) input d d.outputs)
@@ -204,15 +205,15 @@ module _ (m : EngineMeaning) (untouched : TouchesOnlyHanded m) (can : NamesKeys 
   touched : held_in (keys_of xs) (m.names r) ≡ None → out.fate ≡ Untouched
   touched is = ap (λ held. (m.serve r held moment.now fresh).fate) is ∙ untouched r moment.now fresh
 
-  excuse : (arrival : Token → ℕ) (before : List Commit) → arrival named_token ≤ length before → after m nothing_stored before ≡ store
-      → (named : Key × Secret) → handed ≡ false → m.names r ≡ Some named → IsExcused m before (arrival named_token) named.0
+  excuse : (arrival : Token → ℕ) (before : List Commit) → arrival named_token ≤ length before → after (always m) nothing_stored before ≡ store
+      → (named : Key × Secret) → handed ≡ false → m.names r ≡ Some named → IsExcused (always m) before (arrival named_token) named.0
   excuse arrival before arrived is named unheld names =
       record {
         place = length before;
         since = arrived;
         within = omega arith;
         lacks =
-            ap (λ cs. (after m nothing_stored cs).map named.0) (take-length before)
+            ap (λ cs. (after (always m) nothing_stored cs).map named.0) (take-length before)
             ∙ ap (λ (s : Store). s.map named.0) is
             ∙ h.map named.0
             ∙ none_held named.0 (session_in (get (keys_of xs) named.0)) (ap (λ n. is_some (held_in (keys_of xs) n)) (sym names) ∙ unheld);
@@ -307,19 +308,19 @@ one_over m xs store now place s h there over =
           ∙ ap (λ os. times t (filter_map (refusal_in (token_of alone (node_of xs).durable)) os)) none;
     }
 
-found_follows : (m : EngineMeaning) (xs : List (Option Session)) (store : Store) (now at place : ℕ) (s : Session) → Holds xs store → at ≡ place → slice_get xs place ≡ Some (Some s)
-    → first_over now (entries (keys_of xs)) ≡ Some (own_key (at + 1), Active 1 s) → Follows m xs store Tick (on_tick alone (node_of xs) now)
-found_follows m xs store now at place s h same there first =
+found_follows : (m : EngineMeaning) (xs : List (Option Session)) (store : Store) (now steady at place : ℕ) (s : Session) → Holds xs store → at ≡ place → slice_get xs place ≡ Some (Some s)
+    → first_over now (entries (keys_of xs)) ≡ Some (own_key (at + 1), Active 1 s) → Follows m xs store Tick (on_tick alone (node_of xs) now steady)
+found_follows m xs store now steady at place s h same there first =
     subst (λ f. Follows m xs store Tick (tick_by xs now f)) (sym (first ∙ ap (λ n. Some (own_key (n + 1), Active 1 s)) same))
     (one_over m xs store now place s h there (found_is_over now (entries (keys_of xs)) (own_key (at + 1), Active 1 s) first))
 
-pub tick_follows : (m : EngineMeaning) (xs : List (Option Session)) (store : Store) (now : ℕ) → Holds xs store → Follows m xs store Tick (on_tick alone (node_of xs) now)
-tick_follows m xs store now h = ⊎_elim
+pub tick_follows : (m : EngineMeaning) (xs : List (Option Session)) (store : Store) (now steady : ℕ) → Holds xs store → Follows m xs store Tick (on_tick alone (node_of xs) now steady)
+tick_follows m xs store now steady h = ⊎_elim
     (λ (n : (first_over now (numbered (0 + 1) xs) ≡ None) × (position_from (is_past now) 0 xs ≡ None)).
     subst (λ f. Follows m xs store Tick (tick_by xs now f)) (sym (ap (first_over now) (entries_are xs) ∙ n.0)) (nothing_over m xs store now h))
     (λ (o : (j : ℕ) × (s : Session) × (slice_get xs j ≡ Some (Some s)) × (position_from (is_past now) 0 xs ≡ Some (0 + j))
     × (first_over now (numbered (0 + 1) xs) ≡ Some (own_key ((0 + j) + 1), Active 1 s))).
-    found_follows m xs store now (0 + o.0) o.0 o.1 h (omega arith) o.2 (ap (first_over now) (entries_are xs) ∙ o.4))
+    found_follows m xs store now steady (0 + o.0) o.0 o.1 h (omega arith) o.2 (ap (first_over now) (entries_are xs) ∙ o.4))
     (over now 0 xs)
 
 -- ---- the whole table
@@ -329,5 +330,5 @@ pub follows : (m : EngineMeaning) → TouchesOnlyHanded m → NamesKeys m → (x
 follows m untouched can xs store moment (Ask token r) h = ask_follows m untouched can xs store h moment token r
 follows m untouched can xs store moment (Incoming p) h = packet_follows m xs store moment p h
 follows m untouched can xs store moment Poke h = idle_follows m xs store Poke [] h refl (λ t. refl)
-follows m untouched can xs store moment Tick h = tick_follows m xs store moment.now h
+follows m untouched can xs store moment Tick h = tick_follows m xs store moment.now moment.steady h
 follows m untouched can xs store moment (Move k to) h = move_follows m xs store k to h

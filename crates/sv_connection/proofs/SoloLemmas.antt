@@ -77,9 +77,9 @@ module _ (m : EngineMeaning) (xs : List (Option Session)) (moment : Moment) (tok
 
 -- ---- time
 
-abbrev pub IsTick : EngineMeaning → List (Option Session) → List (List ℕ) → ℕ → Option ℕ → Type 0
-IsTick m xs heard now place =
-    IsStep (view_at m xs heard) (on_tick alone (node_of xs) now) [] (view_at m (without_at place xs) (heard_all m heard (end_at place xs)))
+abbrev pub IsTick : EngineMeaning → List (Option Session) → List (List ℕ) → (now steady : ℕ) → Option ℕ → Type 0
+IsTick m xs heard now steady place =
+    IsStep (view_at m xs heard) (on_tick alone (node_of xs) now steady) [] (view_at m (without_at place xs) (heard_all m heard (end_at place xs)))
 
 pub ended_node : (xs : List (Option Session)) (place : ℕ) → place < length xs
     → ◌≡◌ {A = Node} (record { durable = record { keys = insert (keys_of xs) (own_key (place + 1)) (Ended 1); boot = 1; next = length xs + 1; home = None }; parked = []; next_want = 1 }) (node_of (slice_set xs place None))
@@ -90,10 +90,10 @@ abbrev pub tick_node : Decision → Node
 tick_node d = record { durable = d.durable; parked = []; next_want = d.next_want }
 
 -- by the least key that has expired
-ticks_by : (m : EngineMeaning) (xs : List (Option Session)) (heard : List (List ℕ)) (now : ℕ) (found : Option (Key × KeyState)) → first_over now (entries (keys_of xs)) ≡ found
+ticks_by : (m : EngineMeaning) (xs : List (Option Session)) (heard : List (List ℕ)) (now steady : ℕ) (found : Option (Key × KeyState)) → first_over now (entries (keys_of xs)) ≡ found
     → (place : Option ℕ) → tick_node (expire (node_of xs) now found []) ≡ node_of (without_at place xs) → told (expire (node_of xs) now found []) ≡ end_at place xs
-    → IsTick m xs heard now place
-ticks_by m xs heard now found is place keeps said =
+    → IsTick m xs heard now steady place
+ticks_by m xs heard now steady found is place keeps said =
     record {
       meaning = refl;
       node = sym (ap (λ f. tick_node (expire (node_of xs) now f [])) is ∙ keeps);
@@ -102,29 +102,29 @@ ticks_by m xs heard now found is place keeps said =
           ∙ ap (λ (n : Node). filter_map (grant_again alone) (entries n.durable.keys)) keeps ∙ no_grants (without_at place xs));
     }
 
-found_over : (m : EngineMeaning) (xs : List (Option Session)) (heard : List (List ℕ)) (now at place : ℕ) (s : Session) → at ≡ place → slice_get xs place ≡ Some (Some s)
-    → position (is_past now) xs ≡ Some at → first_over now (numbered 1 xs) ≡ Some (own_key (at + 1), Active 1 s) → IsTick m xs heard now (position (is_past now) xs)
-found_over m xs heard now at place s same there found first =
-    subst (IsTick m xs heard now) (sym (found ∙ ap Some same))
-    (ticks_by m xs heard now (Some (own_key (at + 1), Active 1 s)) (ap (first_over now) (entries_are xs) ∙ first) (Some place)
+found_over : (m : EngineMeaning) (xs : List (Option Session)) (heard : List (List ℕ)) (now steady at place : ℕ) (s : Session) → at ≡ place → slice_get xs place ≡ Some (Some s)
+    → position (is_past now) xs ≡ Some at → first_over now (numbered 1 xs) ≡ Some (own_key (at + 1), Active 1 s) → IsTick m xs heard now steady (position (is_past now) xs)
+found_over m xs heard now steady at place s same there found first =
+    subst (IsTick m xs heard now steady) (sym (found ∙ ap Some same))
+    (ticks_by m xs heard now steady (Some (own_key (at + 1), Active 1 s)) (ap (first_over now) (entries_are xs) ∙ first) (Some place)
     (ap (λ n. tick_node (expire (node_of xs) now (Some (own_key (n + 1), Active 1 s)) [])) same ∙ ended_node xs place (slice_get_within xs place (Some s) there))
     (ap (λ n. told (expire (node_of xs) now (Some (own_key (n + 1), Active 1 s)) [])) same ∙ ap (told_end place) (sym there)))
 
-pub ticks : (m : EngineMeaning) (xs : List (Option Session)) (heard : List (List ℕ)) (now : ℕ) → IsTick m xs heard now (position (is_past now) xs)
-ticks m xs heard now = ⊎_elim
+pub ticks : (m : EngineMeaning) (xs : List (Option Session)) (heard : List (List ℕ)) (now steady : ℕ) → IsTick m xs heard now steady (position (is_past now) xs)
+ticks m xs heard now steady = ⊎_elim
     (λ (n : (first_over now (numbered (0 + 1) xs) ≡ None) × (position_from (is_past now) 0 xs ≡ None)).
-    subst (IsTick m xs heard now) (sym (position_from-zero (is_past now) xs ∙ n.1)) (ticks_by m xs heard now None (ap (first_over now) (entries_are xs) ∙ n.0) None refl refl))
+    subst (IsTick m xs heard now steady) (sym (position_from-zero (is_past now) xs ∙ n.1)) (ticks_by m xs heard now steady None (ap (first_over now) (entries_are xs) ∙ n.0) None refl refl))
     (λ (o : (j : ℕ) × (s : Session) × (slice_get xs j ≡ Some (Some s)) × (position_from (is_past now) 0 xs ≡ Some (0 + j))
     × (first_over now (numbered (0 + 1) xs) ≡ Some (own_key ((0 + j) + 1), Active 1 s))).
-    found_over m xs heard now (0 + o.0) o.0 o.1 (omega arith) o.2 (position_from-zero (is_past now) xs ∙ o.3) o.4)
+    found_over m xs heard now steady (0 + o.0) o.0 o.1 (omega arith) o.2 (position_from-zero (is_past now) xs ∙ o.3) o.4)
     (over now 0 xs)
 
 -- what the code has done at a tick
-pub ticked : (m : EngineMeaning) (xs zs ys : List (Option Session)) (heard noted : List (List ℕ)) (now : ℕ) (new : EngineMeaning) (ended : Option Told) (tells : List Told) (outputs : List Output)
+pub ticked : (m : EngineMeaning) (xs zs ys : List (Option Session)) (heard noted : List (List ℕ)) (now steady : ℕ) (new : EngineMeaning) (ended : Option Told) (tells : List Told) (outputs : List Output)
     → zs ≡ xs → ys ≡ without_at (position (is_past now) zs) zs → option_to_list ended ≡ end_at (position (is_past now) zs) zs → tells ≡ option_to_list ended → new ≡ m
-    → noted ≡ heard_all m heard tells → outputs ≡ [] → IsStep (view_at m xs heard) (on_tick alone (node_of xs) now) outputs (view_at new ys noted)
-ticked m xs zs ys heard noted now new ended tells outputs same behind ends listed meaning notes none =
-    let done : IsTick m xs heard now (position (is_past now) xs) = ticks m xs heard now in
+    → noted ≡ heard_all m heard tells → outputs ≡ [] → IsStep (view_at m xs heard) (on_tick alone (node_of xs) now steady) outputs (view_at new ys noted)
+ticked m xs zs ys heard noted now steady new ended tells outputs same behind ends listed meaning notes none =
+    let done : IsTick m xs heard now steady (position (is_past now) xs) = ticks m xs heard now steady in
     record {
       meaning = meaning;
       node = ap node_of (behind ∙ ap (λ l. without_at (position (is_past now) l) l) same) ∙ done.node;

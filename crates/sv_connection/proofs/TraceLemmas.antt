@@ -16,15 +16,17 @@ use Rattle.sv_model.specs.declared.event.Told.{Told}
 use Rattle.sv_model.specs.declared.input.Input.{Input}
 use Rattle.sv_model.specs.declared.output.Output.{Output}
 use Rattle.sv_model.specs.declared.site.StepFault.{StepFault}
-use Rattle.sv_model.specs.Engine.{EngineMeaning, TouchesOnlyHanded, NamesKeys, heard_all}
-use Rattle.sv_model.specs.Container.{Store, nothing_stored, committed, after, IsLawful, AreLawful, MayStand, AllMayStand}
+use Rattle.sv_model.specs.Engine.{EngineMeaning, TouchesOnlyHanded, heard_all}
+use Rattle.sv_model.specs.Limits.{NamesKeys}
+use Rattle.sv_model.specs.Container.{Meanings, always, Store, nothing_stored, committed, after, IsLawful, AreLawful, MayStand, AllMayStand, store_with, replies_with}
 use Rattle.sv_model.specs.NodeState.{Node, session_in}
-use Rattle.sv_model.specs.Decision.{Decision}
+use Rattle.sv_model.specs.Decision.{Decision, left}
 use Rattle.sv_model.specs.Node.{decided}
-use Rattle.sv_model.specs.Step.{View, Steps, left, told, with_mark}
+use Rattle.sv_model.specs.Step.{View, Steps, told, with_mark}
 use Rattle.sv_connection.specs.Table.{alone, node_of}
-use Rattle.sv_model.specs.Trace.{Call, Leads, Item, item_of, item_by, node_by, trace_of, told_of, commits_of, asked_of, replies_of, refused_of, served_by, served_of, same_token, times, is_of, arrival_behind}
-use Rattle.sv_model.specs.OneContainer.{active_at, IsOneContainer, IsAcknowledged, store_with, replies_with, IsFit, AreFit, tokens_in, AreDistinct, IsServedOnce}
+use Rattle.sv_model.specs.Alone.{Call, Leads, item_of, item_by, node_by, trace_of}
+use Rattle.sv_model.specs.Trace.{Item, told_of, commits_of, asked_of, replies_of, refused_of, served_by, served_of, same_token, times, is_of, arrival_behind, tokens_in, AreDistinct}
+use Rattle.sv_model.specs.OneContainer.{active_at, IsOneContainer, IsAcknowledged, IsFit, AreFit, IsServedOnce}
 use Rattle.sv_connection.specs.Solo.{IsHistory}
 use Rattle.sv_connection.proofs.TableLemmas.{get_nothing}
 use Rattle.sv_connection.proofs.FollowLemmas.{Holds, HasArrived, follows}
@@ -41,32 +43,32 @@ times-append t (x ∷ xs) ys =
     sum a b c d is = omega (arith, is)
 
 -- commits behind others
-after-append : (m : EngineMeaning) (store : Store) (cs ds : List Commit) → after m store (cs ++ ds) ≡ after m (after m store cs) ds
+after-append : (m : Meanings) (store : Store) (cs ds : List Commit) → after m store (cs ++ ds) ≡ after m (after m store cs) ds
 after-append m store [] ds = refl
 after-append m store (c ∷ cs) ds = after-append m (committed m store c) cs ds
 
-after_with : (m : EngineMeaning) (store : Store) (o : Option Commit) → after m store (option_to_list o) ≡ store_with m store o
+after_with : (m : Meanings) (store : Store) (o : Option Commit) → after m store (option_to_list o) ≡ store_with m store o
 after_with m store None = refl
 after_with m store (Some c) = refl
 
 -- ---- one step before the others
 
-lawful_more : (m : EngineMeaning) (store : Store) (o : Option Commit) (cs : List Commit) → IfSome o (IsLawful m store) → AreLawful m (store_with m store o) cs
+lawful_more : (m : Meanings) (store : Store) (o : Option Commit) (cs : List Commit) → IfSome o (IsLawful m store) → AreLawful m (store_with m store o) cs
     → AreLawful m store (option_to_list o ++ cs)
 lawful_more m store None cs law rest = rest
 lawful_more m store (Some c) cs law rest = (law, rest)
 
-after_more : (m : EngineMeaning) (store : Store) (o : Option Commit) (cs : List Commit) → after m store (option_to_list o ++ cs) ≡ after m (store_with m store o) cs
+after_more : (m : Meanings) (store : Store) (o : Option Commit) (cs : List Commit) → after m store (option_to_list o ++ cs) ≡ after m (store_with m store o) cs
 after_more m store None cs = refl
 after_more m store (Some c) cs = refl
 
-stands_more : (m : EngineMeaning) (arrival : Token → ℕ) (before : List Commit) (o : Option Commit) (cs : List Commit) → IfSome o (MayStand m arrival before)
+stands_more : (m : Meanings) (arrival : Token → ℕ) (before : List Commit) (o : Option Commit) (cs : List Commit) → IfSome o (MayStand m arrival before)
     → AllMayStand m arrival (before ++ option_to_list o) cs → AllMayStand m arrival before (option_to_list o ++ cs)
 stands_more m arrival before None cs may rest = subst (λ b. AllMayStand m arrival b cs) (append-nil before) rest
 stands_more m arrival before (Some c) cs may rest = (may, rest)
 
 -- the tokens of a reply are those of the request that was served
-reply_tokens : (m : EngineMeaning) (store : Store) (o : Option Commit) → tokens_in (replies_with m store o) ≡ served_of (option_to_list o)
+reply_tokens : (m : Meanings) (store : Store) (o : Option Commit) → tokens_in (replies_with m store o) ≡ served_of (option_to_list o)
 reply_tokens m store None = refl
 reply_tokens m store (Some (Served token r now handed fresh)) = refl
 reply_tokens m store (Some (Expired k now)) = refl
@@ -102,40 +104,40 @@ came_now arrival before later (Some t) came = subst (λ b. arrival t ≤ cond b 
 
 -- what is shown of a trace that begins at a store, beside the sessions that the node holds at its end
 pub record Runs (m : EngineMeaning) (store : Store) (trace : List Item) (end : Node) : Type 0 where
-  pub lawful : AreLawful m store (commits_of trace)
-  pub stands : (arrival : Token → ℕ) (before : List Commit) → ((t : Token) → arrival t ≤ arrival_behind (length before) trace t) → after m nothing_stored before ≡ store
-      → AllMayStand m arrival before (commits_of trace)
-  pub holds : (k : Key) → (after m store (commits_of trace)).map k ≡ active_at end k
+  pub lawful : AreLawful (always m) store (commits_of trace)
+  pub stands : (arrival : Token → ℕ) (before : List Commit) → ((t : Token) → arrival t ≤ arrival_behind (length before) trace t) → after (always m) nothing_stored before ≡ store
+      → AllMayStand (always m) arrival before (commits_of trace)
+  pub holds : (k : Key) → (after (always m) store (commits_of trace)).map k ≡ active_at end k
   pub fit : AreFit m store trace
   pub answered : (t : Token) → times t (tokens_in (replies_of trace)) ≡ times t (served_of (commits_of trace))
   pub tokens : (t : Token) → times t (served_of (commits_of trace)) + times t (refused_of trace) ≡ times t (asked_of trace)
 
 -- what is shown of one item
 pub record IsStepOf (m : EngineMeaning) (store : Store) (i : Item) : Type 0 where
-  pub lawful : IfSome i.commit (IsLawful m store)
-  pub stands : (arrival : Token → ℕ) (before : List Commit) → HasArrived arrival (length before) i.asked → after m nothing_stored before ≡ store → IfSome i.commit (MayStand m arrival before)
+  pub lawful : IfSome i.commit (IsLawful (always m) store)
+  pub stands : (arrival : Token → ℕ) (before : List Commit) → HasArrived arrival (length before) i.asked → after (always m) nothing_stored before ≡ store → IfSome i.commit (MayStand (always m) arrival before)
   pub fit : IsFit m store i
   pub tokens : (t : Token) → times t (served_of (option_to_list i.commit)) + times t i.refused ≡ times t (option_to_list i.asked)
 
 sums : (a b c d e f : ℕ) → a + b ≡ c → d + e ≡ f → (a + d) + (b + e) ≡ c + f
 sums a b c d e f p q = omega (arith, p, q)
 
-module _ (m : EngineMeaning) (store : Store) (i : Item) (is : List Item) (end : Node) (step : IsStepOf m store i) (rest : Runs m (store_with m store i.commit) is end) where
+module _ (m : EngineMeaning) (store : Store) (i : Item) (is : List Item) (end : Node) (step : IsStepOf m store i) (rest : Runs m (store_with (always m) store i.commit) is end) where
   abbrev later_commits : List Commit
   later_commits = commits_of is
 
-  stands_behind : (arrival : Token → ℕ) (before : List Commit) → ((t : Token) → arrival t ≤ arrival_behind (length before) (i ∷ is) t) → after m nothing_stored before ≡ store
-      → AllMayStand m arrival before (option_to_list i.commit ++ later_commits)
+  stands_behind : (arrival : Token → ℕ) (before : List Commit) → ((t : Token) → arrival t ≤ arrival_behind (length before) (i ∷ is) t) → after (always m) nothing_stored before ≡ store
+      → AllMayStand (always m) arrival before (option_to_list i.commit ++ later_commits)
   stands_behind arrival before came at =
       let more : List Commit = before ++ option_to_list i.commit in
       let long : length more ≡ length before + length (option_to_list i.commit) = length-append before (option_to_list i.commit) in
-      stands_more m arrival before i.commit later_commits
+      stands_more (always m) arrival before i.commit later_commits
       (step.stands arrival before (came_now arrival (length before) (arrival_behind (length before + length (option_to_list i.commit)) is) i.asked came) at)
       (rest.stands arrival more
       (λ t. subst (λ n. arrival t ≤ arrival_behind n is t) (sym long)
       (arrival_later (arrival t) (length before) (length (option_to_list i.commit)) (arrival_behind (length before + length (option_to_list i.commit)) is t) (is_of t i.asked) (came t)
       (grows (length before + length (option_to_list i.commit)) is t)))
-      (after-append m nothing_stored before (option_to_list i.commit) ∙ ap (λ s. after m s (option_to_list i.commit)) at ∙ after_with m store i.commit))
+      (after-append (always m) nothing_stored before (option_to_list i.commit) ∙ ap (λ s. after (always m) s (option_to_list i.commit)) at ∙ after_with (always m) store i.commit))
 
   served_split : (t : Token) → times t (served_of (option_to_list i.commit ++ later_commits)) ≡ times t (served_of (option_to_list i.commit)) + times t (served_of later_commits)
   served_split t = ap (times t) (flat_map-append served_by (option_to_list i.commit) later_commits) ∙ times-append t (served_of (option_to_list i.commit)) (served_of later_commits)
@@ -145,7 +147,7 @@ module _ (m : EngineMeaning) (store : Store) (i : Item) (is : List Item) (end : 
       ap (times t) (map-append (λ (a : Token × Response). a.0) i.replies (replies_of is))
       ∙ times-append t (tokens_in i.replies) (tokens_in (replies_of is))
       ∙ ap (λ n. times t (tokens_in i.replies) + n) (rest.answered t)
-      ∙ ap (λ ts. times t ts + times t (served_of later_commits)) (ap tokens_in step.fit.replies ∙ reply_tokens m store i.commit)
+      ∙ ap (λ ts. times t ts + times t (served_of later_commits)) (ap tokens_in step.fit.replies ∙ reply_tokens (always m) store i.commit)
       ∙ sym (served_split t)
 
   tokens_behind : (t : Token) → times t (served_of (option_to_list i.commit ++ later_commits)) + times t (i.refused ++ refused_of is) ≡ times t (option_to_list i.asked ++ asked_of is)
@@ -157,9 +159,9 @@ module _ (m : EngineMeaning) (store : Store) (i : Item) (is : List Item) (end : 
 
   pub runs_on : Runs m store (i ∷ is) end
   runs_on = record {
-    lawful = lawful_more m store i.commit later_commits step.lawful rest.lawful;
+    lawful = lawful_more (always m) store i.commit later_commits step.lawful rest.lawful;
     stands = stands_behind;
-    holds = λ k. ap (λ (s : Store). s.map k) (after_more m store i.commit later_commits) ∙ rest.holds k;
+    holds = λ k. ap (λ (s : Store). s.map k) (after_more (always m) store i.commit later_commits) ∙ rest.holds k;
     fit = (step.fit, rest.fit);
     answered = answered_behind;
     tokens = tokens_behind;
@@ -206,7 +208,7 @@ module _ (m : EngineMeaning) (untouched : TouchesOnlyHanded m) (can : NamesKeys 
       subst (λ n. Runs m store (item_of alone (node_of xs) input d outputs ∷ trace_of m alone n cs) end.node) (sym f.left_is)
       (runs_on m store (item_of alone (node_of xs) input d outputs) (trace_of m alone (node_of f.next) cs) end.node
       (step_of xs store moment input outputs h (step.outputs_are ∙ ap (λ (e : Decision). e.outputs) same))
-      (later f.next (store_with m store d.commit) f.holds
+      (later f.next (store_with (always m) store d.commit) f.holds
       (record { meaning = step.meaning ∙ at.meaning; node = step.node ∙ ap left same ∙ f.left_is })))
   one_more xs store old between end moment input (Err fault) cs h at step later =
       later xs store h (record { meaning = ap (λ (v : View). v.meaning) step.1 ∙ at.meaning; node = ap (λ (v : View). v.node) step.1 ∙ at.node })
@@ -236,7 +238,7 @@ module _ (m : EngineMeaning) (untouched : TouchesOnlyHanded m) (can : NamesKeys 
       let noted : between.heard ≡ heard_all m old.heard d.events =
       step.heard ∙ ap (λ e. heard_all e old.heard (told (decided old.meaning alone old.node moment input))) at.meaning ∙ ap (λ e. heard_all m old.heard (told e)) same
       ∙ ap (λ mark. heard_all m old.heard (with_mark d.events mark)) f.unmarked in
-      later f.next (store_with m store d.commit) f.holds (record { meaning = step.meaning ∙ at.meaning; node = step.node ∙ ap left same ∙ f.left_is })
+      later f.next (store_with (always m) store d.commit) f.holds (record { meaning = step.meaning ∙ at.meaning; node = step.node ∙ ap left same ∙ f.left_is })
       ∙ ap (λ n. heard_all m between.heard (told_of (trace_of m alone n cs))) (sym f.left_is)
       ∙ ap (λ noticed. heard_all m noticed (told_of (trace_of m alone (left d) cs))) noted
       ∙ sym (heard-append old.heard d.events (told_of (trace_of m alone (left d) cs)))

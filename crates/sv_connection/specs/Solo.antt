@@ -7,7 +7,7 @@ use Rattle.sv_model.specs.declared.output.Output.{Output}
 use Rattle.sv_model.specs.declared.site.StepFault.{StepFault}
 use Rattle.sv_model.specs.Engine.{EngineMeaning}
 use Rattle.sv_model.specs.Step.{View, Steps}
-use Rattle.sv_model.specs.Trace.{Call, Leads}
+use Rattle.sv_model.specs.Alone.{Call, Leads}
 use Rattle.sv_connection.specs.Table.{alone, node_of}
 use Rattle.sv_connection.specs.declared.solo.Solo.{Solo}
 

@@ -15,6 +15,10 @@ use sv_message::reader::RequestReader;
 use sv_message::request::RawRequest;
 use sv_model::{Input, Moment, Request, Response, Site, is_head};
 
+/// In bytes: a buffer that is no larger stays while a client is silent. So most requests and answers take no memory anew, and a
+/// silent client keeps little.
+const KEPT: usize = 4_096;
+
 /// One connection of a client (RFC 9112, section 9), with the bytes that were read and not yet served.
 pub struct Connection {
     requests: RequestReader,
@@ -57,7 +61,7 @@ fn unserved(alloc: Global, outcome: Outcome) -> Served
 }
 
 impl Connection {
-    ghost use Rattle.std.specs.Prelude.{◌≡◌, ◌++◌, ℕ, List, true, false, [], Some, IfSome};
+    ghost use Rattle.std.specs.Prelude.{◌≡◌, ◌==◌, ◌++◌, ℕ, List, true, false, [], Some, IfSome, length};
     ghost use Rattle.std.specs.Io.KnownBytes.{prepend_known};
     ghost use Rattle.sv_message.specs.declared.request.RawRequest.{RawRequest as Raw};
     ghost use Rattle.sv_target.specs.declared.target.Target.{Target as TargetValue};
@@ -275,6 +279,27 @@ impl Connection {
         ensures { result ≡ is_leaving self.now }
     {
         self.leaving
+    }
+
+    /// It holds nothing that was read and not yet served: its client has sent nothing of a next request.
+    pub fn is_empty(&self) -> bool
+        ensures { result ≡ (length (held_by self.now) == 0) }
+    {
+        self.requests.is_empty()
+    }
+
+    /// Gives back the memory that a large request and its answer have taken, once nothing is left of them.
+    pub fn give_back(&mut self)
+        ensures single { is_single self.new ≡ is_single self.old }
+        ensures held { held_by self.new ≡ held_by self.old }
+        ensures closed { is_closed self.new ≡ is_closed self.old }
+        ensures waiting { is_waiting self.new ≡ is_waiting self.old }
+        ensures leaving { is_leaving self.new ≡ is_leaving self.old }
+    {
+        self.requests.give_back(KEPT);
+        if self.buffer.capacity() > KEPT {
+            self.buffer = Vec::new(self.alloc);
+        }
     }
 
     /// Has it close behind its next answer.

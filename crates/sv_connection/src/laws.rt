@@ -4,13 +4,15 @@
 //! engine that keeps an engine's laws.
 
 ghost use Rattle.std.specs.Prelude.{◌≡◌, List, []};
-ghost use Rattle.sv_model.specs.Engine.{EngineMeaning, TouchesOnlyHanded, NamesKeys, heard_all};
+ghost use Rattle.sv_model.specs.Engine.{EngineMeaning, TouchesOnlyHanded, heard_all};
+ghost use Rattle.sv_model.specs.Limits.{NamesKeys};
 ghost use Rattle.sv_model.specs.Step.{View};
 ghost use Rattle.sv_connection.specs.Table.{alone, node_of};
 ghost use Rattle.sv_connection.specs.Solo.{IsHistory};
 ghost use Rattle.sv_connection.specs.Receive.{HoldsNoMessage, MeetsFaults};
-ghost use Rattle.sv_model.specs.Trace.{Call, Item, asked_of, told_of, trace_of};
-ghost use Rattle.sv_model.specs.OneContainer.{IsOneContainer, IsAcknowledged, IsServedOnce, AreDistinct, active_at};
+ghost use Rattle.sv_model.specs.Alone.{Call, trace_of};
+ghost use Rattle.sv_model.specs.Trace.{Item, asked_of, told_of, AreDistinct};
+ghost use Rattle.sv_model.specs.OneContainer.{IsOneContainer, IsAcknowledged, IsServedOnce, active_at};
 
 use sv_message::laws::front_is_one_thing;
 

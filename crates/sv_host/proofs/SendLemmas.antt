@@ -8,12 +8,13 @@ use Rattle.sv_model.specs.declared.output.Output.TheVariants.{Answer, Refuse, Se
 use Rattle.sv_model.specs.declared.node.Setting.{Setting}
 use Rattle.sv_model.specs.declared.site.StepFault.{StepFault}
 use Rattle.sv_model.specs.declared.site.StepFault.TheVariants.{Failed, Full, Device, Memory}
-use Rattle.sv_model.specs.Engine.{EngineMeaning, KeepsLimits, NamesKeys}
+use Rattle.sv_model.specs.Engine.{EngineMeaning}
+use Rattle.sv_model.specs.Limits.{KeepsLimits, NamesKeys}
 use Rattle.sv_model.specs.Node.{decided}
 use Rattle.sv_model.specs.NodeState.{Node as State}
 use Rattle.sv_model.specs.Ranges.{IsInput, IsRanged, IsSetting}
 use Rattle.sv_model.specs.Site.{with_list}
-use Rattle.sv_model.specs.Step.{left}
+use Rattle.sv_model.specs.Decision.{left}
 use Rattle.sv_model.proofs.RangeLemmas.{ranged}
 use Rattle.sv_node.specs.Group.{Answered, GroupEnds}
 use Rattle.sv_node.specs.Node.{engine_of, setting_of, state_of, journal_of}

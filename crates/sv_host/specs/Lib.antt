@@ -9,6 +9,7 @@ pub mod Packets
 pub mod Room
 pub mod Host
 pub mod Group
+pub mod Peers
 pub mod Serve
 pub mod Stops
 pub mod Serving

@@ -1,5 +1,5 @@
 -- Clients that wait for their answers, each under the number of its request.
-use Rattle.std.specs.Prelude.{ℕ, ◌≤◌, ◌==◌, ◌||◌, Bool, nat_lt, length, List, Option, Some, None, position, slice_get, swap_remove, vec_len, vec_capacity}
+use Rattle.std.specs.Prelude.{ℕ, ◌≤◌, ◌==◌, Bool, nat_lt, length, List, Option, Some, None, position, slice_get, swap_remove, vec_len, vec_capacity}
 use Rattle.std.specs.Option.{option_map}
 use Rattle.sv_host.specs.declared.parked.ParkedClient.{ParkedClient}
 use Rattle.sv_host.specs.declared.parked.ParkedClients.{ParkedClients}
@@ -7,17 +7,13 @@ use Rattle.sv_host.specs.declared.parked.ParkedClients.{ParkedClients}
 abbrev pub clients_of : ParkedClients → List ParkedClient
 clients_of p = p.clients.items
 
--- memory was refused for a client, so that its request may wait where it doesn't
-abbrev pub loses_one : ParkedClients → Bool
-loses_one p = p.has_lost
-
 -- it takes memory to keep one more
 abbrev pub IsFull : ParkedClients → Type 0
 IsFull p = vec_capacity p.clients ≤ vec_len p.clients
 
 -- a request may be waiting at the node
 abbrev pub may_wait : ParkedClients → Bool
-may_wait p = loses_one p || nat_lt 0 (length (clients_of p))
+may_wait p = nat_lt 0 (length (clients_of p))
 
 abbrev pub is_under : ℕ → ParkedClient → Bool
 is_under token c = c.token == token

@@ -33,19 +33,18 @@ fn not_compacted(fault: JournalFault) -> Result<(), Stop>
     }
 }
 
-/// Writes the journal anew, where it has grown enough.
-fn compact<E: Engine, D: Disk>(server: &mut Server, node: &mut Node<E, D>) -> Result<(), Stop>
+/// Writes the journal anew, of which so many bytes are in use.
+fn write_anew<E: Engine, D: Disk>(
+    server: &mut Server,
+    node: &mut Node<E, D>,
+    len: u64,
+) -> Result<(), Stop>
     requires valid { IsNode E.valid D.tells D.seen D.may_leave node.old }
     requires live { IsTrue (journal_of node.old).live }
     ensures valid { IsNode E.valid D.tells D.seen D.may_leave node.new }
     ensures stops { IfErr result (HasFailed node.new) }
     ensures gone { (low : ℕ) → HasGone E.meaning E.heard D.tells D.may_leave low low node.old node.new result }
 {
-    let len = node.journal_len();
-    server.connections.report.measure(len);
-    if len <= COMPACTING || len <= server.compacted.saturating_mul(2) {
-        return Ok(());
-    }
     match node.compact() {
         Ok(()) => {
             server.was_compacted(len, node.journal_len());
@@ -59,6 +58,39 @@ fn compact<E: Engine, D: Disk>(server: &mut Server, node: &mut Node<E, D>) -> Re
             not_compacted(fault)
         }
     }
+}
+
+/// Writes the journal anew in which a node has found records. What was read of them may be in the system's memory alone: after a
+/// write of a page to the disk has failed the system tells one sync, and keeps the page as if it were written. In the other file
+/// all of it is written and synced once more.
+pub fn renew<E: Engine, D: Disk>(server: &mut Server, node: &mut Node<E, D>) -> Result<(), Stop>
+    requires valid { IsNode E.valid D.tells D.seen D.may_leave node.old }
+    requires live { IsTrue (journal_of node.old).live }
+    ensures valid { IsNode E.valid D.tells D.seen D.may_leave node.new }
+    ensures stops { IfErr result (HasFailed node.new) }
+    ensures gone { (low : ℕ) → HasGone E.meaning E.heard D.tells D.may_leave low low node.old node.new result }
+{
+    if node.restored() == 0 {
+        return Ok(());
+    }
+    let len = node.journal_len();
+    write_anew(server, node, len)
+}
+
+/// Writes the journal anew, where it has grown enough.
+fn compact<E: Engine, D: Disk>(server: &mut Server, node: &mut Node<E, D>) -> Result<(), Stop>
+    requires valid { IsNode E.valid D.tells D.seen D.may_leave node.old }
+    requires live { IsTrue (journal_of node.old).live }
+    ensures valid { IsNode E.valid D.tells D.seen D.may_leave node.new }
+    ensures stops { IfErr result (HasFailed node.new) }
+    ensures gone { (low : ℕ) → HasGone E.meaning E.heard D.tells D.may_leave low low node.old node.new result }
+{
+    let len = node.journal_len();
+    server.connections.report.measure(len);
+    if len <= COMPACTING || len <= server.compacted.saturating_mul(2) {
+        return Ok(());
+    }
+    write_anew(server, node, len)
 }
 
 /// The same of the journal, which no request has to do with.

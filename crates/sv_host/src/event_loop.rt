@@ -8,6 +8,7 @@ ghost use Rattle.sv_host.specs.Serving.{IsServing, HasServed};
 use crate::compaction::compact_in_turn;
 use crate::fault::Stop;
 use crate::gathering::gather;
+use crate::greeting::greet_in_time;
 use crate::group::Group;
 use crate::nudges::{expire, settle, tick};
 use crate::server::Server;
@@ -54,8 +55,9 @@ fn end_turn<E: Engine, D: Disk>(
     requires { IsServing E.valid D.tells D.seen D.may_leave node.old group.old }
     ensures { HasServed E.meaning E.heard E.valid D.tells D.seen D.may_leave node.old group.old node.new group.new result }
 {
-    keep_time(machine, server, node, group)?;
-    look_after(machine, server, node, group)
+    // A request whose session has come is served before the time is looked at: else it might be past its deadline by then.
+    look_after(machine, server, node, group)?;
+    keep_time(machine, server, node, group)
 }
 
 /// Gives what was gathered to the node.
@@ -109,7 +111,7 @@ fn wait<E, D: Disk>(
     server.is_spared = acceptor.is_spared();
     if !server.connections.is_empty() && !server.is_spared {
         server.connections.look_at_clock(machine);
-        server.connections.look_round();
+        acceptor.look_round(&mut server.connections);
     }
 }
 
@@ -129,7 +131,7 @@ fn take_turn<E: Engine, D: Disk>(
     finish_turn(machine, server, node, group, gathered)
 }
 
-/// Serves whoever connects, until the node is to stop.
+/// Serves whoever connects, until the node is to stop, or may not go on beside the others.
 pub fn run<E: Engine, D: Disk>(
     machine: &HostRuntime,
     server: &mut Server,
@@ -143,6 +145,9 @@ pub fn run<E: Engine, D: Disk>(
 {
     let mut group = Group::new(server.alloc);
     for _ in 0..u64::MAX {
+        if let Some(fault) = greet_in_time(machine, server, node) {
+            return Stop::Fault(fault);
+        }
         if let Err(stop) = take_turn(machine, server, node, &mut group, acceptor) {
             return stop;
         }

@@ -1,5 +1,6 @@
 //! Why a node ends before it is told to.
 
+use sv_journal::FileFault;
 use sv_log::ReportFault;
 use sv_node::OpenFault;
 use thiserror::Error;
@@ -19,9 +20,24 @@ pub enum HostFault {
     /// A journal's file failed.
     #[error("Device")]
     Device,
+    /// A file of the journal isn't there, and wasn't to be made.
+    #[error("NoJournal")]
+    NoJournal,
+    /// Another process has the journal.
+    #[error("Locked")]
+    Locked,
     /// The journal is none of a node's, or its starts are spent.
     #[error("Damaged")]
     Damaged,
+    /// Another node has heard of a later start of this one: its journal is an older copy.
+    #[error("OlderCopy")]
+    OlderCopy,
+    /// Another node has sessions that were made at a node of which this one wasn't told.
+    #[error("Untold")]
+    Untold,
+    /// Another node that runs wasn't told of this one.
+    #[error("Unannounced")]
+    Unannounced,
     /// The journal has no room for the start.
     #[error("Full")]
     Full,
@@ -41,6 +57,16 @@ impl From<ReportFault> for HostFault {
         match fault {
             ReportFault::Log => HostFault::Log,
             ReportFault::Metrics => HostFault::Metrics,
+        }
+    }
+}
+
+impl From<FileFault> for HostFault {
+    fn from(fault: FileFault) -> Self {
+        match fault {
+            FileFault::Missing => HostFault::NoJournal,
+            FileFault::Locked => HostFault::Locked,
+            FileFault::Refused => HostFault::Device,
         }
     }
 }

@@ -6,15 +6,18 @@ ghost use Rattle.sv_host.specs.Serving.{HasGathered};
 ghost use Rattle.sv_host.specs.Stops.{IsEnding, IsTold, LacksNumbers};
 
 use crate::fault::Stop;
-use crate::group::{Came, Group};
+use crate::group::{Came, GROUP_LIMIT, Group};
 use crate::serve::{serve, serve_newcomer};
 use crate::server::Server;
 use sv_log::Event;
 use sv_model::Input;
-use sv_net::{Acceptor, Arrival, Open, PIECE};
+use sv_net::{Acceptor, Arrival, Open, PIECE, Socket};
 
 /// So many packets of one connection are gathered in a turn, at most.
 const PACKETS: u32 = 16;
+
+/// So many who stand at the door are let in in a turn, at most.
+const NEWCOMERS: u32 = 64;
 
 /// The number of the next request; behind the last there is none.
 fn next_number(group: &Group) -> Result<u64, Stop>
@@ -159,31 +162,36 @@ fn gather_reported(
     Ok(())
 }
 
-/// Accepts somebody who may stand at the door, and says at which place; none where nobody stands there, or there is no memory.
-/// Where there is no room for them, one that is open gives way.
+/// Says at which place somebody is to be who was accepted; none if there is no memory.
+fn receive(machine: &HostRuntime, server: &mut Server, socket: Socket) -> Option<(usize, Open)> {
+    server.connections.report.note(Event::Accepted);
+    server.connections.look_at_clock(machine);
+    let place = server.connections.free_place()?;
+    Some((place, Open::new(socket, server.connections.clock())))
+}
+
+/// The system has no room for somebody who stands at the door: one that is open gives way, and the next turn tries again.
+fn lacks_room(server: &mut Server, acceptor: &mut Acceptor) {
+    server.connections.report.note(Event::NoRoom);
+    if acceptor.make_room(&mut server.connections) {
+        acceptor.try_again();
+    }
+}
+
+/// Accepts somebody who may stand at the door, and says at which place; none if nobody stands there, or nobody can be let in.
 fn admit(
     machine: &HostRuntime,
     server: &mut Server,
     acceptor: &mut Acceptor,
 ) -> Option<(usize, Open)> {
-    if !acceptor.may_accept() {
+    if !acceptor.may_accept() || !acceptor.has_room(&mut server.connections) {
         return None;
     }
     match acceptor.accept() {
-        Arrival::Somebody(socket) => {
-            server.connections.report.note(Event::Accepted);
-            server.connections.look_at_clock(machine);
-            match server.connections.make_place() {
-                Some(place) => Some((place, Open::new(socket, server.connections.clock()))),
-                None => None,
-            }
-        }
+        Arrival::Somebody(socket) => receive(machine, server, socket),
         Arrival::Nobody => None,
         Arrival::NoRoom => {
-            server.connections.report.note(Event::NoRoom);
-            if server.connections.make_room() {
-                acceptor.try_again();
-            }
+            lacks_room(server, acceptor);
             None
         }
     }
@@ -235,8 +243,30 @@ fn gather_newcomer(
     }
 }
 
-/// Accepts one who stands at the door, and gathers what has come of that one.
-fn gather_new(
+/// Gathers what has come of one who was accepted, if there is room for it in the group. Else they are gone on with in the next turn,
+/// once all have been who wait already: so however many ask without end, each of them is answered once or twice before.
+fn take_in(
+    machine: &HostRuntime,
+    server: &mut Server,
+    group: &mut Group,
+    newcomer: (usize, Open),
+    piece: &mut [u8; PIECE],
+) -> Result<(), Stop>
+    requires { IsRising group.old }
+    ensures gathered { HasGathered group.old group.new }
+    ensures more { HasMore group.old group.new }
+    ensures ends { IfErr result (IsEnding server.new group.new) }
+{
+    if group.len() < GROUP_LIMIT {
+        return gather_newcomer(machine, server, group, newcomer, piece);
+    }
+    let (place, open) = newcomer;
+    server.connections.put_off(place, open);
+    Ok(())
+}
+
+/// Lets those in who stand at the door, and gathers what has come of them, of as many as there is room for in the group.
+fn gather_door(
     machine: &HostRuntime,
     server: &mut Server,
     group: &mut Group,
@@ -247,13 +277,17 @@ fn gather_new(
     ensures more { HasMore group.old group.new }
     ensures ends { IfErr result (IsEnding server.new group.new) }
 {
-    match admit(machine, server, acceptor) {
-        Some(newcomer) => gather_newcomer(machine, server, group, newcomer, acceptor.piece()),
-        None => Ok(()),
+    for _ in 0..NEWCOMERS {
+        let Some(newcomer) = admit(machine, server, acceptor) else {
+            return Ok(());
+        };
+        take_in(machine, server, group, newcomer, acceptor.piece())?;
+        acceptor.look_at_door(&mut server.connections);
     }
+    Ok(())
 }
 
-/// Gathers what has come of all whose turn it is, and of one who has come.
+/// Gathers what has come of all whose turn it is, and of those who have come.
 pub fn gather(
     machine: &HostRuntime,
     server: &mut Server,
@@ -266,5 +300,5 @@ pub fn gather(
     ensures ends { IfErr result (IsEnding server.new group.new) }
 {
     gather_reported(machine, server, group, acceptor)?;
-    gather_new(machine, server, group, acceptor)
+    gather_door(machine, server, group, acceptor)
 }

@@ -11,7 +11,8 @@ use std::mem::replace;
 use sv_model::{Input, Moment, Request};
 use sv_net::TURN_LIMIT;
 
-/// So many inputs are made durable together, at most: those of the connections of a turn, and that of a newcomer.
+/// So many inputs are made durable together, at most: those of the open connections of a turn, and one of those who stand at the door,
+/// or as many as there is room for.
 pub const GROUP_LIMIT: usize = TURN_LIMIT + 1;
 
 /// Who is told what has come of an input, beside those that its outputs name.

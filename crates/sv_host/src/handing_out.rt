@@ -8,7 +8,7 @@ ghost use Rattle.sv_host.specs.Outputs.{AreHandedOn, AreSendable, IsHandedOn, Is
 ghost use Rattle.sv_host.specs.Outcome.{refused};
 ghost use Rattle.sv_host.specs.Parked.{clients_of, place_under, without};
 ghost use Rattle.sv_net.specs.Places.{held_at, manner_at};
-ghost use Rattle.sv_net.specs.Saying.{Answers, refused_as};
+ghost use Rattle.sv_net.specs.Saying.{Answers, Tells, refused_as};
 
 use crate::fault::Stop;
 use crate::group::{Asker, Group, Way};
@@ -42,7 +42,7 @@ impl Server {
     fn answer(&mut self, token: u64, response: &Response, now: u64)
         ensures clients { clients_of self.new.parked ≡ without token (clients_of self.old.parked) }
         ensures answered { IfSome (place_under token (clients_of self.old.parked)) (λ place. IfSome (manner_at self.old.connections place token)
-            (λ _. IfSome (held_at self.new.connections place) (λ held. Answers response.now now held.state))) }
+            (λ _. IfSome (held_at self.new.connections place) (λ held. Tells response.now now held.state))) }
     {
         if let Some(place) = self.parked.take(token) {
             self.connections

@@ -10,15 +10,18 @@ ghost use Rattle.sv_node.specs.Stops.{Restores};
 ghost use Rattle.sv_host.specs.Secrets.{first_by, last_of};
 ghost use Rattle.sv_host.specs.Serving.{HasLived};
 
+use crate::compaction::renew;
 use crate::event_loop::run;
 use crate::expiry::Expiry;
 use crate::fault::{HostFault, Stop};
+use crate::greeting::ask_all;
 use crate::parked::ParkedClients;
+use crate::peers::Peers;
 use crate::place::Place;
 use crate::round::Round;
 use crate::secrets::Secrets;
 use crate::server::Server;
-use crate::time::{Time, read, steady};
+use crate::time::{read, steady};
 use mio::Registry;
 use std::alloc::Global;
 use sv_journal::Disk;
@@ -26,6 +29,7 @@ use sv_log::Report;
 use sv_model::{Engine, Setting};
 use sv_net::{Acceptor, Connections, Persistence, loopback};
 use sv_node::{Node, NotOpened};
+use sv_record::CONTEXTS_LEN;
 
 /// What a node has of its machine beside its disks: the port at which it listens, and its secrets.
 pub struct Host {
@@ -69,6 +73,16 @@ fn open_door(machine: &HostRuntime, place: &Place) -> Result<(Acceptor, Registry
     }
 }
 
+/// What a node says of itself to the others, where it greets them.
+fn peers_of(setting: Setting, contexts: Option<[u8; CONTEXTS_LEN]>) -> Peers
+    requires { IsSetting setting }
+{
+    match contexts {
+        Some(contexts) => Peers::of(setting.node, setting.nodes, contexts),
+        None => Peers::none(setting.node),
+    }
+}
+
 /// Opens the file of secrets, and listens at the node's port.
 fn open_both(
     machine: &HostRuntime,
@@ -81,22 +95,8 @@ fn open_both(
     Ok((secrets, acceptor, registry))
 }
 
-/// What was found in a node's journal.
-#[derive(Clone, Copy)]
-struct Found {
-    /// Its length, with the start.
-    bytes: u64,
-    /// How many records it held before the start.
-    records: u64,
-}
-
-/// Says that the node of this number is ready, in whose journal this was found; false where that can't be said.
-fn announce(machine: &HostRuntime, server: &mut Server, number: u8, found: Found) -> bool {
-    let Found { bytes, records } = found;
-    server
-        .connections
-        .report
-        .opened(bytes, records, steady(machine));
+/// Says that the node of this number is ready; false where that can't be said.
+fn announce(machine: &HostRuntime, server: &mut Server, number: u8) -> bool {
     if println!(machine; "ready {number}").is_err() {
         return false;
     }
@@ -104,7 +104,46 @@ fn announce(machine: &HostRuntime, server: &mut Server, number: u8, found: Found
     true
 }
 
+/// Asks the other nodes, and says that the node of this number is ready; why it may not serve, if it may not.
+fn begin<E: Engine, D: Disk>(
+    machine: &HostRuntime,
+    server: &mut Server,
+    node: &Node<E, D>,
+    number: u8,
+) -> Option<HostFault> {
+    let fault = ask_all(machine, server, node);
+    if fault.is_some() {
+        return fault;
+    }
+    if announce(machine, server, number) {
+        None
+    } else {
+        Some(HostFault::Output)
+    }
+}
+
 /// Says that the node of this number is ready, and serves until it is told to stop.
+fn serve_ready<E: Engine, D: Disk>(
+    machine: &HostRuntime,
+    server: &mut Server,
+    node: &mut Node<E, D>,
+    acceptor: &mut Acceptor,
+    number: u8,
+) -> Option<HostFault>
+    requires valid { IsNode E.valid D.tells D.seen D.may_leave node.old }
+    requires live { IsTrue (journal_of node.old).live }
+    ensures valid { IsNode E.valid D.tells D.seen D.may_leave node.new }
+    ensures ended { HasEnded E.meaning E.heard D.tells D.may_leave node.old node.new }
+{
+    if let Some(fault) = begin(machine, server, node, number) {
+        return server.say_stopped(machine, Stop::Fault(fault));
+    }
+    let stop = run(machine, server, node, acceptor);
+    server.count_kept(node);
+    server.say_stopped(machine, stop)
+}
+
+/// Writes the journal of a node anew that found records in it, says that it is ready, and serves until it is told to stop.
 fn serve_all<E: Engine, D: Disk>(
     machine: &HostRuntime,
     server: &mut Server,
@@ -118,16 +157,16 @@ fn serve_all<E: Engine, D: Disk>(
     ensures ended { HasEnded E.meaning E.heard D.tells D.may_leave node.old node.new }
 {
     server.count_kept(node);
-    let found = Found {
-        bytes: node.journal_len(),
-        records: node.restored() as u64,
-    };
-    if !announce(machine, server, number, found) {
-        return server.say_stopped(machine, Stop::Fault(HostFault::Output));
+    let bytes = node.journal_len();
+    let records = node.restored() as u64;
+    server
+        .connections
+        .report
+        .opened(bytes, records, steady(machine));
+    match renew(server, node) {
+        Ok(()) => serve_ready(machine, server, node, acceptor, number),
+        Err(stop) => server.say_stopped(machine, stop),
     }
-    let stop = run(machine, server, node, acceptor);
-    server.count_kept(node);
-    server.say_stopped(machine, stop)
 }
 
 /// Has a node that is open serve until it is told to stop, and takes it apart.
@@ -178,8 +217,10 @@ impl Host {
             setting,
             ports,
             secrets: _,
+            contexts,
         } = place;
-        let time = Time::new(read(machine));
+        let peers = peers_of(setting, contexts);
+        let time = read(machine);
         Ok(Host {
             setting,
             acceptor,
@@ -188,9 +229,10 @@ impl Host {
                 secrets,
                 connections: Connections::new(registry, persistence, alloc),
                 parked: ParkedClients::new(alloc),
+                peers,
                 text: Vec::new(alloc),
                 time,
-                ticked: time.seconds(),
+                ticked: time.steady_seconds(),
                 is_spared: false,
                 expiry: Expiry::NONE,
                 round: Round::START,

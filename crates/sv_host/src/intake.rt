@@ -1,12 +1,13 @@
 //! What is done with what has come on a connection.
 
-ghost use Rattle.std.specs.Prelude.{◌≡◌, ◌++◌, ◌∷◌, [], true, Some, IfOk, IfErr, IfSome, IfNone, ℕ, ◌<◌};
+ghost use Rattle.std.specs.Prelude.{◌≡◌, ◌++◌, ◌∷◌, [], Some, IfOk, IfErr, IfSome, IfNone, ℕ, ◌<◌};
 ghost use Rattle.std.specs.Option.{option_map};
 ghost use Rattle.sv_record.specs.Frame.{IsFrame};
 ghost use Rattle.sv_record.specs.declared.frame.Frame.TheVariants.{Halt as HaltFrame};
 ghost use Rattle.sv_model.specs.declared.input.Input.TheVariants.{Ask, Packet as PacketInput};
 ghost use Rattle.sv_host.specs.Group.{Comes};
-ghost use Rattle.sv_host.specs.Parked.{clients_of, loses_one, IsFull};
+ghost use Rattle.sv_host.specs.Parked.{clients_of, IsFull};
+ghost use Rattle.sv_host.specs.Peers.{came_of};
 ghost use Rattle.sv_host.specs.Serve.{input_of};
 ghost use Rattle.sv_host.specs.Stops.{IsTold};
 ghost use Rattle.sv_host.specs.declared.group.Asker.TheVariants.{Client as ClientAsker, Command, Nobody};
@@ -41,7 +42,6 @@ pub fn ask(
 ) -> Option<Came>
     ensures comes { IfSome result (λ came. Comes token came) }
     ensures full { IfNone result (IsFull server.old.parked) }
-    ensures lost { IfNone result (loses_one server.new.parked ≡ true) }
     ensures parked { IfSome result (λ came. clients_of server.new.parked ≡ clients_of server.old.parked ++ (record { token = token; place = from.place })
         ∷ []) }
     ensures came { IfSome result (λ came. came ≡ record { input = Ask token request; asker = ClientAsker from.place token; packets = All }) }
@@ -119,6 +119,22 @@ fn receive(server: &mut Server, from: Lifted, packet: Packet, rest: Vec<u8>) -> 
     })
 }
 
+/// The same of a node whose packets are taken; one of another is a packet that is lost, and its connection is closed.
+fn take_packet(server: &mut Server, from: Lifted, packet: Packet, rest: Vec<u8>) -> Option<Came>
+    ensures { result ≡ came_of server.old.peers packet }
+{
+    let node = sender(&packet);
+    if server.peers.takes(node) {
+        return receive(server, from, packet, rest);
+    }
+    server
+        .connections
+        .report
+        .note(Event::PacketRefused { from: node });
+    server.connections.leave(from.place);
+    None
+}
+
 /// Keeps whoever gave a command for the answer to it.
 fn obey(server: &mut Server, from: Lifted, input: Input, packets: Packets) -> Option<Came>
     ensures { result ≡ Some (record { input = input; asker = Command from.place; packets = packets }) }
@@ -141,11 +157,11 @@ pub fn take_frame(
 ) -> Result<Option<Came>, Stop>
     requires { IsFrame frame }
     ensures comes { (number : ℕ) → IfOk result (λ came. IfSome came (λ came. Comes number came)) }
-    ensures input { IfOk result (λ came. option_map (λ came. came.input) came ≡ input_of frame) }
+    ensures input { IfOk result (λ came. option_map (λ came. came.input) came ≡ input_of server.old.peers frame) }
     ensures told { IfErr result (λ stop. (frame ≡ HaltFrame) × IsTold server.new stop) }
 {
     match frame {
-        Frame::Peer(packet) => Ok(receive(server, from, packet, rest)),
+        Frame::Peer(packet) => Ok(take_packet(server, from, packet, rest)),
         Frame::Move { key, to } => {
             server
                 .connections

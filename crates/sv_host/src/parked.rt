@@ -1,7 +1,7 @@
-//! Clients whose requests wait for their sessions.
+//! Clients whose requests are the node's, and that aren't answered yet.
 
-ghost use Rattle.std.specs.Prelude.{◌≡◌, ◌++◌, [], ◌∷◌, ◌<◌, ◌||◌, false, not, IsTrue, IsFalse, IfSome, length, position};
-ghost use Rattle.sv_host.specs.Parked.{clients_of, is_under, loses_one, may_wait, place_under, without, IsFull};
+ghost use Rattle.std.specs.Prelude.{◌≡◌, ◌++◌, [], ◌∷◌, ◌<◌, IsTrue, IsFalse, IfSome, length, position};
+ghost use Rattle.sv_host.specs.Parked.{clients_of, is_under, may_wait, place_under, without, IsFull};
 
 use std::alloc::{AllocFailed, Global};
 
@@ -14,12 +14,11 @@ pub struct ParkedClient {
     pub place: usize,
 }
 
-/// The clients that wait, at most as many as a node parks requests.
+/// The clients that wait for their answers: those of the group that is gathered, and those whose requests wait at the node for their
+/// sessions. One that has gone away is among them until its request is answered.
 #[derive(Drop)]
 pub struct ParkedClients {
     clients: Vec<ParkedClient>,
-    /// Memory was refused for a client, so that its request waits and it doesn't.
-    has_lost: bool,
 }
 
 /// A client waits under this number.
@@ -39,29 +38,21 @@ fn position(clients: &[ParkedClient], token: u64) -> Option<usize>
 
 impl ParkedClients {
     pub fn new(alloc: Global) -> ParkedClients
-        ensures clients { clients_of result ≡ [] }
-        ensures lost { loses_one result ≡ false }
+        ensures { clients_of result ≡ [] }
     {
         ParkedClients {
             clients: Vec::new(alloc),
-            has_lost: false,
         }
     }
 
-    /// Keeps a client until its answer is there; false where memory is refused: the node serves its request, as that of a client
-    /// which has gone away.
+    /// Keeps a client until its answer is there; false if memory is refused: then the node isn't to be given its request.
     pub fn add(&mut self, client: ParkedClient) -> bool
         ensures kept { IsTrue result → clients_of self.new ≡ clients_of self.old ++ client ∷ [] }
         ensures refused { IsFalse result → clients_of self.new ≡ clients_of self.old }
         ensures full { IsFalse result → IsFull self.old }
-        ensures lost { loses_one self.new ≡ (loses_one self.old || not result) }
     {
         let kept: Result<(), AllocFailed<ParkedClient>> = self.clients.push(client);
-        let is_kept = kept.is_ok();
-        if !is_kept {
-            self.has_lost = true;
-        }
-        is_kept
+        kept.is_ok()
     }
 
     /// How many clients wait.
@@ -75,14 +66,13 @@ impl ParkedClients {
     pub fn may_wait(&self) -> bool
         ensures { result ≡ may_wait self.now }
     {
-        self.has_lost || !self.clients.is_empty()
+        !self.clients.is_empty()
     }
 
     /// The place of the client that waits under a token, which waits no longer.
     pub fn take(&mut self, token: u64) -> Option<usize>
         ensures place { result ≡ place_under token (clients_of self.old) }
         ensures others { clients_of self.new ≡ without token (clients_of self.old) }
-        ensures lost { loses_one self.new ≡ loses_one self.old }
     {
         let at = position(self.clients.as_slice(), token)?;
         Some(self.clients.swap_remove(at).place)

@@ -1,10 +1,14 @@
 //! The files that a node writes.
 
+use sv_journal::IfMissing;
+
 /// The paths of the files that a node writes.
 #[derive(Clone, Copy)]
 pub struct Paths<'a> {
     /// The journal's file; a second one stands beside it, whose name ends in `.b`.
     pub journal: &'a str,
+    /// What becomes of the journal's files where they aren't there.
+    pub if_missing: IfMissing,
     /// The log, to which lines are added; `-` for standard error.
     pub log: Option<&'a str>,
     /// The figures, which are written anew every few seconds.

@@ -1,6 +1,6 @@
 //! Where a node stands in its cluster.
 
-ghost use Rattle.std.specs.Prelude.{◌≡◌, ◌≢◌, IfOk, IfErr, string_bytes};
+ghost use Rattle.std.specs.Prelude.{◌≡◌, ◌≢◌, Some, IfOk, IfErr, string_bytes};
 ghost use Rattle.std.specs.Option.{option_map};
 ghost use Rattle.sv_model.specs.Ranges.{IsSetting};
 ghost use Rattle.sv_host.specs.Place.{setting_in, IsFault};
@@ -9,6 +9,7 @@ ghost use Rattle.sv_host.specs.declared.place.PlaceFault.TheVariants.{Memory};
 use std::alloc::{AllocError, Global};
 use sv_config::Cluster;
 use sv_model::{NODE_LIMIT, Setting};
+use sv_record::CONTEXTS_LEN;
 use thiserror::Error;
 
 /// A node's number among its peers, and what its cluster's descriptor says of all of them.
@@ -19,6 +20,8 @@ pub struct Place {
     pub ports: Vec<u16>,
     /// The path of the file that secrets are read from; none where they are counted.
     pub secrets: Option<String>,
+    /// What stands for its contexts where it greets the other nodes; none where it doesn't.
+    pub contexts: Option<[u8; CONTEXTS_LEN]>,
     ghost inside: { IsSetting setting },
 }
 
@@ -78,6 +81,19 @@ impl Place {
             },
             ports: cluster.ports.as_slice().to_vec(alloc)?,
             secrets: copied(alloc, cluster.secrets.as_ref())?,
+            contexts: None,
         })
+    }
+
+    /// The same of a node that greets the others, with what stands for its contexts: four bytes for each, in their order.
+    pub fn greeting(self, contexts: [u8; CONTEXTS_LEN]) -> Place
+        ensures setting { result.setting ≡ self.setting }
+        ensures ports { result.ports ≡ self.ports }
+        ensures secrets { result.secrets ≡ self.secrets }
+        ensures contexts { result.contexts ≡ Some contexts }
+    {
+        let mut place = self;
+        place.contexts = Some(contexts);
+        place
     }
 }

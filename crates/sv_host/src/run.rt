@@ -11,17 +11,13 @@ use sv_model::{Engine, Setting};
 use sv_net::{Persistence, port_of};
 
 /// The journal's file, and the second one beside it.
-fn open_files(machine: &HostRuntime, journal: &str) -> Result<(FileDisk, FileDisk), HostFault> {
-    let Ok(other) = format!(in machine.alloc(); "{journal}.b") else {
+fn open_files(machine: &HostRuntime, paths: Paths<'_>) -> Result<(FileDisk, FileDisk), HostFault> {
+    let Ok(other) = format!(in machine.alloc(); "{}.b", paths.journal) else {
         return Err(HostFault::Memory);
     };
-    match (
-        FileDisk::open(machine, journal),
-        FileDisk::open(machine, other.as_str()),
-    ) {
-        (Ok(a), Ok(b)) => Ok((a, b)),
-        _ => Err(HostFault::Device),
-    }
+    let a = FileDisk::open(machine, paths.journal, paths.if_missing)?;
+    let b = FileDisk::open(machine, other.as_str(), paths.if_missing)?;
+    Ok((a, b))
 }
 
 /// Opens the log and the figures, those that are wanted.
@@ -37,7 +33,7 @@ fn open_report(
     if let Some(path) = paths.log {
         report.log_to(machine.alloc(), machine, path)?;
     }
-    report.at(reading.clock / 1_000);
+    report.at(reading.seconds());
     if let Some(path) = paths.metrics {
         report.count_to(machine.alloc(), machine, path, setting.node)?;
     }
@@ -78,7 +74,7 @@ fn open(
     paths: Paths<'_>,
 ) -> Result<(Host, FileDisk, FileDisk), HostFault> {
     let host = open_host(machine, place, persistence, paths)?;
-    let (a, b) = open_files(machine, paths.journal)?;
+    let (a, b) = open_files(machine, paths)?;
     Ok((host, a, b))
 }
 

@@ -6,6 +6,7 @@ ghost use Rattle.sv_host.specs.Serve.{Brings};
 ghost use Rattle.sv_host.specs.Stops.{IsTold};
 
 use crate::fault::Stop;
+use crate::greeting::greeted;
 use crate::group::Came;
 use crate::intake::{Lifted, ask, refuse, take_frame};
 use crate::server::Server;
@@ -66,6 +67,10 @@ fn take(
             Ok(came) => Ok(progress_of(came)),
             Err(stop) => Err(stop),
         },
+        Heard::Greeting(said) => {
+            greeted(server, from, &said);
+            Ok(Progress::Done)
+        }
         Heard::Nothing => {
             server.connections.leave(place);
             Ok(Progress::Done)
@@ -95,7 +100,7 @@ fn look<'a>(socket: &mut Socket, piece: &'a mut [u8; PIECE]) -> Result<&'a [u8],
 /// Does with a connection on which nothing has come what is to be done.
 fn keep_or_leave(server: &mut Server, place: usize, open: Open, missing: Missing) {
     match missing {
-        Missing::Yet => server.connections.keep(place, open),
+        Missing::Yet => server.connections.keep_in_time(place, open),
         Missing::ForEver => server.connections.leave(place),
     }
 }

@@ -4,16 +4,17 @@ ghost use Rattle.std.specs.Prelude.{◌≡◌, ◌≤◌, IfErr, IfOk};
 ghost use Rattle.sv_host.specs.Secrets.{last_of, secret_in, Draws};
 ghost use Rattle.sv_host.specs.Serving.{IsServing, HasServed};
 ghost use Rattle.sv_host.specs.Stops.{IsLost};
-ghost use Rattle.sv_host.specs.Time.{seconds_of};
+ghost use Rattle.sv_host.specs.Time.{seconds_of, steady_of};
 
 use crate::expiry::Expiry;
 use crate::fault::{HostFault, Stop};
 use crate::group::Group;
 use crate::outcome::Taken;
 use crate::parked::ParkedClients;
+use crate::peers::Peers;
 use crate::round::Round;
 use crate::secrets::Secrets;
-use crate::time::{Time, read};
+use crate::time::{ClockSet, Time, read};
 use std::alloc::Global;
 use std::rt::Clock;
 use std::time::Duration;
@@ -31,10 +32,11 @@ pub struct Server {
     pub secrets: Secrets,
     pub connections: Connections,
     pub parked: ParkedClients,
+    pub peers: Peers,
     /// A text on its way to whom it is for; empty between two steps.
     pub text: Vec<u8>,
     pub time: Time,
-    /// When the node last looked at the time, in seconds since 1970.
+    /// When the node last looked at the time, in seconds by the clock that nobody sets.
     pub ticked: u64,
     /// No time has passed since it looked.
     pub is_spared: bool,
@@ -55,6 +57,7 @@ impl Drop for Server {
             secrets: _,
             connections: _,
             parked: _,
+            peers: _,
             text: _,
             time: _,
             ticked: _,
@@ -78,36 +81,57 @@ struct Write {
 }
 
 impl Server {
-    /// What is taken for the time, in seconds since 1970.
-    pub fn now(&mut self, machine: &HostRuntime) -> u64
-        ensures time { result ≡ seconds_of self.new.time }
-        ensures never_back { seconds_of self.old.time ≤ result }
+    /// Says that the machine's clock was set, where it was.
+    fn say_clock(&mut self, set: ClockSet)
         ensures secrets { last_of self.new.secrets ≡ last_of self.old.secrets }
+        ensures time { self.new.time ≡ self.old.time }
     {
-        self.time = self.time.next(read(machine));
-        let now = self.time.seconds();
-        self.connections.report.at(now);
-        now
+        let (way, seconds) = match set {
+            ClockSet::No => return,
+            ClockSet::Ahead(seconds) => ("ahead", seconds),
+            ClockSet::Back(seconds) => ("back", seconds),
+        };
+        self.connections
+            .report
+            .note(Event::ClockSet { way, seconds });
     }
 
-    /// The second in which a turn ends.
+    /// Looks at both clocks.
+    pub fn now(&mut self, machine: &HostRuntime) -> Time
+        ensures time { result ≡ self.new.time }
+        ensures never_back { steady_of self.old.time ≤ steady_of self.new.time }
+        ensures secrets { last_of self.new.secrets ≡ last_of self.old.secrets }
+    {
+        let time = self.time.next(read(machine));
+        let set = self.time.was_set(time);
+        self.time = time;
+        self.connections.report.at(time.seconds());
+        self.say_clock(set);
+        time
+    }
+
+    /// The second in which a turn ends, by the clock that nobody sets.
     pub fn second(&mut self, machine: &HostRuntime) -> u64 {
         if self.is_spared {
             self.ticked
         } else {
-            self.now(machine)
+            self.now(machine).steady_seconds()
         }
     }
 
-    /// The moment of a step: the time, and a secret that no step has had.
+    /// The moment of a step: what both clocks show, and a secret that no step has had.
     pub fn moment(&mut self, machine: &HostRuntime) -> Result<Moment, Stop>
-        ensures time { IfOk result (λ m. m.now ≡ seconds_of self.new.time) }
-        ensures never_back { seconds_of self.old.time ≤ seconds_of self.new.time }
+        ensures time { IfOk result (λ m. (m.now ≡ seconds_of self.new.time) × (m.steady ≡ steady_of self.new.time)) }
+        ensures never_back { steady_of self.old.time ≤ steady_of self.new.time }
         ensures secret { Draws (last_of self.old.secrets) (secret_in result) (last_of self.new.secrets) }
     {
-        let now = self.now(machine);
+        let time = self.now(machine);
         let secret = self.secrets.next()?;
-        Ok(Moment { now, secret })
+        Ok(Moment {
+            now: time.seconds(),
+            steady: time.steady_seconds(),
+            secret,
+        })
     }
 
     /// The journal was written anew; its lengths in bytes.
@@ -126,6 +150,7 @@ impl Server {
             sent,
             gone,
             ended,
+            homes: _,
         } = node.census();
         let report = &mut self.connections.report;
         report.census(active as u64, sent as u64, gone as u64, ended as u64);
@@ -210,6 +235,8 @@ impl Server {
         let write = self.begin_write(machine, node.journal_len());
         let answers = node.step_all(inputs);
         self.end_write(machine, write, node.journal_len());
+        // Their time to take an answer, or to bring the next request, begins now, however long the node has had.
+        self.connections.look_at_clock(machine);
         self.hand_out(machine, ways.as_slice(), answers)
     }
 }

@@ -1,29 +1,33 @@
 //! What a node takes for the time.
 
-ghost use Rattle.std.specs.Prelude.{◌≡◌, ◌≤◌, ◌+◌, ◌-◌, ◌*◌, ◌/◌, max};
-ghost use Rattle.sv_host.specs.Time.{LAST, twice_at};
+ghost use Rattle.std.specs.Prelude.{◌≡◌, ◌≤◌, max};
+ghost use Rattle.sv_host.specs.Time.{seconds_of, steady_of};
 
 use std::rt::Clock;
 use std::time::Duration;
 
-/// Both clocks of a machine, in milliseconds.
+/// What both clocks of a machine show, in milliseconds.
+///
+/// Sessions are used, and expire, by the one that is set: it is the same at all nodes of a machine, and however long one of them has
+/// run. Requests wait, and whatever else falls due after some time does, by the one that nobody sets.
 #[derive(Clone, Copy, Debug, PartialEq, Eq)]
-pub struct Reading {
-    /// The one that tells the time since 1970, and that may be set.
+pub struct Time {
+    /// The one that tells the time since 1970, as it is set.
     pub clock: u64,
-    /// The one that nobody sets (`CLOCK_MONOTONIC` of clock_gettime(2)).
+    /// The one that nobody sets, and that never goes back (`CLOCK_MONOTONIC` of clock_gettime(2)).
     pub steady: u64,
 }
 
-/// What a node takes for the time since 1970. Where the machine's clock is set back it goes on at half the pace until that clock has
-/// caught up; where that clock jumps ahead it follows. So it never goes back, and what falls due after some time does so within twice
-/// that time by a clock that nobody sets, whatever is done to the one that tells the time.
+/// In milliseconds: what a clock gains or loses of another between two readings is more than that where it was set.
+const SET: u64 = 2_000;
+
+/// By how much the machine's clock was set.
 #[derive(Clone, Copy, Debug, PartialEq, Eq)]
-pub struct Time {
-    /// Twice the time in milliseconds, so that half a pace is a whole number.
-    pub twice: u64,
-    /// What the clock that nobody sets showed then.
-    pub steady: u64,
+pub enum ClockSet {
+    No,
+    /// By so many whole seconds.
+    Ahead(u64),
+    Back(u64),
 }
 
 /// The later of two times.
@@ -34,39 +38,44 @@ fn later(a: u64, b: u64) -> u64
 }
 
 impl Time {
-    ghost use Rattle.sv_host.specs.Time.{seconds_of};
-
-    /// The time by a first reading.
-    pub fn new(reading: Reading) -> Time
-        ensures { result ≡ record { twice = twice_at 0 reading.clock 0; steady = reading.steady } }
-    {
-        Time {
-            twice: reading.clock.saturating_mul(2),
-            steady: reading.steady,
-        }
-    }
-
     /// The time by the next reading.
-    pub fn next(self, reading: Reading) -> Time
-        ensures time { result ≡ record { twice = twice_at self.twice reading.clock (reading.steady - self.steady); steady = max self.steady reading.steady } }
-        ensures never_back { self.twice ≤ result.twice }
-        ensures seconds { seconds_of self ≤ seconds_of result }
+    pub fn next(self, reading: Time) -> Time
+        ensures time { result ≡ record { clock = reading.clock; steady = max self.steady reading.steady } }
+        ensures never_back { steady_of self ≤ steady_of result }
     {
-        let gone = reading.steady.saturating_sub(self.steady);
         Time {
-            twice: later(
-                reading.clock.saturating_mul(2),
-                self.twice.saturating_add(gone),
-            ),
+            clock: reading.clock,
             steady: later(self.steady, reading.steady),
         }
     }
 
-    /// In whole seconds since 1970.
+    /// Whether the machine's clock was set between this time and the next.
+    pub fn was_set(self, next: Time) -> ClockSet {
+        let gone = next.steady.saturating_sub(self.steady);
+        let wanted = self.clock.saturating_add(gone);
+        let ahead = next.clock.saturating_sub(wanted);
+        let back = wanted.saturating_sub(next.clock);
+        if ahead > SET {
+            ClockSet::Ahead(ahead / 1_000)
+        } else if back > SET {
+            ClockSet::Back(back / 1_000)
+        } else {
+            ClockSet::No
+        }
+    }
+
+    /// In whole seconds since 1970, as the machine's clock is set.
     pub fn seconds(self) -> u64
         ensures { result ≡ seconds_of self }
     {
-        self.twice / 2_000
+        self.clock / 1_000
+    }
+
+    /// In whole seconds by the clock that nobody sets.
+    pub fn steady_seconds(self) -> u64
+        ensures { result ≡ steady_of self }
+    {
+        self.steady / 1_000
     }
 }
 
@@ -85,8 +94,8 @@ pub fn steady(machine: &impl Clock) -> u64 {
 }
 
 /// Reads both clocks of a machine; 0 for one that can't be read.
-pub fn read(machine: &impl Clock) -> Reading {
-    Reading {
+pub fn read(machine: &impl Clock) -> Time {
+    Time {
         clock: match machine.since_1970() {
             Ok(time) => milliseconds(time),
             Err(_) => 0,

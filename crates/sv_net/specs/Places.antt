@@ -4,7 +4,7 @@ use Rattle.sv_net.specs.declared.connections.Connections.{Connections}
 use Rattle.sv_net.specs.declared.open.Open.{Open}
 use Rattle.sv_net.specs.declared.persistence.Persistence.{Persistence}
 use Rattle.sv_net.specs.declared.state.State.{State}
-use Rattle.sv_net.specs.declared.state.State.TheVariants.{New, Asking, Asked, Resting, Framing, Taken, Peer}
+use Rattle.sv_net.specs.declared.state.State.TheVariants.{New, Asking, Asked, Resting, Framing, Greeting, Taken, Peer}
 use Rattle.sv_net.specs.declared.state.State.TheVariants.{Waiting, Ordering, Holding, Saying, Parting, Calling}
 
 abbrev pub places_of : Connections → List (Option Open)
@@ -69,6 +69,7 @@ manner_in token (Asking client) = None
 manner_in token (Asked client) = None
 manner_in token (Resting client) = None
 manner_in token (Framing bytes) = None
+manner_in token (Greeting bytes) = None
 manner_in token (Taken peer) = None
 manner_in token (Peer peer) = None
 manner_in token (Waiting client head_only close own silent) = manner_for token head_only close own

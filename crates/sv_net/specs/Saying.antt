@@ -16,10 +16,6 @@ use Rattle.sv_net.specs.declared.state.State.TheVariants.{Asked, Parting, Saying
 abbrev pub IsLeft : List ℕ → List ℕ → Type 0
 IsLeft left text = (taken : List ℕ) × (text ≡ taken ++ left)
 
--- the front of a text
-abbrev pub IsFront : List ℕ → List ℕ → Type 0
-IsFront front text = (rest : List ℕ) × (text ≡ front ++ rest)
-
 -- what is behind a text that was taken whole
 abbrev pub Follows : Next → State → Type 0
 Follows Close state = ⊥
@@ -30,13 +26,13 @@ Follows (Listen client) state = state ≡ Asked client
 abbrev pub Says : List ℕ → Next → State → Type 0
 Says text next state = ((left : Vec ℕ Global) × (state ≡ Saying left next) × IsLeft left.items text) ⊎ Follows next state
 
--- the text of a response with this time, or the lines that say that memory was refused, as far as there was memory for it
-abbrev pub IsText : Response → ℕ → List ℕ → Type 0
-IsText response now text = ((whole : List ℕ) × IsResponseText response now whole × IsFront text whole) ⊎ IsFront text memory_lines
+-- a response was said at this time: its text, whole, and nothing else
+abbrev pub Tells : Response → ℕ → State → Type 0
+Tells response now state = (text : List ℕ) × (next : Next) × IsResponseText response now text × Says text next state
 
--- a response was said at this time
+-- the same, or the lines that say that memory was refused
 abbrev pub Answers : Response → ℕ → State → Type 0
-Answers response now state = (text : List ℕ) × (next : Next) × IsText response now text × Says text next state
+Answers response now state = Tells response now state ⊎ Says memory_lines Part state
 
 abbrev pub is_deadline : Cause → Bool
 is_deadline ParkFull = false

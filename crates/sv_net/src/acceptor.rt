@@ -1,6 +1,6 @@
 //! Where those stand who connect, and where a node waits.
 
-use crate::connections::Connections;
+use crate::connections::{Connections, OPEN_LIMIT};
 use crate::deadline::{TURN, listen};
 use crate::hearing::PIECE;
 use crate::queue::Queue;
@@ -17,11 +17,12 @@ use std::time::Duration;
 /// In milliseconds: so long a node waits before it tries again to accept somebody for whom there was no room.
 const RETRY: u64 = 50;
 
-/// So many connections are gone on with in a turn, before somebody who has come is let in.
+/// So many of the open connections are gone on with in a turn, before those who stand at the door are let in.
 pub const TURN_LIMIT: usize = 63;
 
-/// So many events are told in one turn.
-const EVENTS: usize = 256;
+/// So many events the poll tells at once: those of all connections that may be open, and of the door. So whoever isn't in the queue
+/// once the poll was asked has said nothing that the node could have read.
+const EVENTS: usize = OPEN_LIMIT + 1;
 
 /// What the poll calls the listener.
 const DOOR: usize = usize::MAX;
@@ -124,20 +125,26 @@ impl Acceptor {
         }
     }
 
-    /// Has the poll report who is to be looked after, and waits for that.
-    fn ask_poll(&mut self, timeout: Duration) {
+    /// Has the poll report who is to be looked after, and waits for that. A client whose connection has broken is closed at once: what
+    /// it may have asked is for nobody.
+    fn ask_poll(&mut self, connections: &mut Connections, timeout: Duration) {
         let _ = self.poll.poll(&mut self.events, Some(timeout));
         for event in &self.events {
             let Token(place) = event.token();
             if place == DOOR {
                 self.door = true;
-            } else {
+            } else if !event.is_write_closed() || !connections.close_broken(place) {
                 self.queue.add(place);
             }
         }
         if self.is_full {
             self.door = true;
         }
+    }
+
+    /// Nobody is known to be looked after.
+    fn is_quiet(&self) -> bool {
+        self.queue.is_empty() && !self.door
     }
 
     /// Waits until somebody is to be looked after, a turn at most; not at all where something else is to be done. While nobody is in
@@ -162,11 +169,14 @@ impl Acceptor {
         self.polled = !(self.polled && 0 < count && count <= TURN_LIMIT);
         if self.polled {
             let is_idle = count == 0 && !self.door && !is_busy;
-            self.ask_poll(if is_idle {
-                self.patience()
-            } else {
-                Duration::ZERO
-            });
+            if is_idle {
+                self.ask_poll(connections, self.patience());
+            }
+            // A wait tells of nobody, too, that was cut short since the process was stopped and goes on (signal(7)): so what has come
+            // meanwhile is gathered before the time is looked at.
+            if !is_idle || self.is_quiet() {
+                self.ask_poll(connections, Duration::ZERO);
+            }
         }
     }
 
@@ -180,6 +190,34 @@ impl Acceptor {
         if again.is_err() {
             self.door = true;
         }
+    }
+
+    /// Asks the poll, once somebody was accepted, whether somebody else stands at the door: `accept` would wait for one. What the
+    /// poll tells of the others meanwhile is of the next turn, so the queue first forgets who was gone on with in this one: what has
+    /// come of them since would be taken for what was read.
+    pub fn look_at_door(&mut self, connections: &mut Connections) {
+        self.waits = false;
+        if !self.door && !self.is_full {
+            self.queue.forget(self.done);
+            self.done = 0;
+            self.ask_poll(connections, Duration::ZERO);
+        }
+    }
+
+    /// Ends the connections that have taken too long, once in a while. Whoever is in the queue waits for the node, and isn't late.
+    pub fn look_round(&self, connections: &mut Connections) {
+        connections.look_round(&self.queue);
+    }
+
+    /// Closes the connection that gives way first; false where none does. Whoever is in the queue has said something that wasn't read
+    /// yet, and doesn't give way.
+    pub fn make_room(&self, connections: &mut Connections) -> bool {
+        connections.make_room(&self.queue)
+    }
+
+    /// Whether one more may be open, for whom another gives way where as many are open as may be.
+    pub fn has_room(&self, connections: &mut Connections) -> bool {
+        !connections.is_full() || self.make_room(connections)
     }
 
     /// The places that are gone on with in this turn, and the piece that they are read into.

@@ -3,7 +3,7 @@
 ghost use Rattle.std.specs.Prelude.{◌≡◌, ◌||◌, None, IfSome, is_some};
 ghost use Rattle.sv_connection.specs.Serve.{memory_lines};
 ghost use Rattle.sv_net.specs.Places.{elsewhere, held_at, manner_at};
-ghost use Rattle.sv_net.specs.Saying.{Answers, Follows, Says, is_deadline, refused_as};
+ghost use Rattle.sv_net.specs.Saying.{Answers, Follows, Says, Tells, is_deadline, refused_as};
 ghost use Rattle.sv_net.specs.declared.state.Next.TheVariants.{Part};
 
 use crate::connections::Connections;
@@ -12,7 +12,7 @@ use crate::socket::{Socket, Written};
 use crate::state::{Next, State};
 use std::mem::replace;
 use std::time::Duration;
-use sv_connection::{memory_lines, refusal};
+use sv_connection::{Outcome, memory_lines, refusal};
 use sv_model::{Cause, Response};
 
 /// Whether the connection of a client closes behind its refusal: where it wants that, and where it has waited in vain.
@@ -54,7 +54,7 @@ impl Connections {
             Written::Part => {
                 let heard = self.taken_at(heard, before, text.len());
                 let state = State::Saying { text, next };
-                self.keep(
+                self.keep_in_time(
                     place,
                     Open {
                         socket,
@@ -131,7 +131,8 @@ impl Connections {
         self.manner_at(place, token).is_some()
     }
 
-    /// Answers the client that waits at a place for the answer under a token. The text is made in `text`.
+    /// Answers the client that waits at a place for the answer under a token. The text is made in `text`. If there is no memory for it
+    /// the connection is closed without an answer: what the client has asked may be done, and nothing else is to be said of it.
     pub fn answer(
         &mut self,
         place: usize,
@@ -141,7 +142,7 @@ impl Connections {
         text: &mut Vec<u8>,
     )
         ensures nobody { manner_at self.old place token ≡ None → self.new ≡ self.old }
-        ensures answered { IfSome (manner_at self.old place token) (λ _. IfSome (held_at self.new place) (λ held. Answers response.now now held.state)) }
+        ensures answered { IfSome (manner_at self.old place token) (λ _. IfSome (held_at self.new place) (λ held. Tells response.now now held.state)) }
         ensures others { elsewhere place self.new ≡ elsewhere place self.old }
     {
         if !self.waits_at(place, token) {
@@ -156,8 +157,10 @@ impl Connections {
             return;
         };
         text.clear();
-        let _ = client.connection.answer(text, response, now);
-        self.say(place, socket, text, client.next());
+        match client.connection.answer(text, response, now) {
+            Outcome::Answered => self.say(place, socket, text, client.next()),
+            _ => self.leave(place),
+        }
     }
 
     /// Says to a client that memory was refused, and parts from it.

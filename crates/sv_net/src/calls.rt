@@ -1,17 +1,19 @@
 //! Packets on their way to other nodes, and the commands that wait until they are sent.
 
 ghost use Rattle.sv_model.specs.Ranges.{IsPacket};
+ghost use Rattle.sv_record.specs.Greeting.{IsGreeting};
 
 use crate::connections::Connections;
 use crate::links::Link;
 use crate::open::Open;
 use crate::socket::{Socket, Written};
-use crate::state::State;
+use crate::state::{Next, State};
+use mio::net::TcpStream;
 use std::alloc::Global;
 use std::net::SocketAddr;
 use sv_log::Loss;
 use sv_model::Packet;
-use sv_record::{Frame, write_frame};
+use sv_record::{Frame, Greeting, write_frame, write_greeting};
 
 /// So many of them are packets on their way to other nodes. One more is lost, and sent again.
 const CALL_LIMIT: usize = 128;
@@ -77,6 +79,35 @@ impl Connections {
         match spelled(self.alloc, packet) {
             Some(frame) => self.send_frame(machine, to, addr, frame),
             None => self.report.lost(to, Loss::Memory),
+        }
+    }
+
+    /// Says a greeting to whoever listens at an address, on a connection of its own. One that isn't taken is lost: another follows.
+    pub fn greet(&mut self, machine: &HostRuntime, addr: SocketAddr, greeting: &Greeting)
+        requires { IsGreeting greeting.now }
+    {
+        let mut text = Vec::new(self.alloc);
+        if write_greeting(greeting, &mut text).is_err() {
+            return;
+        }
+        let Ok(stream) = TcpStream::connect(machine, addr) else {
+            return;
+        };
+        self.begin_text(Socket::from(stream), text);
+    }
+
+    /// Says a text on a connection that then ends. What isn't taken of it at once is said later, if there is a place for it.
+    fn begin_text(&mut self, socket: Socket, text: Vec<u8>) {
+        let (mut socket, mut text) = (socket, text);
+        if socket.write(&mut text) != Written::Part {
+            return;
+        }
+        if let Some(place) = self.free_place() {
+            let next = Next::Close;
+            self.keep(
+                place,
+                Open::at(socket, State::Saying { text, next }, self.clock),
+            );
         }
     }
 
@@ -179,7 +210,7 @@ impl Connections {
         let written = socket.write(&mut frame);
         if written == Written::Part {
             let state = State::Calling { to, frame, holder };
-            self.keep(
+            self.keep_in_time(
                 place,
                 Open {
                     socket,

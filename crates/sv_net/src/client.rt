@@ -43,6 +43,13 @@ impl Client {
         client
     }
 
+    /// It has begun no request, and may be silent for long: it keeps little memory meanwhile.
+    pub(crate) fn at_rest(self) -> Client {
+        let mut client = self;
+        client.connection.give_back();
+        client
+    }
+
     /// What follows behind an answer (RFC 9112, section 9.6): the next request; or, where the connection closes, the close, at
     /// once where the client asked for it, as it sends no more then.
     pub(crate) fn next(self) -> Next {

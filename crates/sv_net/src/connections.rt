@@ -16,7 +16,7 @@ use std::time::Duration;
 use sv_log::Report;
 
 /// So many connections are open at once. Behind that one that has been silent for longest is closed for a new one.
-const OPEN_LIMIT: usize = 1_000;
+pub(crate) const OPEN_LIMIT: usize = 1_000;
 
 /// In thousandths of a second: so long a turn may take, a second of it to wait for somebody.
 const MOST: u64 = 1_250;
@@ -36,6 +36,8 @@ pub struct Connections {
     /// Where the last packet is still being sent.
     pub(crate) calling: Option<usize>,
     pub(crate) links: Links,
+    /// Greetings are taken; else they are no request.
+    pub(crate) greets: bool,
     /// What is told to the operator.
     pub report: Report,
     pub(crate) alloc: Global,
@@ -54,6 +56,7 @@ impl Drop for Connections {
             due: _,
             calling: _,
             links: _,
+            greets: _,
             report: _,
             alloc: _,
         } = self;
@@ -74,6 +77,7 @@ impl Connections {
             due: Vec::new(alloc),
             calling: None,
             links: Links::new(alloc, persistence),
+            greets: false,
             report: Report::none(),
             alloc,
         }
@@ -84,6 +88,11 @@ impl Connections {
         self.report = report;
     }
 
+    /// Has greetings taken.
+    pub fn take_greetings(&mut self) {
+        self.greets = true;
+    }
+
     /// How many connections are open.
     pub fn len(&self) -> usize {
         self.count
@@ -92,6 +101,11 @@ impl Connections {
     /// Nobody is here.
     pub fn is_empty(&self) -> bool {
         self.count == 0
+    }
+
+    /// As many connections are open as may be.
+    pub(crate) fn is_full(&self) -> bool {
+        self.count >= OPEN_LIMIT
     }
 
     /// The clock that never goes back, when it was last looked at.
@@ -286,8 +300,8 @@ impl Connections {
     }
 
     /// A place for one more connection, which is kept for it; none where as many are open as may be, or there is no memory for it.
-    pub(crate) fn free_place(&mut self) -> Option<usize> {
-        if self.count >= OPEN_LIMIT {
+    pub fn free_place(&mut self) -> Option<usize> {
+        if self.is_full() {
             return None;
         }
         let place = self.vacant()?;
@@ -295,12 +309,10 @@ impl Connections {
         Some(place)
     }
 
-    /// The same for somebody who has come, for whom another gives way.
-    pub fn make_place(&mut self) -> Option<usize> {
-        if self.count >= OPEN_LIMIT && !self.make_room() {
-            return None;
-        }
-        self.free_place()
+    /// Puts somebody who has come to their place. They are gone on with once all have been who wait for that already.
+    pub fn put_off(&mut self, place: usize, open: Open) {
+        self.seat(place, open);
+        self.put_down(place);
     }
 
     /// Goes on with a connection that was taken, where no more than its socket is needed.

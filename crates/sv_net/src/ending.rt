@@ -1,6 +1,8 @@
 //! Connections that are closed before their end.
 
 use crate::connections::Connections;
+use crate::open::Open;
+use crate::queue::Queue;
 use crate::state::{State, Yielding};
 use std::time::Duration;
 use sv_log::{Event, Loss};
@@ -38,8 +40,8 @@ impl Ending {
 }
 
 impl Connections {
-    /// The one that has been silent for longest, of those that give way like this.
-    fn most_silent(&self, yielding: Yielding) -> Option<usize> {
+    /// The one that has been silent for longest, of those that give way like this and aren't to be gone on with.
+    fn most_silent(&self, yielding: Yielding, queue: &Queue) -> Option<usize> {
         let mut oldest: Option<(usize, Duration)> = None;
         for (place, slot) in self.places.iter().enumerate() {
             if let Some(open) = slot {
@@ -47,7 +49,7 @@ impl Connections {
                     Some((_, heard)) => open.heard < heard,
                     None => true,
                 };
-                if is_older && open.state.yielding() == yielding {
+                if is_older && open.state.yielding() == yielding && !queue.has(place) {
                     oldest = Some((place, open.heard));
                 }
             }
@@ -57,16 +59,16 @@ impl Connections {
     }
 
     /// The one that gives way first: a packet on its way, which is sent again, before a client is closed.
-    fn first_to_go(&self) -> Option<usize> {
-        match self.most_silent(Yielding::First) {
+    fn first_to_go(&self, queue: &Queue) -> Option<usize> {
+        match self.most_silent(Yielding::First, queue) {
             Some(place) => Some(place),
-            None => self.most_silent(Yielding::BySilence),
+            None => self.most_silent(Yielding::BySilence, queue),
         }
     }
 
-    /// Closes the connection that gives way first; false where none does.
-    pub fn make_room(&mut self) -> bool {
-        let Some(place) = self.first_to_go() else {
+    /// Closes the connection that gives way first, of those that aren't to be gone on with; false where none does.
+    pub(crate) fn make_room(&mut self, queue: &Queue) -> bool {
+        let Some(place) = self.first_to_go(queue) else {
             return false;
         };
         self.end(place, Ending::GaveWay);
@@ -75,9 +77,13 @@ impl Connections {
 
     /// Ends a connection that isn't at its end.
     fn end(&mut self, place: usize, ending: Ending) {
-        let Some(open) = self.take(place) else {
-            return;
-        };
+        if let Some(open) = self.take(place) {
+            self.end_taken(place, open, ending);
+        }
+    }
+
+    /// The same of one that was taken from its place.
+    fn end_taken(&mut self, place: usize, open: Open, ending: Ending) {
         self.leave(place);
         if let State::Calling { to, holder, .. } = open.state {
             self.report.lost(to, ending.loss());
@@ -87,18 +93,32 @@ impl Connections {
         }
     }
 
-    /// Ends the connections that have taken too long, once in a while.
-    pub fn look_round(&mut self) {
+    /// Puts a connection back of which all that has come was read, or which takes no more now; or ends it if it has taken too long.
+    pub fn keep_in_time(&mut self, place: usize, open: Open) {
+        if open.is_late(self.clock) {
+            self.end_taken(place, open, Ending::Late);
+        } else {
+            self.keep(place, open);
+        }
+    }
+
+    /// Whether somebody at a place has taken too long who isn't to be gone on with.
+    fn is_late_at(&self, place: usize, queue: &Queue) -> bool {
+        match self.places.get(place) {
+            Some(Some(open)) => open.is_late(self.clock) && !queue.has(place),
+            _ => false,
+        }
+    }
+
+    /// Ends the connections that have taken too long, once in a while. One that is to be gone on with has said something, and the
+    /// node hasn't read it yet: whether it's late is seen once that is done.
+    pub(crate) fn look_round(&mut self, queue: &Queue) {
         if self.clock < self.looked.saturating_add(Duration::from_millis(LOOKING)) {
             return;
         }
         self.looked = self.clock;
         for place in 0..self.places.len() {
-            let is_late = match self.places.get(place) {
-                Some(Some(open)) => open.is_late(self.clock),
-                _ => false,
-            };
-            if is_late {
+            if self.is_late_at(place, queue) {
                 self.end(place, Ending::Late);
             }
         }

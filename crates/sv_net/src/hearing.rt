@@ -14,7 +14,7 @@ use std::alloc::Global;
 use std::time::Duration;
 use sv_connection::{Received, RequestFault};
 use sv_model::Request;
-use sv_record::Frame;
+use sv_record::{Frame, GREETING_LEN, Greeting, read_greeting};
 
 /// So many bytes of a connection are read at once: more than most requests and packets have.
 pub const PIECE: usize = 16_384;
@@ -40,6 +40,8 @@ pub enum Heard {
         frame: Frame,
         rest: Vec<u8>,
     },
+    /// A greeting.
+    Greeting(Greeting),
     /// Nothing that is served: it is closed.
     Nothing,
 }
@@ -62,8 +64,9 @@ fn hear_client(client: Client, piece: &[u8]) -> Heard
             fault,
             head_only,
         },
-        // Behind no bytes it has begun no request.
-        Received::More if piece.is_empty() => Heard::More(State::Resting(client)),
+        Received::More if client.connection.is_empty() => {
+            Heard::More(State::Resting(client.at_rest()))
+        }
         Received::More => Heard::More(State::Asking(client)),
         Received::Closed => Heard::Nothing,
     }
@@ -77,6 +80,23 @@ fn hear_framer(alloc: Global, bytes: Vec<u8>, piece: &[u8]) -> Heard
     match take_in(alloc, &mut bytes, piece) {
         Ok(Some(frame)) => Heard::Frame { frame, rest: bytes },
         Ok(None) => Heard::More(State::Framing(bytes)),
+        Err(_) => Heard::Nothing,
+    }
+}
+
+/// Puts a piece behind what came before it of a greeting, which is all that its connection brings.
+fn hear_greeter(bytes: Vec<u8>, piece: &[u8]) -> Heard
+    ensures { IsHeard result }
+{
+    let mut bytes = bytes;
+    if bytes.extend_from_slice(piece).is_err() {
+        return Heard::Nothing;
+    }
+    if bytes.len() < GREETING_LEN {
+        return Heard::More(State::Greeting(bytes));
+    }
+    match read_greeting(bytes.as_slice()) {
+        Ok(greeting) => Heard::Greeting(greeting),
         Err(_) => Heard::Nothing,
     }
 }
@@ -114,6 +134,7 @@ impl Connections {
                 hear_client(client, piece)
             }
             State::Framing(bytes) => hear_framer(self.alloc, bytes, piece),
+            State::Greeting(bytes) => hear_greeter(bytes, piece),
             State::Taken(peer) | State::Peer(peer) => hear_peer(self.alloc, peer, piece),
             other => Heard::More(other),
         }
@@ -123,7 +144,7 @@ impl Connections {
     fn state_at(&self, state: State, piece: &[u8]) -> State {
         match (state, piece) {
             (State::New, [first, ..]) => {
-                State::begin(self.alloc, self.links.persistence(), *first)
+                State::begin(self.alloc, self.links.persistence(), self.greets, *first)
             }
             (other, _) => other,
         }

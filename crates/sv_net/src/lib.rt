@@ -10,6 +10,7 @@
 #![tactic(auto)]
 
 mod acceptor;
+mod activation;
 mod answers;
 mod calls;
 mod client;

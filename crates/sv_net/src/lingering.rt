@@ -43,6 +43,20 @@ impl Connections {
         }
     }
 
+    /// Closes the connection of a client at a place whose next request is to be read, as the connection has broken; whether one
+    /// stood there.
+    pub(crate) fn close_broken(&mut self, place: usize) -> bool {
+        let is_heard = match self.places.get(place) {
+            Some(Some(open)) => open.state.is_heard(),
+            _ => false,
+        };
+        if is_heard {
+            let _closed = self.take(place);
+            self.leave(place);
+        }
+        is_heard
+    }
+
     /// Reads a piece of what a client goes on sending, and gives its length; none where nothing has come yet.
     fn read_away(socket: &mut Socket) -> Option<usize> {
         let mut piece = [0u8; 4096];
@@ -72,9 +86,11 @@ impl Connections {
             }
         }
         open.state = State::Parting { bytes: left };
-        self.keep(place, open);
         if has_more {
+            self.keep(place, open);
             self.call_again(place);
+        } else {
+            self.keep_in_time(place, open);
         }
     }
 }

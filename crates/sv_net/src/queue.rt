@@ -41,9 +41,14 @@ impl Queue {
         }
     }
 
+    /// Whether a place is among them.
+    pub fn has(&self, place: usize) -> bool {
+        self.is_listed.get(place) == Some(&true)
+    }
+
     /// Adds a place behind the others, if it isn't among them. Where memory is refused it isn't added.
     pub fn add(&mut self, place: usize) {
-        if self.reach(place).is_err() || self.is_listed.get(place) == Some(&true) {
+        if self.reach(place).is_err() || self.has(place) {
             return;
         }
         let added: Result<(), AllocFailed<usize>> = self.places.push(place);

@@ -6,7 +6,7 @@ use crate::socket::Socket;
 use mio::Interest;
 use std::alloc::Global;
 use sv_log::Phase;
-use sv_record::{CONTROL, PEER};
+use sv_record::{CONTROL, GREETING, PEER};
 
 /// What is done with a connection once a text is written.
 #[derive(Drop)]
@@ -40,6 +40,8 @@ pub enum State {
     Resting(Client),
     /// The first frame, which isn't whole yet.
     Framing(Vec<u8>),
+    /// A greeting, which isn't whole yet.
+    Greeting(Vec<u8>),
     /// A node whose packet was taken, and which has sent more along.
     Taken(Peer),
     /// A node whose packets were taken, and of whose next one not all has come.
@@ -143,6 +145,7 @@ impl State {
             | State::Asking(_)
             | State::Resting(_)
             | State::Framing(_)
+            | State::Greeting(_)
             | State::Peer(_) => Turn::Read,
             State::Waiting { .. }
             | State::Ordering
@@ -153,12 +156,18 @@ impl State {
         }
     }
 
-    /// Who sends this byte first is a peer or gives a command, or is a client.
-    pub(crate) fn begin(alloc: Global, persistence: Persistence, first: u8) -> State {
+    /// Who sends this byte first is a peer or gives a command, greets, where greetings are taken, or is a client.
+    pub(crate) fn begin(alloc: Global, persistence: Persistence, greets: bool, first: u8) -> State {
         match first {
             PEER | CONTROL => State::Framing(Vec::new(alloc)),
+            GREETING if greets => State::Greeting(Vec::new(alloc)),
             _ => State::Asking(Client::new(alloc, persistence)),
         }
+    }
+
+    /// A client whose next request is read.
+    pub(crate) fn is_heard(&self) -> bool {
+        matches!(self, State::Asking(_) | State::Asked(_) | State::Resting(_))
     }
 
     /// A node whose packets were taken.
@@ -189,6 +198,7 @@ impl State {
             | State::Asked(_)
             | State::Resting(_)
             | State::Framing(_)
+            | State::Greeting(_)
             | State::Taken(_)
             | State::Peer(_)
             | State::Saying { .. }
@@ -209,6 +219,7 @@ impl State {
             | State::Asked(_)
             | State::Resting(_)
             | State::Framing(_)
+            | State::Greeting(_)
             | State::Taken(_)
             | State::Peer(_)
             | State::Waiting { .. }
@@ -226,6 +237,7 @@ impl State {
             State::Resting(_) => Phase::Resting,
             State::Peer(peer) if peer.is_resting() => Phase::Resting,
             State::Framing(_)
+            | State::Greeting(_)
             | State::Taken(_)
             | State::Peer(_)
             | State::Ordering
@@ -266,6 +278,7 @@ impl State {
             | State::Asking(_)
             | State::Asked(_)
             | State::Framing(_)
+            | State::Greeting(_)
             | State::Taken(_)
             | State::Peer(_) => (ASKING, SILENCE),
             State::Waiting { .. } | State::Ordering | State::Holding(_) => (UNBOUNDED, UNBOUNDED),

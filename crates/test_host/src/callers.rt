@@ -27,10 +27,15 @@ pub static SCENES: [Scene; 5] = [
     Scene {
         name: "the other node is asked for the session, and the client waits until it has answered",
         persistence: Persistence::Single,
-        all: &[Said::Counts(&[[1, 1]]), Said::Frame(NO), Said::Frame(HALT)],
+        all: &[
+            Said::Counts(&[[1, 1]]),
+            Said::Frame(NO),
+            Said::Turns(1),
+            Said::Frame(HALT),
+        ],
         connections: 1,
         most: LONG,
-        told: "1||\0|\
+        told: "1|||\0|\
             \u{E1}\0\0\0\x1D\x02\x01\0\x01\x01\0\0\0\0\0\0\0\x01\0\0\0\0\0\0\0\x01\0\0\0\0\0\0\0\x01|",
     },
     Scene {

@@ -10,27 +10,15 @@ const NO: &[u8] = b"\xE1\0\0\0\x1D\x02\x04\x01\0\x01\0\0\0\0\0\0\0\x02\
 
 pub static SCENES: [Scene; 2] = [
     // A node reads 16,384 bytes at once, so each large request comes in two pieces or three, the first of them with a part of the
-    // next. The first session has the first secret, as the piece behind which its request wasn't whole has used none. Each
-    // connection has one request a turn, and a turn lets in one who has come: so the node is told to stop only after eight others,
-    // who say nothing.
+    // next. The first session has the first secret, as the piece after which its request wasn't whole has used none. Each
+    // connection has one request a turn, so the node is told to stop eight turns later.
     Scene {
         name: "requests in pieces are answered once and in order",
         persistence: Persistence::Kept,
-        all: &[
-            Said::Pieces,
-            Said::Nothing,
-            Said::Nothing,
-            Said::Nothing,
-            Said::Nothing,
-            Said::Nothing,
-            Said::Nothing,
-            Said::Nothing,
-            Said::Nothing,
-            Said::Frame(HALT),
-        ],
+        all: &[Said::Pieces, Said::Turns(8), Said::Frame(HALT)],
         connections: 0,
         most: LONG,
-        told: "121314|||||||||\0|",
+        told: "121314||\0|",
     },
     // Only a Poke serves those whose session a Grant has brought. The first of them has gone away, and is counted all the same; the
     // second has sent one more request along, which waits behind it; and nobody else is held up.
@@ -44,10 +32,11 @@ pub static SCENES: [Scene; 2] = [
             Said::Counts(&[[0, 9]]),
             Said::Frame(NO),
             Said::Frame(GRANT),
+            Said::Turns(2),
             Said::Frame(HALT),
         ],
         connections: 0,
         most: LONG,
-        told: "|71|1|1|||\0|",
+        told: "|71|1|1||||\0|",
     },
 ];

@@ -58,11 +58,12 @@ pub static SCENES: [Scene; 6] = [
             Said::Counts(&[[1, 1]]),
             Said::Counts(&[[1, 2]]),
             Said::Frame(NO_AND_GRANT),
+            Said::Turns(1),
             Said::Frame(HALT),
         ],
         connections: 0,
         most: LONG,
-        told: "6|1||\0|",
+        told: "6|1|||\0|",
     },
     // Who is let in as one node sends no packet of another: the session doesn't come, and its client waits still.
     Scene {
@@ -71,11 +72,12 @@ pub static SCENES: [Scene; 6] = [
         all: &[
             Said::Counts(&[[1, 1]]),
             Said::Frame(OF_TWO_NODES),
+            Said::Turns(1),
             Said::Frame(HALT),
         ],
         connections: 0,
         most: LONG,
-        told: "||\0|",
+        told: "|||\0|",
     },
     // The node goes on, and stops when it is told to by somebody else.
     Scene {
@@ -90,21 +92,18 @@ pub static SCENES: [Scene; 6] = [
         most: LONG,
         told: "|1|\0|",
     },
-    // A turn takes 17 packets of a connection at most, and lets in one who has come; the rest is taken in the turns after it.
+    // A turn takes 17 packets of a connection at most; the rest is taken in the two turns after it.
     Scene {
         name: "more packets than a turn takes are all taken",
         persistence: Persistence::Single,
         all: &[
             Said::Counts(&[[1, 1]]),
             Said::Packets(40),
-            Said::Nothing,
-            Said::Nothing,
-            Said::Nothing,
-            Said::Nothing,
+            Said::Turns(4),
             Said::Frame(HALT),
         ],
         connections: 0,
         most: LONG,
-        told: "6||||||\0|",
+        told: "6|||\0|",
     },
 ];

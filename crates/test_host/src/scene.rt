@@ -29,6 +29,9 @@ pub struct Scene {
 /// However long it takes.
 pub const LONG: u64 = u64::MAX;
 
+/// So many callers are let in in a turn, at most.
+const LET_IN: usize = 64;
+
 /// The head of a request that is counted, and whose body of 20,000 bytes names no session: one is made.
 const LARGE: &[u8] = b"POST /count HTTP/1.1\r\nHost: h\r\nContent-Length: 20000\r\n\r\n";
 
@@ -45,6 +48,8 @@ pub const GRANT: &[u8] = b"\xE1\0\0\0\x3D\x02\x02\x01\0\x01\0\0\0\0\0\0\0\x01\0\
 pub enum Said {
     /// Nothing, and doesn't go away.
     Nothing,
+    /// Nothing, and goes away, so many turns' worth of callers: whoever connects after them is let in so many turns later.
+    Turns(usize),
     /// A frame or a part of one, and no more.
     Frame(&'static [u8]),
     /// So many packets of node 1 on one connection that change nothing, and then its first session with a count of 5.
@@ -91,10 +96,21 @@ fn say_packets(rt: &impl Abort, machine: &HostRuntime, town: &Town, count: usize
     caller
 }
 
+/// So many callers who say nothing, and have gone away.
+fn pass_by(rt: &impl Abort, machine: &HostRuntime, town: &Town, count: usize) {
+    for _ in 0..count {
+        let _gone = town.call(rt, machine, b"");
+    }
+}
+
 /// Somebody who has said that; none who has gone away.
 fn caller_of(rt: &impl Abort, machine: &HostRuntime, town: &Town, said: Said) -> Option<TcpStream> {
     match said {
         Said::Nothing => Some(town.call(rt, machine, b"")),
+        Said::Turns(count) => {
+            pass_by(rt, machine, town, count.saturating_mul(LET_IN));
+            None
+        }
         Said::Frame(frame) => Some(say_frame(rt, machine, town, frame)),
         Said::Packets(count) => Some(say_packets(rt, machine, town, count)),
         Said::Counts(named) => Some(town.ask_all(rt, machine, named)),
@@ -118,7 +134,9 @@ fn push_answers(rt: &impl Abort, text: &mut String, bytes: &[u8]) {
 /// Adds what a caller was told: the first byte of each answer, or all bytes where no request was said.
 fn push_told(rt: &impl Abort, text: &mut String, said: Said, bytes: &[u8]) {
     match said {
-        Said::Nothing | Said::Frame(_) | Said::Packets(_) => add_bytes(rt, text, bytes),
+        Said::Nothing | Said::Turns(_) | Said::Frame(_) | Said::Packets(_) => {
+            add_bytes(rt, text, bytes)
+        }
         Said::Counts(_) | Said::Gone(_) | Said::Pieces => push_answers(rt, text, bytes),
     }
 }

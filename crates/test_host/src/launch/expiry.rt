@@ -50,6 +50,7 @@ struct Two<'a, 'b> {
 fn moment_of(now: u64, number: u64) -> Moment {
     Moment {
         now,
+        steady: now,
         secret: secret_of(number),
     }
 }

@@ -4,7 +4,8 @@ use super::NOW;
 use crate::fixtures::{push, text};
 use std::alloc::Global;
 use std::process::Abort;
-use sv_launch::{Arguments, NodeWords, Options, Words, read_words};
+use sv_journal::IfMissing;
+use sv_launch::{Arguments, Greetings, NodeWords, Options, Words, read_words};
 use sv_net::Persistence;
 
 /// What words ask for.
@@ -67,31 +68,42 @@ static LINES: [Line; 14] = [
 
 const KEPT: Options<'static> = Options {
     persistence: Persistence::Kept,
-    log: None,
-    metrics: None,
+    ..Options::NONE
+};
+
+const EXISTING: Options<'static> = Options {
+    if_missing: IfMissing::Refuse,
+    ..Options::NONE
+};
+
+const GREETING: Options<'static> = Options {
+    greetings: Greetings::On,
+    ..Options::NONE
 };
 
 const LOGGED: Options<'static> = Options {
-    persistence: Persistence::Single,
     log: Some("l"),
-    metrics: None,
+    ..Options::NONE
 };
 
 const COUNTED: Options<'static> = Options {
-    persistence: Persistence::Single,
-    log: None,
     metrics: Some("m"),
+    ..Options::NONE
 };
 
 const ALL: Options<'static> = Options {
     persistence: Persistence::Kept,
+    if_missing: IfMissing::Refuse,
+    greetings: Greetings::On,
     log: Some("l"),
     metrics: Some("m"),
 };
 
-/// Options in any order, three at most, and of two equal ones the last one counts. What stands behind `--log` and `--metrics` is a
+/// Options in any order, five at most, and of two equal ones the last one counts. What comes after `--log` and `--metrics` is a
 /// path, whatever it is.
-static OPTIONS: [Line; 8] = [
+static OPTIONS: [Line; 10] = [
+    Line(&["--existing", "c", "j", "7"], Meant::Node(EXISTING)),
+    Line(&["--greet", "c", "j", "7"], Meant::Node(GREETING)),
     Line(&["--log", "l", "c", "j", "7"], Meant::Node(LOGGED)),
     Line(&["--metrics", "m", "c", "j", "7"], Meant::Node(COUNTED)),
     Line(
@@ -100,6 +112,8 @@ static OPTIONS: [Line; 8] = [
             "l",
             "--metrics",
             "m",
+            "--existing",
+            "--greet",
             "--keep-alive",
             "c",
             "j",
@@ -109,7 +123,9 @@ static OPTIONS: [Line; 8] = [
     ),
     Line(
         &[
+            "--greet",
             "--keep-alive",
+            "--existing",
             "--metrics",
             "m",
             "--log",
@@ -128,7 +144,8 @@ static OPTIONS: [Line; 8] = [
     Line(&["l", "--log", "c", "j", "7"], Meant::Nothing),
     Line(
         &[
-            "--log", "x", "--log", "x", "--log", "x", "--log", "l", "c", "j", "7",
+            "--log", "x", "--log", "x", "--log", "x", "--log", "x", "--log", "x", "--log", "l",
+            "c", "j", "7",
         ],
         Meant::Nothing,
     ),

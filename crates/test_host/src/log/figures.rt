@@ -111,12 +111,12 @@ const GAUGES: Gauges = Gauges {
     connections: 1000,
     journal: 1_073_741_824,
     now: 784_111_777,
-    keys: Census {
+    keys: Some(Census {
         active: 3,
         sent: 1,
         gone: 2,
         ended: 4,
-    },
+    }),
     limit: 65_536,
 };
 
@@ -164,11 +164,11 @@ fn count_all(figures: &mut Figures, all: &[Counted]) {
 }
 
 /// The figures of node 3 at which that has happened, and a full stop.
-fn text_of(rt: &impl Abort, alloc: Global, all: &[Counted]) -> String {
+fn text_of(rt: &impl Abort, alloc: Global, all: &[Counted], gauges: Gauges) -> String {
     let mut figures = Figures::default();
     count_all(&mut figures, all);
     let mut text = String::new(alloc);
-    figures.write(&mut text, 3, GAUGES).expect(rt, "memory");
+    figures.write(&mut text, 3, gauges).expect(rt, "memory");
     add(rt, &mut text, ".");
     text
 }
@@ -180,7 +180,34 @@ fn expect_lines(rt: &impl Abort, text: &str, lines: &str) {
 #[test]
 fn each_figure_has_its_line(rt: HostRuntime) {
     for Row(all, lines) in &ROWS {
-        let text = text_of(&rt, rt.alloc(), all);
+        let text = text_of(&rt, rt.alloc(), all, GAUGES);
         expect_lines(&rt, text.as_str(), lines);
     }
+}
+
+/// What is known of a node only once its journal was opened, which may take a while: a 0 would say that its sessions are gone.
+const OF_THE_JOURNAL: [&str; 6] = [
+    "kegbramble_sessions",
+    "kegbramble_known_keys",
+    "kegbramble_known_keys_limit",
+    "kegbramble_gone_keys",
+    "kegbramble_ended_keys",
+    "kegbramble_journal_bytes",
+];
+
+#[test]
+fn nothing_is_said_of_a_journal_that_was_not_opened(rt: HostRuntime) {
+    let gauges = Gauges {
+        keys: None,
+        ..GAUGES
+    };
+    let text = text_of(&rt, rt.alloc(), &[], gauges);
+    for name in OF_THE_JOURNAL {
+        assert!(rt; !text.contains(name), "{name}");
+    }
+    expect_lines(
+        &rt,
+        text.as_str(),
+        "\nkegbramble_connections{node=\"3\"} 1000\n# HELP kegbramble_time_seconds ",
+    );
 }

@@ -1,6 +1,6 @@
 use Rattle.std.proofs.Common.{[]}
 use Rattle.sv_connection.specs.Table.{alone, node_of}
-use Rattle.sv_model.specs.Trace.{trace_of}
+use Rattle.sv_model.specs.Alone.{trace_of}
 use Rattle.sv_connection.proofs.TraceLemmas.{all_runs, one_container}
 use Rattle.sv_connection.proofs.laws.one_container.Goals as goal
 

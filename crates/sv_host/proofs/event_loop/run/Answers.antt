@@ -23,7 +23,7 @@ loop-preserved g c =
     record {
       valid = c.take_turn.ensures.valid;
       rising = c.take_turn.ensures.rising;
-      goes = goes_join e.meaning e.heard d.tells d.may_leave d.moment d.left_since 0 (before_of l.group) (before_of c.take_turn.new.group) c.args.node.now l.node c.take_turn.new.node l.invariant.goes c.in_default.ensures.gone;
+      goes = goes_join e.meaning e.heard d.tells d.may_leave d.moment d.left_since 0 (before_of l.group) (before_of c.take_turn.new.group) c.args.node.now l.node c.take_turn.new.node l.invariant.goes c.in_default-take_turn.ensures.gone;
     }
 
 pub loop-init : goal.loop-init
@@ -38,3 +38,6 @@ loop-init g c =
 
 pub returns-clause-ended : goal.returns-clause-ended
 returns-clause-ended g c = (before_of c.loop.group, inl c.loop.invariant.goes)
+
+pub returns-in-Some-clause-ended : goal.returns-in-Some-clause-ended
+returns-in-Some-clause-ended g c = (before_of c.loop.group, inl c.loop.invariant.goes)

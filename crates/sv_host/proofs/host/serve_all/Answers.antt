@@ -1,9 +1,17 @@
-use Rattle.std.proofs.Common.{inl, arith}
-use Rattle.sv_node.proofs.HistoryLemmas.{goes_nowhere}
+use Rattle.std.proofs.Common.{Err}
+use Rattle.std.specs.Prelude.{⊤}
+use Rattle.sv_node.proofs.HistoryLemmas.{gone_join}
 use Rattle.sv_host.proofs.host.serve_all.Goals as goal
 
-pub returns-then-not-announce-clause-ended : goal.returns-then-not-announce-clause-ended
-returns-then-not-announce-clause-ended g c =
+pub serve_ready-requires-clause-live : goal.serve_ready-requires-clause-live
+serve_ready-requires-clause-live g c = (c.in-Ok.ensures.gone 0).live
+
+pub returns-in-Ok-clause-ended : goal.returns-in-Ok-clause-ended
+returns-in-Ok-clause-ended g c =
     let e = g.E.Engine in
     let d = g.D.Disk in
-    (0, inl (goes_nowhere e.meaning e.heard d.tells d.may_leave d.moment d.left_since 0 0 c.args.node.now (omega arith) c.requires.live))
+    let ended = c.serve_ready.ensures.ended in
+    (ended.0, gone_join e.meaning e.heard d.tells d.may_leave d.moment d.left_since 0 0 ended.0 c.args.node.now c.renew.new.node c.serve_ready.new.node (c.in-Ok.ensures.gone 0) {T = ⊤} {F = ⊤} (Err tt) ended.1)
+
+pub returns-in-Err-clause-ended : goal.returns-in-Err-clause-ended
+returns-in-Err-clause-ended g c = (0, c.in-Err.ensures.gone 0)

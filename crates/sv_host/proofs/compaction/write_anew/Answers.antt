@@ -1,6 +1,6 @@
 use Rattle.sv_host.proofs.LifeLemmas.{compaction_done, compaction_refused}
 use Rattle.sv_host.proofs.StopLemmas.{compaction_stops}
-use Rattle.sv_host.proofs.compaction.compact.Goals as goal
+use Rattle.sv_host.proofs.compaction.write_anew.Goals as goal
 
 pub returns-in-Ok-clause-gone : goal.returns-in-Ok-clause-gone
 returns-in-Ok-clause-gone g c = λ low.
