@@ -1,5 +1,5 @@
 -- Applications that are taken out of service one by one.
-use Rattle.std.proofs.Common.{◌≡◌, ◌≢◌, ℕ, ◌<◌, ◌≤◌, ◌+◌, ◌-◌, ◌∙◌, zero, suc, List, [], ◌∷◌, length, length-set, get_or, set, take, map, min, arith, sym, ap, refl, All, subst}
+use Rattle.std.proofs.Common.{◌≡◌, ◌≢◌, ℕ, ◌<◌, ◌≤◌, ◌+◌, ◌-◌, ◌∙◌, zero, suc, List, [], ◌∷◌, length, get_or, set, take, min, arith, sym, ap, refl, All, subst}
 use Rattle.std.proofs.lemmas.List.{get_or-map, get_or-set_other, get_or-set_same, length-map, take_all}
 use Rattle.sv_servlet.specs.Filter.{Filters}
 use Rattle.sv_servlet.specs.Servlet.{Serves}

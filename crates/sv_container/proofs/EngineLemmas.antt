@@ -60,7 +60,8 @@ named_is d r place a h is = rw (h, is) refl
 
 pub served_is : (d : Deployed) (r : Request) (place : ℕ) (a : App) (handed : Option (Key × Session)) (now : ℕ) (fresh : Key × Secret)
     → place_for d r.path ≡ Some place → slice_get d.apps place ≡ Some a
-    → served d r handed now fresh ≡ served_in a r (path_in_context (context_at d.paths place) r.path) (admission a.number (session_cookie r.cookies a.number) handed now) now fresh
+    → served d r handed now fresh ≡ served_in a r (path_in_context (context_at d.paths place) r.path)
+    (admission a.once a.number r (session_cookie r.cookies a.number) handed now) now fresh
 served_is d r place a handed now fresh h is = rw (h, is) refl
 
 pub sound_at : (apps : List App) (place : ℕ) (a : App) → All IsSoundApp apps → slice_get apps place ≡ Some a → IsSoundApp a

@@ -10,3 +10,5 @@ pub mod AssembleLemmas
 pub mod ShownLemmas
 pub mod ContainerLemmas
 pub mod PrepareLemmas
+pub mod OnceLemmas
+pub mod ServeLemmas

@@ -1,6 +1,6 @@
 -- Objects that are initialised and destroyed one by one.
-use Rattle.std.proofs.Common.{◌≡◌, ℕ, ◌≢◌, ◌<◌, ◌≤◌, ◌+◌, ◌-◌, zero, suc, List, [], ◌∷◌, length, get_or, set, take, map, arith, sym, ◌∙◌, ap, refl, Bool, true, false, cond, All, slice_get, subst, Option, Some, None}
-use Rattle.std.specs.Prelude.{◌&&◌, if◌then◌else◌, nat_lt, IfSome, IsTrue}
+use Rattle.std.proofs.Common.{◌≡◌, ℕ, ◌≢◌, ◌<◌, ◌≤◌, ◌+◌, ◌-◌, zero, suc, List, [], ◌∷◌, length, get_or, set, take, map, arith, sym, ◌∙◌, ap, refl, Bool, true, false, All, slice_get, subst, Option, Some, None}
+use Rattle.std.specs.Prelude.{◌&&◌, if◌then◌else◌, nat_lt, IfSome}
 use Rattle.std.specs.List.{list_all}
 use Rattle.std.proofs.lemmas.Bool.Decides.{nat_tests}
 use Rattle.std.proofs.lemmas.List.{get_or-map, get_or-set_other, length-map, take_all}
@@ -9,7 +9,6 @@ use Rattle.std.proofs.lemmas.List.Folds.{list_all-map}
 use Rattle.std.proofs.lemmas.List.Sums.{AllPass-from_list_all}
 use Rattle.std.proofs.lemmas.Option.{get_or_from_slice_get}
 use Rattle.sv_mapping.specs.declared.filter.FilterMapping.{FilterMapping}
-use Rattle.sv_servlet.specs.Filter.{Filters}
 use Rattle.sv_servlet.specs.declared.servlet.Phase.{Phase}
 use Rattle.sv_servlet.specs.declared.servlet.Phase.TheVariants.{Ready}
 use Rattle.sv_dispatch.specs.Rows.{IsReadyAt, Row, row, rows}

@@ -1,5 +1,5 @@
 -- How a path within a context is shown.
-use Rattle.std.proofs.Common.{◌≡◌, ℕ, List, ap, sym, ◌∙◌, Option, Some, None, take, drop, if◌then◌else◌, refl}
+use Rattle.std.proofs.Common.{◌≡◌, ℕ, List, ap, Some, None, take, drop, if◌then◌else◌}
 use Rattle.sv_mapping.specs.Mappings as mappings
 use Rattle.sv_mapping.specs.ServletMatch.{shown}
 use Rattle.sv_mapping.specs.declared.servlet_match.Match.{Match}

@@ -1,5 +1,5 @@
 -- A web application as contracts know it (Jakarta Servlet 6.0, chapter "Servlet Context").
-use Rattle.std.specs.Prelude.{◌≡◌, ℕ, ℤ, ◌<◌, ◌&&◌, Bool, true, false, List, All, IsTrue, length, map, nat_lt}
+use Rattle.std.specs.Prelude.{◌≡◌, ℕ, ℤ, ◌<◌, ◌&&◌, Bool, true, false, List, All, IsTrue, length, map, nat_lt, Option}
 use Rattle.std.specs.List.{list_all}
 use Rattle.sv_mapping.specs.Mappings as mappings
 use Rattle.sv_mapping.specs.declared.filter.FilterMapping.{FilterMapping}
@@ -12,6 +12,7 @@ use Rattle.sv_dispatch.specs.Keeping.{TableKeeps}
 use Rattle.sv_dispatch.specs.Rows.{Row, IsReadyAt}
 use Rattle.sv_dispatch.specs.Stages.{table_of}
 use Rattle.sv_dispatch.specs.declared.page.ErrorPage.{ErrorPage}
+use Rattle.sv_once.specs.declared.choice.Choice.{Choice}
 use Rattle.sv_container.specs.SetCookie.{is_sendable}
 use Rattle.sv_container.specs.declared.application.Application.{Application}
 
@@ -23,6 +24,8 @@ pub record App : Type 0 where
   -- the seconds after which a session that is made expires
   pub interval : ℤ
   pub is_in_service : Bool
+  -- what its sessions remember of requests that may be sent again
+  pub once : Option Choice
   -- its objects, and what leads to them
   pub table : Table
 
@@ -33,6 +36,7 @@ app_of serves servlet_phase filtering filter_phase a = record {
   path = a.path;
   interval = a.interval;
   is_in_service = a.is_in_service;
+  once = a.once;
   table = table_of serves servlet_phase filtering filter_phase a.stage;
 }
 
@@ -90,6 +94,7 @@ pub record Plan : Type 0 where
   pub number : ℕ
   pub path : List ℕ
   pub interval : ℤ
+  pub once : Option Choice
   pub servlets : List (Identity Serves)
   pub filters : List (Identity Filters)
   pub patterns : mappings.Table
@@ -101,6 +106,7 @@ plan_of a = record {
   number = a.number;
   path = a.path;
   interval = a.interval;
+  once = a.once;
   servlets = map identity_of a.table.servlets;
   filters = map identity_of a.table.filters;
   patterns = a.table.patterns;

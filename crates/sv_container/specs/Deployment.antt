@@ -1,14 +1,16 @@
 -- What a deployment declares, and what is made of it.
-use Rattle.std.specs.Prelude.{◌≡◌, ℕ, ◌+◌, ◌<◌, ◌≤◌, slice_index_or, ℤ, List, [], ◌∷◌, ◌++◌, map, length, take, drop, string_bytes, min, All}
+use Rattle.std.specs.Prelude.{◌≡◌, ℕ, ◌+◌, ◌<◌, ◌≤◌, slice_index_or, ℤ, List, [], ◌∷◌, ◌++◌, map, length, take, drop, string_bytes, min, Option, option_map}
 use Rattle.std.specs.List.Sorted.{IsPermutation}
 use Rattle.std.specs.Vec.{vec_capacity}
 use Rattle.sv_config.specs.declared.deployment.Context.{Context}
 use Rattle.sv_config.specs.declared.deployment.ErrorPage.{ErrorPage as DeclaredPage}
+use Rattle.sv_config.specs.declared.deployment.Once.{Once}
 use Rattle.sv_config.specs.declared.deployment.PageFor.{PageFor as DeclaredFor}
 use Rattle.sv_config.specs.declared.deployment.PageFor.TheVariants.{Status as OfStatus, Fault as OfFault, Default as OfAll}
 use Rattle.sv_mapping.specs.Mappings as mappings
 use Rattle.sv_mapping.specs.declared.filter.FilterMapping.{FilterMapping}
 use Rattle.sv_model.specs.declared.event.Told.{Told}
+use Rattle.sv_once.specs.declared.choice.Choice.{Choice}
 use Rattle.sv_servlet.specs.Filter.{Filters}
 use Rattle.sv_servlet.specs.Servlet.{Serves}
 use Rattle.sv_dispatch.specs.declared.page.ErrorPage.{ErrorPage}
@@ -71,6 +73,10 @@ page_for OfAll = Default
 unfoldable pub page_of : DeclaredPage → ErrorPage
 page_of p = record { page_for = page_for p.choice; path = string_bytes p.path }
 
+-- what sessions remember
+abbrev pub choice_of : Once → Choice
+choice_of o = record { answers = o.answers; parameter = option_map string_bytes o.parameter }
+
 -- the context path
 unfoldable pub path_of : Context → List ℕ
 path_of c = string_bytes c.path
@@ -79,6 +85,7 @@ pub record Frame : Type 0 where
   pub number : ℕ
   pub path : List ℕ
   pub interval : ℤ
+  pub once : Option Choice
   pub patterns : mappings.Table
   pub chains : List FilterMapping
   pub pages : List ErrorPage
@@ -92,6 +99,7 @@ frame_of_context number c = record {
   number = min number 255;
   path = string_bytes c.path;
   interval = c.interval;
+  once = option_map choice_of c.once;
   patterns = c.mappings;
   chains = c.filter_mappings.items;
   pages = map page_of c.error_pages.items;
@@ -109,6 +117,7 @@ frame_of a = record {
   number = a.number;
   path = a.path;
   interval = a.interval;
+  once = a.once;
   patterns = a.stage.patterns;
   chains = a.stage.chains.items;
   pages = a.stage.pages.items;
@@ -128,6 +137,7 @@ plan_with f servlets filters = record {
   number = f.number;
   path = f.path;
   interval = f.interval;
+  once = f.once;
   servlets = servlets;
   filters = filters;
   patterns = f.patterns;
@@ -146,8 +156,8 @@ pub record IsArranged {O : Type 0} (kind : Kind) (contexts : List Context) (hand
   pub same : IsPermutation handed arranged
   pub named : labels_of arranged ≡ declared kind contexts
 
--- What a container has is what its deployment declares: each application has its context's number, path, interval,
--- patterns, filter mappings and error pages, and under its servlets' and filters' names the objects that were handed in
+-- What a container has is what its deployment declares: each application has its context's number, path, interval, choice
+-- of what sessions remember, patterns, filter mappings and error pages, and under its servlets' and filters' names the objects that were handed in
 -- under these names; and so have the listeners.
 pub record IsDeployed {S F L : Type 0} (serves : S → Serves) (filtering : F → Filters) (contexts : List Context)
     (servlets : List (Named S)) (filters : List (Named F)) (listeners : List (Named L)) (hears : L → Told → List ℕ

@@ -1,40 +1,53 @@
 -- The laws of the container function.
-use Rattle.std.proofs.Common.{◌≡◌, ℕ, ◌<◌, Bool, true, false, cond, Option, Some, None, List, refl, sym, ap, ◌∙◌, subst, All, length}
-use Rattle.std.specs.Prelude.{IfSome, slice_get, option_and_then}
+use Rattle.std.proofs.Common.{◌≡◌, ℕ, ◌<◌, Bool, true, false, cond, Option, Some, None, List, refl, sym, ap, ◌∙◌, subst, length}
+use Rattle.std.specs.Prelude.{IfSome, slice_get, option_and_then, option_map, is_some, ◌&&◌, []}
 use Rattle.std.proofs.lemmas.Option.{get_or_from_slice_get, same_Some, slice_get_within}
 use Rattle.sv_model.specs.declared.key.Key.{Key}
 use Rattle.sv_model.specs.declared.key.Secret.{Secret}
 use Rattle.sv_model.specs.declared.request.Request.{Request}
 use Rattle.sv_model.specs.declared.session.Session.{Session}
+use Rattle.sv_model.specs.declared.outcome.Birth.{Birth}
+use Rattle.sv_model.specs.declared.outcome.Birth.TheVariants.{Absent, Alive, Ended as BirthEnded}
+use Rattle.sv_model.specs.declared.outcome.Outcome.{Outcome as DeclaredOutcome}
+use Rattle.sv_model.specs.declared.response.Response.{Response}
 use Rattle.sv_model.specs.declared.outcome.Fate.{Fate}
 use Rattle.sv_model.specs.declared.outcome.Fate.TheVariants.{Untouched, Kept, Ended}
-use Rattle.sv_model.specs.Engine.{TouchesOnlyHanded, KeepsLimits, KeepsWithin, BringsWithin, NamesKeys}
-use Rattle.sv_model.specs.Session.{IsWithinLimits, is_expired}
+use Rattle.sv_model.specs.Engine.{TouchesOnlyHanded}
+use Rattle.sv_model.specs.Limits.{KeepsLimits, KeepsWithin, BringsWithin, NamesKeys, IsWithinLimits}
+use Rattle.sv_model.specs.Session.{is_expired}
 use Rattle.sv_mapping.specs.Context.{chosen_context, context_at, path_in_context}
-use Rattle.sv_session.specs.Edit.{Edit, IsFateOf, IsWithin, KeepsEdit, begun}
+use Rattle.sv_once.specs.Asked.{is_safe}
+use Rattle.sv_once.specs.Room.{session_with}
+use Rattle.sv_once.specs.declared.choice.Choice.{Choice}
+use Rattle.sv_once.proofs.RoomLemmas.{bare_within, session_within}
+use Rattle.sv_session.specs.Edit.{Edit, IsFateOf, IsWithin, KeepsEdit, begun, fate_of}
+use Rattle.sv_session.specs.declared.edit.Edited.{Edited}
 use Rattle.sv_session.specs.Expiry.{joined}
 use Rattle.sv_session.proofs.EditLemmas.{KeepsEdit-refl, KeepsEdit-trans, begun_within}
 use Rattle.sv_servlet.specs.Call.{Asked}
 use Rattle.sv_servlet.specs.Reply.{new_reply}
-use Rattle.sv_servlet.specs.Servlet.{Lent, lent, KeepsLent}
+use Rattle.sv_servlet.specs.Servlet.{Lent, lent}
 use Rattle.sv_target.specs.SessionCookie.{session_cookie}
 use Rattle.sv_target.proofs.NamedLemmas.{IfSome-session_cookie}
 use Rattle.sv_mapping.specs.declared.dispatcher.Dispatcher.TheVariants.{Request as ByRequest, Error}
 use Rattle.sv_dispatch.specs.Dispatching.{Table, Outcome, ask, dispatched}
 use Rattle.sv_dispatch.specs.Keeping.{TableKeeps}
-use Rattle.sv_dispatch.specs.Pages.{Ran, page_of_error, page_of_fault, paged, path_of, plain, readied}
-use Rattle.sv_dispatch.specs.Pages.{servlet_name, settled, shown_by, shown_page, status_of, served as served_by_table}
+use Rattle.sv_dispatch.specs.Pages.{page_of_error, page_of_fault, paged, path_of, readied}
+use Rattle.sv_dispatch.specs.Pages.{servlet_name, settled, shown_by, status_of, served as served_by_table}
 use Rattle.sv_dispatch.specs.Sight.{first_sight, errored}
 use Rattle.sv_dispatch.specs.declared.mode.Ending.{Ending}
 use Rattle.sv_dispatch.specs.declared.mode.Ending.TheVariants.{Finished, Failed, Faulted, Abandoned}
 use Rattle.sv_dispatch.proofs.KeepingLemmas.{keeping}
 use Rattle.sv_container.specs.declared.admission.Admission.{Admission}
-use Rattle.sv_container.specs.declared.admission.Admission.TheVariants.{Without, Expired, Joined}
-use Rattle.sv_container.specs.Admission.{admission, expired_of, expired_or_joined, held_of, is_turned_away}
-use Rattle.sv_container.specs.Application.{App, IsSoundApp, IsServing}
-use Rattle.sv_container.specs.Outcome.{fate_for, served_outside}
-use Rattle.sv_container.specs.Serving.{Deployed, IsSound, answered_by, asked, container_meaning, in_service}
-use Rattle.sv_container.specs.Serving.{named_at, named_in, place_for, served_at, served_by, served_in}
+use Rattle.sv_container.specs.declared.admission.Admission.TheVariants.{Without, TurnedAway, Expired, Joined, Returned}
+use Rattle.sv_container.specs.declared.recall.Refusal.TheVariants.{Full}
+use Rattle.sv_container.specs.Admission.{admission, expired_of, expired_or_joined, held_of, is_away, is_turned_away, secret_of, turned_away}
+use Rattle.sv_container.specs.Application.{App, IsSoundApp}
+use Rattle.sv_container.specs.Outcome.{fate_for}
+use Rattle.sv_container.specs.Recalling.{is_returning, next_memory, old_secret, recalled, refused}
+use Rattle.sv_container.specs.Serving.{Answered, Deployed, IsSound, answered_by, asked, bare_held, bared, birth_with, container_meaning, edited_of, edited_with, fate_with, in_service}
+use Rattle.sv_container.specs.Serving.{memory_if, named_at, named_in, or_full, outcome_by, place_for, remembering, remembering_with, served_at, served_by, served_in, served_new}
+use Rattle.sv_container.specs.Serving.{served_unless, settled_birth, unserved, without_birth}
 
 -- ---- the edit goes on
 
@@ -88,12 +101,75 @@ untouched_behind : (old new : Edit) → old.handed ≡ None → IsFateOf old.han
 untouched_behind old new none was keeps =
     untouched_of new.fate (subst (λ (h : Option Key). IsFateOf h new.fate) (keeps.handed ∙ none) (keeps.fate was))
 
+-- what holds of a fate, and of a birth, once sessions have what they remember
+both_with : (P : Fate → Type 0) (Q : Birth → Type 0) (e : Edited) (fate : Option Fate) (birth : Option Birth) → IfSome fate P → IfSome birth Q
+    → IfSome (edited_with e fate birth) (λ x. P x.fate × Q x.birth)
+both_with P Q e None birth fates births = tt
+both_with P Q e (Some fate) None fates births = tt
+both_with P Q e (Some fate) (Some birth) fates births = (fates, births)
+
+settled_of : (context : ℕ) (key : Key) (e : Edited) (birth : Birth) → (without_birth context key e birth).fate ≡ e.fate
+settled_of context key e Absent = refl
+settled_of context key e (Alive s) = refl
+settled_of context key e BirthEnded = refl
+
+settled_fate : (context : ℕ) (key : Key) (ends : Bool) (e : Edited) → (settled_birth context key ends e).fate ≡ e.fate
+settled_fate context key true e = settled_of context key e e.birth
+settled_fate context key false e = refl
+
+fate_untouched : (memory : List ℕ) (fate : Fate) → fate ≡ Untouched → IfSome (fate_with memory fate) (λ f. f ≡ Untouched)
+fate_untouched memory Untouched is = refl
+fate_untouched memory (Kept s) is = absurd cc
+fate_untouched memory Ended is = absurd cc
+
+any_birth : (birth : Option Birth) → IfSome birth (λ b. Unit {0})
+any_birth None = tt
+any_birth (Some birth) = tt
+
+untouched_by_memory : (once : Option Choice) (context : ℕ) (r : Request) (is_away : Bool) (secret : Option Secret) (memory : List ℕ) (key : Key) (response : Response) (e : Edited)
+    → e.fate ≡ Untouched → IfSome (remembering_with once context r is_away secret memory key response e) (λ x. (x.fate ≡ Untouched) × Unit {0})
+untouched_by_memory None context r is_away secret memory key response e is = (is, tt)
+untouched_by_memory (Some c) context r is_away secret memory key response e is =
+    let settled : Edited = settled_birth context key (is_away && is_safe r.method) e in
+    let old : List ℕ = old_secret settled.id_changed secret in
+    both_with (λ f. f ≡ Untouched) (λ b. Unit {0}) settled (fate_with (next_memory c r old response memory) settled.fate)
+    (birth_with (next_memory c r old response []) settled.birth)
+    (fate_untouched (next_memory c r old response memory) settled.fate (settled_fate context key (is_away && is_safe r.method) e ∙ is))
+    (any_birth (birth_with (next_memory c r old response []) settled.birth))
+
+untouched_or : (a : App) (r : Request) (fresh : Key × Secret) (response : Response) (found : Option Edited) → IfSome found (λ x. (x.fate ≡ Untouched) × Unit {0})
+    → (or_full a r Without (option_map (outcome_by a Without fresh response) found)).fate ≡ Untouched
+untouched_or a r fresh response None is = refl
+untouched_or a r fresh response (Some e) is = is.0
+
+none_bared : (is_chosen : Bool) → bared is_chosen None ≡ None
+none_bared true = refl
+none_bared false = refl
+
+untouched_new : (a : App) → IsSoundApp a → (r : Request) (path : List ℕ) (now : ℕ) (fresh : Key × Secret)
+    → (or_full a r Without (served_new a r path Without now fresh)).fate ≡ Untouched
+unfolding served_new remembering
+untouched_new a sound r path now fresh =
+    let held : Option (Key × Session) = bared (is_some a.once) None in
+    let e : Edit = begun held a.number a.interval now fresh in
+    let w : Answered = answered_by a r path e in
+    let first : Edit = begun None a.number a.interval now fresh in
+    let same : begun held a.number a.interval now fresh ≡ first = ap (λ (h : Option (Key × Session)). begun h a.number a.interval now fresh) (none_bared (is_some a.once)) in
+    let handed : e.handed ≡ None = ap (λ (x : Edit). x.handed) same in
+    let fate : IsFateOf e.handed e.fate = subst (λ (x : Edit). IsFateOf x.handed x.fate) (sym same) tt in
+    untouched_or a r fresh w.response (remembering_with a.once a.number r false None (memory_if (is_some a.once) None) fresh.0 w.response (edited_of w.edit))
+    (untouched_by_memory a.once a.number r false None (memory_if (is_some a.once) None) fresh.0 w.response (edited_of w.edit)
+    (untouched_behind e w.edit handed fate (answer_keeps a sound r path e)))
+
+untouched_unless : (a : App) → IsSoundApp a → (r : Request) (path : List ℕ) (now : ℕ) (fresh : Key × Secret) (found : Option Response)
+    → (served_unless a r path Without now fresh found).fate ≡ Untouched
+untouched_unless a sound r path now fresh None = untouched_new a sound r path now fresh
+untouched_unless a sound r path now fresh (Some response) = refl
+
 untouched_in : (a : App) → IsSoundApp a → (r : Request) (path : List ℕ) (now : ℕ) (fresh : Key × Secret)
     → (served_in a r path Without now fresh).fate ≡ Untouched
 unfolding served_in
-untouched_in a sound r path now fresh =
-    let e : Edit = begun None a.number a.interval now fresh in
-    untouched_behind e (answered_by a r path e).edit refl tt (answer_keeps a sound r path e)
+untouched_in a sound r path now fresh = untouched_unless a sound r path now fresh (recalled a.once r None)
 
 untouched_by : (d : Deployed) → IsSound d → (place : ℕ) (found : Option App) → slice_get d.apps place ≡ found
     → (r : Request) (path : List ℕ) (now : ℕ) (fresh : Key × Secret) → (served_by found r path None now fresh).fate ≡ Untouched
@@ -144,6 +220,9 @@ joined_within : (s : Session) (now : ℕ) → IsWithinLimits s → IsWithinLimit
 joined_within s now within =
     record { context = within.context; count = within.count; named = within.named; names = within.names; values = within.values; size = within.size }
 
+abbrev OutcomeWithin : DeclaredOutcome → Type 0
+OutcomeWithin o = KeepsWithin o.fate × BringsWithin o.birth
+
 abbrev HeldWithin : Admission → Type 0
 HeldWithin a = IfSome (held_of a) (λ h. IsWithinLimits h.1)
 
@@ -151,27 +230,113 @@ expired_within : (gone : Bool) (key : Key) (s : Session) (now : ℕ) → IsWithi
 expired_within true key s now within = tt
 expired_within false key s now within = joined_within s now within
 
-turned_within : (away : Bool) (key : Key) (s : Session) (now : ℕ) → IsWithinLimits s → HeldWithin (cond away Without (expired_or_joined key s now))
-turned_within true key s now within = tt
-turned_within false key s now within = expired_within (is_expired s now) key s now within
+returned_within : (returns : Bool) (key : Key) (s : Session) (now : ℕ) → IsWithinLimits s → HeldWithin (cond returns (Returned key (joined s now)) TurnedAway)
+returned_within true key s now within = joined_within s now within
+returned_within false key s now within = tt
 
-admitted_within : (context : ℕ) (named : Option (Key × Secret)) (handed : Option (Key × Session)) (now : ℕ) → IfSome handed (λ h. IsWithinLimits h.1)
-    → HeldWithin (admission context named handed now)
-admitted_within context named None now within = tt
-admitted_within context named (Some handed) now within = turned_within (is_turned_away context named handed.1) handed.0 handed.1 now within
+away_within : (once : Option Choice) (context : ℕ) (r : Request) (named : Option (Key × Secret)) (key : Key) (s : Session) (now : ℕ) → IsWithinLimits s
+    → HeldWithin (turned_away once context r named key s now)
+away_within None context r named key s now within = tt
+away_within (Some c) context r named key s now within = returned_within (is_returning c context r named s now) key s now within
+
+turned_within : (away : Bool) (turned : Admission) (key : Key) (s : Session) (now : ℕ) → HeldWithin turned → IsWithinLimits s
+    → HeldWithin (cond away turned (expired_or_joined key s now))
+turned_within true turned key s now first within = first
+turned_within false turned key s now first within = expired_within (is_expired s now) key s now within
+
+admitted_within : (once : Option Choice) (context : ℕ) (r : Request) (named : Option (Key × Secret)) (handed : Option (Key × Session)) (now : ℕ)
+    → IfSome handed (λ h. IsWithinLimits h.1) → HeldWithin (admission once context r named handed now)
+admitted_within once context r named None now within = tt
+admitted_within once context r named (Some handed) now within =
+    turned_within (is_turned_away context named handed.1) (turned_away once context r named handed.0 handed.1 now) handed.0 handed.1 now
+    (away_within once context r named handed.0 handed.1 now within) within
 
 fate_within : (expired : Option Key) (fate : Fate) → KeepsWithin fate → KeepsWithin (fate_for expired fate)
 fate_within None fate within = within
 fate_within (Some key) fate within = tt
 
+held_kept : (held : Option (Key × Session)) → IfSome held (λ h. IsWithinLimits h.1) → KeepsWithin (fate_of held)
+held_kept None within = tt
+held_kept (Some h) within = within
+
+-- a request that is answered and not served
+unserved_within : (a : App) (j : Admission) (response : Response) → HeldWithin j → OutcomeWithin (unserved a j response)
+unserved_within a j response held = (fate_within (expired_of j) (fate_of (held_of j)) (held_kept (held_of j) held), tt)
+
+bare_held_within : (held : Option (Key × Session)) → IfSome held (λ h. IsWithinLimits h.1) → IfSome (bare_held held) (λ h. IsWithinLimits h.1)
+bare_held_within None within = tt
+bare_held_within (Some h) within = bare_within h.1 within
+
+bared_within : (is_chosen : Bool) (held : Option (Key × Session)) → IfSome held (λ h. IsWithinLimits h.1) → IfSome (bared is_chosen held) (λ h. IsWithinLimits h.1)
+bared_within true held within = bare_held_within held within
+bared_within false held within = within
+
+kept_some : (found : Option Session) → IfSome found IsWithinLimits → IfSome (option_map Kept found) KeepsWithin
+kept_some None within = tt
+kept_some (Some s) within = within
+
+alive_some : (found : Option Session) → IfSome found IsWithinLimits → IfSome (option_map Alive found) BringsWithin
+alive_some None within = tt
+alive_some (Some s) within = within
+
+fate_keeps : (memory : List ℕ) (fate : Fate) → KeepsWithin fate → IfSome (fate_with memory fate) KeepsWithin
+fate_keeps memory Untouched within = tt
+fate_keeps memory (Kept s) within = kept_some (session_with memory s) (session_within memory s within)
+fate_keeps memory Ended within = tt
+
+birth_brings : (memory : List ℕ) (birth : Birth) → BringsWithin birth → IfSome (birth_with memory birth) BringsWithin
+birth_brings memory Absent within = tt
+birth_brings memory (Alive s) within = alive_some (session_with memory s) (session_within memory s within)
+birth_brings memory BirthEnded within = tt
+
+settled_brings : (context : ℕ) (key : Key) (e : Edited) (birth : Birth) → BringsWithin e.birth → BringsWithin (without_birth context key e birth).birth
+settled_brings context key e Absent within = within
+settled_brings context key e (Alive s) within = tt
+settled_brings context key e BirthEnded within = within
+
+settled_within : (context : ℕ) (key : Key) (ends : Bool) (e : Edited) → BringsWithin e.birth → BringsWithin (settled_birth context key ends e).birth
+settled_within context key true e within = settled_brings context key e e.birth within
+settled_within context key false e within = within
+
+memory_within : (once : Option Choice) (context : ℕ) (r : Request) (is_away : Bool) (secret : Option Secret) (memory : List ℕ) (key : Key) (response : Response) (e : Edited)
+    → KeepsWithin e.fate → BringsWithin e.birth
+    → IfSome (remembering_with once context r is_away secret memory key response e) (λ x. KeepsWithin x.fate × BringsWithin x.birth)
+memory_within None context r is_away secret memory key response e fates births = (fates, births)
+memory_within (Some c) context r is_away secret memory key response e fates births =
+    let ends : Bool = is_away && is_safe r.method in
+    let settled : Edited = settled_birth context key ends e in
+    let old : List ℕ = old_secret settled.id_changed secret in
+    both_with KeepsWithin BringsWithin settled (fate_with (next_memory c r old response memory) settled.fate) (birth_with (next_memory c r old response []) settled.birth)
+    (fate_keeps (next_memory c r old response memory) settled.fate (subst KeepsWithin (sym (settled_fate context key ends e)) fates))
+    (birth_brings (next_memory c r old response []) settled.birth (settled_within context key ends e births))
+
+or_within : (a : App) (r : Request) (j : Admission) (fresh : Key × Secret) (response : Response) (found : Option Edited) → HeldWithin j
+    → IfSome found (λ x. KeepsWithin x.fate × BringsWithin x.birth) → OutcomeWithin (or_full a r j (option_map (outcome_by a j fresh response) found))
+or_within a r j fresh response None held within = unserved_within a j (refused Full r) held
+or_within a r j fresh response (Some e) held within = (fate_within (expired_of j) e.fate within.0, within.1)
+
+new_within : (a : App) → IsSoundApp a → a.number < 16 → (r : Request) (path : List ℕ) (j : Admission) (now : ℕ) (fresh : Key × Secret) → HeldWithin j
+    → OutcomeWithin (or_full a r j (served_new a r path j now fresh))
+unfolding served_new remembering
+new_within a sound below r path j now fresh held =
+    let first : Option (Key × Session) = bared (is_some a.once) (held_of j) in
+    let e : Edit = begun first a.number a.interval now fresh in
+    let w : Answered = answered_by a r path e in
+    let within : IsWithin w.edit =
+    (answer_keeps a sound r path e).within (begun_within first a.number a.interval now fresh below (bared_within (is_some a.once) (held_of j) held)) in
+    or_within a r j fresh w.response
+    (remembering_with a.once a.number r (is_away j) (secret_of j) (memory_if (is_some a.once) (held_of j)) fresh.0 w.response (edited_of w.edit)) held
+    (memory_within a.once a.number r (is_away j) (secret_of j) (memory_if (is_some a.once) (held_of j)) fresh.0 w.response (edited_of w.edit) within.fate within.birth)
+
+unless_within : (a : App) → IsSoundApp a → a.number < 16 → (r : Request) (path : List ℕ) (j : Admission) (now : ℕ) (fresh : Key × Secret) (found : Option Response)
+    → HeldWithin j → OutcomeWithin (served_unless a r path j now fresh found)
+unless_within a sound below r path j now fresh None held = new_within a sound below r path j now fresh held
+unless_within a sound below r path j now fresh (Some response) held = unserved_within a j response held
+
 within_in : (a : App) → IsSoundApp a → a.number < 16 → (r : Request) (path : List ℕ) (j : Admission) (now : ℕ) (fresh : Key × Secret) → HeldWithin j
-    → KeepsWithin (served_in a r path j now fresh).fate × BringsWithin (served_in a r path j now fresh).birth
+    → OutcomeWithin (served_in a r path j now fresh)
 unfolding served_in
-within_in a sound below r path j now fresh held =
-    let e : Edit = begun (held_of j) a.number a.interval now fresh in
-    let new : Edit = (answered_by a r path e).edit in
-    let within : IsWithin new = (answer_keeps a sound r path e).within (begun_within (held_of j) a.number a.interval now fresh below held) in
-    (fate_within (expired_of j) new.fate within.fate, within.birth)
+within_in a sound below r path j now fresh held = unless_within a sound below r path j now fresh (recalled a.once r (held_of j)) held
 
 abbrev WithinBy : Option App → Request → List ℕ → Option (Key × Session) → ℕ → Key × Secret → Type 0
 WithinBy found r path handed now fresh =
@@ -184,7 +349,7 @@ within_by d sound place None is serving r path handed now fresh within = (tt, tt
 within_by d sound place (Some a) is serving r path handed now fresh within =
     let s : IsSoundApp a = sound_there d sound place a is in
     let named = session_cookie r.cookies a.number in
-    within_in a s (s.serving serving).number r path (admission a.number named handed now) now fresh (admitted_within a.number named handed now within)
+    within_in a s (s.serving serving).number r path (admission a.once a.number r named handed now) now fresh (admitted_within a.once a.number r named handed now within)
 
 abbrev WithinAt : Deployed → Request → Option (Key × Session) → ℕ → Key × Secret → Option ℕ → Type 0
 WithinAt d r handed now fresh place = KeepsWithin (served_at d r handed now fresh place).fate × BringsWithin (served_at d r handed now fresh place).birth

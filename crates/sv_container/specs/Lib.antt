@@ -1,3 +1,4 @@
+pub mod Recalling
 pub mod Admission
 pub mod SetCookie
 pub mod Pairs
@@ -8,5 +9,6 @@ pub mod Deployment
 pub mod Starting
 pub mod Outcome
 pub mod Serving
+pub mod Once
 pub mod Following
 pub mod Laws

@@ -37,6 +37,11 @@ abbrev pub outcome_of : ℕ → Option Key → Response → Fate → Birth → L
 outcome_of context expired response fate birth events =
     record { response = response; fate = fate_for expired fate; birth = birth; events = events_for context expired events }
 
+-- what comes of a request that is answered and not served: its session stays as it came, and nothing is told but that one expired
+abbrev pub unserved_of : ℕ → Option Key → Response → Fate → Outcome
+unserved_of context expired response fate =
+    record { response = response; fate = fate_for expired fate; birth = Absent; events = destroyed_of context expired }
+
 -- the plain page where no context serves
 abbrev pub missing_page : Request → Response
 missing_page r = plain_page 404 [] (is_head r.method) r.close

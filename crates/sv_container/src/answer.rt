@@ -1,25 +1,33 @@
 //! What an application answers to a request: the dispatch, and the response that comes of it.
 
-ghost use Rattle.std.specs.Prelude.{◌≡◌, IfOk, Some, true, option_map};
+ghost use Rattle.std.specs.Prelude.{◌≡◌, IfOk, IsTrue, Some, true, option_map};
 ghost use Rattle.sv_dispatch.specs.Pages.{ran, served as served_by_table};
 ghost use Rattle.sv_dispatch.specs.Place.{place_of};
 ghost use Rattle.sv_dispatch.specs.Stages.{lent_of};
 ghost use Rattle.sv_container.specs.Application.{IsSoundApp, app_of};
-ghost use Rattle.sv_container.specs.Serving.{answered, answered_by, asked, replied, served_by, served_in};
+ghost use Rattle.sv_container.specs.Recalling.{refused as refused_page};
+ghost use Rattle.sv_container.specs.Serving.{answered, answered_by, asked, replied, served_by, served_new, served_parts, unserved};
+ghost use Rattle.sv_container.specs.SetCookie.{is_sendable};
+ghost use Rattle.sv_container.specs.declared.recall.Refusal.TheVariants.{Full};
+ghost use Rattle.sv_session.specs.Edit.{begun, fate_of};
 ghost use Rattle.sv_container.specs.Admission as spec;
 ghost use Rattle.sv_target.specs.SessionCookie.{session_cookie};
 
-use crate::admission::{Admission, admit};
+use crate::admission::{Admission, Arrival, admit};
 use crate::application::{Application, idle_edit, idle_reply};
-use crate::outcome::outcome_of;
+use crate::outcome::{outcome_of, unserved_of};
+use crate::recall::{Refusal, recalled, refused};
+use crate::remember::{bared, remembering};
 use crate::set_cookie::{announced, with_cookie};
 use std::alloc::{AllocError, Global};
 use std::mem;
 use sv_dispatch::{Ended, run};
 use sv_mapping::Mappings;
-use sv_model::{Key, Outcome, Request, Response, Secret, Session, is_head, plain_page};
+use sv_model::{
+    Fate, Key, Outcome, Request, Response, Secret, Sequence, Session, is_head, plain_page,
+};
 use sv_servlet::{Call, Filter, Replied, Reply, RequestAttributes, Servlet};
-use sv_session::SessionEdit;
+use sv_session::{Edited, SessionEdit};
 use sv_target::session_cookie;
 
 /// The servlet path and the path info of a path within a context; without a servlet, as the default one sees them.
@@ -57,6 +65,16 @@ fn replied(
             close: request.close,
         }),
         Ended::Plain(_) => plain_page(alloc, status, fields, head_only, request.close),
+    }
+}
+
+/// The fate of a session that stays as it came.
+fn fate_of(held: Option<(Key, Session)>) -> Fate
+    ensures { result ≡ fate_of held }
+{
+    match held {
+        Some((_, session)) => Fate::Kept(session),
+        None => Fate::Untouched,
     }
 }
 
@@ -119,9 +137,59 @@ impl<S: Servlet, F: Filter> Application<S, F> {
         Ok((response, edit))
     }
 
-    /// Serves a request for a path within the context, with what became of the session that was handed in.
-    #[tactic(auto, unfolding(crate::specs::Serving::served_in))]
-    fn serve_admitted(
+    /// The edit of a request, with the session that is held.
+    fn begin(
+        &self,
+        alloc: Global,
+        held: Option<(Key, Session)>,
+        now: u64,
+        fresh: (Key, Secret),
+    ) -> SessionEdit
+        ensures { result ≡ begun held self.now.number self.now.interval now fresh }
+    {
+        SessionEdit::begin(alloc, held, self.number, self.interval, now, fresh)
+    }
+
+    /// What comes of a request that was served, with what its edit leaves and its sessions are to remember; nothing where they have no
+    /// room for that.
+    fn outcome(
+        &self,
+        alloc: Global,
+        request: &Request,
+        arrival: Arrival,
+        expired: Option<Key>,
+        memory: Sequence<u8>,
+        fresh: (Key, Secret),
+        response: Response,
+        edited: Edited,
+    ) -> Result<Option<Outcome>, AllocError>
+        requires { IsTrue (is_sendable self.now.path) }
+        ensures { IfOk result (λ o. o ≡ served_parts (app_of S.serves S.servlet_phase F.filtering F.filter_phase self.now) request.now arrival expired
+            memory fresh response edited) }
+    {
+        let kept = remembering(
+            alloc,
+            self.once.as_ref(),
+            self.number,
+            request,
+            arrival.is_away,
+            &arrival.secret,
+            memory,
+            fresh.0,
+            &response,
+            edited,
+        )?;
+        let Some(edited) = kept else {
+            return Ok(None);
+        };
+        let announced = announced(arrival.joined, fresh, &edited);
+        let response = with_cookie(alloc, self.number, self.path.as_str(), announced, response)?;
+        Ok(Some(outcome_of(alloc, self.number, expired, response, edited)?))
+    }
+
+    /// Serves a request for a path within the context, with what became of the session that was handed in; nothing comes of it where
+    /// its session has no room for what it is to remember.
+    fn serve_new(
         &mut self,
         alloc: Global,
         request: &Request,
@@ -129,22 +197,40 @@ impl<S: Servlet, F: Filter> Application<S, F> {
         admission: Admission,
         now: u64,
         fresh: (Key, Secret),
-    ) -> Result<Outcome, AllocError>
+    ) -> Result<Option<Outcome>, AllocError>
         requires sound { IsSoundApp (app_of S.serves S.servlet_phase F.filtering F.filter_phase self.old) }
         requires serving { self.old.is_in_service ≡ true }
         ensures same { app_of S.serves S.servlet_phase F.filtering F.filter_phase self.new
             ≡ app_of S.serves S.servlet_phase F.filtering F.filter_phase self.old }
-        ensures outcome { IfOk result (λ o. o ≡ served_in (app_of S.serves S.servlet_phase F.filtering F.filter_phase self.old) request.now path.now admission
+        ensures outcome { IfOk result (λ o. o ≡ served_new (app_of S.serves S.servlet_phase F.filtering F.filter_phase self.old) request.now path.now admission
             now fresh) }
     {
-        let joined = admission.joined();
+        let arrival = admission.arrival();
         let (expired, held) = admission.into_parts();
-        let edit = SessionEdit::begin(alloc, held, self.number, self.interval, now, fresh);
+        let (held, memory) = bared(alloc, self.once.is_some(), held);
+        let edit = self.begin(alloc, held, now, fresh);
         let (response, edit) = self.answer(alloc, request, path, edit)?;
         let edited = edit.finish();
-        let announced = announced(joined, fresh, &edited);
-        let response = with_cookie(alloc, self.number, self.path.as_str(), announced, response)?;
-        outcome_of(alloc, self.number, expired, response, edited)
+        self.outcome(
+            alloc, request, arrival, expired, memory, fresh, response, edited,
+        )
+    }
+
+    /// What comes of a request that is answered and not served.
+    fn unserved(
+        &self,
+        alloc: Global,
+        admission: Admission,
+        response: Response,
+    ) -> Result<Outcome, AllocError>
+        requires sound { IsSoundApp (app_of S.serves S.servlet_phase F.filtering F.filter_phase self.now) }
+        requires serving { self.now.is_in_service ≡ true }
+        ensures { IfOk result (λ o. o ≡ unserved (app_of S.serves S.servlet_phase F.filtering F.filter_phase self.now) admission response) }
+    {
+        let renamed = admission.renamed();
+        let (expired, held) = admission.into_parts();
+        let response = with_cookie(alloc, self.number, self.path.as_str(), renamed, response)?;
+        unserved_of(alloc, self.number, expired, response, fate_of(held))
     }
 
     /// What becomes of the session that is handed in with a request.
@@ -155,14 +241,43 @@ impl<S: Servlet, F: Filter> Application<S, F> {
         handed: Option<(Key, &Session)>,
         now: u64,
     ) -> Result<Admission, AllocError>
-        ensures { IfOk result (λ a. a ≡ spec.admission self.now.number (session_cookie request.now.cookies self.now.number) (option_map (λ s.
-            (s.0, s.1.now)) handed.entry) now) }
+        ensures { IfOk result (λ a. a ≡ spec.admission self.now.once self.now.number request.now (session_cookie request.now.cookies self.now.number)
+            (option_map (λ s. (s.0, s.1.now)) handed.entry) now) }
     {
         let named = session_cookie(request.cookies.as_slice(), self.number);
-        admit(alloc, self.number, named, handed, now)
+        admit(
+            alloc,
+            self.once.as_ref(),
+            self.number,
+            request,
+            named,
+            handed,
+            now,
+        )
     }
 
-    /// Serves a request for a path within the context, with the session that is handed in.
+    /// What comes of a request whose session has no room for what it is to remember.
+    fn unserved_full(
+        &self,
+        alloc: Global,
+        request: &Request,
+        handed: Option<(Key, &Session)>,
+        now: u64,
+    ) -> Result<Outcome, AllocError>
+        requires sound { IsSoundApp (app_of S.serves S.servlet_phase F.filtering F.filter_phase self.now) }
+        requires serving { self.now.is_in_service ≡ true }
+        ensures { IfOk result (λ o. o ≡ unserved (app_of S.serves S.servlet_phase F.filtering F.filter_phase self.now)
+            (spec.admission self.now.once self.now.number request.now (session_cookie request.now.cookies self.now.number)
+            (option_map (λ s. (s.0, s.1.now)) handed.entry) now) (refused_page Full request.now)) }
+    {
+        let admission = self.admit(alloc, request, handed, now)?;
+        let page = refused(alloc, Refusal::Full, request)?;
+        self.unserved(alloc, admission, page)
+    }
+
+    /// Serves a request for a path within the context, with the session that is handed in; one that the session remembers is answered
+    /// from its memory.
+    #[tactic(auto, unfolding(crate::specs::Serving::served_in))]
     pub fn serve(
         &mut self,
         alloc: Global,
@@ -180,6 +295,13 @@ impl<S: Servlet, F: Filter> Application<S, F> {
             (option_map (λ s. (s.0, s.1.now)) handed.entry) now fresh) }
     {
         let admission = self.admit(alloc, request, handed, now)?;
-        self.serve_admitted(alloc, request, path, admission, now, fresh)
+        let recalled = recalled(alloc, self.once.as_ref(), request, admission.held())?;
+        if let Some(response) = recalled {
+            return self.unserved(alloc, admission, response);
+        }
+        match self.serve_new(alloc, request, path, admission, now, fresh)? {
+            Some(outcome) => Ok(outcome),
+            None => self.unserved_full(alloc, request, handed, now),
+        }
     }
 }

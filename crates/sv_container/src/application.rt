@@ -9,6 +9,7 @@ use std::alloc::Global;
 use sv_dispatch::{Hosted, Stage};
 use sv_mapping::FilterMapping;
 use sv_model::{Key, Secret, Text};
+use sv_once::Choice;
 use sv_servlet::Reply;
 use sv_session::SessionEdit;
 
@@ -23,6 +24,8 @@ pub struct Application<S, F> {
     pub interval: i32,
     /// Its requests are served; those of an application out of service are for nobody.
     pub is_in_service: bool,
+    /// What its sessions remember of requests that may be sent again; none where they remember nothing.
+    pub once: Option<Choice>,
     /// Its objects with what leads to them. Between requests the edit and the reply are nobody's.
     pub stage: Stage<S, F>,
 }

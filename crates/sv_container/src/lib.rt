@@ -19,6 +19,8 @@ mod life;
 mod named;
 mod outcome;
 mod prepare;
+mod recall;
+mod remember;
 mod set_cookie;
 mod tell;
 

@@ -1,7 +1,7 @@
 //! What comes of a request: the response, what became of sessions, and the events in order.
 
 ghost use Rattle.std.specs.Prelude.{◌≡◌, IfOk};
-ghost use Rattle.sv_container.specs.Outcome.{events_for, fate_for, missing_page, outcome_of, served_outside, told};
+ghost use Rattle.sv_container.specs.Outcome.{destroyed_of, events_for, fate_for, missing_page, outcome_of, served_outside, told, unserved_of};
 
 use http::StatusCode;
 use std::alloc::{AllocError, Global};
@@ -61,6 +61,36 @@ fn events_for(
     events.append(&mut edited)?;
     events.push(told(context, Event::RequestOut))?;
     Ok(Sequence::from_vec(events))
+}
+
+/// That a session has expired, if one has.
+fn destroyed(alloc: Global, context: u8, expired: Option<Key>) -> Result<Sequence<Told>, AllocError>
+    ensures { IfOk result (λ events. events ≡ destroyed_of context expired) }
+{
+    let mut events = Sequence::new(alloc);
+    if let Some(key) = expired {
+        events.push(told(context, Event::Destroyed(key)))?;
+    }
+    Ok(events)
+}
+
+/// What comes of a request that is answered and not served: its session stays as it came.
+pub fn unserved_of(
+    alloc: Global,
+    context: u8,
+    expired: Option<Key>,
+    response: Response,
+    fate: Fate,
+) -> Result<Outcome, AllocError>
+    ensures { IfOk result (λ o. o ≡ unserved_of context expired response fate) }
+{
+    let events = destroyed(alloc, context, expired)?;
+    Ok(Outcome {
+        response,
+        fate: fate_for(expired, fate),
+        birth: Birth::Absent,
+        events,
+    })
 }
 
 /// What became of the session that was handed in.

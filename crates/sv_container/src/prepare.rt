@@ -1,14 +1,15 @@
 //! Applications before their objects are put into them: all that takes memory.
 
-ghost use Rattle.std.specs.Prelude.{◌≡◌, [], IfOk, All, length, map, min, string_bytes};
+ghost use Rattle.std.specs.Prelude.{◌≡◌, [], IfOk, All, length, map, min, option_map, string_bytes};
 ghost use Rattle.std.specs.Vec.{vec_capacity};
 ghost use Rattle.sv_container.specs.Deployment as spec;
 
 use crate::application::{Application, idle_edit, idle_reply};
 use std::alloc::{AllocError, Global};
-use sv_config::Context;
+use sv_config::{Context, Once};
 use sv_dispatch::{ErrorPage, Hosted, PageFor, Stage};
 use sv_model::Text;
+use sv_once::Choice;
 
 /// The applications of a deployment, with the context path of each by its number.
 #[derive(Drop)]
@@ -59,6 +60,17 @@ fn number_of(place: usize) -> u8
     place.min(255) as u8
 }
 
+/// What the sessions of a context remember.
+fn choice_of(once: Option<Once>) -> Option<Choice>
+    ensures { result ≡ option_map spec.choice_of once }
+{
+    let Once { answers, parameter } = once?;
+    Some(Choice {
+        answers,
+        parameter: parameter.map(Text::from_string),
+    })
+}
+
 /// The path of a context, and its error pages.
 fn shown_by(alloc: Global, context: &Context) -> Result<(Text, Vec<ErrorPage>), AllocError>
     ensures path { IfOk result (λ r. r.0 ≡ string_bytes context.now.path) }
@@ -104,12 +116,14 @@ fn prepare_one<S: Drop, F: Drop>(
         filter_mappings,
         listeners: _,
         error_pages: _,
+        once,
     } = context;
     Ok(Application {
         number: number_of(place),
         path,
         interval,
         is_in_service: false,
+        once: choice_of(once),
         stage: Stage {
             servlets,
             filters,

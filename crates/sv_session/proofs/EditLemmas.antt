@@ -5,7 +5,7 @@ use Rattle.std.proofs.lemmas.Bool.Decides.{nat_tests}
 use Rattle.std.proofs.lemmas.List.Elements.{All-nil}
 use Rattle.std.proofs.lemmas.Option.{same_Some}
 use Rattle.sv_model.specs.Attributes.{Attribute, attributes_size, value_of, with_attribute, without_attribute}
-use Rattle.sv_model.specs.Session.{IsWithinLimits}
+use Rattle.sv_model.specs.Limits.{IsWithinLimits}
 use Rattle.sv_model.specs.declared.event.Event.{Event}
 use Rattle.sv_model.specs.declared.event.Event.TheVariants.{Created, Destroyed, Removed, IdChanged}
 use Rattle.sv_model.specs.declared.event.Told.{Told}

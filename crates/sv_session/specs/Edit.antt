@@ -9,7 +9,7 @@ use Rattle.sv_model.specs.declared.outcome.Fate.TheVariants.{Untouched, Kept, En
 use Rattle.sv_model.specs.declared.outcome.Birth.{Birth}
 use Rattle.sv_model.specs.declared.outcome.Birth.TheVariants.{Absent, Alive, Ended as BirthEnded}
 use Rattle.sv_model.specs.declared.session.TheConstants.{CONTEXT_LIMIT}
-use Rattle.sv_model.specs.Engine.{KeepsWithin, BringsWithin}
+use Rattle.sv_model.specs.Limits.{KeepsWithin, BringsWithin}
 
 -- an edit: where and when it is made, the key of the session that was handed in, and what has become of all
 pub record Edit : Type 0 where

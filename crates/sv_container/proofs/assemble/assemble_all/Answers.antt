@@ -1,4 +1,4 @@
-use Rattle.std.proofs.Common.{◌≡◌, ◌∙◌, ◌≤◌, ◌<◌, length}
+use Rattle.std.proofs.Common.{◌∙◌, ◌≤◌, ◌<◌, length}
 use Rattle.std.specs.Vec.Iter.{into_iter_items}
 use Rattle.sv_container.specs.Application.{app_of, apps_of}
 use Rattle.sv_container.specs.Deployment.{frame_of, identities_of}

@@ -1,4 +1,4 @@
-use Rattle.std.proofs.Common.{◌≡◌, ℕ, ◌+◌, ◌-◌, ◌<◌, ◌≤◌, ◌∙◌, ap, arith, length, length-set, refl, sym}
+use Rattle.std.proofs.Common.{◌≡◌, ◌-◌, ◌<◌, ◌∙◌, ap, arith, length, length-set, refl}
 use Rattle.sv_dispatch.specs.Rows.{rows}
 use Rattle.sv_container.specs.Application.{apps_of}
 use Rattle.sv_container.specs.Life.{ready_count}

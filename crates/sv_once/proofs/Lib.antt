@@ -1,0 +1,5 @@
+pub mod PartsLemmas
+pub mod EntryLemmas
+pub mod AnswerLemmas
+pub mod AskedLemmas
+pub mod RoomLemmas
