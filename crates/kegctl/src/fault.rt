@@ -41,6 +41,12 @@ pub enum Fault {
     /// Status 4: what the files hold isn't shown.
     #[error("the journal: {0}")]
     Journal(FoundFault),
+    /// Status 4: something is where a file of the journal was to be made.
+    #[error("a file of the journal is there already, and was left as it is")]
+    Existing,
+    /// Status 4: a file of the journal can't be made.
+    #[error("the journal can't be made")]
+    Unmade,
     /// Status 4: by a record that the program has said.
     #[error("the journal is another node's")]
     Anothers,
@@ -70,7 +76,12 @@ impl Fault {
         match self {
             Fault::Arguments(_) => 2,
             Fault::Descriptor(_) => 3,
-            Fault::Unreadable | Fault::Journal(_) | Fault::Anothers | Fault::Figures(_) => 4,
+            Fault::Unreadable
+            | Fault::Journal(_)
+            | Fault::Existing
+            | Fault::Unmade
+            | Fault::Anothers
+            | Fault::Figures(_) => 4,
             Fault::Unanswered(_) | Fault::Program | Fault::Output | Fault::Memory => 5,
             Fault::NotDone => 6,
         }

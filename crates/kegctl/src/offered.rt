@@ -15,6 +15,8 @@ const NODES: usize = 8;
 enum Form {
     /// It has to be there.
     Needed,
+    /// It may be there.
+    Optional,
     /// One for each node, one at least.
     ForEachNode,
     /// A choice that may be there.
@@ -70,7 +72,7 @@ const KEYS: Word = Word {
 };
 
 /// The commands, in the order of the help.
-const OFFERS: [Offer; 10] = [
+const OFFERS: [Offer; 11] = [
     Offer {
         name: "check",
         about: "says what a descriptor has, or where it is at fault and what to write there",
@@ -90,6 +92,23 @@ const OFFERS: [Offer; 10] = [
                 id: "journal",
                 form: Form::Two(&["JOURNAL", "NODE"]),
                 help: "says whether JOURNAL can be that of the node with this number, by its records",
+            },
+        ],
+    },
+    Offer {
+        name: "init",
+        about: "makes the journal of a node that has none; of a file that is there it says so, and leaves it as it is",
+        words: &[
+            CONFIG,
+            Word {
+                id: "JOURNAL",
+                form: Form::Needed,
+                help: "the first file of the journal; the other has .b after its name",
+            },
+            Word {
+                id: "NODE",
+                form: Form::Needed,
+                help: "the number of the node",
             },
         ],
     },
@@ -150,7 +169,19 @@ const OFFERS: [Offer; 10] = [
     Offer {
         name: "status",
         about: "says which nodes of a cluster answer, and how long each takes",
-        words: &[CONFIG],
+        words: &[
+            CONFIG,
+            Word {
+                id: "NODE",
+                form: Form::Optional,
+                help: "the number of one node, which alone is asked",
+            },
+            Word {
+                id: "greet",
+                form: Form::Choice,
+                help: "also says what each node says of itself, if it runs with --greet, and where they differ",
+            },
+        ],
     },
     Offer {
         name: "watch",
@@ -213,6 +244,7 @@ fn arg<'a>(alloc: Global, word: &Word) -> Arg<'a> {
     let arg = Arg::new(alloc, word.id).help(word.help);
     match word.form {
         Form::Needed => arg.required(true).action(ArgAction::Set),
+        Form::Optional => arg.action(ArgAction::Set),
         Form::ForEachNode => arg
             .required(true)
             .action(ArgAction::Append)

@@ -7,6 +7,7 @@ use crate::cluster::{config_fault, read_config, read_deployment};
 use crate::commands::{address, halt, hand_over, tick, told};
 use crate::draining::take_out;
 use crate::fault::{DescriptorFault, Fault};
+use crate::init::init;
 use crate::journal::{entries, kept, records};
 use crate::program::ask_program;
 use crate::room::Keys;
@@ -34,9 +35,17 @@ fn say(machine: &HostRuntime, text: &str) -> Result<(), Fault> {
     }
 }
 
+/// Warns on standard error, where there is something to warn of.
+fn warn(machine: &HostRuntime, warning: Option<&str>) {
+    if let Some(warning) = warning {
+        let _ = eprintln!(machine; "kegctl: warning: {warning}");
+    }
+}
+
 /// Says what is told of a descriptor.
 fn tell(machine: &HostRuntime, look: &Look) -> Result<(), Fault> {
     say(machine, look.text.as_str())?;
+    warn(machine, look.warning.as_ref().map(|text| text.as_str()));
     match look.fault {
         None => Ok(()),
         Some(fault) => Err(config_fault(fault)),
@@ -296,6 +305,11 @@ fn halt_node(machine: &HostRuntime, port: u16) -> Result<(), Fault> {
 pub fn carry_out(machine: &HostRuntime, order: Order<'_>) -> Result<(), Fault> {
     match order {
         Order::Check(order) => check(machine, order),
+        Order::Init {
+            config,
+            journal,
+            node,
+        } => init(machine, config, journal, node),
         Order::Compare { old, new } => compare_configs(machine, old, new),
         Order::Sessions {
             listing,
@@ -306,7 +320,11 @@ pub fn carry_out(machine: &HostRuntime, order: Order<'_>) -> Result<(), Fault> {
         Order::Move { port, session, to } => move_session(machine, port, session, to),
         Order::Tick { port } => tick_node(machine, port),
         Order::Halt { port } => halt_node(machine, port),
-        Order::Status { config } => show_status(machine, config),
+        Order::Status {
+            config,
+            node,
+            question,
+        } => show_status(machine, config, node, question),
         Order::Stop { config } => stop(machine, config),
         Order::Drain(order) => take_out(machine, order),
         Order::Watch(order) => watch(machine, order),

@@ -2,6 +2,7 @@
 
 use crate::fault::Fault;
 use crate::offered::program;
+use crate::status::Question;
 use crate::whose::Claim;
 use clap::ArgMatches;
 use clap::error::Error;
@@ -27,6 +28,12 @@ pub enum Form {
 #[derive(Drop)]
 pub enum Order<'a> {
     Check(Check<'a>),
+    /// A journal that is to be made.
+    Init {
+        config: &'a str,
+        journal: &'a str,
+        node: NodeNumber,
+    },
     /// Two descriptors: which sessions of the first the second loses.
     Compare {
         old: &'a str,
@@ -52,6 +59,9 @@ pub enum Order<'a> {
     },
     Status {
         config: &'a str,
+        /// The only node that is asked; none for all.
+        node: Option<NodeNumber>,
+        question: Question,
     },
     Stop {
         config: &'a str,
@@ -232,13 +242,28 @@ fn order_on_files<'a>(name: &str, matches: &ArgMatches<'a>) -> Order<'a> {
     }
 }
 
-/// What a command on all nodes of a descriptor asks for.
-fn order_on_cluster<'a>(name: &str, matches: &ArgMatches<'a>) -> Order<'a> {
-    let config = text(matches, "CONFIG");
-    match name {
-        "stop" => Order::Stop { config },
-        _ => Order::Status { config },
-    }
+fn init_of<'a>(matches: &ArgMatches<'a>) -> Result<Order<'a>, Fault> {
+    Ok(Order::Init {
+        config: text(matches, "CONFIG"),
+        journal: text(matches, "JOURNAL"),
+        node: node_of(text(matches, "NODE"))?,
+    })
+}
+
+fn status_of<'a>(matches: &ArgMatches<'a>) -> Result<Order<'a>, Fault> {
+    let node = match matches.get_str("NODE") {
+        Some(node) => Some(node_of(node)?),
+        None => None,
+    };
+    Ok(Order::Status {
+        config: text(matches, "CONFIG"),
+        node,
+        question: if matches.get_flag("greet") {
+            Question::WhatItSays
+        } else {
+            Question::WhetherItAnswers
+        },
+    })
 }
 
 /// What a command on one node asks for.
@@ -259,8 +284,12 @@ fn order_on_node<'a>(name: &str, matches: &ArgMatches<'a>) -> Result<Order<'a>, 
 fn order_of<'a>(alloc: Global, name: &str, matches: &ArgMatches<'a>) -> Result<Order<'a>, Fault> {
     match name {
         "check" => check_of(matches),
+        "init" => init_of(matches),
         "sessions" | "records" => Ok(order_on_files(name, matches)),
-        "status" | "stop" => Ok(order_on_cluster(name, matches)),
+        "status" => status_of(matches),
+        "stop" => Ok(Order::Stop {
+            config: text(matches, "CONFIG"),
+        }),
         "drain" => drain_of(matches),
         "watch" => watch_of(alloc, matches),
         _ => order_on_node(name, matches),

@@ -17,22 +17,22 @@ use Rattle.sv_config.specs.Fault.{has_fault}
 use Rattle.sv_config.specs.Kinds.{misfits, is_mistyped, is_text, is_integer, is_table}
 use Rattle.sv_config.specs.Limits.{is_exceeding, exceeds_in_cluster, exceeds_in_context, has_over, is_outside, is_outside_at, has_too_many_patterns, has_no_port, has_bad_length}
 use Rattle.sv_config.specs.Missing.{lacks, lacks_contents, is_missing}
-use Rattle.sv_config.specs.Place.{Spot, nothing, words, number, shown_in, kind_of, numbered, children, placed_as, placed_in, placed_cluster, placed_tables, table_where, field_where, count_where, members_from, members_where, is_some_place}
+use Rattle.sv_config.specs.Place.{Spot, nothing, words, number, shown_in, kind_of, numbered, children, placed_as, placed_once, placed_in, placed_cluster, placed_tables, table_where, field_where, count_where, members_from, members_where, is_some_place}
 use Rattle.sv_config.specs.Places.{PlacedTable, is_unfit, lacking_in, missing_places, mistyped_members, mistyped_field, mistyped_places, misshaped_at, unlisted_among, is_among, stranger_at, undeclared_at, unknown_in, unknown_places, misspelled_at, misspelled_in, repeated_in, repeated_in_context, repeated_behind, repeated, repeated_texts, inner_place, text_item, text_items, integer_item, integer_items, texts_from, integers_from, port_items, patterns_in, pattern_items, default_page, default_pages, counted, too_many_at, too_many_patterns, exceeding_in_cluster, exceeding_in_context, exceeding_in, places_in, places_of, number_of}
 use Rattle.sv_config.specs.Repeats.{is_repeating, has_both, has_repeat, is_default_page, repeats_default, repeats_in_context, repeats_page, repeats_pattern, repeats_port, repeats_status, repeats_text}
 use Rattle.sv_config.specs.Rules.{Rule, rules_of}
 use Rattle.sv_config.specs.Spelling.{is_misspelled, fails_at, is_context_path, is_name, is_page_path}
-use Rattle.sv_config.specs.Tables.{tables_as, context_tables, cluster_tables, tables_of}
+use Rattle.sv_config.specs.Tables.{tables_as, once_tables, context_tables, cluster_tables, tables_of}
 use Rattle.sv_config.specs.Unknown.{is_listed, has_unlisted, has_undeclared_at, names_unknown, has_unknown}
 use Rattle.sv_config.specs.declared.fault.ConfigFault.{ConfigFault}
 use Rattle.sv_config.specs.declared.fault.ConfigFault.TheVariants.{NotToml, MissingField, WrongKind, UnknownName, BadPattern, Duplicate, LimitExceeded, Memory}
 use Rattle.sv_config.specs.declared.members.Unfit.TheVariants.{NoPattern, NoDispatcher, NoPort, NoText, NoInteger, NoTable}
 use Rattle.sv_config.specs.declared.place.TablePlace.{TablePlace}
-use Rattle.sv_config.specs.declared.place.TablePlace.TheVariants.{OfNodes, Within}
+use Rattle.sv_config.specs.declared.place.TablePlace.TheVariants.{OfNodes, Within, OfOnce}
 use Rattle.sv_config.specs.declared.rules.FieldKind.{FieldKind}
 use Rattle.sv_config.specs.declared.rules.FieldKind.TheVariants.{Text as TextKind, Integer, Boolean, Texts, Integers, Table, Tables}
 use Rattle.sv_config.specs.declared.rules.TableKind.{TableKind}
-use Rattle.sv_config.specs.declared.rules.TableKind.TheVariants.{Top, Cluster, Context, Servlet, Filter, Mapping, Listener, Page}
+use Rattle.sv_config.specs.declared.rules.TableKind.TheVariants.{Top, Cluster, Context, Servlet, Filter, Mapping, Listener, Page, Once}
 
 -- ---- tests
 
@@ -126,6 +126,7 @@ some_lacking Filter p = refl
 some_lacking Mapping p = some_field (lacks_contents Mapping p.1) p (codes "pattern")
 some_lacking Listener p = refl
 some_lacking Page p = refl
+some_lacking Once p = refl
 
 some_missing : (p : PlacedTable) → is_some_place (missing_places p) ≡ is_missing (kind_of p.0) p.1
 unfolding is_missing
@@ -215,6 +216,7 @@ some_unknown_in Mapping p =
     some_members_at (is_unfit NoDispatcher) p (codes "dispatch") ∙ any_some as_str (λ word. is_none (dispatcher_of word)) (values_at (codes "dispatch") p.1)
 some_unknown_in Listener p = refl
 some_unknown_in Page p = refl
+some_unknown_in Once p = refl
 
 some_unknown : (p : PlacedTable) → is_some_place (unknown_places p) ≡ has_unknown (kind_of p.0) p.1
 unfolding has_unknown
@@ -241,6 +243,7 @@ some_misspelled Filter p = some_misspelled_at is_name p (codes "name")
 some_misspelled Mapping p = some_misspelled_at is_pattern p (codes "pattern")
 some_misspelled Listener p = some_misspelled_at is_name p (codes "name")
 some_misspelled Page p = some_misspelled_at is_page_path p (codes "path")
+some_misspelled Once p = refl
 
 -- ---- Duplicate
 
@@ -419,6 +422,7 @@ some_repeated Filter p = refl
 some_repeated Mapping p = some_field (has_both (codes "pattern") (codes "servlet") p.1) p (codes "servlet")
 some_repeated Listener p = refl
 some_repeated Page p = some_field (has_both (codes "status") (codes "fault") p.1) p (codes "fault")
+some_repeated Once p = refl
 
 -- ---- LimitExceeded
 
@@ -486,6 +490,11 @@ some_exceeding Filter p = some_field (has_bad_length (codes "name") p.1) p (code
 some_exceeding Mapping p = refl
 some_exceeding Listener p = some_field (has_bad_length (codes "name") p.1) p (codes "name")
 some_exceeding Page p = some_field (is_outside_at (pos 400) (pos 599) (codes "status") p.1) p (codes "status")
+some_exceeding Once p =
+    let bad_answers : Bool = is_outside_at (pos 1) (pos 16) (codes "answers") p.1 in
+    let bad_parameter : Bool = has_bad_length (codes "parameter") p.1 in
+    some_both (field_where bad_answers p (codes "answers")) (field_where bad_parameter p (codes "parameter")) bad_answers bad_parameter
+    (some_field bad_answers p (codes "answers")) (some_field bad_parameter p (codes "parameter"))
 
 -- ---- a table
 
@@ -520,6 +529,10 @@ array_unplaced context kind n (d ∷ ds) = array_more context kind n (as_table d
 array_at : (context : ℕ) (kind : TableKind) (key : Text) (t : Members) → map unplaced (placed_as context kind (children key t)) ≡ tables_as kind key t
 array_at context kind key t = array_unplaced context kind 0 (values_at key t)
 
+once_unplaced : (n : ℕ) (found : Option Members) → map unplaced (option_map_or (λ o. (OfOnce n, o) ∷ []) found []) ≡ option_map_or (λ o. (Once, o) ∷ []) found []
+once_unplaced n None = refl
+once_unplaced n (Some o) = refl
+
 context_unplaced : (c : ℕ × Members) → map unplaced (placed_in c) ≡ context_tables c.1
 unfolding placed_in context_tables
 context_unplaced c =
@@ -531,6 +544,7 @@ context_unplaced c =
     let filters : List PlacedTable = placed_as n Filter (children (codes "filter") t) in
     let servlets : List PlacedTable = placed_as n Servlet (children (codes "servlet") t) in
     ap (λ rest. (Context, t) ∷ rest)
+    (map_both unplaced (servlets ++ filters ++ mappings ++ listeners ++ pages) (placed_once c) _ (once_tables t)
     (map_both unplaced (servlets ++ filters ++ mappings ++ listeners) pages _ (tables_as Page (codes "error-page") t)
     (map_both unplaced (servlets ++ filters ++ mappings) listeners _ (tables_as Listener (codes "listener") t)
     (map_both unplaced (servlets ++ filters) mappings _ (tables_as Mapping (codes "filter-mapping") t)
@@ -539,6 +553,7 @@ context_unplaced c =
     (array_at n Mapping (codes "filter-mapping") t))
     (array_at n Listener (codes "listener") t))
     (array_at n Page (codes "error-page") t))
+    (once_unplaced n (table_at (codes "once") t)))
 
 contexts_more : (n : ℕ) (found : Option Members) (cs : List (ℕ × Members)) (ts : List Members)
     → map unplaced (flat_map placed_in cs) ≡ flat_map context_tables ts

@@ -1,5 +1,5 @@
--- LimitExceeded: a count past its limit; an empty `ports`; an integer out of its range; a name of no byte or of more
--- than 64.
+-- LimitExceeded: a count past its limit; an empty `ports`; an integer out of its range; a name, or that of a parameter, of
+-- no byte or of more than 64.
 use Rattle.std.specs.Prelude.{ℕ, ℤ, pos, negsuc, Bool, false, ◌||◌, nat_lt, ◌==◌, length, codes}
 use Rattle.std.specs.Option.{option_map_or}
 use Rattle.std.specs.List.{list_any}
@@ -8,7 +8,7 @@ use Rattle.toml.specs.Data.{Members}
 use Rattle.sv_mapping.specs.Path.{Text}
 use Rattle.sv_config.specs.Document.{is_empty_at, values_at, text_at, integer_at, integers_at, tables_at, patterns_of}
 use Rattle.sv_config.specs.declared.rules.TableKind.{TableKind}
-use Rattle.sv_config.specs.declared.rules.TableKind.TheVariants.{Top, Cluster, Context, Servlet, Filter, Mapping, Listener, Page}
+use Rattle.sv_config.specs.declared.rules.TableKind.TheVariants.{Top, Cluster, Context, Servlet, Filter, Mapping, Listener, Page, Once}
 
 -- the array at a key has more members than the limit
 abbrev pub has_over : ℕ → Text → Members → Bool
@@ -60,3 +60,4 @@ is_exceeding Filter t = has_bad_length (codes "name") t
 is_exceeding Mapping t = false
 is_exceeding Listener t = has_bad_length (codes "name") t
 is_exceeding Page t = is_outside_at (pos 400) (pos 599) (codes "status") t
+is_exceeding Once t = is_outside_at (pos 1) (pos 16) (codes "answers") t || has_bad_length (codes "parameter") t

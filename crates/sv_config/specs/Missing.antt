@@ -6,7 +6,7 @@ use Rattle.toml.specs.Data.{Members}
 use Rattle.sv_config.specs.Document.{has, is_empty_at}
 use Rattle.sv_config.specs.Rules.{Rule, rules_of}
 use Rattle.sv_config.specs.declared.rules.TableKind.{TableKind}
-use Rattle.sv_config.specs.declared.rules.TableKind.TheVariants.{Top, Cluster, Context, Servlet, Filter, Mapping, Listener, Page}
+use Rattle.sv_config.specs.declared.rules.TableKind.TheVariants.{Top, Cluster, Context, Servlet, Filter, Mapping, Listener, Page, Once}
 
 -- the table lacks the field of the rule
 abbrev pub lacks : Members → Rule → Bool
@@ -22,6 +22,7 @@ lacks_contents Filter t = false
 lacks_contents Mapping t = not (has (codes "pattern") t) && not (has (codes "servlet") t)
 lacks_contents Listener t = false
 lacks_contents Page t = false
+lacks_contents Once t = false
 
 unfoldable pub is_missing : TableKind → Members → Bool
 is_missing kind t = list_any (lacks t) (rules_of kind) || lacks_contents kind t

@@ -11,9 +11,9 @@ use Rattle.toml.specs.declared.value.Value.{Value}
 use Rattle.sv_mapping.specs.Path.{Text}
 use Rattle.sv_config.specs.Document.{table_at, values_at}
 use Rattle.sv_config.specs.declared.rules.TableKind.{TableKind}
-use Rattle.sv_config.specs.declared.rules.TableKind.TheVariants.{Top, Cluster, Context, Servlet, Filter, Mapping, Listener, Page}
+use Rattle.sv_config.specs.declared.rules.TableKind.TheVariants.{Top, Cluster, Context, Servlet, Filter, Mapping, Listener, Page, Once}
 use Rattle.sv_config.specs.declared.place.TablePlace.{TablePlace}
-use Rattle.sv_config.specs.declared.place.TablePlace.TheVariants.{Document, OfNodes, OfContext, Within}
+use Rattle.sv_config.specs.declared.place.TablePlace.TheVariants.{Document, OfNodes, OfContext, Within, OfOnce}
 use Rattle.sv_config.specs.declared.place.Found.{Found}
 use Rattle.sv_config.specs.declared.place.Found.TheVariants.{Nothing, Words, Number, Count}
 use Rattle.sv_config.specs.declared.place.Place.{Place}
@@ -47,6 +47,7 @@ kind_of Document = Top
 kind_of OfNodes = Cluster
 kind_of (OfContext context) = Context
 kind_of (Within context kind index) = kind
+kind_of (OfOnce context) = Once
 
 -- ---- tables with their places
 
@@ -61,6 +62,10 @@ children key t = numbered 0 (values_at key t)
 abbrev pub placed_as : ℕ → TableKind → List (ℕ × Members) → List (TablePlace × Members)
 placed_as context kind tables = map (λ c. (Within context kind c.0, c.1)) tables
 
+-- what a context of a number remembers of requests
+abbrev pub placed_once : ℕ × Members → List (TablePlace × Members)
+placed_once c = option_map_or (λ o. (OfOnce c.0, o) ∷ []) (table_at (codes "once") c.1) []
+
 -- a context, by its number, and the tables in it
 unfoldable pub placed_in : ℕ × Members → List (TablePlace × Members)
 placed_in c =
@@ -69,6 +74,7 @@ placed_in c =
     ++ placed_as c.0 Mapping (children (codes "filter-mapping") c.1)
     ++ placed_as c.0 Listener (children (codes "listener") c.1)
     ++ placed_as c.0 Page (children (codes "error-page") c.1)
+    ++ placed_once c
 
 abbrev pub placed_cluster : Members → List (TablePlace × Members)
 placed_cluster t = option_map_or (λ c. (OfNodes, c) ∷ []) (table_at (codes "cluster") t) []

@@ -23,9 +23,9 @@ use Rattle.sv_config.specs.declared.fault.ConfigFault.TheVariants.{NotToml, Miss
 use Rattle.sv_config.specs.declared.rules.FieldKind.{FieldKind}
 use Rattle.sv_config.specs.declared.rules.FieldKind.TheVariants.{Text as TextKind, Integer, Boolean, Texts, Integers, Table, Tables}
 use Rattle.sv_config.specs.declared.rules.TableKind.{TableKind}
-use Rattle.sv_config.specs.declared.rules.TableKind.TheVariants.{Top, Cluster, Context, Servlet, Filter, Mapping, Listener, Page}
+use Rattle.sv_config.specs.declared.rules.TableKind.TheVariants.{Top, Cluster, Context, Servlet, Filter, Mapping, Listener, Page, Once}
 use Rattle.sv_config.specs.declared.place.TablePlace.{TablePlace}
-use Rattle.sv_config.specs.declared.place.TablePlace.TheVariants.{Document, OfNodes, OfContext, Within}
+use Rattle.sv_config.specs.declared.place.TablePlace.TheVariants.{Document, OfNodes, OfContext, Within, OfOnce}
 use Rattle.sv_config.specs.declared.members.Unfit.{Unfit}
 use Rattle.sv_config.specs.declared.members.Unfit.TheVariants.{NoPattern, NoDispatcher, NoPort, NoText, NoInteger, NoTable}
 
@@ -100,6 +100,7 @@ number_of Document = 0
 number_of OfNodes = 0
 number_of (OfContext context) = context
 number_of (Within context kind index) = context
+number_of (OfOnce context) = context
 
 -- a filter mapping of a context names at a key what is none of the names
 abbrev pub stranger_at : ℕ → Text → List Text → ℕ × Members → List Spot
@@ -241,6 +242,9 @@ exceeding_in Filter p = field_where (has_bad_length (codes "name") p.1) p (codes
 exceeding_in Mapping p = []
 exceeding_in Listener p = field_where (has_bad_length (codes "name") p.1) p (codes "name")
 exceeding_in Page p = field_where (is_outside_at (pos 400) (pos 599) (codes "status") p.1) p (codes "status")
+exceeding_in Once p =
+    field_where (is_outside_at (pos 1) (pos 16) (codes "answers") p.1) p (codes "answers")
+    ++ field_where (has_bad_length (codes "parameter") p.1) p (codes "parameter")
 
 -- ---- all places
 

@@ -7,7 +7,7 @@ use Rattle.toml.specs.Data.{Members}
 use Rattle.sv_mapping.specs.Path.{Text}
 use Rattle.sv_config.specs.Document.{has, tables_at, integers_at, column, integer_column, patterns_of}
 use Rattle.sv_config.specs.declared.rules.TableKind.{TableKind}
-use Rattle.sv_config.specs.declared.rules.TableKind.TheVariants.{Top, Cluster, Context, Servlet, Filter, Mapping, Listener, Page}
+use Rattle.sv_config.specs.declared.rules.TableKind.TheVariants.{Top, Cluster, Context, Servlet, Filter, Mapping, Listener, Page, Once}
 
 -- some item is equal to one behind it
 abbrev pub has_repeat : {A : Type 0} → (A → A → Bool) → List A → Bool
@@ -58,3 +58,4 @@ is_repeating Filter t = false
 is_repeating Mapping t = has_both (codes "pattern") (codes "servlet") t
 is_repeating Listener t = false
 is_repeating Page t = has_both (codes "status") (codes "fault") t
+is_repeating Once t = false

@@ -8,7 +8,7 @@ use Rattle.sv_mapping.specs.Path.{Text}
 use Rattle.sv_mapping.specs.Pattern.{is_pattern}
 use Rattle.sv_config.specs.Document.{text_at, texts_at}
 use Rattle.sv_config.specs.declared.rules.TableKind.{TableKind}
-use Rattle.sv_config.specs.declared.rules.TableKind.TheVariants.{Top, Cluster, Context, Servlet, Filter, Mapping, Listener, Page}
+use Rattle.sv_config.specs.declared.rules.TableKind.TheVariants.{Top, Cluster, Context, Servlet, Filter, Mapping, Listener, Page, Once}
 
 -- an ASCII letter or digit
 abbrev pub is_alphanumeric : ℕ → Bool
@@ -59,3 +59,4 @@ is_misspelled Filter t = fails_at is_name (codes "name") t
 is_misspelled Mapping t = fails_at is_pattern (codes "pattern") t
 is_misspelled Listener t = fails_at is_name (codes "name") t
 is_misspelled Page t = fails_at is_page_path (codes "path") t
+is_misspelled Once t = false

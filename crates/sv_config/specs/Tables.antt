@@ -11,18 +11,22 @@ use Rattle.toml.specs.declared.value.Value.{Value}
 use Rattle.sv_mapping.specs.Path.{Text}
 use Rattle.sv_config.specs.Document.{table_at, tables_at}
 use Rattle.sv_config.specs.declared.rules.TableKind.{TableKind}
-use Rattle.sv_config.specs.declared.rules.TableKind.TheVariants.{Top, Cluster, Context, Servlet, Filter, Mapping, Listener, Page}
+use Rattle.sv_config.specs.declared.rules.TableKind.TheVariants.{Top, Cluster, Context, Servlet, Filter, Mapping, Listener, Page, Once}
 
 -- the tables of the array at a key, as tables of a kind
 abbrev pub tables_as : TableKind → Text → Members → List (TableKind × Members)
 tables_as kind key t = map (λ s. (kind, s)) (tables_at key t)
+
+-- what a context remembers of requests
+abbrev pub once_tables : Members → List (TableKind × Members)
+once_tables t = option_map_or (λ o. (Once, o) ∷ []) (table_at (codes "once") t) []
 
 -- a context and the tables in it
 unfoldable pub context_tables : Members → List (TableKind × Members)
 context_tables t =
     (Context, t) ∷ [] ++ tables_as Servlet (codes "servlet") t ++ tables_as Filter (codes "filter") t
     ++ tables_as Mapping (codes "filter-mapping") t ++ tables_as Listener (codes "listener") t
-    ++ tables_as Page (codes "error-page") t
+    ++ tables_as Page (codes "error-page") t ++ once_tables t
 
 abbrev pub cluster_tables : Members → List (TableKind × Members)
 cluster_tables t = option_map_or (λ c. (Cluster, c) ∷ []) (table_at (codes "cluster") t) []

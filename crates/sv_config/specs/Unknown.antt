@@ -8,7 +8,7 @@ use Rattle.sv_mapping.specs.Dispatcher.{dispatcher_of}
 use Rattle.sv_config.specs.Document.{texts_at, column}
 use Rattle.sv_config.specs.Rules.{Rule, rules_of}
 use Rattle.sv_config.specs.declared.rules.TableKind.{TableKind}
-use Rattle.sv_config.specs.declared.rules.TableKind.TheVariants.{Top, Cluster, Context, Servlet, Filter, Mapping, Listener, Page}
+use Rattle.sv_config.specs.declared.rules.TableKind.TheVariants.{Top, Cluster, Context, Servlet, Filter, Mapping, Listener, Page, Once}
 
 -- a rule has the key
 abbrev pub is_listed : List Rule → Text → Bool
@@ -45,6 +45,7 @@ names_unknown Filter t = false
 names_unknown Mapping t = has_stray_dispatcher (texts_at (codes "dispatch") t)
 names_unknown Listener t = false
 names_unknown Page t = false
+names_unknown Once t = false
 
 unfoldable pub has_unknown : TableKind → Members → Bool
 has_unknown kind t = has_unlisted (rules_of kind) t || names_unknown kind t

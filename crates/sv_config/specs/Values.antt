@@ -20,6 +20,7 @@ use Rattle.sv_config.specs.declared.deployment.Cluster.{Cluster}
 use Rattle.sv_config.specs.declared.deployment.Context.{Context}
 use Rattle.sv_config.specs.declared.deployment.Deployment.{Deployment}
 use Rattle.sv_config.specs.declared.deployment.ErrorPage.{ErrorPage}
+use Rattle.sv_config.specs.declared.deployment.Once.{Once}
 use Rattle.sv_config.specs.declared.deployment.PageFor.{PageFor}
 use Rattle.sv_config.specs.declared.deployment.PageFor.TheVariants.{Status, Fault, Default}
 
@@ -42,6 +43,11 @@ pub record PageData : Type 0 where
   pub path : Text
   pub choice : Choice
 
+-- what sessions of a context remember of requests that may be sent again
+pub record OnceData : Type 0 where
+  pub answers : ℤ
+  pub parameter : Option Text
+
 pub record ContextData : Type 0 where
   pub path : Text
   pub interval : ℤ
@@ -51,6 +57,7 @@ pub record ContextData : Type 0 where
   pub filter_mappings : List FilterMapping
   pub listeners : List Text
   pub error_pages : List PageData
+  pub once : Option OnceData
 
 pub record DeploymentData : Type 0 where
   pub cluster : ClusterData
@@ -152,6 +159,15 @@ page_of t = record { path = text_or_empty (codes "path") t; choice = choice_of_t
 abbrev pub interval_of : Members → ℤ
 interval_of t = integer_within (negsuc 2147483647) (pos 2147483647) (pos 1800) (codes "interval") t
 
+abbrev pub answers_of : Members → ℤ
+answers_of o = integer_within (pos 1) (pos 16) (pos 1) (codes "answers") o
+
+abbrev pub once_of_table : Members → OnceData
+once_of_table o = record { answers = answers_of o; parameter = text_at (codes "parameter") o }
+
+abbrev pub once_of : Members → Option OnceData
+once_of t = option_map once_of_table (table_at (codes "once") t)
+
 unfoldable pub context_of : Members → ContextData
 context_of t =
     let servlets = column (codes "servlet") (codes "name") t in
@@ -165,6 +181,7 @@ context_of t =
       filter_mappings = map (filter_mapping_of filters servlets) (tables_at (codes "filter-mapping") t);
       listeners = column (codes "listener") (codes "name") t;
       error_pages = map page_of (tables_at (codes "error-page") t);
+      once = once_of t;
     }
 
 unfoldable pub deployment_of : Members → DeploymentData
@@ -187,6 +204,9 @@ choice_data Default = of_all
 abbrev pub page_data : ErrorPage → PageData
 page_data p = record { path = string_bytes p.path; choice = choice_data p.choice }
 
+abbrev pub once_data : Once → OnceData
+once_data o = record { answers = pos o.answers; parameter = option_map string_bytes o.parameter }
+
 abbrev pub context_data : Context → ContextData
 context_data c = record {
   path = string_bytes c.path;
@@ -197,6 +217,7 @@ context_data c = record {
   filter_mappings = c.filter_mappings.items;
   listeners = map string_bytes c.listeners.items;
   error_pages = map page_data c.error_pages.items;
+  once = option_map once_data c.once;
 }
 
 unfoldable pub deployment_data : Deployment → DeploymentData

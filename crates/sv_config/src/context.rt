@@ -10,7 +10,7 @@ use crate::deployment::Context;
 use crate::document::{integer_at, text_or_empty};
 use crate::limits::is_outside;
 use crate::mappings::{read_filter_mappings, read_mappings};
-use crate::pages::read_pages;
+use crate::once::read_pages_and_once;
 use std::alloc::{AllocError, Global};
 use toml::Table;
 
@@ -59,6 +59,7 @@ fn context_with(
     ensures { IfOk result (λ context. spec.context_data context ≡ spec.context_of (table_view table.now)) }
 {
     let (servlet_names, filter_names) = owned_both(alloc, servlets, filters)?;
+    let (error_pages, once) = read_pages_and_once(alloc, table)?;
     Ok(Context {
         path: String::from_str(alloc, text_or_empty(table, "path"))?,
         interval: interval_of(table),
@@ -66,7 +67,8 @@ fn context_with(
         filters: filter_names,
         filter_mappings: read_filter_mappings(alloc, table, filters, servlets)?,
         listeners: owned(alloc, listeners)?,
-        error_pages: read_pages(alloc, table)?,
+        error_pages,
+        once,
         mappings: read_mappings(alloc, table)?,
     })
 }

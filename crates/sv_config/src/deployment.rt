@@ -46,6 +46,17 @@ pub struct Context {
     pub listeners: Vec<String>,
     /// Its error pages, in order.
     pub error_pages: Vec<ErrorPage>,
+    /// What its sessions remember, so that a request that is sent again counts once; none where they remember nothing.
+    pub once: Option<Once>,
+}
+
+/// What sessions remember of the requests that have a key, so that one that is sent again is answered as it was before.
+#[derive(Debug, Drop)]
+pub struct Once {
+    /// How many answers a session remembers, from 1 to 16.
+    pub answers: u8,
+    /// The parameter whose value is the key of a request; where it has none, the field `Idempotency-Key` has the key.
+    pub parameter: Option<String>,
 }
 
 /// An error page of a context.

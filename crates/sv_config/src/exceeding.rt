@@ -7,8 +7,8 @@ ghost use Rattle.sv_config.specs.Places as spec;
 use crate::columns::{patterns_of, tables_at};
 use crate::document::{is_empty_at, values_at};
 use crate::limits::{
-    MAX_CONTEXTS, MAX_ERROR_PAGES, MAX_FILTER_MAPPINGS, MAX_FILTERS, MAX_KEYS, MAX_LISTENERS,
-    MAX_NODES, MAX_SERVLETS, has_bad_length, has_over, is_outside_at,
+    MAX_ANSWERS, MAX_CONTEXTS, MAX_ERROR_PAGES, MAX_FILTER_MAPPINGS, MAX_FILTERS, MAX_KEYS,
+    MAX_LISTENERS, MAX_NODES, MAX_SERVLETS, has_bad_length, has_over, is_outside_at,
 };
 use crate::members::{Unfit, add_count, add_field, add_members};
 use crate::place::{Place, kind_of};
@@ -30,7 +30,7 @@ pub(crate) fn add_exceeding<'a>(
         TableKind::Cluster => add_in_cluster(places, at),
         TableKind::Context => add_in_context(alloc, places, at),
         TableKind::Servlet | TableKind::Filter | TableKind::Listener => {
-            add_field(places, has_bad_length(at.table), at, "name")
+            add_field(places, has_bad_length(at.table, "name"), at, "name")
         }
         TableKind::Mapping => Ok(()),
         TableKind::Page => add_field(
@@ -39,7 +39,25 @@ pub(crate) fn add_exceeding<'a>(
             at,
             "status",
         ),
+        TableKind::Once => add_in_once(places, at),
     }
+}
+
+fn add_in_once<'a>(places: &mut Vec<Place<'a>>, at: Placed<'a>) -> Result<(), AllocError>
+    ensures { OnOk result (map spot places.new.items ≡ map spot places.old.items ++ spec.exceeding_in TableKind.Once (placed at.entry)) }
+{
+    add_field(
+        places,
+        is_outside_at(at.table, "answers", 1, MAX_ANSWERS),
+        at,
+        "answers",
+    )?;
+    add_field(
+        places,
+        has_bad_length(at.table, "parameter"),
+        at,
+        "parameter",
+    )
 }
 
 #[tactic(auto, unfolding(crate::specs::Places::exceeding_in_cluster))]

@@ -13,7 +13,7 @@ pub enum ConfigFault {
     #[error("the descriptor is no TOML: look for a key given twice, an open quote or bracket, or an integer past 64 bits")]
     NotToml,
     /// Fault 2: a table lacks a field that it must have.
-    #[error("a required field is missing: `context`, the `path` of a context or error page, the `name` of a servlet, filter or listener, the `patterns` of a servlet, or the `filter` of a filter mapping and its `pattern` or `servlet`")]
+    #[error("a required field is missing: `context`, the `path` of a context or error page, the `name` of a servlet, filter or listener, the `patterns` of a servlet, the `filter` of a filter mapping and its `pattern` or `servlet`, or the `answers` of `once`")]
     MissingField,
     /// Fault 3: a field, or a member of an array, is of another kind than it must be.
     #[error("a field has a value of the wrong kind: `patterns` and `dispatch` are arrays of texts, `ports` is one of integers, `context` and what a context lists are arrays of tables")]

@@ -14,7 +14,7 @@ impl Place<'_> {
             ConfigFault::WrongKind => wrong_kind(self),
             ConfigFault::UnknownName => unknown(kind, self.key),
             ConfigFault::BadPattern => spelled(kind, self.key),
-            ConfigFault::Duplicate => once(self.key),
+            ConfigFault::Duplicate => repeated(self.key),
             ConfigFault::LimitExceeded => limit(self),
             ConfigFault::Memory => "more memory",
         }
@@ -28,6 +28,7 @@ fn missing(kind: TableKind, key: &str) -> &'static str {
         "name" => "a name of 1 to 64 letters, digits, - and _",
         "patterns" => "an array of patterns, such as [\"/shop/*\"]; it may be empty",
         "filter" => "the name of a filter of this context",
+        "answers" => "how many answers a session remembers: 1 to 16",
         _ => "either pattern or servlet: for which paths, or for which servlet",
     }
 }
@@ -47,11 +48,12 @@ fn wrong_kind(place: &Place<'_>) -> &'static str {
         return member_kind(place.key);
     }
     match place.key {
-        "deadline" | "interval" | "status" | "keys" => "an integer",
+        "deadline" | "interval" | "status" | "keys" | "answers" => "an integer",
         "forget" => "true or false",
         "ports" => "an array of integers",
         "patterns" | "dispatch" => "an array of texts",
         "cluster" => "a table",
+        "once" => "a table, such as { answers = 4 }",
         _ => text_or_tables(place),
     }
 }
@@ -81,12 +83,13 @@ fn unknown(kind: TableKind, key: &str) -> &'static str {
         TableKind::Top => "one of context and cluster",
         TableKind::Cluster => "one of ports, deadline, secrets, keys and forget",
         TableKind::Context => {
-            "one of path, interval, servlet, filter, filter-mapping, listener and error-page"
+            "one of path, interval, servlet, filter, filter-mapping, listener, error-page and once"
         }
         TableKind::Servlet => "one of name and patterns",
         TableKind::Filter | TableKind::Listener => "name and nothing else",
         TableKind::Mapping => unknown_in_mapping(key),
         TableKind::Page => "one of path, status and fault",
+        TableKind::Once => "one of answers and parameter",
     }
 }
 
@@ -107,7 +110,7 @@ fn spelled(kind: TableKind, key: &str) -> &'static str {
     }
 }
 
-fn once(key: &str) -> &'static str {
+fn repeated(key: &str) -> &'static str {
     match key {
         "path" => "a path that no context before has",
         "ports" => "a port that no node before has",
@@ -128,7 +131,8 @@ fn limit(place: &Place<'_>) -> &'static str {
         "deadline" => "1 to 86400 seconds",
         "keys" => "1 to 1048576 keys",
         "interval" => "-2147483648 to 2147483647 seconds",
-        "name" => "1 to 64 bytes",
+        "name" | "parameter" => "1 to 64 bytes",
+        "answers" => "1 to 16 answers",
         "status" => "a status from 400 to 599",
         key => count_limit(key),
     }

@@ -28,6 +28,7 @@ mod mappings;
 mod members;
 mod misshaped;
 mod missing;
+mod once;
 mod pages;
 mod paths;
 mod place;
@@ -43,7 +44,7 @@ mod undeclared;
 mod unknown;
 
 pub use checked::{Document, Faulty, NotRead};
-pub use deployment::{Cluster, Context, Deployment, ErrorPage, PageFor};
+pub use deployment::{Cluster, Context, Deployment, ErrorPage, Once, PageFor};
 pub use fault::ConfigFault;
 pub use laws::placed_where_it_stands;
 pub use place::{Found, Place, TablePlace};

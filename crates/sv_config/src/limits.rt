@@ -27,6 +27,8 @@ pub(crate) const MAX_LISTENERS: usize = 16;
 
 pub(crate) const MAX_ERROR_PAGES: usize = 32;
 
+pub(crate) const MAX_ANSWERS: i64 = 16;
+
 pub(crate) const MAX_NAME_BYTES: usize = 64;
 
 /// Whether a table of a kind passes a limit.
@@ -42,9 +44,12 @@ pub(crate) fn is_exceeding(
         TableKind::Top => Ok(has_over(table, "context", MAX_CONTEXTS)),
         TableKind::Cluster => exceeds_in_cluster(alloc, table),
         TableKind::Context => exceeds_in_context(alloc, table),
-        TableKind::Servlet | TableKind::Filter | TableKind::Listener => Ok(has_bad_length(table)),
+        TableKind::Servlet | TableKind::Filter | TableKind::Listener => {
+            Ok(has_bad_length(table, "name"))
+        }
         TableKind::Mapping => Ok(false),
         TableKind::Page => Ok(is_outside_at(table, "status", 400, 599)),
+        TableKind::Once => Ok(exceeds_in_once(table)),
     }
 }
 
@@ -123,11 +128,18 @@ pub(crate) fn is_outside(integer: i64, least: i64, most: i64) -> bool
     integer < least || most < integer
 }
 
-/// Whether the name has no byte, or too many.
-pub(crate) fn has_bad_length(table: &Table) -> bool
-    ensures { result ≡ spec.has_bad_length (codes "name") (table_view table.now) }
+#[tactic(auto, unfolding(crate::specs::Limits::is_exceeding))]
+fn exceeds_in_once(once: &Table) -> bool
+    ensures { result ≡ spec.is_exceeding TableKind.Once (table_view once.now) }
 {
-    match text_at(table, "name") {
+    is_outside_at(once, "answers", 1, MAX_ANSWERS) || has_bad_length(once, "parameter")
+}
+
+/// Whether the name at a key has no byte, or too many.
+pub(crate) fn has_bad_length(table: &Table, key: &str) -> bool
+    ensures { result ≡ spec.has_bad_length key.now (table_view table.now) }
+{
+    match text_at(table, key) {
         Some(name) => name.is_empty() || name.len() > MAX_NAME_BYTES,
         None => false,
     }

@@ -21,6 +21,8 @@ pub enum TablePlace {
         kind: TableKind,
         index: usize,
     },
+    /// `once` of the context of this number.
+    OfOnce(usize),
 }
 
 /// What stands at a place.
@@ -54,13 +56,14 @@ pub(crate) fn kind_of(place: TablePlace) -> TableKind
         TablePlace::OfNodes => TableKind::Cluster,
         TablePlace::OfContext(_) => TableKind::Context,
         TablePlace::Within { kind, .. } => kind,
+        TablePlace::OfOnce(_) => TableKind::Once,
     }
 }
 
 /// The array of a context that tables of a kind stand in.
 fn array_of(kind: TableKind) -> &'static str {
     match kind {
-        TableKind::Top | TableKind::Cluster | TableKind::Context => "",
+        TableKind::Top | TableKind::Cluster | TableKind::Context | TableKind::Once => "",
         TableKind::Servlet => "servlet",
         TableKind::Filter => "filter",
         TableKind::Mapping => "filter-mapping",
@@ -80,6 +83,7 @@ impl fmt::Display for TablePlace {
                 kind,
                 index,
             } => write!(f, "context[{context}].{}[{index}]", array_of(*kind)),
+            TablePlace::OfOnce(context) => write!(f, "context[{context}].once"),
         }
     }
 }

@@ -125,6 +125,24 @@ fn add_context<'a>(
         TableKind::Page,
         "error-page",
     )?;
+    add_once(tables, number, context)?;
+    Ok(())
+}
+
+/// Adds what a context of a number remembers of requests.
+fn add_once<'a>(
+    tables: &mut Vec<Placed<'a>>,
+    number: usize,
+    context: &'a Table,
+) -> Result<(), AllocError>
+    ensures { OnOk result (map spec.placed tables.new.items ≡ map spec.placed tables.old.items ++ spec.placed_once (number, table_view context.now)) }
+{
+    if let Some(table) = table_at(context, "once") {
+        tables.push(Placed {
+            place: TablePlace::OfOnce(number),
+            table,
+        })?;
+    }
     Ok(())
 }
 

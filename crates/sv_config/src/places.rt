@@ -76,7 +76,7 @@ fn add_misspelled<'a>(
     ensures { OnOk result (map spot places.new.items ≡ map spot places.old.items ++ spec.misspelled_in (kind_of at.entry.place) (placed at.entry)) }
 {
     match kind_of(at.place) {
-        TableKind::Top | TableKind::Cluster => Ok(()),
+        TableKind::Top | TableKind::Cluster | TableKind::Once => Ok(()),
         TableKind::Context => {
             let is_bad = has_bad_context_path(alloc, at.table)?;
             add_field(places, is_bad, at, "path")

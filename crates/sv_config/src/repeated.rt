@@ -27,7 +27,7 @@ pub(crate) fn add_repeated<'a>(
         TableKind::Top => add_texts(alloc, places, at, TableKind::Context, "context", "path"),
         TableKind::Cluster => add_ports(alloc, places, at),
         TableKind::Context => add_in_context(alloc, places, at),
-        TableKind::Servlet | TableKind::Filter | TableKind::Listener => Ok(()),
+        TableKind::Servlet | TableKind::Filter | TableKind::Listener | TableKind::Once => Ok(()),
         TableKind::Mapping => {
             let has_two = has_both(at.table, "pattern", "servlet");
             add_field(places, has_two, at, "servlet")

@@ -25,7 +25,7 @@ pub(crate) fn is_repeating(
         TableKind::Top => repeats_text(alloc, table, "context", "path"),
         TableKind::Cluster => repeats_port(alloc, table),
         TableKind::Context => repeats_in_context(alloc, table),
-        TableKind::Servlet | TableKind::Filter | TableKind::Listener => Ok(false),
+        TableKind::Servlet | TableKind::Filter | TableKind::Listener | TableKind::Once => Ok(false),
         TableKind::Mapping => Ok(has_both(table, "pattern", "servlet")),
         TableKind::Page => Ok(has_both(table, "status", "fault")),
     }

@@ -14,6 +14,7 @@ pub enum TableKind {
     Mapping,
     Listener,
     Page,
+    Once,
 }
 
 /// What a field holds; the plural is an array.
@@ -77,7 +78,7 @@ const CLUSTER: [FieldRule; 5] = [
     },
 ];
 
-const CONTEXT: [FieldRule; 7] = [
+const CONTEXT: [FieldRule; 8] = [
     FieldRule {
         key: "path",
         kind: FieldKind::Text,
@@ -111,6 +112,11 @@ const CONTEXT: [FieldRule; 7] = [
     FieldRule {
         key: "error-page",
         kind: FieldKind::Tables,
+        required: false,
+    },
+    FieldRule {
+        key: "once",
+        kind: FieldKind::Table,
         required: false,
     },
 ];
@@ -175,6 +181,19 @@ const PAGE: [FieldRule; 3] = [
     },
 ];
 
+const ONCE: [FieldRule; 2] = [
+    FieldRule {
+        key: "answers",
+        kind: FieldKind::Integer,
+        required: true,
+    },
+    FieldRule {
+        key: "parameter",
+        kind: FieldKind::Text,
+        required: false,
+    },
+];
+
 /// The fields that a kind of table may have.
 #[tactic(auto, unfolding(crate::specs::Rules::rules_of))]
 pub(crate) fn rules(kind: TableKind) -> &'static [FieldRule]
@@ -188,5 +207,6 @@ pub(crate) fn rules(kind: TableKind) -> &'static [FieldRule]
         TableKind::Filter | TableKind::Listener => &NAMED,
         TableKind::Mapping => &MAPPING,
         TableKind::Page => &PAGE,
+        TableKind::Once => &ONCE,
     }
 }

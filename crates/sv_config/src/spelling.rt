@@ -27,7 +27,7 @@ pub(crate) fn is_misspelled(
     ensures { IfOk result (λ b. b ≡ spec.is_misspelled kind (table_view table.now)) }
 {
     match kind {
-        TableKind::Top | TableKind::Cluster => Ok(false),
+        TableKind::Top | TableKind::Cluster | TableKind::Once => Ok(false),
         TableKind::Context => has_bad_context_path(alloc, table),
         TableKind::Servlet => is_misspelled_servlet(alloc, table),
         TableKind::Filter | TableKind::Listener => Ok(has_bad_name(table)),

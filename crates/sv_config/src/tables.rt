@@ -63,6 +63,19 @@ fn add_context<'a>(
     add_tables(tables, context, "filter-mapping", TableKind::Mapping)?;
     add_tables(tables, context, "listener", TableKind::Listener)?;
     add_tables(tables, context, "error-page", TableKind::Page)?;
+    add_once(tables, context)?;
+    Ok(())
+}
+
+fn add_once<'a>(
+    tables: &mut Vec<(TableKind, &'a Table)>,
+    context: &'a Table,
+) -> Result<(), AllocError>
+    ensures { OnOk result (map seen tables.new.items ≡ map seen tables.old.items ++ spec.once_tables (table_view context.now)) }
+{
+    if let Some(once) = table_at(context, "once") {
+        tables.push((TableKind::Once, once))?;
+    }
     Ok(())
 }
 

@@ -88,7 +88,7 @@ pub(crate) fn number_of(place: TablePlace) -> usize
 {
     match place {
         TablePlace::Document | TablePlace::OfNodes => 0,
-        TablePlace::OfContext(context) => context,
+        TablePlace::OfContext(context) | TablePlace::OfOnce(context) => context,
         TablePlace::Within { context, .. } => context,
     }
 }

@@ -4,7 +4,8 @@ use Rattle.sv_model.specs.declared.record.Record.{Record}
 use Rattle.sv_model.specs.declared.key.TheConstants.{NODE_LIMIT}
 use Rattle.sv_model.specs.declared.state.TheConstants.{KEY_MOST}
 use Rattle.sv_model.specs.declared.node.Stage.TheVariants.{Blank}
-use Rattle.sv_model.specs.Replay.{blank, AllFit}
+use Rattle.sv_model.specs.Replay.{blank}
+use Rattle.sv_model.specs.Fitting.{AllFit}
 
 -- each record may stand behind those before it at a node of this number, which knows as many keys as a node may know
 abbrev pub Fit : ℕ → List Record → Type 0

@@ -7,6 +7,7 @@ ghost use Rattle.toml.specs.View.{table_view};
 ghost use Rattle.sv_config.specs.Fault.{IsFaultOf, fault_of};
 ghost use Rattle.sv_config.specs.declared.fault.ConfigFault.{ConfigFault as FaultOfConfig};
 
+use crate::once::{push_once, warning_of};
 use std::alloc::{AllocError, Global};
 use sv_config::{
     Cluster, ConfigFault, Context, Deployment, Document, ErrorPage, Faulty, NotRead, PageFor, Place,
@@ -38,6 +39,8 @@ pub struct Look {
     pub fault: Option<ConfigFault>,
     /// Lines: the nodes and the contexts, or the fault and the places where it stands.
     pub text: String,
+    /// What is to be warned of, though it is no fault.
+    pub warning: Option<String>,
 }
 
 /// Looks at a text as a node reads its descriptor.
@@ -51,6 +54,7 @@ pub fn look_at(alloc: Global, text: &str) -> Result<Look, AllocError>
         Err(refused) => Ok(Look {
             fault: Some(ConfigFault::NotToml),
             text: refusal_text(alloc, &refused)?,
+            warning: None,
         }),
     }
 }
@@ -63,20 +67,32 @@ fn look_into(alloc: Global, text: &str, document: &Document) -> Result<Look, All
         Some(faulty) => Ok(Look {
             fault: Some(faulty.fault),
             text: faults_text(alloc, &faulty)?,
+            warning: None,
         }),
-        None => Ok(Look {
-            fault: None,
-            text: said(alloc, text, document)?,
-        }),
+        None => said(alloc, text, document),
     }
 }
 
 /// What a descriptor without fault says.
-fn said(alloc: Global, text: &str, document: &Document) -> Result<String, AllocError> {
+fn said(alloc: Global, text: &str, document: &Document) -> Result<Look, AllocError>
+    ensures { IfOk result (λ look. look.fault ≡ None) }
+{
     match Deployment::from_toml(alloc, text) {
-        Ok(deployment) => deployment_text(alloc, &deployment, document),
+        Ok(deployment) => look_of(alloc, &deployment, document),
         Err(_) => Err(AllocError),
     }
+}
+
+/// What a deployment says. The document is its own.
+fn look_of(alloc: Global, deployment: &Deployment, document: &Document) -> Result<Look, AllocError>
+    ensures { IfOk result (λ look. look.fault ≡ None) }
+{
+    let warning = warning_of(alloc, deployment)?;
+    Ok(Look {
+        fault: None,
+        text: deployment_text(alloc, deployment, document)?,
+        warning,
+    })
 }
 
 /// Why a text is no document, behind the fault's name.
@@ -154,7 +170,7 @@ fn keys_text(alloc: Global, cluster: &Cluster) -> Result<String, AllocError> {
     }
 }
 
-/// A context's front, its servlets, its filters in the order in which they are called, its listeners and error pages.
+/// A context's front, what its sessions remember, its servlets, its filters in the order in which they are called, its listeners and error pages.
 fn push_context(
     alloc: Global,
     text: &mut String,
@@ -163,6 +179,7 @@ fn push_context(
     document: &Document,
 ) -> Result<(), AllocError> {
     push_front(alloc, text, number, context)?;
+    push_once(alloc, text, context.once.as_ref())?;
     push_servlets(alloc, text, number, context, document)?;
     push_mappings(alloc, text, context, MappedBy::Pattern)?;
     push_mappings(alloc, text, context, MappedBy::Servlet)?;

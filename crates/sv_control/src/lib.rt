@@ -15,6 +15,7 @@ pub mod laws;
 mod lines;
 mod losing;
 mod naming;
+mod once;
 mod places;
 mod records;
 mod room;

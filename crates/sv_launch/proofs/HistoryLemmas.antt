@@ -11,12 +11,13 @@ use Rattle.sv_model.specs.declared.request.Request.{Request}
 use Rattle.sv_model.specs.declared.input.Input.TheVariants.{Ask}
 use Rattle.sv_model.specs.declared.output.Output.{Output}
 use Rattle.sv_model.specs.declared.site.StepFault.{StepFault}
-use Rattle.sv_model.specs.Engine.{EngineMeaning, TouchesOnlyHanded, NamesKeys}
+use Rattle.sv_model.specs.Engine.{EngineMeaning, TouchesOnlyHanded}
+use Rattle.sv_model.specs.Limits.{NamesKeys}
 use Rattle.sv_model.specs.NodeState.{Node}
 use Rattle.sv_model.specs.Serving.{token_of}
 use Rattle.sv_model.specs.Step.{View}
-use Rattle.sv_model.specs.Trace.{Call, Item, Leads, item_by, node_by, trace_of, asked_of, same_token, times}
-use Rattle.sv_model.specs.OneContainer.{AreDistinct}
+use Rattle.sv_model.specs.Alone.{Call, Leads, item_by, node_by, trace_of}
+use Rattle.sv_model.specs.Trace.{Item, asked_of, same_token, times, AreDistinct}
 use Rattle.sv_message.specs.declared.request.RawRequest.{RawRequest}
 use Rattle.sv_connection.specs.declared.outcome.Served.{Served}
 use Rattle.sv_connection.specs.declared.solo.Solo.{Solo}

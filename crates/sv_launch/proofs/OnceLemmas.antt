@@ -39,11 +39,11 @@ goes_on_unparked Failed is = refl
 
 -- a call under its number and secret
 pub as_turn : {E : Type 0} (meaning : E → EngineMeaning) (heard : E → List (List ℕ)) (now number : ℕ) (secret : Secret) (single : Bool) (old new : Sight (Solo E)) (served : Served)
-    → secret ≡ secret_of number → single ≡ false → IsServed (solo_steps meaning heard) (how (record { now = now; secret = secret }) number single) old new served
+    → secret ≡ secret_of number → single ≡ false → IsServed (solo_steps meaning heard) (how (record { now = now; steady = now; secret = secret }) number single) old new served
     → IsServed (solo_steps meaning heard) (turn_of now number) old new served
 as_turn meaning heard now number secret single old new served is alone call =
     subst (λ h. IsServed (solo_steps meaning heard) h old new served)
-    (ap (λ s. how (record { now = now; secret = s }) number single) is ∙ ap (how (record { now = now; secret = secret_of number }) number) alone)
+    (ap (λ s. how (record { now = now; steady = now; secret = s }) number single) is ∙ ap (how (record { now = now; steady = now; secret = secret_of number }) number) alone)
     call
 
 module _ {E : Type 0} (meaning : E → EngineMeaning) (heard : E → List (List ℕ)) (engine : E) (now : ℕ) (to_come written : Option (List ℕ)) where

@@ -6,7 +6,7 @@ use Rattle.sv_container.specs.declared.named.StartFault.{StartFault}
 use Rattle.sv_container.specs.declared.named.StartFault.TheVariants as start
 use Rattle.sv_launch.specs.declared.fault.Fault.{Fault}
 use Rattle.sv_launch.specs.declared.fault.Fault.TheVariants.{Arguments, Unreadable, NotToml, MissingField, WrongKind, UnknownName, BadPattern, Duplicate}
-use Rattle.sv_launch.specs.declared.fault.Fault.TheVariants.{LimitExceeded, MissingObject, ExtraObject, Ports, Device, Damaged, Full, JournalMemory}
+use Rattle.sv_launch.specs.declared.fault.Fault.TheVariants.{LimitExceeded, MissingObject, ExtraObject, Ports, SameFile, Device, NoJournal, Locked, OlderCopy, Untold, Unannounced, Damaged, Full, JournalMemory}
 use Rattle.sv_launch.specs.declared.fault.Fault.TheVariants.{Secrets, Socket, Log, Metrics, Input, Output, Memory}
 use Rattle.sv_host.specs.declared.fault.HostFault.{HostFault}
 use Rattle.sv_host.specs.declared.fault.HostFault.TheVariants as host
@@ -49,15 +49,21 @@ host_fault host.Secrets = Secrets
 host_fault host.Socket = Socket
 host_fault host.Output = Output
 host_fault host.Device = Device
+host_fault host.NoJournal = NoJournal
+host_fault host.Locked = Locked
+host_fault host.OlderCopy = OlderCopy
+host_fault host.Untold = Untold
+host_fault host.Unannounced = Unannounced
 host_fault host.Damaged = Damaged
 host_fault host.Full = Full
 host_fault host.Memory = JournalMemory
 host_fault host.Log = Log
 host_fault host.Metrics = Metrics
 
--- the exit status: of the words, of the descriptor and its objects, of the journal, of the machine
+-- the exit status: of the words, of the descriptor and its objects, of the journal, of the machine, of another process that has the journal
 abbrev pub status_of : Fault → ℕ
 status_of Arguments = 2
+status_of (SameFile clash) = 2
 status_of Unreadable = 3
 status_of NotToml = 3
 status_of MissingField = 3
@@ -69,7 +75,11 @@ status_of LimitExceeded = 3
 status_of MissingObject = 3
 status_of ExtraObject = 3
 status_of Ports = 3
+status_of Untold = 3
+status_of Unannounced = 3
 status_of Device = 4
+status_of NoJournal = 4
+status_of OlderCopy = 4
 status_of Damaged = 4
 status_of Full = 4
 status_of JournalMemory = 4
@@ -80,3 +90,4 @@ status_of Metrics = 5
 status_of Input = 5
 status_of Output = 5
 status_of Memory = 5
+status_of Locked = 6

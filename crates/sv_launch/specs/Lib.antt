@@ -3,3 +3,4 @@ pub mod Words
 pub mod Fault
 pub mod Objects
 pub mod OneOf
+pub mod Files

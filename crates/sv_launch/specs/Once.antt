@@ -12,8 +12,9 @@ use Rattle.sv_connection.specs.declared.outcome.Outcome.TheVariants.{Answered, P
 use Rattle.sv_connection.specs.declared.outcome.Served.{Served}
 use Rattle.sv_model.specs.Engine.{EngineMeaning}
 use Rattle.sv_connection.specs.declared.solo.Solo.{Solo}
-use Rattle.sv_model.specs.Trace.{Call, asked_of, trace_of}
-use Rattle.sv_model.specs.OneContainer.{AreDistinct, IsOneContainer, IsAcknowledged, IsServedOnce, active_at}
+use Rattle.sv_model.specs.Alone.{Call, trace_of}
+use Rattle.sv_model.specs.Trace.{asked_of, AreDistinct}
+use Rattle.sv_model.specs.OneContainer.{IsOneContainer, IsAcknowledged, IsServedOnce, active_at}
 use Rattle.sv_message.specs.declared.request.RawRequest.{RawRequest}
 use Rattle.sv_connection.specs.Table.{alone, node_of}
 use Rattle.sv_connection.specs.Solo.{IsNew, IsHistory, solo_steps, view_of}
@@ -25,7 +26,7 @@ use Rattle.sv_launch.specs.declared.stream.OnceFault.TheVariants.{Input as Input
 
 -- how the n-th request of a stream is served: under the number n, with the secret n
 abbrev pub turn_of : ℕ → ℕ → How
-turn_of now number = how (record { now = now; secret = secret_of number }) number false
+turn_of now number = how (record { now = now; steady = now; secret = secret_of number }) number false
 
 -- what the outcome of a call makes of the whole stream; none where another request is taken
 abbrev pub ending : Outcome → Option (Result (Unit {0}) OnceFault)

@@ -4,11 +4,12 @@ use crate::descriptor::read_config;
 use crate::fault::Fault;
 use crate::words::NodeWords;
 use std::fs::{File, OpenOptions};
-use std::io;
+use std::io::Write;
 use std::net::{Ipv4Addr, OpenListener, SocketAddr, TcpListener};
 use std::rt::Clock;
+use std::{fs, io};
 use sv_config::Cluster;
-use sv_log::{Failure, Level, Log, Site};
+use sv_log::{Failure, Level, Log, STANDARD_ERROR, Site, can_be_figures};
 
 /// What the system says where a file is opened to be written and locked, as a journal is.
 fn refused_file(machine: &HostRuntime, path: &str) -> io::Result<()> {
@@ -18,6 +19,32 @@ fn refused_file(machine: &HostRuntime, path: &str) -> io::Result<()> {
         .open(machine, path)?;
     file.try_lock()?;
     Ok(())
+}
+
+/// What the system says where so little is written and synced as a record takes.
+fn refused_bytes(file: &mut File) -> io::Result<()> {
+    file.write_all(&[0; 4_096])?;
+    file.sync_data()
+}
+
+/// What the system says where a new file is to have room beside a journal, as on a disk that is full; it doesn't stay.
+fn refused_room(machine: &HostRuntime, path: &str) -> io::Result<()> {
+    let Ok(beside) = format!(in machine.alloc(); "{path}.room") else {
+        return Ok(());
+    };
+    let mut file = OpenOptions::new()
+        .write(true)
+        .create_new(true)
+        .open(machine, beside.as_str())?;
+    let written = refused_bytes(&mut file);
+    let _ = fs::remove_file(machine, beside.as_str());
+    written
+}
+
+/// What the system says of a journal whose file has failed.
+fn refused_journal(machine: &HostRuntime, path: &str) -> io::Result<()> {
+    refused_file(machine, path)?;
+    refused_room(machine, path)
 }
 
 /// What the system says of a port that is to be listened at.
@@ -62,11 +89,23 @@ fn found_in_files<'a>(
     match fault {
         Fault::Device => (
             Site::Path(node.journal),
+            refused_journal(machine, node.journal),
+        ),
+        Fault::Locked => (
+            Site::Path(node.journal),
             refused_file(machine, node.journal),
         ),
-        Fault::Damaged | Fault::Full | Fault::JournalMemory => (Site::Path(node.journal), Ok(())),
+        Fault::NoJournal => (Site::Path(node.journal), unread_file(machine, node.journal)),
+        Fault::OlderCopy | Fault::Damaged | Fault::Full | Fault::JournalMemory => (
+            Site::Path(node.journal),
+            Ok(()),
+        ),
         Fault::Unreadable => (Site::Path(node.config), unread_file(machine, node.config)),
-        Fault::Metrics => (Site::Path(node.options.metrics.unwrap_or("")), Ok(())),
+        Fault::SameFile(clash) => (Site::Path(clash.path_in(node)), Ok(())),
+        Fault::Metrics => {
+            let path = node.options.metrics.unwrap_or("");
+            (Site::Path(path), can_be_figures(machine, path))
+        }
         Fault::Input | Fault::Output | Fault::Memory => (Site::None, Ok(())),
         _ => (Site::Path(node.config), Ok(())),
     }
@@ -75,7 +114,7 @@ fn found_in_files<'a>(
 /// Puts down a fault.
 fn put_down(machine: &HostRuntime, log: &mut Log, fault: Fault, found: (Site<'_>, io::Result<()>)) {
     let (site, asked) = found;
-    if let Ok(name) = fault.to_string(machine.alloc()) {
+    if let Ok(name) = fault.name().to_string(machine.alloc()) {
         let failure = Failure {
             fault: name.as_str(),
             status: fault.status(),
@@ -114,6 +153,10 @@ pub fn log_failure(
     let Some(path) = node.options.log else {
         return;
     };
+    // Of two options one may name what the other one is refused for.
+    if matches!(fault, Fault::SameFile(_)) && path != STANDARD_ERROR {
+        return;
+    }
     let Ok(mut log) = Log::open(machine.alloc(), machine, path) else {
         return;
     };

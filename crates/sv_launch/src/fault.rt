@@ -4,6 +4,7 @@ ghost use Rattle.std.specs.Prelude.{◌≡◌};
 ghost use Rattle.sv_launch.specs.Fault.{fault_at, fault_in, fault_of, host_fault, place_fault, status_of};
 ghost use Rattle.sv_launch.specs.declared.fault.Fault.TheVariants.{Memory};
 
+use crate::files::Clash;
 use crate::stream::OnceFault;
 use std::alloc::{AllocError, AllocFailed};
 use std::error::Error;
@@ -12,7 +13,8 @@ use sv_config::ConfigFault;
 use sv_container::StartFault;
 use sv_host::{HostFault, PlaceFault};
 
-/// Why the program ends before its work is done. Its text is its name, which the program prints.
+/// Why the program ends before its work is done. Its text is its name, which the program prints; that of [`Fault::SameFile`] says
+/// besides which file it is.
 #[derive(Clone, Copy, Debug, PartialEq, Eq)]
 pub enum Fault {
     /// Status 2: the words are none that the program takes.
@@ -39,10 +41,22 @@ pub enum Fault {
     ExtraObject,
     /// Status 3: the descriptor gives no ports to the nodes of a cluster.
     Ports,
+    /// Status 2: an option would have the node write to a file that is something else's.
+    SameFile(Clash),
     /// Status 4: a file of the journal failed.
     Device,
+    /// Status 4: a file of the journal isn't there, and `--existing` has none made.
+    NoJournal,
+    /// Status 6: another process has the journal.
+    Locked,
     /// Status 4: the journal is none of a node's, or its starts are spent.
     Damaged,
+    /// Status 4: another node has heard of a later start of this one: its journal is an older copy.
+    OlderCopy,
+    /// Status 3: another node has sessions that were made at a node of which this one wasn't told.
+    Untold,
+    /// Status 3: another node that runs wasn't told of this one.
+    Unannounced,
     /// Status 4: the journal has no room for the start.
     Full,
     /// Status 4: memory was refused while the journal was opened.
@@ -64,8 +78,8 @@ pub enum Fault {
 }
 
 impl Fault {
-    /// The name that the program prints.
-    fn name(self) -> &'static str {
+    /// Its name alone.
+    pub(crate) fn name(self) -> &'static str {
         match self {
             Fault::Arguments => "Arguments",
             Fault::Unreadable => "Unreadable",
@@ -79,8 +93,14 @@ impl Fault {
             Fault::MissingObject => "MissingObject",
             Fault::ExtraObject => "ExtraObject",
             Fault::Ports => "Ports",
+            Fault::SameFile(_) => "SameFile",
             Fault::Device => "Device",
+            Fault::NoJournal => "NoJournal",
+            Fault::Locked => "Locked",
             Fault::Damaged => "Damaged",
+            Fault::OlderCopy => "OlderCopy",
+            Fault::Untold => "Untold",
+            Fault::Unannounced => "Unannounced",
             Fault::Full => "Full",
             Fault::Secrets => "Secrets",
             Fault::Socket => "Socket",
@@ -97,8 +117,14 @@ impl Fault {
         ensures { result ≡ status_of self }
     {
         match self {
-            Fault::Arguments => 2,
-            Fault::Device | Fault::Damaged | Fault::Full | Fault::JournalMemory => 4,
+            Fault::Arguments | Fault::SameFile(_) => 2,
+            Fault::Device
+            | Fault::NoJournal
+            | Fault::OlderCopy
+            | Fault::Damaged
+            | Fault::Full
+            | Fault::JournalMemory => 4,
+            Fault::Locked => 6,
             Fault::Secrets
             | Fault::Socket
             | Fault::Log
@@ -113,7 +139,11 @@ impl Fault {
 
 impl fmt::Display for Fault {
     fn fmt<W: fmt::Write>(&self, f: &mut fmt::Formatter<W>) -> fmt::Result {
-        f.write_str(self.name())
+        f.write_str(self.name())?;
+        match self {
+            Fault::SameFile(clash) => write!(f, ": {clash}"),
+            _ => Ok(()),
+        }
     }
 }
 
@@ -185,6 +215,11 @@ impl From<HostFault> for Fault {
             HostFault::Socket => Fault::Socket,
             HostFault::Output => Fault::Output,
             HostFault::Device => Fault::Device,
+            HostFault::NoJournal => Fault::NoJournal,
+            HostFault::Locked => Fault::Locked,
+            HostFault::OlderCopy => Fault::OlderCopy,
+            HostFault::Untold => Fault::Untold,
+            HostFault::Unannounced => Fault::Unannounced,
             HostFault::Damaged => Fault::Damaged,
             HostFault::Full => Fault::Full,
             HostFault::Memory => Fault::JournalMemory,

@@ -4,11 +4,14 @@ use crate::application::Applications;
 use crate::descriptor::read_config;
 use crate::failure::log_failure;
 use crate::fault::Fault;
+use crate::files::refuse_shared;
 use crate::purpose::{Running, Stream};
-use crate::words::{NodeWords, Words, read_words};
+use crate::sums::summed;
+use crate::words::{Greetings, NodeWords, Words, read_words};
 use std::io::ErrorKind;
 use std::process::ExitCode;
 use std::{env, io};
+use sv_config::Deployment;
 use sv_host::Place;
 use sv_version::version;
 
@@ -47,14 +50,29 @@ fn serve_input<A: Applications>(
     )
 }
 
+/// Where a node stands, and what it says of itself to the others, where it greets them.
+fn place_of(
+    machine: &HostRuntime,
+    deployment: &Deployment,
+    node: &NodeWords<'_>,
+) -> Result<Place, Fault> {
+    let place = Place::new(machine.alloc(), &deployment.cluster, node.number)?;
+    Ok(match node.options.greetings {
+        Greetings::On => place.greeting(summed(&deployment.contexts)),
+        Greetings::Off => place,
+    })
+}
+
 /// Runs a node in the cluster of its descriptor, over its files, until a command stops it.
 fn serve_in_cluster<A: Applications>(
     applications: &A,
     machine: &HostRuntime,
     node: &NodeWords<'_>,
 ) -> Result<(), Fault> {
+    refuse_shared(machine, node, None)?;
     let deployment = read_config(machine, applications.built_in(), node.config)?;
-    let place = Place::new(machine.alloc(), &deployment.cluster, node.number)?;
+    refuse_shared(machine, node, deployment.cluster.secrets.as_deref())?;
+    let place = place_of(machine, &deployment, node)?;
     let running = Running {
         machine,
         place,
@@ -88,18 +106,22 @@ const HELP: &str = " serves web applications over HTTP/1.1, and keeps their sess
     CONFIG        the descriptor of the nodes and their applications, in TOML; with --once also -, for the one that is
                   built in
     JOURNAL       the file that keeps the node's sessions, beside a second one with .b behind its name; both are made
-                  where they aren't there
+                  where they aren't there, but for --existing
     NUMBER        which node of the descriptor it is, from 0
     NOW           the moment of all requests, in whole seconds since 1970
 
     --keep-alive    lets each connection of a client bring many requests, else one
+    --existing      ends with NoJournal where a file of the journal isn't there, and makes none: kegctl init does
+    --greet         asks the other nodes before it serves, and greets them every 10 seconds: which start of this node they
+                    have heard of, how many nodes they were told of, and which contexts they have; packets of a node that
+                    has others aren't taken
     --log FILE      adds a line to FILE, or writes it to standard error where FILE is -, for each thing that may be
                     asked about afterwards: what was opened, refused, lost or ordered, and the fault that ends the node
     --metrics FILE  writes the node's figures to FILE every 5 seconds, as Prometheus reads them
 
 Status 0: halted, or served to the end. 2: words. 3: the descriptor, or an object that it names. 4: the journal. 5: a
-socket, secrets, the log, the figures, standard input or output. A fault prints one line with its name on standard
-error.
+socket, secrets, the log, the figures, standard input or output. 6: another process has the journal. A fault prints one
+line with its name on standard error.
 ";
 
 /// What the program's file is called, as it was called.

@@ -61,6 +61,7 @@ pub fn once<E: Engine + Drop, R: Read, W: Write>(
         let number = count + 1;
         let moment = Moment {
             now,
+            steady: now,
             secret: secret_of(number),
         };
         let served = connection.serve_next(reader, writer, &mut site, moment, number);

@@ -2,9 +2,10 @@
 
 ghost use Rattle.std.specs.Prelude.{◌≡◌, map, string_bytes};
 ghost use Rattle.sv_web.specs.Numeral.{number_in};
-ghost use Rattle.sv_launch.specs.Words.{command_of, command_in, once_at, node_at, of_one, of_three, of_more, option_of, options_of, last_of};
+ghost use Rattle.sv_launch.specs.Words.{command_of, command_in, once_at, node_at, of_one, of_three, of_more, is_greet, other_of, option_of, options_of, last_of};
 
 use sv_host::Paths;
+use sv_journal::IfMissing;
 use sv_net::Persistence;
 use sv_web::{read_u8, read_u64};
 use thiserror::Error;
@@ -36,10 +37,18 @@ impl<'a> NodeWords<'a> {
     pub fn paths(&self) -> Paths<'a> {
         Paths {
             journal: self.journal,
+            if_missing: self.options.if_missing,
             log: self.options.log,
             metrics: self.options.metrics,
         }
     }
+}
+
+/// Whether a node greets the others.
+#[derive(Clone, Copy, Debug, PartialEq, Eq)]
+pub enum Greetings {
+    Off,
+    On,
 }
 
 /// How a node runs.
@@ -47,6 +56,10 @@ impl<'a> NodeWords<'a> {
 pub struct Options<'a> {
     /// `--keep-alive`: its clients' connections are kept.
     pub persistence: Persistence,
+    /// `--existing`: the journal's files have to be there.
+    pub if_missing: IfMissing,
+    /// `--greet`: it asks the other nodes before it serves, and greets them while it does.
+    pub greetings: Greetings,
     /// `--log FILE`: what happens is written there, or to standard error where FILE is `-`.
     pub log: Option<&'a str>,
     /// `--metrics FILE`: its figures are written there.
@@ -57,6 +70,8 @@ impl Options<'_> {
     /// Those of a node whose words have none.
     pub const NONE: Options<'static> = Options {
         persistence: Persistence::Single,
+        if_missing: IfMissing::Make,
+        greetings: Greetings::Off,
         log: None,
         metrics: None,
     };
@@ -121,10 +136,21 @@ fn read_three<'a>(first: &'a str, second: &'a str, third: &str) -> Result<Words<
     }
 }
 
-/// The options, with the one that stands at the front of the words, and the words behind it; as they are where none stands there.
-fn read_option<'a>(options: Options<'a>, words: &'a [String]) -> (Options<'a>, &'a [String])
-    ensures options { options_of result.0 ≡ (option_of (options_of options.entry) (map string_bytes words.now)).0 }
-    ensures words { map string_bytes result.1.now ≡ (option_of (options_of options.entry) (map string_bytes words.now)).1 }
+/// `--greet` stands at the front of the words, with another behind it.
+fn is_greet(words: &[String]) -> bool
+    ensures { result ≡ is_greet (map string_bytes words.now) }
+{
+    match words {
+        [first, _, ..] => first.as_str() == "--greet",
+        _ => false,
+    }
+}
+
+/// The options, with one of the others that stands at the front of the words, and the words behind it; as they are where none stands
+/// there.
+fn read_other<'a>(options: Options<'a>, words: &'a [String]) -> (Options<'a>, &'a [String])
+    ensures options { options_of result.0 ≡ (other_of (options_of options.entry) (map string_bytes words.now)).0 }
+    ensures words { map string_bytes result.1.now ≡ (other_of (options_of options.entry) (map string_bytes words.now)).1 }
 {
     let [first, second, rest @ ..] = words else {
         return (options, words);
@@ -133,6 +159,13 @@ fn read_option<'a>(options: Options<'a>, words: &'a [String]) -> (Options<'a>, &
         "--keep-alive" => (
             Options {
                 persistence: Persistence::Kept,
+                ..options
+            },
+            &words[1..],
+        ),
+        "--existing" => (
+            Options {
+                if_missing: IfMissing::Refuse,
                 ..options
             },
             &words[1..],
@@ -155,6 +188,24 @@ fn read_option<'a>(options: Options<'a>, words: &'a [String]) -> (Options<'a>, &
     }
 }
 
+/// The options, with the one that stands at the front of the words, and the words behind it; as they are where none stands there.
+fn read_option<'a>(options: Options<'a>, words: &'a [String]) -> (Options<'a>, &'a [String])
+    ensures options { options_of result.0 ≡ (option_of (options_of options.entry) (map string_bytes words.now)).0 }
+    ensures words { map string_bytes result.1.now ≡ (option_of (options_of options.entry) (map string_bytes words.now)).1 }
+{
+    if !is_greet(words) {
+        return read_other(options, words);
+    }
+    let options = Options {
+        greetings: Greetings::On,
+        ..options
+    };
+    match words {
+        [_, rest @ ..] => (options, rest),
+        [] => (options, words),
+    }
+}
+
 /// The words of a node, behind its options.
 fn read_last<'a>(options: Options<'a>, words: &'a [String]) -> Result<Words<'a>, Arguments>
     ensures { command_of result ≡ last_of (options_of options.entry) (map string_bytes words.now) }
@@ -170,11 +221,13 @@ fn read_last<'a>(options: Options<'a>, words: &'a [String]) -> Result<Words<'a>,
     }
 }
 
-/// Up to three options, and the words of a node. Of two equal options the last one counts.
+/// Up to five options, and the words of a node. Of two equal options the last one counts.
 fn read_more(words: &[String]) -> Result<Words<'_>, Arguments>
     ensures { command_of result ≡ of_more (map string_bytes words.now) }
 {
     let (options, words) = read_option(Options::NONE, words);
+    let (options, words) = read_option(options, words);
+    let (options, words) = read_option(options, words);
     let (options, words) = read_option(options, words);
     let (options, words) = read_option(options, words);
     read_last(options, words)

@@ -51,6 +51,22 @@ pub enum Event {
     NotCompacted { bytes: u64 },
     /// The figures couldn't be written.
     NoFigures,
+    /// Another node says that it was started: it is its start of this number.
+    PeerStarted { node: u8, start: u64 },
+    /// Packets of another node aren't taken.
+    PeerRefused { node: u8, why: &'static str },
+    /// A packet of it wasn't.
+    PacketRefused { from: u8 },
+    /// Another node has heard of a later start of this one than this is: the journal is an older copy.
+    OlderCopy { node: u8, heard: u64 },
+    /// Another node has sessions of nodes below `homes`, and this one was told of fewer nodes.
+    Untold { node: u8, homes: u8 },
+    /// Another node was told of so few nodes that this one isn't among them.
+    Unannounced { node: u8, told: u8 },
+    /// The clock of another node's machine differs by so many seconds from this one's.
+    ClockDiffers { node: u8, seconds: u64 },
+    /// This machine's clock was set ahead, or back.
+    ClockSet { way: &'static str, seconds: u64 },
 }
 
 /// The name of a cause, as the body of the answer has it.
@@ -96,6 +112,11 @@ impl fmt::Display for Field {
     }
 }
 
+/// A node that something is said of.
+fn of(node: u8) -> Field {
+    Field::Number("node", u64::from(node))
+}
+
 fn to(node: u8) -> Field {
     Field::Number("to", u64::from(node))
 }
@@ -120,7 +141,11 @@ impl Event {
             | Event::MoveOrdered { .. }
             | Event::Moved
             | Event::HaltOrdered
+            | Event::PeerStarted { .. }
             | Event::Compacted { .. } => Some(Level::Info),
+            Event::OlderCopy { .. } | Event::Untold { .. } | Event::Unannounced { .. } => {
+                Some(Level::Error)
+            }
             _ => Some(Level::Warn),
         }
     }
@@ -149,6 +174,14 @@ impl Event {
             Event::Compacted { .. } => "compacted",
             Event::NotCompacted { .. } => "not_compacted",
             Event::NoFigures => "figures_unwritten",
+            Event::PeerStarted { .. } => "peer_started",
+            Event::PeerRefused { .. } => "peer_refused",
+            Event::PacketRefused { .. } => "packet_refused",
+            Event::OlderCopy { .. } => "older_copy",
+            Event::Untold { .. } => "untold_nodes",
+            Event::Unannounced { .. } => "unannounced",
+            Event::ClockDiffers { .. } => "clock_differs",
+            Event::ClockSet { .. } => "clock_set",
         }
     }
 
@@ -168,9 +201,7 @@ impl Event {
             }
             Event::PacketSent { to: node } => (to(node), Field::None),
             Event::PacketLost { to: node, why } => (to(node), Field::Word("why", why.name())),
-            Event::PeerSilent { node } | Event::PeerAnswers { node } => {
-                (Field::Number("node", u64::from(node)), Field::None)
-            }
+            Event::PeerSilent { node } | Event::PeerAnswers { node } => (of(node), Field::None),
             Event::MoveOrdered { key, to: node } => (Field::Session(key), to(node)),
             Event::MoveRefused { why } => (Field::Word("why", refusal_name(why)), Field::None),
             Event::Compacted { before, after } => (
@@ -180,6 +211,16 @@ impl Event {
             Event::NotCompacted { bytes } => (Field::Number("bytes", bytes), Field::None),
             Event::Answered { class } => { (Field::Number("class", u64::from(class)), Field::None) }
             Event::Group { steps } => (Field::Number("steps", steps), Field::None),
+            Event::PeerStarted { node, start } => (of(node), Field::Number("start", start)),
+            Event::PeerRefused { node, why } => (of(node), Field::Word("why", why)),
+            Event::PacketRefused { from } => (Field::Number("from", u64::from(from)), Field::None),
+            Event::OlderCopy { node, heard } => (of(node), Field::Number("heard", heard)),
+            Event::Untold { node, homes } => (of(node), Field::Number("homes", u64::from(homes))),
+            Event::Unannounced { node, told } => (of(node), Field::Number("told", u64::from(told))),
+            Event::ClockDiffers { node, seconds } => (of(node), Field::Number("seconds", seconds)),
+            Event::ClockSet { way, seconds } => {
+                (Field::Word("way", way), Field::Number("seconds", seconds))
+            }
             Event::Accepted
             | Event::NoRoom
             | Event::Moved
@@ -207,7 +248,16 @@ impl Event {
             Event::BadRequest { fault } => (fault, 0),
             Event::GaveWay { phase } | Event::Late { phase } => (phase.name(), 0),
             Event::PacketLost { to, why } => (why.name(), to),
-            Event::PeerSilent { node } | Event::PeerAnswers { node } => ("", node),
+            Event::PeerSilent { node }
+            | Event::PeerAnswers { node }
+            | Event::PeerStarted { node, .. }
+            | Event::OlderCopy { node, .. }
+            | Event::Untold { node, .. }
+            | Event::Unannounced { node, .. }
+            | Event::ClockDiffers { node, .. } => ("", node),
+            Event::PeerRefused { node, why } => (why, node),
+            Event::PacketRefused { from } => ("", from),
+            Event::ClockSet { way, .. } => (way, 0),
             Event::MoveOrdered { to, .. } => ("", to),
             Event::MoveRefused { why } => (refusal_name(why), 0),
             _ => ("", 0),

@@ -55,11 +55,12 @@ pub struct Gauges {
     pub waiting: u64,
     /// Connections that are open, packets on their way among them.
     pub connections: u64,
-    /// The length of the journal in bytes.
+    /// The length of the journal in bytes, once it was opened.
     pub journal: u64,
     /// In seconds since 1970.
     pub now: u64,
-    pub keys: Census,
+    /// None until the journal was opened: nothing is known of sessions and keys before, nor of the journal's length.
+    pub keys: Option<Census>,
     /// So many keys the node knows at most.
     pub limit: u64,
 }
@@ -209,23 +210,38 @@ impl Figures {
         write_plain(out, node, &self.counters())?;
         WRITE_SECONDS.head(out)?;
         WRITE_SECONDS.seconds(out, node, self.write_nanoseconds)?;
-        write_sessions(out, node, gauges.keys)?;
-        write_plain(out, node, &gauges.all())
+        gauges.write_keys(out, node)?;
+        write_plain(out, node, &gauges.of_clients())?;
+        gauges.write_journal(out, node)?;
+        write_plain(out, node, &[(TIME, gauges.now)])
     }
 }
 
 impl Gauges {
-    fn all(self) -> [(Family, u64); 8] {
-        let keys = self.keys;
-        [
+    /// Writes what there is of sessions and keys, once that is known.
+    fn write_keys(self, out: &mut String, node: u8) -> Result<(), AllocError> {
+        let Some(keys) = self.keys else {
+            return Ok(());
+        };
+        write_sessions(out, node, keys)?;
+        let known = [
             (KNOWN, keys.known()),
             (KNOWN_LIMIT, self.limit),
             (GONE, keys.gone),
             (ENDED, keys.ended),
-            (WAITING, self.waiting),
-            (CONNECTIONS, self.connections),
-            (JOURNAL, self.journal),
-            (TIME, self.now),
-        ]
+        ];
+        write_plain(out, node, &known)
+    }
+
+    fn of_clients(self) -> [(Family, u64); 2] {
+        [(WAITING, self.waiting), (CONNECTIONS, self.connections)]
+    }
+
+    /// The same of the journal.
+    fn write_journal(self, out: &mut String, node: u8) -> Result<(), AllocError> {
+        if self.keys.is_none() {
+            return Ok(());
+        }
+        write_plain(out, node, &[(JOURNAL, self.journal)])
     }
 }

@@ -21,6 +21,15 @@ impl Level {
             Level::Error => "error",
         }
     }
+
+    /// What systemd's journal wants in front of a line: `err`, `warning` or `info` of syslog(3) (sd-daemon(3)).
+    pub(crate) fn prefix(self) -> &'static str {
+        match self {
+            Level::Info => "<6>",
+            Level::Warn => "<4>",
+            Level::Error => "<3>",
+        }
+    }
 }
 
 impl fmt::Display for Level {

@@ -31,7 +31,7 @@ pub use figures::{Figures, Gauges};
 pub use level::Level;
 pub use log::{Log, STANDARD_ERROR};
 pub use loss::Loss;
-pub use metrics::Metrics;
+pub use metrics::{Metrics, can_be_figures};
 pub use milestone::Milestone;
 pub use phase::Phase;
 pub use quoted::Quoted;

@@ -7,8 +7,9 @@ use crate::tally::{Said, Tally};
 use std::alloc::{AllocError, Global};
 use std::fs::{File, Files, OpenOptions};
 use std::io::Write;
-use std::os::unix::fs::OpenOptionsExt;
-use std::{fmt, io};
+use std::os::unix::fs::{MetadataExt, OpenOptionsExt};
+use std::rt::Env;
+use std::{env, fmt, fs, io};
 
 /// The word for standard error.
 pub const STANDARD_ERROR: &str = "-";
@@ -20,14 +21,24 @@ const MODE: u32 = 0o600;
 #[derive(Drop)]
 enum Sink {
     StandardError,
+    /// Standard error that systemd's journal reads.
+    Journal,
     File(File),
 }
 
 impl Sink {
+    /// What a line of this level begins with there.
+    fn prefix(&self, level: Level) -> &'static str {
+        match self {
+            Sink::Journal => level.prefix(),
+            Sink::StandardError | Sink::File(_) => "",
+        }
+    }
+
     /// Writes as much of a text as is taken at once, in bytes.
     fn put(&mut self, machine: &impl Eprint, text: &str) -> usize {
         match self {
-            Sink::StandardError => match machine.eprint(text) {
+            Sink::StandardError | Sink::Journal => match machine.eprint(text) {
                 Ok(()) => text.len(),
                 Err(_) => 0,
             },
@@ -68,15 +79,30 @@ pub struct Log {
     alloc: Global,
 }
 
-/// A line: `time level text`, and its end.
+/// Whether systemd's journal reads standard error: systemd says which stream it has connected, `DEVICE:INODE` (systemd.exec(5)).
+fn is_journal<R: Files<File = File> + Env + AllocGlobal>(machine: &R) -> bool {
+    let Ok(stream) = env::var(machine, "JOURNAL_STREAM") else {
+        return false;
+    };
+    let Ok(own) = fs::metadata(machine, "/proc/self/fd/2") else {
+        return false;
+    };
+    match format!(in machine.alloc(); "{}:{}", own.dev(), own.ino()) {
+        Ok(own) => own == stream,
+        Err(_) => false,
+    }
+}
+
+/// A line: what the sink wants in front of it, `time level text`, and its end.
 fn line_of<T: fmt::Display + Drop>(
     alloc: Global,
+    prefix: &'static str,
     second: u64,
     level: Level,
     text: T,
 ) -> Result<String, AllocError> {
     let stamp = Stamp(second);
-    format!(in alloc; "{stamp} {level} {text}\n")
+    format!(in alloc; "{prefix}{stamp} {level} {text}\n")
 }
 
 /// Whether so many bytes at the front of lines end within a line.
@@ -94,8 +120,14 @@ fn lines_in(bytes: &[u8]) -> u64 {
 
 impl Log {
     /// Opens the file at a path, which is made where it isn't there, to write behind what it has; `-` is standard error.
-    pub fn open<R: Files<File = File>>(alloc: Global, files: &R, path: &str) -> io::Result<Log> {
-        let sink = if path == STANDARD_ERROR {
+    pub fn open<R: Files<File = File> + Env + AllocGlobal>(
+        alloc: Global,
+        files: &R,
+        path: &str,
+    ) -> io::Result<Log> {
+        let sink = if path == STANDARD_ERROR && is_journal(files) {
+            Sink::Journal
+        } else if path == STANDARD_ERROR {
             Sink::StandardError
         } else {
             Sink::File(
@@ -120,7 +152,8 @@ impl Log {
 
     /// Puts a line down, whatever it says.
     pub fn say<T: fmt::Display + Drop>(&mut self, level: Level, text: T) {
-        match line_of(self.alloc, self.second, level, text) {
+        let prefix = self.sink.prefix(level);
+        match line_of(self.alloc, prefix, self.second, level, text) {
             Ok(line) => self.put_down(line.as_str()),
             Err(_) => self.lost = self.lost.saturating_add(1),
         }
@@ -188,7 +221,8 @@ impl Log {
             key: "lines",
             count: self.lost,
         };
-        let Ok(text) = format!(in self.alloc; "{stamp} {} {lines}\n", Level::Warn) else {
+        let prefix = self.sink.prefix(Level::Warn);
+        let Ok(text) = format!(in self.alloc; "{prefix}{stamp} {} {lines}\n", Level::Warn) else {
             return false;
         };
         let written = self.sink.put(machine, text.as_str());

@@ -3,8 +3,7 @@
 use crate::figures::{Figures, Gauges};
 use std::alloc::{AllocError, Global};
 use std::fs::{self, File, Files, OpenOptions, Permissions};
-use std::io;
-use std::io::Write;
+use std::io::{self, ErrorKind, Write};
 use std::os::unix::fs::PermissionsExt;
 
 /// In seconds: so often the file is written anew.
@@ -13,7 +12,8 @@ const PERIOD: u64 = 5;
 /// Who may read the file, whatever the process's mask: everybody, as it is read by another user's program.
 const MODE: u32 = 0o644;
 
-/// A file of figures. It is written under a name that ends in `.new`, and then given its own, so that nobody reads half of one.
+/// A file of figures. It is written under a name that ends in `.new`, and then given its own, so that nobody reads half of one. Only a
+/// regular file, or none, gives way to it.
 #[derive(Drop)]
 pub struct Metrics {
     path: String,
@@ -25,12 +25,30 @@ pub struct Metrics {
     alloc: Global,
 }
 
-/// Writes a whole file.
+/// Whether figures may take the place of what is at a path: a regular file itself, and no link to one, or nothing.
+pub fn can_be_figures<R: Files<File = File>>(files: &R, path: &str) -> io::Result<()> {
+    match fs::symlink_metadata(files, path) {
+        Ok(found) if found.is_file() => Ok(()),
+        Ok(_) => Err(io::Error::from(ErrorKind::InvalidInput)),
+        Err(fault) if fault.kind() == ErrorKind::NotFound => Ok(()),
+        Err(fault) => Err(fault),
+    }
+}
+
+/// Takes away what a process left at a path that was stopped while it wrote there.
+fn clear<R: Files<File = File>>(files: &R, path: &str) -> io::Result<()> {
+    can_be_figures(files, path)?;
+    match fs::remove_file(files, path) {
+        Err(fault) if fault.kind() != ErrorKind::NotFound => Err(fault),
+        _ => Ok(()),
+    }
+}
+
+/// Writes a whole file, which is made for it and was none before.
 fn write_file<R: Files<File = File>>(files: &R, path: &str, text: &str) -> io::Result<()> {
     let mut file = OpenOptions::new()
         .write(true)
-        .create(true)
-        .truncate(true)
+        .create_new(true)
         .open(files, path)?;
     file.set_permissions(Permissions::from_mode(MODE))?;
     file.write_all(text.as_bytes())
@@ -51,7 +69,8 @@ impl Metrics {
 
     /// Whether it is time to write them.
     pub fn is_due(&self, now: u64) -> bool {
-        now >= self.written.saturating_add(PERIOD)
+        // The clock may have been set back.
+        now >= self.written.saturating_add(PERIOD) || now < self.written
     }
 
     /// The text of the figures.
@@ -65,13 +84,15 @@ impl Metrics {
     pub fn write<R: Files<File = File>>(&mut self, files: &R, gauges: Gauges) -> io::Result<()> {
         self.written = gauges.now;
         let Ok(text) = self.text(gauges) else {
-            return Err(io::Error::from(io::ErrorKind::OutOfMemory));
+            return Err(io::Error::from(ErrorKind::OutOfMemory));
         };
         self.write_text(files, text.as_str())
     }
 
     /// Writes the file beside, and gives it its name. Where that can't be, nothing is left beside.
     fn write_text<R: Files<File = File>>(&self, files: &R, text: &str) -> io::Result<()> {
+        can_be_figures(files, self.path.as_str())?;
+        clear(files, self.beside.as_str())?;
         write_file(files, self.beside.as_str(), text)?;
         let renamed = fs::rename(files, self.beside.as_str(), self.path.as_str());
         if renamed.is_err() {

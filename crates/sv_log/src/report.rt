@@ -11,6 +11,7 @@ use crate::milestone::Milestone;
 use std::alloc::Global;
 use std::fmt;
 use std::fs::{File, Files};
+use std::rt::Env;
 
 /// So many nodes may be in a cluster.
 const NODES: usize = 8;
@@ -32,7 +33,8 @@ pub struct Report {
     is_silent: [bool; NODES],
     now: u64,
     journal: u64,
-    keys: Census,
+    /// None until they were counted, which is when the journal was opened.
+    keys: Option<Census>,
     /// So many keys the node knows at most.
     limit: u64,
     /// When it was begun, by the clock that nobody sets, in milliseconds.
@@ -64,14 +66,14 @@ impl Report {
             is_silent: [false; NODES],
             now: 0,
             journal: 0,
-            keys: Census::default(),
+            keys: None,
             limit: 0,
             begun: 0,
         }
     }
 
     /// Has events written to the log at a path, or to standard error where it is `-`.
-    pub fn log_to<R: Files<File = File>>(
+    pub fn log_to<R: Files<File = File> + Env + AllocGlobal>(
         &mut self,
         alloc: Global,
         files: &R,
@@ -119,13 +121,14 @@ impl Report {
     pub fn opened(&mut self, bytes: u64, records: u64, milliseconds: u64) {
         self.journal = bytes;
         let milliseconds = milliseconds.saturating_sub(self.begun);
+        let keys = self.keys.unwrap_or_default();
         self.say(
             Level::Info,
             Milestone::Opened {
                 bytes,
                 records,
-                sessions: self.keys.active,
-                keys: self.keys.known(),
+                sessions: keys.active,
+                keys: keys.known(),
                 milliseconds,
             },
         );
@@ -213,12 +216,12 @@ impl Report {
 
     /// How many keys the node knows, by what has become of their sessions, as [`Census`] has them.
     pub fn census(&mut self, active: u64, sent: u64, gone: u64, ended: u64) {
-        self.keys = Census {
+        self.keys = Some(Census {
             active,
             sent,
             gone,
             ended,
-        };
+        });
     }
 
     /// Whether the figures are about to be written, so that the keys are to be counted for them.

@@ -7,7 +7,7 @@
 
 /// The version, a line feed, and how the program was made, with blanks behind.
 const STAMP: &str =
-    "0.9.0\nnot installed: `./run install` writes here which commit it was made of, and whether that was proved                    ";
+    "0.10.0\nnot installed: `./run install` writes here which commit it was made of, and whether that was proved                    ";
 
 /// The version, a line feed, and how the program was made.
 pub fn version() -> &'static str {
