@@ -15,14 +15,14 @@ use Rattle.example_cart.specs.declared.rows.Rows.{Rows}
 use Rattle.example_cart.specs.declared.rows.Wrong.{Wrong}
 use Rattle.example_cart.specs.declared.markup.TheConstants.{ADDED, ADD_FAULT, ADD_FIELD, AGAIN, ANEW, AT_MOST}
 use Rattle.example_cart.specs.declared.markup.TheConstants.{BEFORE_ADD, BEFORE_ARTICLE_NAME, BEFORE_BASE, BEFORE_CHANGE, BEFORE_CHECKOUT, BEFORE_CODE}
-use Rattle.example_cart.specs.declared.markup.TheConstants.{BEFORE_COST, BEFORE_COUNT, BEFORE_FAULT, BEFORE_FIELD, BEFORE_HEADING, BEFORE_LABEL}
-use Rattle.example_cart.specs.declared.markup.TheConstants.{BEFORE_LABEL_NAME, BEFORE_MESSAGE, BEFORE_MOVES, BEFORE_NAME, BEFORE_NODE, BEFORE_NUMBER}
+use Rattle.example_cart.specs.declared.markup.TheConstants.{BEFORE_COST, BEFORE_COUNT, BEFORE_FAULT, BEFORE_FIELD, BEFORE_HEADING, BEFORE_KEY, BEFORE_LABEL}
+use Rattle.example_cart.specs.declared.markup.TheConstants.{BEFORE_LABEL_NAME, BEFORE_LOGIN, BEFORE_MESSAGE, BEFORE_MOVES, BEFORE_NAME, BEFORE_NODE, BEFORE_NUMBER}
 use Rattle.example_cart.specs.declared.markup.TheConstants.{BEFORE_ORDER, BEFORE_PAGE, BEFORE_PICTURE, BEFORE_PRICE, BEFORE_REMOVE, BEFORE_SAID}
 use Rattle.example_cart.specs.declared.markup.TheConstants.{BEFORE_SKIP, BEFORE_TITLE, BEFORE_TOTAL, BEFORE_VISIT, BEHIND_ADD, BEHIND_CHECKOUT}
 use Rattle.example_cart.specs.declared.markup.TheConstants.{BEHIND_COUNT, BEHIND_FAULT, BEHIND_NAME, BEHIND_ORDER, BEHIND_ORDERED, BEHIND_ORDER_TOTAL}
 use Rattle.example_cart.specs.declared.markup.TheConstants.{BEHIND_REMOVE, BEHIND_SAID, BEHIND_VALUE, CART, CATALOGUE, CHANGED}
 use Rattle.example_cart.specs.declared.markup.TheConstants.{CHANGE_FAULT, CHANGE_FIELD, END, GOODBYE, LINES, LINES_END}
-use Rattle.example_cart.specs.declared.markup.TheConstants.{LOGIN_FORM, NEW_CART, NOTHING, NOT_ORDERED, NO_ORDER, OUTDATED}
+use Rattle.example_cart.specs.declared.markup.TheConstants.{LOGIN_FIELDS, NEW_CART, NOTHING, NOT_ORDERED, NO_ORDER, OUTDATED}
 use Rattle.example_cart.specs.declared.markup.TheConstants.{STOP, TIMES, WAYS}
 use Rattle.example_cart.specs.Cart.{cost, is_empty, total}
 use Rattle.example_cart.specs.Html.{escaped, price}
@@ -128,10 +128,16 @@ rows_html sheet number (article ∷ articles) (quantity ∷ quantities) = row_ht
 
 -- ---- the frame
 
+-- the form to log in with; in a session its key is the number of the page
+unfoldable pub login_html : Mark → List ℕ
+login_html mark =
+    if mark.visit == 0 then concat (BEFORE_LOGIN.now ∷ LOGIN_FIELDS.now ∷ [])
+    else concat (BEFORE_LOGIN.now ∷ BEFORE_KEY.now ∷ decimal mark.visit ∷ STOP.now ∷ decimal mark.page ∷ BEHIND_VALUE.now ∷ LOGIN_FIELDS.now ∷ [])
+
 -- a welcome by name, and the form to log out with; or the form to log in with
-unfoldable pub greeting : Option (List ℕ) → List ℕ
-greeting None = concat (LOGIN_FORM.now ∷ [])
-greeting (Some name) = concat (BEFORE_NAME.now ∷ escaped name ∷ BEHIND_NAME.now ∷ [])
+unfoldable pub greeting : Mark → Option (List ℕ) → List ℕ
+greeting mark None = login_html mark
+greeting mark (Some name) = concat (BEFORE_NAME.now ∷ escaped name ∷ BEHIND_NAME.now ∷ [])
 
 -- the base of the links, and the title
 unfoldable pub title_html : List ℕ → List ℕ → List ℕ
@@ -143,7 +149,7 @@ links_html here count = concat (BEFORE_SKIP.now ∷ escaped here ∷ BEFORE_COUN
 
 -- everything before the page's own part
 unfoldable pub head : Around → List ℕ → List ℕ → List ℕ
-head f title here = title_html f.base title ++ links_html here f.count ++ greeting f.name
+head f title here = title_html f.base title ++ links_html here f.count ++ greeting f.mark f.name
 
 -- everything after it: the node that answered, and how often the session has moved
 unfoldable pub foot : Around → List ℕ

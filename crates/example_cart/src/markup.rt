@@ -55,8 +55,12 @@ pub const BEHIND_NAME: &str = r#"</strong></p>
 </header>
 "#;
 
-pub const LOGIN_FORM: &str = r#"<form class="who" method="post" action="login">
-<label for="name">Your name</label>
+pub const BEFORE_LOGIN: &str = r#"<form class="who" method="post" action="login">
+"#;
+
+pub const BEFORE_KEY: &str = r#"<input type="hidden" name="once" value=""#;
+
+pub const LOGIN_FIELDS: &str = r#"<label for="name">Your name</label>
 <input id="name" name="name" maxlength="64" required autocomplete="name">
 <button class="plain">Log in</button>
 </form>

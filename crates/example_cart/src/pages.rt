@@ -8,11 +8,11 @@ use crate::article::Article;
 use crate::cart::Cart;
 use crate::markup::{
     ADDED, AGAIN, ANEW, AT_MOST, BEFORE_BASE, BEFORE_CHECKOUT, BEFORE_CODE, BEFORE_COUNT,
-    BEFORE_HEADING, BEFORE_MESSAGE, BEFORE_MOVES, BEFORE_NAME, BEFORE_NODE, BEFORE_ORDER,
-    BEFORE_SAID, BEFORE_SKIP, BEFORE_TITLE, BEFORE_TOTAL, BEHIND_CHECKOUT, BEHIND_COUNT,
-    BEHIND_NAME, BEHIND_ORDER, BEHIND_ORDER_TOTAL, BEHIND_SAID, CART, CATALOGUE, CHANGED, END,
-    GOODBYE, LINES, LINES_END, LOGIN_FORM, NEW_CART, NO_ORDER, NOT_ORDERED, NOTHING, OUTDATED,
-    STOP, TIMES, WAYS,
+    BEFORE_HEADING, BEFORE_KEY, BEFORE_LOGIN, BEFORE_MESSAGE, BEFORE_MOVES, BEFORE_NAME,
+    BEFORE_NODE, BEFORE_ORDER, BEFORE_SAID, BEFORE_SKIP, BEFORE_TITLE, BEFORE_TOTAL,
+    BEHIND_CHECKOUT, BEHIND_COUNT, BEHIND_NAME, BEHIND_ORDER, BEHIND_ORDER_TOTAL, BEHIND_SAID,
+    BEHIND_VALUE, CART, CATALOGUE, CHANGED, END, GOODBYE, LINES, LINES_END, LOGIN_FIELDS, NEW_CART,
+    NO_ORDER, NOT_ORDERED, NOTHING, OUTDATED, STOP, TIMES, WAYS,
 };
 use crate::notice::{Notice, Said};
 use crate::order::Order;
@@ -38,10 +38,29 @@ pub struct Frame<'a> {
     pub moves: u32,
 }
 
+/// The form to log in with. In a session the number of its page is its key, so that a form that is sent twice is one login.
+#[tactic(auto, unfolding(crate::specs::Pages::login_html))]
+fn write_login(page: &mut Page, mark: Mark) -> Result<(), AllocError>
+    ensures { OnOk result (page.new ≡ page.old ++ spec.login_html mark) }
+{
+    if mark.visit == 0 {
+        return page.write(&[Piece::Markup(BEFORE_LOGIN), Piece::Markup(LOGIN_FIELDS)]);
+    }
+    page.write(&[
+        Piece::Markup(BEFORE_LOGIN),
+        Piece::Markup(BEFORE_KEY),
+        Piece::Number(mark.visit),
+        Piece::Markup(STOP),
+        Piece::Number(u64::from(mark.page)),
+        Piece::Markup(BEHIND_VALUE),
+        Piece::Markup(LOGIN_FIELDS),
+    ])
+}
+
 /// A welcome by name, and the form to log out with; or the form to log in with.
 #[tactic(auto, unfolding(crate::specs::Pages::greeting))]
-fn write_greeting(page: &mut Page, name: Option<&[u8]>) -> Result<(), AllocError>
-    ensures { OnOk result (page.new ≡ page.old ++ spec.greeting (option_copied name.entry)) }
+fn write_greeting(page: &mut Page, mark: Mark, name: Option<&[u8]>) -> Result<(), AllocError>
+    ensures { OnOk result (page.new ≡ page.old ++ spec.greeting mark (option_copied name.entry)) }
 {
     match name {
         Some(name) => page.write(&[
@@ -49,7 +68,7 @@ fn write_greeting(page: &mut Page, name: Option<&[u8]>) -> Result<(), AllocError
             Piece::Shown(name),
             Piece::Markup(BEHIND_NAME),
         ]),
-        None => page.write(&[Piece::Markup(LOGIN_FORM)]),
+        None => write_login(page, mark),
     }
 }
 
@@ -91,7 +110,7 @@ fn write_head<'a>(
 {
     write_title(page, frame.base, title)?;
     write_links(page, here, frame.count)?;
-    write_greeting(page, frame.name)?;
+    write_greeting(page, frame.mark, frame.name)?;
     Ok(())
 }
 

@@ -8,6 +8,7 @@ use sv_model::{Moment, Secret};
 fn moment(now: u64, secret: u8) -> Moment {
     Moment {
         now,
+        steady: now,
         secret: Secret([0, 0, 0, 0, 0, 0, 0, 0, 0, 0, 0, 0, 0, 0, 0, secret]),
     }
 }

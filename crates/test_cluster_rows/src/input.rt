@@ -33,7 +33,7 @@ fn packet(alloc: Global, words: &str) -> Result<Input, RowFault>
     }
 }
 
-/// What some words say: `ask TARGET COOKIE`, `poke`, `tick`, `move KEY TO`, or `packet` and its bytes in hexadecimal.
+/// What some words say: `ask TARGET COOKIE` or `ask METHOD KEY TARGET COOKIE`, `poke`, `tick`, `move KEY TO`, or `packet` and its bytes in hexadecimal.
 pub fn input(alloc: Global, token: u64, words: &str) -> Result<Input, RowFault>
     ensures { IfOk result (λ input. IsInput input) }
 {

@@ -10,7 +10,7 @@
 //! - `fails DISK`: the same over blank disks, once for each call of the disk A or B, which fails; `failing`.
 //! - `client TARGET COOKIE`: two nodes, and a client that waits at one of them for the other; `client`.
 //!
-//! SHOP is `built-in`, `of-a-minute` or `renewing` (`shop`). Each event happens in the second 1000, with the secret 1, or as the line
+//! SHOP is `built-in`, `of-a-minute`, `renewing` or `once` (`shop`). Each event happens in the second 1000, with the secret 1, or as the line
 //! `at SECOND SECRET` before it says.
 #![tactic(auto)]
 

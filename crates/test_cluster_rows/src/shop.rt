@@ -1,5 +1,5 @@
 //! The applications that nodes serve by: the samples, as the program `node` has them where no descriptor is given; with sessions that
-//! expire after a minute; or with a servlet more, which changes the id of a session.
+//! expire after a minute; with a servlet more, which changes the id of a session; or with that, and sessions that remember two answers.
 
 ghost use Rattle.std.specs.Prelude.{IfOk};
 ghost use Rattle.sv_container.specs.Life.{AreNamedNew};
@@ -26,6 +26,8 @@ path = "/shop"
 "#;
 
 const A_MINUTE: &str = "interval = 60\n";
+
+const ONCE: &str = "once = { answers = 2, parameter = \"once\" }\n";
 
 const TABLES: &str = r#"
 [[context.servlet]]
@@ -72,6 +74,7 @@ fn descriptor(alloc: Global, name: &str) -> Result<String, RowFault> {
         "built-in" => Ok(format!(in alloc; "{HEAD}{TABLES}")?),
         "of-a-minute" => Ok(format!(in alloc; "{HEAD}{A_MINUTE}{TABLES}")?),
         "renewing" => Ok(format!(in alloc; "{HEAD}{TABLES}{RENEWING}")?),
+        "once" => Ok(format!(in alloc; "{HEAD}{ONCE}{TABLES}{RENEWING}")?),
         _ => Err(RowFault::Word),
     }
 }

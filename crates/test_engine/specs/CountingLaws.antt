@@ -12,9 +12,10 @@ use Rattle.sv_model.specs.declared.outcome.Outcome.{Outcome}
 use Rattle.sv_model.specs.declared.outcome.Fate.TheVariants.{Untouched}
 use Rattle.sv_model.specs.Keys.{IsKey}
 use Rattle.sv_model.specs.declared.event.Told.{Told}
-use Rattle.sv_model.specs.Engine.{heard_all, TouchesOnlyHanded, KeepsLimits, KeepsWithin, BringsWithin, NamesKeys}
+use Rattle.sv_model.specs.Engine.{heard_all, TouchesOnlyHanded}
+use Rattle.sv_model.specs.Limits.{KeepsLimits, KeepsWithin, BringsWithin, NamesKeys, IsWithinLimits}
 use Rattle.sv_model.specs.Method.{is_head}
-use Rattle.sv_model.specs.Session.{IsWithinLimits, is_expired}
+use Rattle.sv_model.specs.Session.{is_expired}
 use Rattle.sv_model.proofs.AttributesLemmas.{attributes_size-nil}
 use Rattle.test_engine.specs.Counting.{named_by, first_at, again_at, counts_at, counts}
 

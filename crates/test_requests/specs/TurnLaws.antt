@@ -4,8 +4,7 @@ use Rattle.std.proofs.lemmas.List.Elements.{All-nil}
 use Rattle.sv_model.specs.Attributes.{Attribute}
 use Rattle.sv_model.specs.declared.key.Key.{Key}
 use Rattle.sv_model.specs.declared.key.Secret.{Secret}
-use Rattle.sv_model.specs.Engine.{KeepsLimits}
-use Rattle.sv_model.specs.Session.{IsWithinLimits}
+use Rattle.sv_model.specs.Limits.{KeepsLimits, IsWithinLimits}
 use Rattle.sv_model.proofs.AttributesLemmas.{attributes_size-nil}
 use Rattle.test_requests.specs.Turns.{turns, made_at}
 

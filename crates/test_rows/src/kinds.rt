@@ -4,7 +4,7 @@ mod calls;
 
 use crate::application::{contexts, deployed, descriptors, filters, patterns, servlets};
 use crate::fault::RowFault;
-use crate::record::{self, attributes, changed, frames, keys, spelled};
+use crate::record::{self, attributes, changed, frames, greetings, keys, spelled};
 use crate::watched;
 use crate::web::{cookies, fields, forms, lengths, responses, streams, targets};
 use std::alloc::Global;
@@ -39,6 +39,7 @@ fn of_record(alloc: Global, kind: &str, parts: &str) -> Result<String, RowFault>
         "old-packet" => spelled::old::<Packet>(alloc, parts),
         "frame" => frames::frame(alloc, parts),
         "old-frame" => frames::old(alloc, parts),
+        "greeting" => greetings::greeting(alloc, parts),
         "attributes" => attributes::attributes(alloc, parts),
         "changed" => changed::changed(alloc, parts),
         "count" => record::count(alloc, parts),

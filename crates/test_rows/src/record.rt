@@ -3,6 +3,7 @@
 pub mod attributes;
 pub mod changed;
 pub mod frames;
+pub mod greetings;
 pub mod keys;
 mod shown;
 pub mod spelled;

@@ -126,16 +126,20 @@ fn script(rt: &impl Abort, alloc: Global, a: MemoryDisk, b: MemoryDisk, steps: &
     }
 }
 
-// Takes the steps on disks that hold these bytes. A call of each disk, by its number, fails; none with 0.
+// Takes the steps on disks that hold these bytes, which grow slowly if they have room ahead. A call of each disk, by its number,
+// fails; none with 0.
 fn run(
     rt: &impl Abort,
     alloc: Global,
     disks: [&[u8]; 2],
+    room: usize,
     fails: (u64, u64),
     steps: &[Step],
 ) -> Ended {
-    let a = disk_of(rt, alloc, disks[0], fails.0);
-    let b = disk_of(rt, alloc, disks[1], fails.1);
+    let mut a = disk_of(rt, alloc, disks[0], fails.0);
+    let mut b = disk_of(rt, alloc, disks[1], fails.1);
+    a.grow_slowly(room);
+    b.grow_slowly(room);
     script(rt, alloc, a, b, steps)
 }
 
@@ -166,7 +170,7 @@ fn opens_with_these(rt: &impl Abort, alloc: Global, ended: &Ended, k: u64) -> bo
     } else {
         (0, k.saturating_sub(11))
     };
-    let again = run(rt, alloc, [ended.a.bytes(), ended.b.bytes()], fails, &[]);
+    let again = run(rt, alloc, [ended.a.bytes(), ended.b.bytes()], 0, fails, &[]);
     let is_device = again.fault.is_none() || again.fault == Some(JournalFault::Device);
     is_device && has_these(rt, alloc, &again, ended.acknowledged)
 }
@@ -181,49 +185,91 @@ fn opens_each_time(rt: &impl Abort, alloc: Global, ended: &Ended) -> bool {
     has_these(rt, alloc, ended, ended.acknowledged)
 }
 
-// What a script leaves of which a call has failed, or none.
-fn is_so(rt: &impl Abort, alloc: Global, ended: &Ended) -> bool {
+// What a script leaves of which a call has failed, or none. An opening makes the same calls whatever comes after the entries: with
+// zeros there it is tried once, since they are long.
+fn is_so(rt: &impl Abort, alloc: Global, ended: &Ended, room: usize) -> bool {
     match ended.fault {
         None => ended.acknowledged == 10 && has_these(rt, alloc, ended, 10),
-        Some(JournalFault::Device) => opens_each_time(rt, alloc, ended),
+        Some(JournalFault::Device) if room == 0 => opens_each_time(rt, alloc, ended),
+        Some(JournalFault::Device) => has_these(rt, alloc, ended, ended.acknowledged),
         Some(_) => false,
     }
 }
 
-fn expect_so(rt: &impl Abort, alloc: Global, ended: &Ended, is_on_a: bool, k: u64) {
-    assert!(rt; is_so(rt, alloc, ended), "call {k} of disk A: {is_on_a}");
+/// The disk of which calls fail, and how much room ahead each of the two has.
+#[derive(Clone, Copy)]
+struct Failing {
+    is_on_a: bool,
+    room: usize,
+}
+
+fn expect_so(rt: &impl Abort, alloc: Global, ended: &Ended, failing: Failing, k: u64) {
+    let Failing { is_on_a, room } = failing;
+    assert!(rt;
+        is_so(rt, alloc, ended, room),
+        "call {k} of disk A: {is_on_a}, room {room}"
+    );
 }
 
 // Runs the script with the k-th call of one disk failing: whether it was through before that. All is so behind it.
-fn is_through(rt: &impl Abort, alloc: Global, is_on_a: bool, k: u64) -> bool {
-    let fails = if is_on_a { (k, 0) } else { (0, k) };
-    let ended = run(rt, alloc, [b"", b""], fails, &SCRIPT);
-    expect_so(rt, alloc, &ended, is_on_a, k);
+fn is_through(rt: &impl Abort, alloc: Global, failing: Failing, k: u64) -> bool {
+    let fails = if failing.is_on_a { (k, 0) } else { (0, k) };
+    let ended = run(rt, alloc, [b"", b""], failing.room, fails, &SCRIPT);
+    expect_so(rt, alloc, &ended, failing, k);
     ended.fault.is_none()
 }
 
 // Runs the script with the k-th call of one disk failing, until none fails, and tells how many calls that were.
-fn calls_of(rt: &impl Abort, alloc: Global, is_on_a: bool) -> u64 {
+fn calls_of(rt: &impl Abort, alloc: Global, failing: Failing) -> u64 {
     for k in 1..200u64 {
-        if is_through(rt, alloc, is_on_a, k) {
+        if is_through(rt, alloc, failing, k) {
             return k.saturating_sub(1);
         }
     }
     200
 }
 
+const A: Failing = Failing {
+    is_on_a: true,
+    room: 0,
+};
+
+const B: Failing = Failing {
+    is_on_a: false,
+    room: 0,
+};
+
+// For 15 times 64 KiB.
+const AMPLE: usize = 1_000_000;
+
+// Less than the first entry that is added wants: it is all used up for that one.
+const SCANT: usize = 3;
+
 // Disk A: 8 calls make the first journal, each append is 4, and each of two compactions the length, the gate and the
 // 8 calls that change something. Disk B: a sync and a length, then the same, but its first compaction reads no gate.
-static CALLS: [(bool, u64); 2] = [(true, 8 + 4 * 4 + 2 * 10), (false, 2 + 2 * 4 + 9 + 10)];
+// With room ahead, zeros are written and synced before the first append to each journal that was made or compacted: on each disk
+// that is twice.
+static CALLS: [(Failing, u64); 6] = [
+    (A, 8 + 4 * 4 + 2 * 10),
+    (B, 2 + 2 * 4 + 9 + 10),
+    (Failing { room: AMPLE, ..A }, 8 + 4 * 4 + 2 * 10 + 2 * 2),
+    (Failing { room: AMPLE, ..B }, 2 + 2 * 4 + 9 + 10 + 2 * 2),
+    (Failing { room: SCANT, ..A }, 8 + 4 * 4 + 2 * 10 + 2),
+    (Failing { room: SCANT, ..B }, 2 + 2 * 4 + 9 + 10 + 2),
+];
 
-fn expect_calls(rt: &impl Abort, alloc: Global, is_on_a: bool, calls: u64) {
-    let found = calls_of(rt, alloc, is_on_a);
-    assert!(rt; found == calls, "disk A: {is_on_a}: {found} calls");
+fn expect_calls(rt: &impl Abort, alloc: Global, failing: Failing, calls: u64) {
+    let found = calls_of(rt, alloc, failing);
+    let Failing { is_on_a, room } = failing;
+    assert!(rt;
+        found == calls,
+        "disk A: {is_on_a}, room {room}: {found} calls"
+    );
 }
 
 #[test]
 fn each_call_of_a_script_fails_in_turn(rt: HostRuntime) {
-    for (is_on_a, calls) in &CALLS {
-        expect_calls(&rt, rt.alloc(), *is_on_a, *calls);
+    for (failing, calls) in &CALLS {
+        expect_calls(&rt, rt.alloc(), *failing, *calls);
     }
 }

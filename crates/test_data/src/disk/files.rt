@@ -4,7 +4,7 @@ use crate::disk::stopped_files::{found_at_a_stop, found_in_cuts};
 use crate::fixtures::{add, expect_bytes, text_bytes};
 use std::process::{Abort, Command};
 use std::{env, fs};
-use sv_journal::{Device, FileDisk};
+use sv_journal::{Disk, FileDisk, FileFault, IfMissing};
 
 /// What is done to the files of a journal, which are gone before and behind it.
 #[derive(Clone, Copy)]
@@ -17,6 +17,10 @@ enum Case {
     Limit,
     /// A file is cut behind the journal's back.
     Meanwhile,
+    /// A file that isn't there is opened, without making it and then making it.
+    Missing,
+    /// A device that has no room is made longer.
+    NoRoom,
     /// Files that hold the front of this are opened, from 24 bytes on.
     Cut(&'static [u8]),
     /// A compaction to `new` was stopped, and left this on B.
@@ -30,20 +34,21 @@ const TWO: &[u8] = b"\xA5SVJRNL\x01\0\0\0\0\0\0\0\x01\xA5\0\0\0\x03one\xA5\0\0\0
 const ONE: &[u8] = b"\xA5SVJRNL\x01\0\0\0\0\0\0\0\x01\xA5\0\0\0\x03one\0\0\0\0\x03two\0";
 
 /// What comes of each. Behind a compaction that was stopped, what is left of B is compacted over once more, and grows from there.
-static CASES: [(&str, Case, &[u8]); 11] = [
-    // To B, and back to A, which held the first journal. B keeps what it held.
+static CASES: [(&str, Case, &[u8]); 13] = [
+    // To B, and back to A, which held the first journal. A compaction's file ends with its closing gate. B keeps what it held: 65,536
+    // zeros were laid out after the 25 bytes of its compaction, and 8 of them were written over.
     (
         "files are compacted in turn",
         Case::Turns,
         b"two|four|five|\
-\xA5SVJRNL\x01\0\0\0\0\0\0\0\x03\xA5\0\0\0\x04five\0|\
-\xA5SVJRNL\x01\0\0\0\0\0\0\0\x02\xA5\0\0\0\x03two\xA5\0\0\0\x04four\0",
+\xA5SVJRNL\x01\0\0\0\0\0\0\0\x03\xA5\0\0\0\x04five+1|\
+\xA5SVJRNL\x01\0\0\0\0\0\0\0\x02\xA5\0\0\0\x03two\xA5\0\0\0\x04four+65528",
     ),
     // Also within a process; it may be opened again once that one is let go.
     (
         "a file is one disk at a time",
         Case::Locked,
-        b"Some(Device) None",
+        b"Some(Locked) None",
     ),
     // A file may have 1,073,741,824 bytes, what stands behind the closing gate among them. One of a byte more is opened and read.
     (
@@ -56,6 +61,17 @@ static CASES: [(&str, Case, &[u8]); 11] = [
         "a file that is cut meanwhile is refused",
         Case::Meanwhile,
         b"Some(Device)",
+    ),
+    (
+        "a file that isn't there is made only for who wants it made",
+        Case::Missing,
+        b"Some(Missing) false None true",
+    ),
+    // /dev/full refuses each write for want of room, and has no length.
+    (
+        "a file that has no room ahead is as long as before",
+        Case::NoRoom,
+        b"Ok(0) Ok(0) 0 failures",
     ),
     (
         "a file that ends at the place of a gate, or inside an entry whose gate is open, is no journal",
@@ -100,6 +116,8 @@ fn told(rt: &impl Abort, files: &Files, case: Case) -> Vec<u8> {
         Case::Locked => opened_twice(rt, files),
         Case::Limit => filled(rt, files),
         Case::Meanwhile => cut_meanwhile(rt, files),
+        Case::Missing => made_where_wanted(rt, files),
+        Case::NoRoom => extended_without_room(rt, files),
         Case::Cut(whole) => found_in_cuts(rt, files, whole),
         Case::Stopped(b) => found_at_a_stop(rt, files, b),
     }
@@ -113,12 +131,13 @@ fn files_of_journals(rt: HostRuntime) {
     }
 }
 
+/// Paths at which no file can be made: no folder for it, a folder, or an empty name.
 static NO_FILES: [&str; 4] = ["/nowhere/at/all", ".", "/", ""];
 
 #[test]
-fn paths_that_are_no_file_are_device(rt: HostRuntime) {
+fn paths_that_are_no_file_are_refused(rt: HostRuntime) {
     for bad in &NO_FILES {
-        assert!(rt; fault_of(&rt, bad).is_some(), "{bad}");
+        assert!(rt; fault_of(&rt, bad) == Some(FileFault::Refused), "{bad}");
     }
 }
 
@@ -139,8 +158,35 @@ fn compacted_in_turn(rt: &impl Abort, files: &Files) -> Vec<u8> {
 }
 
 // The fault with which a path is opened.
-fn fault_of(machine: &HostRuntime, path: &str) -> Option<Device> {
-    FileDisk::open(machine, path).err()
+fn fault_of(machine: &HostRuntime, path: &str) -> Option<FileFault> {
+    FileDisk::open(machine, path, IfMissing::Make).err()
+}
+
+// What comes of a file that isn't there, and whether it is there then: where it isn't to be made, and where it is.
+fn made_where_wanted(rt: &impl Abort, files: &Files) -> Vec<u8> {
+    let refused = FileDisk::open(files.machine, &files.a, IfMissing::Refuse).err();
+    let before = fs::exists(files.machine, &files.a).expect(rt, "a folder that is read");
+    let made = fault_of(files.machine, &files.a);
+    let after = fs::exists(files.machine, &files.a).expect(rt, "a folder that is read");
+    remove(rt, files.machine, &files.a);
+    text_bytes(
+        rt,
+        files.alloc(),
+        format_args!("{refused:?} {before} {made:?} {after}"),
+    )
+}
+
+// What a device answers that has no room for a byte, and how many of its calls have failed.
+fn extended_without_room(rt: &impl Abort, files: &Files) -> Vec<u8> {
+    let mut disk = file_disk(rt, files.machine, "/dev/full");
+    let longer = disk.extend(0, b"zeros");
+    let len = disk.len();
+    let failures = disk.failures();
+    text_bytes(
+        rt,
+        files.alloc(),
+        format_args!("{longer:?} {len:?} {failures} failures"),
+    )
 }
 
 // What a second opening of a file answers while the first one has it, and once that has let it go.
@@ -258,8 +304,9 @@ fn found_by_one(rt: &impl Abort, machine: &HostRuntime) -> (Vec<u8>, &'static [u
 }
 
 // Two entries, file A with them, and an empty file B.
+// Zeros were laid out after the 17 bytes of a first journal: 65,553 bytes, of which 32 are written over.
 const BOTH: &[u8] =
-    b"one|two|\xA5SVJRNL\x01\0\0\0\0\0\0\0\x01\xA5\0\0\0\x03one\xA5\0\0\0\x03two\0|";
+    b"one|two|\xA5SVJRNL\x01\0\0\0\0\0\0\0\x01\xA5\0\0\0\x03one\xA5\0\0\0\x03two+65521|+0";
 
 // The test starts itself a second time, and that process opens the file too.
 #[test]

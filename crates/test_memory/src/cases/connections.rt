@@ -14,6 +14,7 @@ type Shown = Result<String, Unshown>;
 /// 1,000 seconds behind the beginning of 1970.
 const MOMENT: Moment = Moment {
     now: given::NOW,
+    steady: given::NOW,
     secret: given::SECRET,
 };
 

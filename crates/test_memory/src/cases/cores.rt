@@ -11,6 +11,7 @@ type Shown = Result<String, Unshown>;
 
 const MOMENT: Moment = Moment {
     now: given::NOW,
+    steady: given::NOW,
     secret: given::SECRET,
 };
 
@@ -63,6 +64,7 @@ fn moment_of(step: Step) -> Moment {
     match step {
         Step::Late => Moment {
             now: 1_061,
+            steady: 1_061,
             secret: given::SECRET,
         },
         _ => MOMENT,

@@ -19,6 +19,7 @@ type Running = Own<Counting>;
 
 const MOMENT: Moment = Moment {
     now: given::NOW,
+    steady: given::NOW,
     secret: given::SECRET,
 };
 

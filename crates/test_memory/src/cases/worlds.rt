@@ -14,6 +14,7 @@ type Shown = Result<String, Unshown>;
 
 const MOMENT: Moment = Moment {
     now: given::NOW,
+    steady: given::NOW,
     secret: given::SECRET,
 };
 

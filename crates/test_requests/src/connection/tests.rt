@@ -22,6 +22,7 @@ use sv_model::{Cause, Moment, Response, Secret, Sequence};
 /// Sun, 06 Nov 1994 08:49:37 GMT.
 const AT: Moment = Moment {
     now: 784_111_777,
+    steady: 784_111_777,
     secret: Secret([7; 16]),
 };
 

@@ -83,17 +83,28 @@ pub fn contexts(alloc: Global, parts: &str) -> Result<String, RowFault> {
     }
 }
 
+/// What is told of a descriptor, and a line of what is warned of.
+fn told_of(alloc: Global, text: &str) -> Result<String, AllocError> {
+    let look = look_at(alloc, text)?;
+    let mut told = look.text;
+    if let Some(warning) = look.warning {
+        told.push_str("\nwarning: ")?;
+        told.push_str(warning.as_str())?;
+    }
+    Ok(told)
+}
+
 fn checked_bytes(alloc: Global, bytes: &[u8]) -> Result<String, RowFault> {
     match str::from_utf8(bytes) {
         Ok(text) => {
-            let look = look_at(alloc, text)?;
-            Ok(shown(alloc, look.text.as_bytes())?)
+            let told = told_of(alloc, text)?;
+            Ok(shown(alloc, told.as_bytes())?)
         }
         Err(_) => Err(RowFault::Part),
     }
 }
 
-/// The lines that are told of a descriptor: what it says, or its least fault with the places where it stands.
+/// The lines that are told of a descriptor: what it says and what is warned of, or its least fault with the places where it stands.
 pub fn checked(alloc: Global, parts: &str) -> Result<String, RowFault> {
     let bytes = bytes_of(alloc, parts)?;
     checked_bytes(alloc, &bytes)

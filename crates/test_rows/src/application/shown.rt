@@ -1,7 +1,7 @@
 //! Deployments as texts, so that a row can say all of them.
 
 use std::alloc::{AllocError, Global};
-use sv_config::{Cluster, Context, ErrorPage, PageFor};
+use sv_config::{Cluster, Context, ErrorPage, Once, PageFor};
 
 fn ports_text(alloc: Global, ports: &[u16]) -> Result<String, AllocError> {
     let mut text = String::from_str(alloc, "ports")?;
@@ -62,6 +62,18 @@ fn push_pages(alloc: Global, text: &mut String, pages: &[ErrorPage]) -> Result<(
     Ok(())
 }
 
+/// How many answers sessions remember, and which parameter may have the key; nothing where they remember none.
+fn push_once(text: &mut String, once: &Option<Once>) -> Result<(), AllocError> {
+    let Some(once) = once else {
+        return Ok(());
+    };
+    write!(text, ", once {}", once.answers)?;
+    if let Some(parameter) = &once.parameter {
+        write!(text, " or {parameter}")?;
+    }
+    Ok(())
+}
+
 /// The path between angle brackets, the interval, and how many patterns and filter mappings there are.
 fn front_text(alloc: Global, context: &Context) -> Result<String, AllocError> {
     format!(in alloc;
@@ -78,7 +90,8 @@ fn push_context(alloc: Global, text: &mut String, context: &Context) -> Result<(
     push_names(text, ", servlets", &context.servlets)?;
     push_names(text, ", filters", &context.filters)?;
     push_names(text, ", listeners", &context.listeners)?;
-    push_pages(alloc, text, &context.error_pages)
+    push_pages(alloc, text, &context.error_pages)?;
+    push_once(text, &context.once)
 }
 
 /// Each context, behind a semicolon from the second one on.

@@ -19,6 +19,7 @@ fn step_at<S: Site>(rt: &impl Abort, site: &mut S, now: u64, input: Input) -> Ve
 {
     let moment = Moment {
         now,
+        steady: now,
         secret: AT.secret,
     };
     site.step(moment, input).expect(rt, "a step succeeds")
