@@ -1,8 +1,7 @@
 """A network of several machines as namespaces of this one, and a wire between them that delays, loses and cuts as it is told.
 
-The wire is a switch over TAP devices, in a process of its own: not every kernel has netem. `run_apart` has a program do its work in
-namespaces of its own for processes, mounts and the network, so that the kernel ends and removes all that it has started and made,
-however the program ends.
+The wire is a switch over TAP devices, in a process of its own: not every kernel has netem. It wants to be in namespaces of its own
+(`namespaces.run_apart`).
 """
 import ctypes
 import fcntl
@@ -13,32 +12,22 @@ import os
 import random
 import select
 import shutil
-import signal
 import struct
 import subprocess
-import sys
 import time
 
-LIBC = ctypes.CDLL(None, use_errno=True)
+from lib import namespaces
+from lib.namespaces import LIBC, UNSHARED, die_with_parent
+
 CLONE_NEWNET = 0x40000000
-PR_SET_PDEATHSIG = 1
 TUNSETIFF, TAP_WITHOUT_HEADER = 0x400454CA, 0x1002
-UNSHARED = ["unshare", "--net", "--pid", "--mount", "--fork", "--kill-child", "--mount-proc"]
-# Set in the program's second life, in namespaces of its own.
-APART = "KEGBRAMBLE_APART"
 
 
 def lacks(*programs):
     """What is missing for machines in namespaces, in words; none where nothing is."""
-    if os.geteuid() != 0:
-        return "it takes root"
-    for program in ("unshare", "ip", *programs):
-        if not shutil.which(program):
-            return f"{program} isn't installed"
     if not os.path.exists("/dev/net/tun"):
         return "there is no /dev/net/tun"
-    tried = subprocess.run([*UNSHARED, "mount", "-t", "tmpfs", "tmpfs", "/run"], capture_output=True, text=True)
-    return f"no namespaces: {tried.stderr.strip()}" if tried.returncode else None
+    return namespaces.lacks("ip", *programs)
 
 
 def has_wireguard():
@@ -47,30 +36,6 @@ def has_wireguard():
         return False
     tried = subprocess.run([*UNSHARED, "ip", "link", "add", "kegtry", "type", "wireguard"], capture_output=True)
     return tried.returncode == 0 or bool(shutil.which("wireguard-go"))
-
-
-def die_with_parent():
-    LIBC.prctl(PR_SET_PDEATHSIG, signal.SIGKILL)
-
-
-def is_apart():
-    return APART in os.environ
-
-
-def run_apart():
-    """Runs this program with the same words in namespaces of its own; its exit status."""
-    inner = subprocess.Popen([*UNSHARED, sys.executable, *sys.argv], env={**os.environ, APART: "1"}, preexec_fn=die_with_parent)
-
-    def end(number, _):
-        sys.exit(128 + number)
-
-    for number in (signal.SIGTERM, signal.SIGHUP, signal.SIGINT):
-        signal.signal(number, end)
-    try:
-        return inner.wait()
-    finally:
-        inner.kill()
-        inner.wait()
 
 
 def run(*words):

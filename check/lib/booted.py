@@ -7,8 +7,11 @@ import os
 import re
 import shutil
 import subprocess
+import tempfile
 
-from patience import PATIENCE
+from lib import namespaces
+from lib.expect import Wrong, skip
+from lib.patience import patience
 
 SYSTEMD = "/lib/systemd/systemd"
 UNSHARED = ["unshare", "--pid", "--mount", "--uts", "--ipc", "--net", "--cgroup", "--fork", "--kill-child"]
@@ -42,12 +45,27 @@ exec env -i container=other PATH=/usr/sbin:/usr/bin:/sbin:/bin \
   /lib/systemd/systemd --system --unit=steps.target --log-target=journal --show-status=no
 """
 
+# What a kernel may not allow of that.
+TRIED = r"""
+mount -t cgroup2 cgroup2 /sys/fs/cgroup
+mount -t tmpfs tmpfs /mnt
+cd /mnt
+mkdir up work root
+mount -t overlay overlay -o lowerdir=/,upperdir=up,workdir=work root
+mknod -m 666 root/dev/null.tried c 1 3
+"""
+
 SERVICE = """[Service]
 Type=oneshot
 ExecStart=/bin/bash /mnt/steps
 ExecStopPost=/bin/systemctl poweroff --no-block
 StandardOutput=append:/mnt/said
 StandardError=append:/mnt/trouble
+"""
+
+# `until_so 'STEP'` waits until a step does well.
+UNTIL_SO = r"""
+until_so() { local tenths; for ((tenths = 0; tenths < TENTHS; tenths++)); do eval "$1" && return; sleep 0.1; done; }
 """
 
 TARGET = """[Unit]
@@ -58,13 +76,9 @@ AllowIsolate=yes
 
 def missing(*programs):
     """What is missing for such a machine, on which these programs are called; none where nothing is."""
-    if os.geteuid() != 0:
-        return "it takes root"
-    for program in (SYSTEMD, *(shutil.which(name) or name for name in ("systemctl", "ip", "curl", *programs))):
-        if not os.path.exists(program):
-            return f"{program} isn't installed"
-    tried = subprocess.run([*UNSHARED, "mount", "-t", "cgroup2", "cgroup2", "/sys/fs/cgroup"], capture_output=True, text=True)
-    return f"no namespaces: {tried.stderr.strip()}" if tried.returncode else None
+    if lacks := namespaces.not_installed(SYSTEMD, "systemctl", "ip", "curl", "useradd", *programs):
+        return lacks
+    return namespaces.refused(UNSHARED, "sh", "-ec", TRIED)
 
 
 class Room:
@@ -103,13 +117,14 @@ class Room:
 
     def play(self, steps):
         """What these steps of a shell say on the machine, with the units that the room has, until it has shut down."""
+        steps = UNTIL_SO.replace("TENTHS", str(int(10 * patience()))) + steps
         for name, text in (("boot", BOOT), ("units/steps.service", SERVICE), ("units/steps.target", TARGET), ("steps", steps)):
             self.write(name, text)
         with open(f"{self.path}/console", "w", encoding="utf-8") as console:
             words = [*UNSHARED, "bash", f"{self.path}/boot", self.path]
             boot = subprocess.Popen(words, stdin=subprocess.DEVNULL, stdout=console, stderr=console)
             try:
-                boot.wait(timeout=3 * PATIENCE)
+                boot.wait(timeout=3 * patience())
             except subprocess.TimeoutExpired:
                 boot.kill()
                 boot.wait()
@@ -118,3 +133,18 @@ class Room:
     def trouble(self):
         """What the machine and the steps said of what went wrong."""
         return self.read("console") + self.read("trouble")
+
+
+def played(lacks, furnish, steps, wanted):
+    """Whether these steps were played, in a room that was furnished for them: they have to say what is wanted. Where something lacks for
+    the machine, that is said."""
+    if lacks:
+        skip(f"all of it: {lacks}")
+        return False
+    with tempfile.TemporaryDirectory(prefix="booted") as path:
+        room = Room(path)
+        furnish(room)
+        said = room.play(steps)
+        if said != wanted:
+            raise Wrong(f"wanted\n{wanted}got\n{said}beside which was said\n{room.trouble()}")
+    return True

@@ -5,10 +5,8 @@ import os
 import shutil
 import subprocess
 import tempfile
-import time
 
-from patience import PATIENCE
-
+from lib.patience import patience, until
 
 
 def is_here():
@@ -67,11 +65,8 @@ class Browser:
 
     def wait(self):
         """Waits until the page is there."""
-        for _ in range(PATIENCE * 50):
-            if self.value("document.readyState") == "complete":
-                return
-            time.sleep(0.02)
-        raise OSError("the page doesn't come")
+        if not until(lambda: self.value("document.readyState") == "complete"):
+            raise OSError("the page doesn't come")
 
     def open(self, url):
         found = self.do("Page.navigate", url=url)
@@ -95,11 +90,8 @@ class Browser:
 
     def wait_for_another(self, what):
         """Waits until another page is there than the one that was marked as old."""
-        for _ in range(PATIENCE * 50):
-            if self.has_another():
-                return
-            time.sleep(0.02)
-        raise OSError(f"no page comes after {what}")
+        if not until(self.has_another):
+            raise OSError(f"no page comes after {what}")
 
     def back(self):
         """Goes back as by the button, and waits until the page is there."""
@@ -145,5 +137,5 @@ class Browser:
 
     def end(self):
         self.process.terminate()
-        self.process.wait(timeout=PATIENCE)
+        self.process.wait(timeout=patience())
         self.profile.cleanup()

@@ -1,7 +1,7 @@
 #!/usr/bin/env python3
 """Whether this toolchain's `rt ci` keeps what has passed, so that a second run of it takes minutes.
 
-    check/toolchain.py     ends with status 0 if so, and else with 1
+    check/lib/toolchain.py     ends with status 0 if so, and else with 1
 """
 import subprocess
 import sys

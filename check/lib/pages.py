@@ -1,8 +1,7 @@
 """What the documents have their readers paste."""
-import os
 import re
 
-TOP = os.path.dirname(os.path.dirname(os.path.abspath(__file__)))
+from lib import TOP
 
 
 def blocks(page, section, indent=4):

@@ -7,16 +7,16 @@ import shutil
 import signal
 import socket
 import subprocess
-import sys
-import threading
 import time
 
-from patience import PATIENCE, until
-from wire import Wire, run
-
-TOP = os.path.dirname(os.path.dirname(os.path.abspath(__file__)))
-sys.path.insert(0, f"{TOP}/bench/chaos")
-from journals import replay  # noqa: E402
+from lib import TOP, client
+from lib.expect import Wrong, expect, wait_for
+from lib.frames import command, key_of, move
+from lib.journals import replay
+from lib.namespaces import mount_over
+from lib.network import Wire
+from lib.nodes import ready
+from lib.patience import patience
 
 DEPLOY = f"{TOP}/deploy/machines"
 ROOM = "/run/kegbramble"
@@ -24,47 +24,6 @@ CONFIG = f"{DEPLOY}/cluster.toml"
 PORTS = [18080, 18081, 18082]
 PACKETS, HTTP = 7440, 7443
 DEADLINE = 5
-
-
-class Wrong(Exception):
-    """What was found in place of what was wanted."""
-
-
-def expect(what, found, wanted):
-    if found != wanted:
-        raise Wrong(f"{what}: {found!r} in place of {wanted!r}")
-
-
-def wait_for(what, is_so):
-    if not until(is_so):
-        raise Wrong(f"{what} doesn't come")
-
-
-def together(works):
-    """Does all of these side by side; the first fault is told once all have ended."""
-    faults = []
-
-    def do(work):
-        try:
-            work()
-        except Exception as fault:
-            faults.append(fault)
-
-    threads = [threading.Thread(target=do, args=(work,)) for work in works]
-    for thread in threads:
-        thread.start()
-    for thread in threads:
-        thread.join()
-    if faults:
-        raise faults[0]
-
-
-def frame(kind, payload):
-    return bytes([kind]) + len(payload).to_bytes(4, "big") + payload
-
-
-def command(payload):
-    return frame(0xE2, payload)
 
 
 def script(name, *words):
@@ -75,14 +34,13 @@ def script(name, *words):
 
 
 class Machines:
-    """The machines, what runs on them and what is asked of them. They want the namespaces of `wire.run_apart`, over whose folders for
+    """The machines, what runs on them and what is asked of them. They want the namespaces of `namespaces.run_apart`, over whose folders for
     what runs, logs and nginx's settings they lay their own."""
 
     def __init__(self, node, kegctl):
-        for place in ("/run", "/var/log/nginx", "/var/lib/nginx"):
-            run("mount", "-t", "tmpfs", "-o", "mode=755", "tmpfs", place)
+        mount_over("/run", "/var/log/nginx", "/var/lib/nginx")
         shutil.copytree("/etc/nginx", f"{ROOM}/nginx", symlinks=True)
-        run("mount", "--bind", f"{ROOM}/nginx", "/etc/nginx")
+        subprocess.run(["mount", "--bind", f"{ROOM}/nginx", "/etc/nginx"], check=True)
         self.node, self.kegctl = node, kegctl
         self.certs, self.keys = f"{ROOM}/certs", f"{ROOM}/keys"
         self.wire = Wire(["m0", "m1", "m2", "front"])
@@ -110,8 +68,7 @@ class Machines:
     def start_node(self, number):
         words = [self.node, *self.words, CONFIG, self.journal(number), str(number)]
         node = self.spawn(self.names[number], *words, stdout=subprocess.PIPE, text=True)
-        expect(f"the first line of node {number}", node.stdout.readline(), f"ready {number}\n")
-        self.nodes[number] = node
+        self.nodes[number] = ready(node, number)
 
     def kill_node(self, number):
         node = self.nodes.pop(number)
@@ -168,7 +125,7 @@ class Machines:
 
     def stop_front(self):
         self.nginx.terminate()
-        self.nginx.wait(PATIENCE)
+        self.nginx.wait(patience())
 
     def up(self):
         for number in range(3):
@@ -196,10 +153,10 @@ class Machines:
 
     # What is asked of them.
 
-    def connect(self, name, address, port, timeout=PATIENCE):
+    def connect(self, name, address, port, timeout=None):
         self.wire.enter(name)
         try:
-            return socket.create_connection((address, port), timeout=timeout)
+            return socket.create_connection((address, port), timeout=timeout or patience())
         finally:
             self.wire.enter()
 
@@ -213,17 +170,11 @@ class Machines:
     def ask(self, where, cookie=None, path="/shop/count"):
         """Asks a node on its own machine, or with "front" the front server there. Status, text and cookie; status 0 where it breaks."""
         name, port = (self.front, 8080) if where == "front" else (self.names[where], PORTS[where])
-        line = http.client.HTTPConnection("127.0.0.1", port)
         try:
-            line.sock = self.connect(name, "127.0.0.1", port)
-            line.request("GET", path, headers={"Cookie": f"JSESSIONID={cookie}"} if cookie else {})
-            answer = line.getresponse()
-            text, given = answer.read().decode(), answer.getheader("set-cookie")
-            return answer.status, text, re.match(r"JSESSIONID=([0-9a-f]+)", given)[1] if given else cookie
+            answer = client.ask(port, path, cookie and f"JSESSIONID={cookie}", stream=self.connect(name, "127.0.0.1", port))
+            return answer.status, answer.text, re.match(r"JSESSIONID=([0-9a-f]+)", answer.cookie)[1] if answer.cookie else None
         except (OSError, http.client.HTTPException):
             return 0, "", cookie
-        finally:
-            line.close()
 
     def order(self, number, payload):
         """What a node answers to a command, given on its own machine."""
@@ -247,12 +198,11 @@ class Client:
     def __init__(self, machines, home):
         self.machines, self.told, self.open, self.cookie = machines, 0, 0, None
         self.answers, self.times, self.skipped = {}, [], 0
-        while self.told == 0:
-            self.ask(home)
+        self.ask_until_served(home)
 
     @property
     def key(self):
-        return int(self.cookie[2:4], 16), int(self.cookie[4:20], 16)
+        return key_of(self.cookie)
 
     def ask(self, where):
         """Counts once more; the status, 503 with its reason as a text."""
@@ -285,8 +235,7 @@ class Client:
 
     def move(self, number, to):
         """Has a node hand the session over; what it answers, 0 where it did."""
-        home, serial = self.key
-        return self.machines.order(number, b"\1" + bytes([home]) + serial.to_bytes(8, "big") + bytes([to]))[0]
+        return self.machines.order(number, move(self.key, to))[0]
 
 
 def answers_of(clients):

@@ -1,14 +1,14 @@
 #!/usr/bin/env python3
 """A sum over all that a crate is made of: its files, those of the crates below it, and the toolchain.
 
-    check/sources.py CRATE     prints it
+    check/lib/sources.py CRATE     prints it
 """
 import hashlib
 import os
 import subprocess
 import sys
 
-TOP = os.path.dirname(os.path.dirname(os.path.abspath(__file__)))
+TOP = os.path.dirname(os.path.dirname(os.path.dirname(os.path.abspath(__file__))))
 # What is made by others, or is read by proofs alone.
 LEFT_OUT = {"out", "proofs", "must-fail"}
 
