@@ -9,7 +9,7 @@
 // does one client with that of its first, which goes round all the ports, so that its session moves at each request). It prints
 // three numbers of microseconds: those of a request, whole time by whole number, the mean of what each client waited for an answer,
 // and what the slowest hundredth waited at least. Connections that are kept are opened one after the other before the clock begins,
-// since a listener's queue has room for 128, and who finds it full tries again after a second. It stops with status 1 where an
+// so that none finds a listener's queue full, which would have it try again after a second. It stops with status 1 where an
 // answer isn't 200, or a connection of `keep` is closed early.
 //
 //     client idle PORT PATH COUNT
