@@ -112,7 +112,7 @@ class Unit(Cluster):
     def drain(self, node, *words):
         """What `kegctl drain --halt` says, after which the node is gone."""
         status, out, err = self.kegctl("drain", self.config, node, self.journal(node), "--halt", *words)
-        expect(f"the drain of node {node}", (status, err), (0, ""))
+        expect(f"the drain of node {node}, which says {out!r}", (status, err), (0, ""))
         expect(f"the end of node {node}", self.ended(node)[0], 0)
         return out
 
