@@ -109,9 +109,9 @@ class Unit(Cluster):
         expect(f"the status of kegctl halt {node}", self.kegctl("halt", self.ports[node])[0], 0)
         expect(f"the end of node {node}", self.ended(node)[0], 0)
 
-    def drain(self, node, *words):
+    def drain(self, node):
         """What `kegctl drain --halt` says, after which the node is gone."""
-        status, out, err = self.kegctl("drain", self.config, node, self.journal(node), "--halt", *words)
+        status, out, err = self.kegctl("drain", self.config, node, self.journal(node), "--halt", "--seconds", int(patience()))
         expect(f"the drain of node {node}, which says {out!r}", (status, err), (0, ""))
         expect(f"the end of node {node}", self.ended(node)[0], 0)
         return out
