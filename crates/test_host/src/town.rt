@@ -5,6 +5,7 @@ use std::alloc::Global;
 use std::io;
 use std::io::{Read, Write};
 use std::net::{Ipv4Addr, OpenListener, OpenStream, SocketAddr, TcpListener, TcpStream};
+use std::os::fd::OwnedFd;
 use std::process::Abort;
 use std::time::Duration;
 use sv_config::Cluster;
@@ -41,6 +42,13 @@ fn local(port: u16) -> SocketAddr {
 
 fn listen(rt: &impl Abort, machine: &HostRuntime, port: u16) -> TcpListener {
     TcpListener::bind(machine, local(port)).expect(rt, "a port to listen at")
+}
+
+/// One at which nobody is waited for who doesn't come in time.
+fn patient(listener: TcpListener) -> io::Result<TcpListener> {
+    let socket = TcpStream::from(OwnedFd::from(listener));
+    socket.set_read_timeout(Some(Duration::from_secs(PATIENCE)))?;
+    Ok(TcpListener::from(OwnedFd::from(socket)))
 }
 
 fn port_of(rt: &impl Abort, listener: &TcpListener) -> u16 {
@@ -143,7 +151,7 @@ impl Town {
     pub fn new(rt: &impl Abort, machine: &HostRuntime) -> Town {
         Town {
             port: port_of(rt, &listen(rt, machine, 0)),
-            peer: listen(rt, machine, 0),
+            peer: patient(listen(rt, machine, 0)).expect(rt, "a time limit"),
         }
     }
 
@@ -192,10 +200,11 @@ impl Town {
         stream
     }
 
-    /// What node 1 was asked first.
-    pub fn asked(&self, rt: &impl Abort, alloc: Global) -> Vec<u8> {
-        let (caller, _) = self.peer.accept().expect(rt, "a connection of the node");
-        heard(alloc, &caller).expect(rt, "what the node has sent")
+    /// What node 1 was asked first. A fault where nobody asks it in time.
+    pub fn asked(&self, alloc: Global) -> io::Result<Vec<u8>> {
+        let (caller, _) = self.peer.accept()?;
+        caller.set_read_timeout(Some(Duration::from_secs(PATIENCE)))?;
+        heard(alloc, &caller)
     }
 
     /// Has a client ask for the sessions of these two bytes each.
