@@ -9,6 +9,7 @@ pub mod Packets
 pub mod Room
 pub mod Host
 pub mod Group
+pub mod Judging
 pub mod Peers
 pub mod Serve
 pub mod Stops

@@ -17,6 +17,7 @@ mod group;
 mod handing_out;
 mod host;
 mod intake;
+mod judging;
 mod nudges;
 mod outcome;
 mod packets;
