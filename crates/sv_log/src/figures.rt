@@ -6,8 +6,8 @@ use crate::family::{Family, Label};
 use crate::loss::Loss;
 use crate::names::{
     ACCEPTED, BAD_REQUESTS, COMPACTIONS, CONNECTIONS, ENDED, GAVE_WAY, GONE, GROUPS, JOURNAL,
-    KNOWN, KNOWN_LIMIT, LATE, LOST, MOVED, NO_ROOM, ORDERED, REFUSED, REQUESTS, SENT, SESSIONS,
-    STEPS, TIME, WAITING, WRITE_SECONDS, WRITES,
+    KNOWN, KNOWN_LIMIT, LATE, LOST, MOVED, NOT_TAKEN, NO_ROOM, ORDERED, REFUSED, REQUESTS, SENT,
+    SESSIONS, STEPS, TIME, WAITING, WRITE_SECONDS, WRITES,
 };
 use std::alloc::AllocError;
 use sv_model::Cause;
@@ -38,6 +38,7 @@ pub struct Figures {
     no_room: u64,
     sent: u64,
     lost: [u64; 7],
+    not_taken: u64,
     ordered: u64,
     moved: u64,
     groups: u64,
@@ -132,6 +133,7 @@ impl Figures {
             Event::Late { .. } => rise(&mut self.late, 1),
             Event::NoRoom => rise(&mut self.no_room, 1),
             Event::PacketSent { .. } => rise(&mut self.sent, 1),
+            Event::PacketRefused { .. } | Event::PeerRefused { .. } => rise(&mut self.not_taken, 1),
             Event::MoveOrdered { .. } => rise(&mut self.ordered, 1),
             Event::Moved => rise(&mut self.moved, 1),
             Event::Compacted { .. } => rise(&mut self.compactions, 1),
@@ -146,7 +148,7 @@ impl Figures {
     }
 
     /// The counters that have one number each.
-    fn counters(&self) -> [(Family, u64); 12] {
+    fn counters(&self) -> [(Family, u64); 13] {
         [
             (BAD_REQUESTS, self.bad),
             (ACCEPTED, self.accepted),
@@ -154,6 +156,7 @@ impl Figures {
             (LATE, self.late),
             (NO_ROOM, self.no_room),
             (SENT, self.sent),
+            (NOT_TAKEN, self.not_taken),
             (ORDERED, self.ordered),
             (MOVED, self.moved),
             (GROUPS, self.groups),

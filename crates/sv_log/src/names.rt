@@ -56,6 +56,12 @@ pub const SENT: Family = Family {
     help: "Packets that were sent to other nodes.",
 };
 
+pub const NOT_TAKEN: Family = Family {
+    name: "packets_refused_total",
+    kind: Kind::Counter,
+    help: "Packets that were not taken, of a node that has other contexts or an older copy of its journal, and times that such a one was found.",
+};
+
 pub const ORDERED: Family = Family {
     name: "moves_ordered_total",
     kind: Kind::Counter,

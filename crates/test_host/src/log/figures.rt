@@ -18,7 +18,7 @@ enum Counted {
 struct Row(&'static [Counted], &'static str);
 
 /// Each event counts in its own figure.
-static ROWS: [Row; 17] = [
+static ROWS: [Row; 19] = [
     Row(
         &[Counted::Event(Event::Answered { class: 5 })],
         "\nkegbramble_requests_total{node=\"3\",class=\"5xx\"} 1\n",
@@ -51,6 +51,17 @@ static ROWS: [Row; 17] = [
     Row(
         &[Counted::Event(Event::PacketSent { to: 1 })],
         "\nkegbramble_packets_sent_total{node=\"3\"} 1\n",
+    ),
+    Row(
+        &[Counted::Event(Event::PacketRefused { from: 1 })],
+        "\nkegbramble_packets_refused_total{node=\"3\"} 1\n",
+    ),
+    Row(
+        &[Counted::Event(Event::PeerRefused {
+            node: 1,
+            why: "Contexts",
+        })],
+        "\nkegbramble_packets_refused_total{node=\"3\"} 1\n",
     ),
     Row(
         &[Counted::Event(Event::BadRequest { fault: "BadHost" })],
