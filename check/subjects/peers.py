@@ -1,5 +1,5 @@
-"""Packets between nodes: a grant before the answer to its move, a connection for each packet, and sessions on their way to a node that
-says nothing, or hangs."""
+"""Packets between nodes: a grant before the answer to its move, a connection for each packet, sessions on their way to a node that says
+nothing, or hangs, and one that all nodes want."""
 import os
 import select
 import socket
@@ -8,8 +8,10 @@ import threading
 import time
 
 from lib.client import rest_of
+from lib.contention import Clients, take_overs
 from lib.expect import expect, say, wait_for
 from lib.frames import move, packet
+from lib.patience import deadline
 from subjects.common import Cluster, hellos
 
 
@@ -127,8 +129,39 @@ def sessions_on_their_way():
         cluster.end()
 
 
+def a_session_that_is_wanted_at_all_nodes():
+    """Where all nodes want one session it serves who waits before it goes on, each request is counted once, and nobody waits for ever."""
+    cluster = Cluster(3, f"deadline = {deadline()}")
+    for node in range(3):
+        cluster.start(node, "--keep-alive")
+    text, cookie = cluster.count(0)
+    expect("the first count", text, "1\n")
+    journals = [cluster.journal(node) for node in range(3)]
+    clients = Clients(cluster.ports, "/shop/count", cookie, 8)
+
+    def is_enough():
+        # To read journals keeps this process from its clients.
+        time.sleep(1)
+        return clients.faults or take_overs(journals)[0] >= 100
+
+    try:
+        wait_for("a hundredth take-over", is_enough)
+    finally:
+        clients.stop()
+    taken, unserved = take_overs(journals)
+    expect("the faults of clients", clients.faults, [])
+    expect("the answers that are none", [answer for answer in clients.answers if answer[0] != 200], [])
+    counts = sorted(int(text) for _, text, _ in clients.answers)
+    expect("what was counted, each number once", counts, list(range(2, len(counts) + 2)))
+    expect(f"how many of {taken} take-overs served nobody ({unserved}), of 100 2 at most", unserved * 50 <= taken, True)
+    waits = sorted(wait for _, _, wait in clients.answers)
+    say(f"  a session that 24 clients want at 3 nodes: {len(waits)} answers, {taken} take-overs, the longest wait {waits[-1]:.2f} s")
+    cluster.end()
+
+
 CHECKS = (
     a_move_that_is_answered_behind_its_grant,
     peers_with_a_connection_for_each_packet,
     sessions_on_their_way,
+    a_session_that_is_wanted_at_all_nodes,
 )

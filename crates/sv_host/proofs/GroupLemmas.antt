@@ -1,6 +1,6 @@
 -- One input more in a group, or one less.
 use Rattle.std.proofs.Common.{◌≡◌, ◌≤◌, ℕ, zero, suc, List, [], ◌∷◌, ◌++◌, length, refl, ap, arith}
-use Rattle.std.specs.Prelude.{remove}
+use Rattle.std.specs.Prelude.{remove, slice_get, Option, Some, None, ⊤}
 use Rattle.std.specs.List.{AllByRecursion}
 use Rattle.sv_model.specs.declared.input.Input.{Input}
 use Rattle.sv_model.specs.declared.input.Input.TheVariants as input
@@ -21,6 +21,17 @@ rises_on low (x ∷ is) i rise above = (rise.0, rises_on (number_in low x.1) is 
 pub number_on : (low : ℕ) (is : List (Moment × Input)) (i : Moment × Input) → numbers_in low (all_given (is ++ i ∷ [])) ≡ number_in (numbers_in low (all_given is)) i.1
 number_on low [] i = refl
 number_on low (x ∷ is) i = number_on (number_in low x.1) is i
+
+-- the one at a place
+abbrev pub IsWithin : Option (Moment × Input) → Type 0
+IsWithin None = ⊤
+IsWithin (Some i) = IsInput i.1
+
+pub within_at : (is : List (Moment × Input)) (at : ℕ) → AllByRecursion (λ x. IsInput x.1) is → IsWithin (slice_get is at)
+within_at [] zero all = tt
+within_at [] (suc at) all = tt
+within_at (x ∷ is) zero all = all.0
+within_at (x ∷ is) (suc at) all = within_at is at all.1
 
 -- ---- one less
 

@@ -5,4 +5,5 @@ pub mod GroupLemmas
 pub mod GatherLemmas
 pub mod RoomLemmas
 pub mod RoundLemmas
+pub mod HoldingLemmas
 pub mod ServingLemmas

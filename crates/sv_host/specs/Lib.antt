@@ -1,6 +1,10 @@
 pub mod Outcome
 pub mod Outputs
 pub mod Round
+pub mod Asking
+pub mod Lease
+pub mod Held
+pub mod Holding
 pub mod Time
 pub mod Place
 pub mod Secrets

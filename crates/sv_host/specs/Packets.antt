@@ -7,14 +7,17 @@ use Rattle.sv_host.specs.declared.packets.Packets.TheVariants as packets
 use Rattle.sv_host.specs.declared.packets.Sending.{Sending}
 use Rattle.sv_host.specs.declared.packets.Sending.TheVariants.{All, Share, Nothing}
 use Rattle.sv_host.specs.declared.round.Round.{Round}
-use Rattle.sv_host.specs.Round.{lets, IsShareOf}
+use Rattle.sv_host.specs.Round.{lets, IsShareOf, IsShareOfWants}
 
--- how many of these are still to be sent: all, those of the share that begins behind this round, or none
+-- how many of these are still to be sent: all, those of the share that begins behind this round, its wants alone, or none
 abbrev pub IsSending : Packets → Round → List Output → Sending → Type 0
 IsSending packets.All round outputs sending = sending ≡ All
 IsSending packets.InTurn round outputs All = ⊥
 IsSending packets.InTurn round outputs (Share share) = IsShareOf round outputs share
 IsSending packets.InTurn round outputs Nothing = ⊥
+IsSending packets.Wants round outputs All = ⊥
+IsSending packets.Wants round outputs (Share share) = IsShareOfWants round outputs share
+IsSending packets.Wants round outputs Nothing = ⊥
 IsSending packets.Nothing round outputs sending = sending ≡ Nothing
 
 -- whether an output is handed on: always, if the share lets it pass, or if it is no packet

@@ -3,14 +3,15 @@
 ghost use Rattle.std.specs.Prelude.{IsTrue};
 ghost use Rattle.sv_node.specs.History.{HasEnded};
 ghost use Rattle.sv_node.specs.Node.{IsNode, journal_of};
-ghost use Rattle.sv_host.specs.Serving.{IsServing, HasServed};
+ghost use Rattle.sv_host.specs.Group.{IsRising};
+ghost use Rattle.sv_host.specs.Serving.{IsServing, HasServed, HasGathered};
 
 use crate::compaction::compact_in_turn;
 use crate::fault::Stop;
 use crate::gathering::gather;
 use crate::greeting::greet_in_time;
 use crate::group::Group;
-use crate::nudges::{expire, settle, tick};
+use crate::nudges::{add_pokes, ask_again, expire, settle, tick};
 use crate::server::Server;
 use sv_journal::Disk;
 use sv_model::Engine;
@@ -28,6 +29,7 @@ fn keep_time<E: Engine, D: Disk>(
     ensures { HasServed E.meaning E.heard E.valid D.tells D.seen D.may_leave node.old group.old node.new group.new result }
 {
     tick(machine, server, node, group)?;
+    ask_again(machine, server, node, group)?;
     expire(machine, server, node, group)
 }
 
@@ -60,6 +62,43 @@ fn end_turn<E: Engine, D: Disk>(
     keep_time(machine, server, node, group)
 }
 
+/// Refuses who may not wait, has those wants wait that are to, and gathers what a node is told by itself beside what has come: a poke for
+/// each request whose session has come, and then the wants that have waited.
+fn gather_own<E: Engine, D: Disk>(
+    machine: &HostRuntime,
+    server: &mut Server,
+    node: &Node<E, D>,
+    group: &mut Group,
+) -> Result<(), Stop>
+    requires { IsRising group.old }
+    ensures { HasGathered group.old group.new }
+{
+    server.keep_shares(node, group);
+    let now = server.held_time(machine);
+    let count = server.hold_wants(node.parked(), group, now);
+    add_pokes(machine, server, group, count)?;
+    server.release(machine, group, now)
+}
+
+/// Gives a group to the node, if there is anything in it.
+fn step_some<E: Engine, D: Disk>(
+    machine: &HostRuntime,
+    server: &mut Server,
+    node: &mut Node<E, D>,
+    group: &mut Group,
+) -> Result<(), Stop>
+    requires { IsServing E.valid D.tells D.seen D.may_leave node.old group.old }
+    ensures { HasServed E.meaning E.heard E.valid D.tells D.seen D.may_leave node.old group.old node.new group.new result }
+{
+    if group.is_empty() {
+        return Ok(());
+    }
+    match server.step(machine, node, group) {
+        Ok(_) => Ok(()),
+        Err(stop) => Err(stop),
+    }
+}
+
 /// Gives what was gathered to the node.
 fn step_gathered<E: Engine, D: Disk>(
     machine: &HostRuntime,
@@ -70,12 +109,8 @@ fn step_gathered<E: Engine, D: Disk>(
     requires { IsServing E.valid D.tells D.seen D.may_leave node.old group.old }
     ensures { HasServed E.meaning E.heard E.valid D.tells D.seen D.may_leave node.old group.old node.new group.new result }
 {
-    server.keep_shares(node, group);
-    if group.is_empty() {
-        return Ok(());
-    }
-    match server.step(machine, node, group) {
-        Ok(_) => Ok(()),
+    match gather_own(machine, server, node, group) {
+        Ok(()) => step_some(machine, server, node, group),
         Err(stop) => Err(stop),
     }
 }
@@ -107,7 +142,8 @@ fn wait<E, D: Disk>(
 ) {
     server.count_kept_in_time(node);
     server.tell_operator(machine);
-    acceptor.wait(&mut server.connections, server.expiry.is_due());
+    let most = server.patience(machine);
+    acceptor.wait(&mut server.connections, most);
     server.is_spared = acceptor.is_spared();
     if !server.connections.is_empty() && !server.is_spared {
         server.connections.look_at_clock(machine);

@@ -5,10 +5,12 @@ ghost use Rattle.std.specs.Prelude.{◌≡◌, ◌==◌, ◌<◌, [], slice_get,
 ghost use Rattle.sv_model.specs.Ranges.{IsInput};
 ghost use Rattle.sv_node.specs.History.{IsAbove, number_in};
 
+use crate::holding::Granted;
 use crate::packets::Packets;
+use crate::want::Want;
 use std::alloc::{AllocError, Global};
 use std::mem::replace;
-use sv_model::{Input, Moment, Request};
+use sv_model::{Input, Moment, Packet, Request};
 use sv_net::TURN_LIMIT;
 
 /// So many inputs are made durable together, at most: those of the open connections of a turn, and one of those who stand at the door,
@@ -87,6 +89,8 @@ fn number_with(number: u64, input: &Input) -> u64
 
 impl Group {
     ghost use Rattle.sv_host.specs.Group.{inputs_of, ways_of, before_of, number_of, HasOneMore, IsFull, IsRising, IsSame, request_in};
+    ghost use Rattle.sv_host.specs.Held.{IsWantAt};
+    ghost use Rattle.sv_host.specs.Holding.{grant_at};
 
     /// No input yet; no request has come before.
     pub fn new(alloc: Global) -> Group
@@ -166,6 +170,43 @@ impl Group {
     {
         match self.inputs.get(at) {
             Some((_, Input::Ask { token, request })) => Some((*token, request)),
+            _ => None,
+        }
+    }
+
+    /// The want at a place of them; none where it is something else.
+    pub fn want(&self, at: usize) -> Option<Want>
+        requires { IsRising self.now }
+        ensures { IsWantAt (slice_get (inputs_of self.now) at) result }
+    {
+        match self.inputs.get(at) {
+            Some((_, input)) => Want::of(input),
+            None => None,
+        }
+    }
+
+    /// The session that the input at a place of them brings; none where it is something else.
+    pub fn grant(&self, at: usize) -> Option<Granted>
+        ensures { result ≡ grant_at (slice_get (inputs_of self.now) at) }
+    {
+        match self.inputs.get(at) {
+            Some(
+                (
+                    _,
+                    Input::Packet(
+                        Packet::Grant {
+                            from,
+                            key,
+                            epoch,
+                            ..
+                        },
+                    ),
+                ),
+            ) => Some(Granted {
+                key: *key,
+                from: *from,
+                epoch: *epoch,
+            }),
             _ => None,
         }
     }

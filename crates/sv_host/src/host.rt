@@ -10,11 +10,13 @@ ghost use Rattle.sv_node.specs.Stops.{Restores};
 ghost use Rattle.sv_host.specs.Secrets.{first_by, last_of};
 ghost use Rattle.sv_host.specs.Serving.{HasLived};
 
+use crate::asking::Asking;
 use crate::compaction::renew;
 use crate::event_loop::run;
 use crate::expiry::Expiry;
 use crate::fault::{HostFault, Stop};
 use crate::greeting::ask_all;
+use crate::holding::Holding;
 use crate::parked::ParkedClients;
 use crate::peers::Peers;
 use crate::place::Place;
@@ -236,6 +238,8 @@ impl Host {
                 is_spared: false,
                 expiry: Expiry::NONE,
                 round: Round::START,
+                asking: Asking::NONE,
+                holding: Holding::new(alloc),
                 compacted: 0,
                 was_told: false,
                 alloc,

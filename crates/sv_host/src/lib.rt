@@ -7,6 +7,7 @@
 //! ranges of the formats, and each packet that is put out can be sent.
 #![tactic(auto)]
 
+mod asking;
 mod compaction;
 mod event_loop;
 mod expiry;
@@ -14,10 +15,14 @@ mod fault;
 mod gathering;
 mod greeting;
 mod group;
+mod handing_on;
 mod handing_out;
+mod held;
+mod holding;
 mod host;
 mod intake;
 mod judging;
+mod lease;
 mod nudges;
 mod outcome;
 mod packets;
@@ -32,6 +37,7 @@ mod secrets;
 mod serve;
 mod server;
 mod time;
+mod want;
 
 pub use fault::HostFault;
 pub use host::{Ended, Host};

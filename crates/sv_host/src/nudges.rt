@@ -29,6 +29,13 @@ const THE_TICK: Nudges = Nudges {
     count: 1,
 };
 
+/// One that asks again for the sessions that requests wait for.
+const ASKING: Nudges = Nudges {
+    nudge: Nudge::Tick,
+    packets: Packets::Wants,
+    count: 1,
+};
+
 /// Those that end more sessions. The tick of the second has put out the same packets.
 const MORE_TICKS: Nudges = Nudges {
     nudge: Nudge::Tick,
@@ -102,6 +109,25 @@ fn add_nudges(
         add_nudge(machine, server, group, nudges.nudge, nudges.packets)?;
     }
     Ok(())
+}
+
+/// Adds a poke for each of so many requests whose sessions come in a group, so that they are served before the sessions are given on.
+pub fn add_pokes(
+    machine: &HostRuntime,
+    server: &mut Server,
+    group: &mut Group,
+    count: usize,
+) -> Result<(), Stop>
+    requires { IsRising group.old }
+    ensures gathered { HasGathered group.old group.new }
+    ensures stops { IfErr result (LacksSecrets (last_of server.new.secrets)) }
+{
+    let pokes = Nudges {
+        nudge: Nudge::Poke,
+        packets: Packets::All,
+        count: count.min(GROUP_LIMIT),
+    };
+    add_nudges(machine, server, group, pokes)
 }
 
 /// Tells the node several together; what came of the last.
@@ -192,6 +218,29 @@ pub fn tick<E: Engine, D: Disk>(
             server.expiry = Expiry::begin(has_ended);
             Ok(())
         }
+        Err(stop) => Err(stop),
+    }
+}
+
+/// Asks again for the sessions that requests wait for, where it is time to.
+pub fn ask_again<E: Engine, D: Disk>(
+    machine: &HostRuntime,
+    server: &mut Server,
+    node: &mut Node<E, D>,
+    group: &mut Group,
+) -> Result<(), Stop>
+    requires { IsServing E.valid D.tells D.seen D.may_leave node.old group.old }
+    ensures served { HasServed E.meaning E.heard E.valid D.tells D.seen D.may_leave node.old group.old node.new group.new result }
+    ensures stops { IfErr result (IsSpent server.new) }
+{
+    let now = server.time.steady;
+    server.asking = server.asking.at(now, server.parked.may_wait());
+    if !server.asking.is_due(now) {
+        return Ok(());
+    }
+    server.asking = server.asking.asked(now);
+    match tell(machine, server, node, group, ASKING) {
+        Ok(_) => Ok(()),
         Err(stop) => Err(stop),
     }
 }

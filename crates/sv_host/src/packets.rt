@@ -11,6 +11,8 @@ pub enum Packets {
     All,
     /// Of those of a tick so many as are sent of one, in turn.
     InTurn,
+    /// Of those of a tick the wants alone, so many as are sent of one, in turn.
+    Wants,
     /// None: the tick of this second has put out the same ones.
     Nothing,
 }
@@ -30,6 +32,7 @@ impl Sending {
         match packets {
             Packets::All => Sending::All,
             Packets::InTurn => Sending::Share(round.share(outputs)),
+            Packets::Wants => Sending::Share(round.share_of_wants(outputs)),
             Packets::Nothing => Sending::Nothing,
         }
     }

@@ -6,15 +6,17 @@ ghost use Rattle.sv_host.specs.Serving.{IsServing, HasServed};
 ghost use Rattle.sv_host.specs.Stops.{IsLost};
 ghost use Rattle.sv_host.specs.Time.{seconds_of, steady_of};
 
+use crate::asking::Asking;
 use crate::expiry::Expiry;
 use crate::fault::{HostFault, Stop};
 use crate::group::Group;
+use crate::holding::Holding;
 use crate::outcome::Taken;
 use crate::parked::ParkedClients;
 use crate::peers::Peers;
 use crate::round::Round;
 use crate::secrets::Secrets;
-use crate::time::{ClockSet, Time, read};
+use crate::time::{ClockSet, Time, read, steady};
 use std::alloc::Global;
 use std::rt::Clock;
 use std::time::Duration;
@@ -24,6 +26,9 @@ use sv_log::{Event, Level, Milestone, Report};
 use sv_model::{Engine, Moment};
 use sv_net::{Connections, port_of};
 use sv_node::Node;
+
+/// In milliseconds: a turn waits so long, at most.
+const TURN: u64 = 1_000;
 
 /// What a running node keeps beside its journal.
 pub struct Server {
@@ -42,6 +47,8 @@ pub struct Server {
     pub is_spared: bool,
     pub expiry: Expiry,
     pub round: Round,
+    pub asking: Asking,
+    pub holding: Holding,
     /// The length of the journal behind its last compaction; 0 before the first.
     pub compacted: u64,
     /// A command has told it to stop.
@@ -64,6 +71,8 @@ impl Drop for Server {
             is_spared: _,
             expiry: _,
             round: _,
+            asking: _,
+            holding: _,
             compacted: _,
             was_told: _,
             alloc: _,
@@ -108,6 +117,17 @@ impl Server {
         self.connections.report.at(time.seconds());
         self.say_clock(set);
         time
+    }
+
+    /// How long a turn may wait for somebody.
+    pub fn patience(&self, machine: &HostRuntime) -> Duration {
+        if self.expiry.is_due() {
+            return Duration::ZERO;
+        }
+        match self.next_due() {
+            Some(due) => Duration::from_millis(due.saturating_sub(steady(machine)).min(TURN)),
+            None => Duration::from_millis(TURN),
+        }
     }
 
     /// The second in which a turn ends, by the clock that nobody sets.

@@ -83,6 +83,11 @@ fn poll_of(machine: &HostRuntime, listener: RawFd) -> io::Result<(Poll, Registry
     Ok((poll, registry))
 }
 
+/// Who may wait so long may wait at the door.
+fn is_long(most: Duration) -> bool {
+    most >= Duration::from_secs(TURN)
+}
+
 impl Acceptor {
     /// Listens at an address of this machine. Its poll reports who comes there, and all who are registered with it.
     ///
@@ -147,8 +152,8 @@ impl Acceptor {
         self.queue.is_empty() && !self.door
     }
 
-    /// Waits until somebody is to be looked after, a turn at most; not at all where something else is to be done. While nobody is in
-    /// the connections it doesn't wait here, but at the door: that needs no call of the poll.
+    /// Waits until somebody is to be looked after, so long at most: a turn, or until something else is to be done. While nobody is in
+    /// the connections it doesn't wait here, but at the door, if it may for a turn: that needs no call of the poll.
     ///
     /// Else the door is gone to only where the poll says that somebody stands there, who then stays there until accepted, or
     /// where nobody could be accepted before, which never waits: so `accept`, which would wait for a turn, doesn't, and the
@@ -156,11 +161,11 @@ impl Acceptor {
     ///
     /// Who was put down in the turn before is gone on with before the poll is asked again: mostly nothing has come of them, and
     /// they cost no call of the poll then.
-    pub fn wait(&mut self, connections: &mut Connections, is_busy: bool) {
+    pub fn wait(&mut self, connections: &mut Connections, most: Duration) {
         self.queue.forget(self.done);
         self.done = 0;
         connections.hand_over(&mut self.queue);
-        self.waits = connections.is_empty() && !is_busy && !self.is_full;
+        self.waits = connections.is_empty() && is_long(most) && !self.is_full;
         if self.waits {
             self.door = true;
             return;
@@ -168,9 +173,9 @@ impl Acceptor {
         let count = self.queue.len();
         self.polled = !(self.polled && 0 < count && count <= TURN_LIMIT);
         if self.polled {
-            let is_idle = count == 0 && !self.door && !is_busy;
+            let is_idle = count == 0 && !self.door && !most.is_zero();
             if is_idle {
-                self.ask_poll(connections, self.patience());
+                self.ask_poll(connections, self.patience().min(most));
             }
             // A wait tells of nobody, too, that was cut short since the process was stopped and goes on (signal(7)): so what has come
             // meanwhile is gathered before the time is looked at.

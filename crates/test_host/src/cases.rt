@@ -12,15 +12,17 @@ enum Case {
     Lives,
     Secrets,
     Deadline,
+    Want,
     Figures,
     Rounds,
+    Wants,
     Times,
     BuiltIn,
     Changes,
 }
 
 /// What each case shows, and the text that it gives.
-static CASES: [(&str, Case, &str); 8] = [
+static CASES: [(&str, Case, &str); 10] = [
     ("a session outlives its node", Case::Lives, "12"),
     ("secrets come to an end", Case::Secrets, "Secrets 1-"),
     (
@@ -28,8 +30,15 @@ static CASES: [(&str, Case, &str); 8] = [
         Case::Deadline,
         "Secrets D",
     ),
+    // Both were served, by counts of 6 and 7, and then the session was handed on.
+    (
+        "a want that comes with its session is given to the node later",
+        Case::Want,
+        "Secrets67****",
+    ),
     ("figures are of the end", Case::Figures, ""),
     ("the packets of a tick are sent in turn", Case::Rounds, ""),
+    ("most of them are wants where many are due", Case::Wants, ""),
     (
         "the time never goes back and never stands still",
         Case::Times,
@@ -53,8 +62,10 @@ fn told(rt: &impl Abort, machine: &HostRuntime, case: Case) -> String {
         Case::Lives => lives::told(rt, machine),
         Case::Secrets => faults::secrets_told(rt, machine),
         Case::Deadline => faults::deadline_told(rt, machine),
+        Case::Want => faults::want_told(rt, machine),
         Case::Figures => figures::missing(rt, machine),
         Case::Rounds => rounds::told(rt, machine.alloc()),
+        Case::Wants => rounds::both_told(rt, machine.alloc()),
         Case::Times => times::told(rt, machine.alloc()),
         Case::BuiltIn => built_in(rt, machine.alloc()),
         Case::Changes => renewing::told(rt, machine.alloc()),

@@ -2,12 +2,25 @@
 
 use crate::files::own_path;
 use crate::fixtures::{add, add_letter, push, repeated, text};
+use crate::peers::GRANT_AND_WANT;
 use crate::town::{Town, host_at, letter_of, serve_all};
 use std::fs;
 use std::net::TcpStream;
 use std::process::Abort;
 use sv_host::{HostFault, Place};
 use sv_net::Persistence;
+
+/// The first and the second want of node 0 for the first session of node 1, what it says once that has come at epoch 2, and the head of
+/// what it sends when it hands the session on, at epoch 3.
+const WANT_1: &[u8] = b"\xE1\0\0\0\x1D\x02\x01\0\x01\x01\0\0\0\0\0\0\0\x01\
+    \0\0\0\0\0\0\0\x01\0\0\0\0\0\0\0\x01";
+
+const WANT_2: &[u8] = b"\xE1\0\0\0\x1D\x02\x01\0\x01\x01\0\0\0\0\0\0\0\x01\
+    \0\0\0\0\0\0\0\x01\0\0\0\0\0\0\0\x02";
+
+const ACK: &[u8] = b"\xE1\0\0\0\x15\x02\x03\0\x01\x01\0\0\0\0\0\0\0\x01\0\0\0\0\0\0\0\x02";
+
+const GIVEN: &[u8] = b"\xE1\0\0\0\x3D\x02\x02\0\x01\x01\0\0\0\0\0\0\0\x01\0\0\0\0\0\0\0\x03";
 
 /// A file of so many secrets.
 fn secrets_in(rt: &impl Abort, machine: &HostRuntime, secrets: usize) -> String {
@@ -92,8 +105,47 @@ pub fn secrets_told(rt: &impl Abort, machine: &HostRuntime) -> String {
     told(rt, machine, 30, 1, &[[0, 9], [0, 9]])
 }
 
-/// Nobody calls, and the request that waits is refused once a second has passed. Twelve secrets serve for the request and, twice
-/// a second while it waits, for a look at the time and a look for its session; then they come to an end, and the node stops.
+/// Nobody calls, and the request that waits is refused once a second has passed. Fourteen secrets are more than the request takes till
+/// then: two for itself and a look for its session; as many each time that its session is asked for again, which is four times, behind
+/// 50, 150, 350 and 750 milliseconds; and two for a look at the time. Then they come to an end, one a second, and the node stops.
 pub fn deadline_told(rt: &impl Abort, machine: &HostRuntime) -> String {
-    told(rt, machine, 1, 12, &[[1, 1]])
+    told(rt, machine, 1, 14, &[[1, 1]])
+}
+
+/// Adds a star where node 1 was told this next, and else a dash.
+fn push_if_told(
+    rt: &impl Abort,
+    machine: &HostRuntime,
+    town: &Town,
+    text: &mut String,
+    wanted: &[u8],
+) {
+    let letter = match town.asked(machine.alloc()) {
+        Ok(told) if told.starts_with(wanted) => '*',
+        _ => '-',
+    };
+    add_letter(rt, text, letter);
+}
+
+/// A node serves two who wait for the first session of node 1, which brings it in the same turn, and wants it back at once. Of 73 secrets
+/// four are for these, 65 for looks for whom it can serve, one and then 64, and one is for the want, which is given to the node in a later
+/// turn. With the other three it looks at the time, once a second, and then it stops.
+pub fn want_told(rt: &impl Abort, machine: &HostRuntime) -> String {
+    let town = Town::new(rt, machine);
+    let host = host_at(
+        rt,
+        machine,
+        place_of(rt, machine, &town, 30, 73),
+        Persistence::Single,
+    );
+    let clients = clients_of(rt, machine, &town, &[[1, 1], [1, 1]]);
+    let _node = town.call(rt, machine, GRANT_AND_WANT);
+    let mut text = text(rt, machine.alloc(), name_of(serve_all(rt, machine, host)));
+    for client in &clients {
+        add_letter(rt, &mut text, letter_of(machine.alloc(), client));
+    }
+    for wanted in [WANT_1, WANT_2, ACK, GIVEN] {
+        push_if_told(rt, machine, &town, &mut text, wanted);
+    }
+    text
 }

@@ -16,11 +16,17 @@ const OF_TWO_NODES: &[u8] = b"\xE1\0\0\0\x1D\x02\x04\0\0\x01\0\0\0\0\0\0\0\x02\
     \xE1\0\0\0\x3D\x02\x02\x01\0\x01\0\0\0\0\0\0\0\x01\0\0\0\0\0\0\0\x02\
     \0\0\0\0\0\0\0\0\0\0\0\0\0\0\0\x01\0\0\0\0\0\0\0\0\x05\0\0\0\0\0\0\0\0\xFF\xFF\xFF\xFF\0\0\0";
 
+/// Node 1 hands its first session over, and wants it at once.
+pub const GRANT_AND_WANT: &[u8] =
+    b"\xE1\0\0\0\x3D\x02\x02\x01\0\x01\0\0\0\0\0\0\0\x01\0\0\0\0\0\0\0\x02\
+    \0\0\0\0\0\0\0\0\0\0\0\0\0\0\0\x01\0\0\0\0\0\0\0\0\x05\0\0\0\0\0\0\0\0\xFF\xFF\xFF\xFF\0\0\0\
+    \xE1\0\0\0\x1D\x02\x01\x01\0\x01\0\0\0\0\0\0\0\x01\0\0\0\0\0\0\0\x01\0\0\0\0\0\0\0\x01";
+
 /// A packet, and a command to stop.
 const NO_AND_HALT: &[u8] = b"\xE1\0\0\0\x1D\x02\x04\x01\0\x01\0\0\0\0\0\0\0\x02\
     \0\0\0\0\0\0\0\x01\0\0\0\0\0\0\0\x02\xE2\0\0\0\x01\x03";
 
-pub static SCENES: [Scene; 6] = [
+pub static SCENES: [Scene; 8] = [
     // What node 0 sends for clients that name the first and the second session of node 1: its first two wants since its first start.
     Scene {
         name: "each packet goes on a connection of its own",
@@ -64,6 +70,34 @@ pub static SCENES: [Scene; 6] = [
         connections: 0,
         most: LONG,
         told: "6|1|||\0|",
+    },
+    // The session has been counted five times.
+    Scene {
+        name: "who waits is served before the session is given on that the same packets bring and want",
+        persistence: Persistence::Single,
+        all: &[
+            Said::Counts(&[[1, 1]]),
+            Said::Turns(1),
+            Said::Frame(GRANT_AND_WANT),
+            Said::Turns(1),
+            Said::Frame(HALT),
+        ],
+        connections: 0,
+        most: LONG,
+        told: "6||||\0|",
+    },
+    Scene {
+        name: "so is who has come in the same turn as these packets",
+        persistence: Persistence::Single,
+        all: &[
+            Said::Counts(&[[1, 1]]),
+            Said::Frame(GRANT_AND_WANT),
+            Said::Turns(1),
+            Said::Frame(HALT),
+        ],
+        connections: 0,
+        most: LONG,
+        told: "6|||\0|",
     },
     // Who is let in as one node sends no packet of another: the session doesn't come, and its client waits still.
     Scene {

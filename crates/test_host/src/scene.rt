@@ -99,19 +99,12 @@ fn say_packets(rt: &impl Abort, machine: &HostRuntime, town: &Town, count: usize
     caller
 }
 
-/// So many callers who say nothing, and have gone away.
-fn pass_by(rt: &impl Abort, machine: &HostRuntime, town: &Town, count: usize) {
-    for _ in 0..count {
-        let _gone = town.call(rt, machine, b"");
-    }
-}
-
 /// Somebody who has said that; none who has gone away.
 fn caller_of(rt: &impl Abort, machine: &HostRuntime, town: &Town, said: Said) -> Option<TcpStream> {
     match said {
         Said::Nothing => Some(town.call(rt, machine, b"")),
         Said::Turns(count) => {
-            pass_by(rt, machine, town, count.saturating_mul(LET_IN));
+            town.pass_by(rt, machine, count.saturating_mul(LET_IN));
             None
         }
         Said::Frame(frame) => Some(say_frame(rt, machine, town, frame)),

@@ -200,6 +200,13 @@ impl Town {
         stream
     }
 
+    /// So many callers who say nothing, and have gone away.
+    pub fn pass_by(&self, rt: &impl Abort, machine: &HostRuntime, count: usize) {
+        for _ in 0..count {
+            let _gone = self.call(rt, machine, b"");
+        }
+    }
+
     /// What node 1 was asked first. A fault where nobody asks it in time.
     pub fn asked(&self, alloc: Global) -> io::Result<Vec<u8>> {
         let (caller, _) = self.peer.accept()?;

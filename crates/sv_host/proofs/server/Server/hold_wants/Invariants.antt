@@ -1,0 +1,12 @@
+use Rattle.std.proofs.Common.{◌≡◌}
+use Rattle.sv_host.specs.Group.{inputs_of}
+use Rattle.sv_host.specs.Held.{others_in}
+use Rattle.sv_host.specs.Serving.{HasGathered}
+use Rattle.sv_host.proofs.server.Server.hold_wants.Given as goal
+
+-- no group has been given to the node meanwhile, and what is no want is there still
+abbrev pub invariant-loop-done : goal.invariant-loop-done
+invariant-loop-done l = record {
+  gathered : HasGathered l.initial.group l.group;
+  others : others_in (inputs_of l.group) ≡ others_in (inputs_of l.initial.group);
+}
