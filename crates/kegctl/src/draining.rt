@@ -1,5 +1,5 @@
 //! Takes a node out of use: each session that is active there is moved to the other nodes in turn, until none is left and each has
-//! been acknowledged.
+//! been acknowledged. A node gets sessions while it answers and has room; where none does, what is left stays at its node.
 //!
 //! Only commands are sent, each of which a node carries out whole or not at all. So a drain may be interrupted anywhere, and run
 //! again.
@@ -10,8 +10,8 @@ ghost use Rattle.sv_drain.specs.Left.{left_of};
 use crate::commands::{PATIENCE, halt, hand_over, tick, told};
 use crate::fault::Fault;
 use crate::journal::kept;
-use crate::limit::Limit;
 use crate::route::{Moved, Route, route_of};
+use crate::taker::Taker;
 use crate::words::Drain;
 use std::thread;
 use std::time::Duration;
@@ -64,26 +64,62 @@ fn move_to(
     }
 }
 
-/// The node that takes the next session, with its place in the list.
-fn next_taker(route: &Route) -> Option<(usize, NodeNumber)> {
-    let at = route.next % route.to.len().max(1);
-    match route.to.get(at) {
-        Some(to) => Some((at, *to)),
-        None => None,
+/// The node at a place of the list, if it takes one more session.
+fn taking_at(
+    machine: &HostRuntime,
+    to: &mut [Taker],
+    at: usize,
+) -> Result<Option<NodeNumber>, Fault> {
+    let Some(taker) = to.get_mut(at) else {
+        return Ok(None);
+    };
+    match taker.takes(machine) {
+        Ok(true) => Ok(Some(taker.node)),
+        Ok(false) => Ok(None),
+        Err(fault) => Err(fault),
     }
 }
 
-/// Hands one session over to the next node; whether it was.
-fn move_one(machine: &HostRuntime, route: &mut Route, key: Key) -> Result<bool, Fault> {
-    let Some((at, to)) = next_taker(route) else {
-        return Ok(false);
-    };
+/// The node that takes the next session, with its place in the list: the first from a place on that takes one.
+fn next_taker(
+    machine: &HostRuntime,
+    to: &mut [Taker],
+    next: usize,
+) -> Result<Option<(usize, NodeNumber)>, Fault> {
+    let count = to.len().max(1);
+    for behind in 0..count {
+        let at = next.saturating_add(behind) % count;
+        if let Some(node) = taking_at(machine, to, at)? {
+            return Ok(Some((at, node)));
+        }
+    }
+    Ok(None)
+}
+
+/// Hands one session over to the node at a place of the list; whether it was.
+fn move_on(
+    machine: &HostRuntime,
+    route: &mut Route,
+    key: Key,
+    (at, to): (usize, NodeNumber),
+) -> Result<bool, Fault> {
     let is_moved = move_to(machine, route.address(machine), key, to)?;
     if is_moved {
-        route.count(at);
-        route.next = at.saturating_add(1);
+        route.give(at);
     }
     Ok(is_moved)
+}
+
+/// Hands one session over to the next node that takes one; whether it was.
+fn move_one(machine: &HostRuntime, route: &mut Route, key: Key) -> Result<bool, Fault> {
+    let next = route.next;
+    match next_taker(machine, &mut route.to, next)? {
+        Some(taker) => move_on(machine, route, key, taker),
+        None => {
+            route.is_alone = true;
+            Ok(false)
+        }
+    }
 }
 
 /// The session of a record of a snapshot, if it is active.
@@ -122,7 +158,7 @@ fn move_at(
     Ok(())
 }
 
-/// Hands over what is active by a snapshot, for as long as there is time. What is moved is added to `fresh`.
+/// Hands over what is active by a snapshot, for as long as there is time and a node that takes it. What is moved is added to `fresh`.
 fn move_each(
     machine: &HostRuntime,
     route: &mut Route,
@@ -130,7 +166,7 @@ fn move_each(
     kept: &[Record],
 ) -> Result<(), Fault> {
     for entry in kept {
-        if route.limit.is_over(machine) {
+        if route.is_alone || route.limit.is_over(machine) {
             return Ok(());
         }
         move_at(machine, route, fresh, entry)?;
@@ -157,6 +193,7 @@ fn keep_in_mind(known: &mut Vec<Moved>, fresh: &[Moved]) -> Result<(), Fault> {
 /// Hands over what is active by a snapshot, for as long as there is time, and keeps in mind what was moved.
 fn move_all(machine: &HostRuntime, route: &mut Route, kept: &[Record]) -> Result<(), Fault> {
     let mut fresh = Vec::new(machine.alloc());
+    route.doubt();
     match move_each(machine, route, &mut fresh, kept) {
         Ok(()) => keep_in_mind(&mut route.moved, &fresh),
         Err(fault) => Err(fault),
@@ -188,10 +225,10 @@ fn go_on(
     }
 }
 
-/// Nothing is left by a snapshot, or the time is over.
-fn is_over(machine: &HostRuntime, limit: Limit, kept: &[Record]) -> Result<bool, Fault> {
+/// Nothing is left by a snapshot, or nobody takes it and nothing is on its way, or the time is over.
+fn is_over(machine: &HostRuntime, route: &Route, kept: &[Record]) -> Result<bool, Fault> {
     let left = left_in(machine.alloc(), kept)?;
-    Ok(left.is_nothing() || limit.is_over(machine))
+    Ok(left.is_nothing() || route.is_alone && left.sent == 0 || route.limit.is_over(machine))
 }
 
 /// Whether the drain is over by a snapshot; else what is active is moved.
@@ -201,7 +238,7 @@ fn look_at(
     kept: &[Record],
     is_first: bool,
 ) -> Result<bool, Fault> {
-    if is_over(machine, route.limit, kept)? {
+    if is_over(machine, route, kept)? {
         return Ok(true);
     }
     match go_on(machine, route, kept, is_first) {
@@ -250,19 +287,38 @@ fn empty(machine: &HostRuntime, route: &mut Route, journal: &str) -> Result<Repl
 }
 
 /// Says how many sessions went to a node.
-fn say_count(machine: &HostRuntime, to: NodeNumber, count: u64) -> Result<(), Fault> {
-    match println!(machine; "node {}: {count} sessions", to.value) {
+fn say_count(machine: &HostRuntime, taker: &Taker) -> Result<(), Fault> {
+    match println!(machine; "node {}: {} sessions", taker.node.value, taker.count) {
         Ok(()) => Ok(()),
         Err(_) => Err(Fault::Output),
     }
 }
 
 /// Says how many sessions went where.
-fn say_moved(machine: &HostRuntime, route: &Route) -> Result<(), Fault> {
-    for (to, count) in route.to.iter().zip(&route.counts) {
-        say_count(machine, *to, *count)?;
+fn say_moved(machine: &HostRuntime, to: &[Taker]) -> Result<(), Fault> {
+    for taker in to {
+        say_count(machine, taker)?;
     }
     Ok(())
+}
+
+/// Says how much room the nodes have that take sessions.
+fn say_rooms(machine: &HostRuntime, to: &[Taker]) -> Result<(), Fault> {
+    for taker in to {
+        taker.say_room(machine)?;
+    }
+    Ok(())
+}
+
+/// Says it where sessions stay because no node takes them.
+fn say_alone(machine: &HostRuntime, is_alone: bool) -> Result<(), Fault> {
+    if !is_alone {
+        return Ok(());
+    }
+    match println!(machine; "no other node takes sessions: what is left stays where it is") {
+        Ok(()) => Ok(()),
+        Err(_) => Err(Fault::Output),
+    }
 }
 
 /// Says what is left of a drain, which isn't done then.
@@ -297,10 +353,16 @@ fn end(machine: &HostRuntime, port: u16, kept: &[Record], halts: bool) -> Result
     Ok(())
 }
 
+/// Says how much went where, and whether nobody takes more.
+fn say_went(machine: &HostRuntime, route: &Route) -> Result<(), Fault> {
+    say_moved(machine, &route.to)?;
+    say_alone(machine, route.is_alone)
+}
+
 /// Moves what is active at a node, and says how much went where; what the node keeps then.
 fn emptied(machine: &HostRuntime, route: &mut Route, journal: &str) -> Result<Replayed, Fault> {
     match empty(machine, route, journal) {
-        Ok(found) => match say_moved(machine, route) {
+        Ok(found) => match say_went(machine, route) {
             Ok(()) => Ok(found),
             Err(fault) => Err(fault),
         },
@@ -310,6 +372,7 @@ fn emptied(machine: &HostRuntime, route: &mut Route, journal: &str) -> Result<Re
 
 /// Moves what is active at a node, warns if its keys get scarce, and ends the drain.
 fn take_out_by(machine: &HostRuntime, route: &mut Route, drain: Drain<'_>) -> Result<(), Fault> {
+    say_rooms(machine, &route.to)?;
     match emptied(machine, route, drain.journal) {
         Ok(found) => {
             route.keys.warn(machine, &found.kept);

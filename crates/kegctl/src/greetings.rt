@@ -6,7 +6,7 @@ ghost use Rattle.sv_record.specs.Greeting.{IsGreeting};
 use crate::commands::address;
 use std::fmt;
 use std::rt::Clock;
-use sv_client::exchange;
+use sv_client::{Address, exchange};
 use sv_model::NODE_LIMIT;
 use sv_record::{CONTEXTS_LEN, Errand, Greeting, read_greeting, write_greeting};
 
@@ -56,15 +56,16 @@ impl fmt::Display for Difference {
     }
 }
 
-/// What somebody asks a node who is none.
-fn question(node: u8) -> Greeting
-    requires { IsNode node }
+/// What somebody asks a node, in the name of another or of itself: it takes nothing of it for said by that one.
+fn question(from: u8, to: u8) -> Greeting
+    requires in_the_name { IsNode from }
+    requires asked { IsNode to }
     ensures { IsGreeting result }
 {
     Greeting {
         errand: Errand::Look,
-        from: node,
-        to: node,
+        from,
+        to,
         nodes: 0,
         homes: 0,
         all_homes: 0,
@@ -82,7 +83,7 @@ pub fn said_by(machine: &HostRuntime, node: usize, port: u16) -> Option<Said> {
         return None;
     }
     let mut bytes = Vec::new(machine.alloc());
-    write_greeting(&question(node), &mut bytes).ok()?;
+    write_greeting(&question(node, node), &mut bytes).ok()?;
     let answer = exchange(machine, address(port), bytes.as_slice()).ok()?;
     let greeting = read_greeting(answer.as_slice()).ok()?;
     let clock = match machine.since_1970() {
@@ -90,6 +91,21 @@ pub fn said_by(machine: &HostRuntime, node: usize, port: u16) -> Option<Said> {
         Err(_) => greeting.clock,
     };
     Some(Said { greeting, clock })
+}
+
+/// Whether a node answers a question that is asked in the name of another: what joins machines lets that through, and no command.
+pub fn hears(machine: &HostRuntime, address: Address, from: u8, to: u8) -> bool {
+    if from >= NODE_LIMIT || to >= NODE_LIMIT {
+        return false;
+    }
+    let mut bytes = Vec::new(machine.alloc());
+    if write_greeting(&question(from, to), &mut bytes).is_err() {
+        return false;
+    }
+    match exchange(machine, address, bytes.as_slice()) {
+        Ok(answer) => read_greeting(answer.as_slice()).is_ok(),
+        Err(_) => false,
+    }
 }
 
 impl Said {

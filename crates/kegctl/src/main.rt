@@ -20,6 +20,7 @@ mod room;
 mod route;
 mod status;
 mod stopping;
+mod taker;
 mod watching;
 mod whose;
 mod words;

@@ -50,6 +50,12 @@ impl Keys {
         }
     }
 
+    /// So many more a node that keeps this can know.
+    pub fn left(self, kept: &[Record]) -> u64 {
+        let room = self.room(kept);
+        room.limit.saturating_sub(room.known) as u64
+    }
+
     fn remedy(self, kept: &[Record]) -> &'static str {
         remedy(self.limit < KEY_MOST, self.forget || forgets(kept))
     }
