@@ -1,6 +1,6 @@
 -- One input more in a group, or one less.
-use Rattle.std.proofs.Common.{◌≡◌, ◌≤◌, ℕ, zero, suc, List, [], ◌∷◌, ◌++◌, length, refl, ap, arith}
-use Rattle.std.specs.Prelude.{remove, slice_get, Option, Some, None, ⊤}
+use Rattle.std.proofs.Common.{◌≡◌, ◌≤◌, ℕ, zero, suc, List, [], ◌∷◌, ◌++◌, length, get_or, ◌<◌, refl, ap, subst, sym, arith}
+use Rattle.std.specs.Prelude.{remove}
 use Rattle.std.specs.List.{AllByRecursion}
 use Rattle.sv_model.specs.declared.input.Input.{Input}
 use Rattle.sv_model.specs.declared.input.Input.TheVariants as input
@@ -23,15 +23,10 @@ number_on low [] i = refl
 number_on low (x ∷ is) i = number_on (number_in low x.1) is i
 
 -- the one at a place
-abbrev pub IsWithin : Option (Moment × Input) → Type 0
-IsWithin None = ⊤
-IsWithin (Some i) = IsInput i.1
-
-pub within_at : (is : List (Moment × Input)) (at : ℕ) → AllByRecursion (λ x. IsInput x.1) is → IsWithin (slice_get is at)
-within_at [] zero all = tt
-within_at [] (suc at) all = tt
-within_at (x ∷ is) zero all = all.0
-within_at (x ∷ is) (suc at) all = within_at is at all.1
+pub within_at : (is : List (Moment × Input)) (at : ℕ) (i : Moment × Input) → AllByRecursion (λ x. IsInput x.1) is → at < length is → i ≡ get_or is at i → IsInput i.1
+within_at [] at i all within is = absurd (omega (arith, within))
+within_at (x ∷ rest) zero i all within is = subst (λ (j : Moment × Input). IsInput j.1) (sym is) all.0
+within_at (x ∷ rest) (suc at) i all within is = within_at rest at i all.1 (omega (arith, within)) is
 
 -- ---- one less
 

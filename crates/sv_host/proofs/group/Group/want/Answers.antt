@@ -2,4 +2,6 @@ use Rattle.sv_host.proofs.GroupLemmas.{within_at}
 use Rattle.sv_host.proofs.group.Group.want.Goals as goal
 
 pub of-requires : goal.of-requires
-of-requires c = within_at c.args.self.now.inputs.items c.args.at c.requires.within
+of-requires c =
+    let there = c.in-Some.ensures.lookup in
+    within_at c.args.self.now.inputs.items c.args.at c.in-Some.field-0.now c.requires.within there.1.1.1.0.0 there.1.0
