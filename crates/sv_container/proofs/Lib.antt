@@ -12,3 +12,4 @@ pub mod ContainerLemmas
 pub mod PrepareLemmas
 pub mod OnceLemmas
 pub mod ServeLemmas
+pub mod OrderLemmas

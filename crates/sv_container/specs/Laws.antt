@@ -20,7 +20,7 @@ use Rattle.sv_once.specs.Asked.{is_safe}
 use Rattle.sv_once.specs.Room.{session_with}
 use Rattle.sv_once.specs.declared.choice.Choice.{Choice}
 use Rattle.sv_once.proofs.RoomLemmas.{bare_within, session_within}
-use Rattle.sv_session.specs.Edit.{Edit, IsFateOf, IsWithin, KeepsEdit, begun, fate_of}
+use Rattle.sv_session.specs.Edit.{Edit, IsFateOf, IsWithin, KeepsEdit, begun, fate_of, key_of}
 use Rattle.sv_session.specs.declared.edit.Edited.{Edited}
 use Rattle.sv_session.specs.Expiry.{joined}
 use Rattle.sv_session.proofs.EditLemmas.{KeepsEdit-refl, KeepsEdit-trans, begun_within}
@@ -86,7 +86,7 @@ answer_keeps a sound r path e = ran_keeps a.table sound.keeps (asked a r path) e
 
 -- ---- the application of a place
 
-sound_there : (d : Deployed) → IsSound d → (place : ℕ) (a : App) → slice_get d.apps place ≡ Some a → IsSoundApp a
+pub sound_there : (d : Deployed) → IsSound d → (place : ℕ) (a : App) → slice_get d.apps place ≡ Some a → IsSoundApp a
 sound_there d sound place a is =
     subst IsSoundApp (get_or_from_slice_get d.apps place a a is) (sound place a (slice_get_within d.apps place a is))
 
@@ -184,6 +184,67 @@ untouched_at d sound r now fresh (Some place) =
 
 pub touches_only_handed : (d : Deployed) → IsSound d → TouchesOnlyHanded (container_meaning d)
 touches_only_handed d sound r now fresh = untouched_at d sound r now fresh (place_for d r.path)
+
+-- ---- a session that is joined is kept or ended
+
+joined_kept : (k : Key) (s : Option Session) → IfSome (option_map Kept s) (λ f. IsFateOf (Some k) f)
+joined_kept k None = tt
+joined_kept k (Some s) = tt
+
+fate_stays : (k : Key) (memory : List ℕ) (fate : Fate) → IsFateOf (Some k) fate → IfSome (fate_with memory fate) (λ f. IsFateOf (Some k) f)
+fate_stays k memory Untouched is = absurd is
+fate_stays k memory (Kept s) is = joined_kept k (session_with memory s)
+fate_stays k memory Ended is = tt
+
+stays_by_memory : (k : Key) (once : Option Choice) (context : ℕ) (r : Request) (is_away : Bool) (secret : Option Secret) (memory : List ℕ) (key : Key) (response : Response) (e : Edited)
+    → IsFateOf (Some k) e.fate → IfSome (remembering_with once context r is_away secret memory key response e) (λ x. IsFateOf (Some k) x.fate × Unit {0})
+stays_by_memory k None context r is_away secret memory key response e is = (is, tt)
+stays_by_memory k (Some c) context r is_away secret memory key response e is =
+    let settled : Edited = settled_birth context key (is_away && is_safe r.method) e in
+    let old : List ℕ = old_secret settled.id_changed secret in
+    both_with (λ f. IsFateOf (Some k) f) (λ b. Unit {0}) settled (fate_with (next_memory c r old response memory) settled.fate)
+    (birth_with (next_memory c r old response []) settled.birth)
+    (fate_stays k (next_memory c r old response memory) settled.fate
+    (subst (λ (f : Fate). IsFateOf (Some k) f) (sym (settled_fate context key (is_away && is_safe r.method) e)) is))
+    (any_birth (birth_with (next_memory c r old response []) settled.birth))
+
+stays_or : (a : App) (r : Request) (k : Key) (s : Session) (fresh : Key × Secret) (response : Response) (found : Option Edited)
+    → IfSome found (λ x. IsFateOf (Some k) x.fate × Unit {0})
+    → IsFateOf (Some k) (or_full a r (Joined k s) (option_map (outcome_by a (Joined k s) fresh response) found)).fate
+stays_or a r k s fresh response None is = tt
+stays_or a r k s fresh response (Some e) is = is.0
+
+bared_key : (is_chosen : Bool) (k : Key) (s : Session) → key_of (bared is_chosen (Some (k, s))) ≡ Some k
+bared_key true k s = refl
+bared_key false k s = refl
+
+bared_fate : (is_chosen : Bool) (k : Key) (s : Session) → IsFateOf (Some k) (fate_of (bared is_chosen (Some (k, s))))
+bared_fate true k s = tt
+bared_fate false k s = tt
+
+stays_new : (a : App) → IsSoundApp a → (r : Request) (path : List ℕ) (k : Key) (s : Session) (now : ℕ) (fresh : Key × Secret)
+    → IsFateOf (Some k) (or_full a r (Joined k s) (served_new a r path (Joined k s) now fresh)).fate
+unfolding served_new remembering
+stays_new a sound r path k s now fresh =
+    let e : Edit = begun (bared (is_some a.once) (Some (k, s))) a.number a.interval now fresh in
+    let w : Answered = answered_by a r path e in
+    let keeps : KeepsEdit e w.edit = answer_keeps a sound r path e in
+    let handed : e.handed ≡ Some k = bared_key (is_some a.once) k s in
+    let was : IsFateOf e.handed e.fate = subst (λ (h : Option Key). IsFateOf h e.fate) (sym handed) (bared_fate (is_some a.once) k s) in
+    let is : IsFateOf (Some k) w.edit.fate = subst (λ (h : Option Key). IsFateOf h w.edit.fate) (keeps.handed ∙ handed) (keeps.fate was) in
+    stays_or a r k s fresh w.response
+    (remembering_with a.once a.number r false (Some s.secret) (memory_if (is_some a.once) (Some (k, s))) fresh.0 w.response (edited_of w.edit))
+    (stays_by_memory k a.once a.number r false (Some s.secret) (memory_if (is_some a.once) (Some (k, s))) fresh.0 w.response (edited_of w.edit) is)
+
+stays_unless : (a : App) → IsSoundApp a → (r : Request) (path : List ℕ) (k : Key) (s : Session) (now : ℕ) (fresh : Key × Secret) (found : Option Response)
+    → IsFateOf (Some k) (served_unless a r path (Joined k s) now fresh found).fate
+stays_unless a sound r path k s now fresh None = stays_new a sound r path k s now fresh
+stays_unless a sound r path k s now fresh (Some response) = tt
+
+pub joined_stays : (a : App) → IsSoundApp a → (r : Request) (path : List ℕ) (k : Key) (s : Session) (now : ℕ) (fresh : Key × Secret)
+    → IsFateOf (Some k) (served_in a r path (Joined k s) now fresh).fate
+unfolding served_in
+joined_stays a sound r path k s now fresh = stays_unless a sound r path k s now fresh (recalled a.once r (Some (k, s)))
 
 -- ---- an application that a path has is in service
 

@@ -3,9 +3,14 @@ use Rattle.std.specs.Prelude.{◌≡◌, ℕ, ◌+◌, ◌<◌, ◌≤◌, Bool,
 use Rattle.std.specs.Prelude.{slice_get}
 use Rattle.std.specs.List.{fold}
 use Rattle.sv_mapping.specs.Context.{context_at, path_in_context}
+use Rattle.sv_model.specs.Container.{Store, AreLawful, always, committed, reply_of, after as run}
+use Rattle.sv_model.specs.Keys.{same_key}
 use Rattle.sv_model.specs.Session.{is_expired}
+use Rattle.sv_model.specs.declared.commit.Commit.{Commit}
+use Rattle.sv_model.specs.declared.commit.Commit.TheVariants.{Served, Expired}
 use Rattle.sv_model.specs.declared.key.Key.{Key}
 use Rattle.sv_model.specs.declared.key.Secret.{Secret}
+use Rattle.sv_model.specs.declared.key.Token.{Token}
 use Rattle.sv_model.specs.declared.outcome.Fate.{Fate}
 use Rattle.sv_model.specs.declared.outcome.Fate.TheVariants.{Untouched, Kept, Ended}
 use Rattle.sv_model.specs.declared.outcome.Outcome.{Outcome}
@@ -21,7 +26,7 @@ use Rattle.sv_target.specs.SessionCookie.{session_cookie}
 use Rattle.sv_container.specs.Admission.{is_turned_away}
 use Rattle.sv_container.specs.Application.{App}
 use Rattle.sv_container.specs.Recalling.{recalled, refused}
-use Rattle.sv_container.specs.Serving.{Deployed, answered_by, bared, place_for, served, served_in, served_new, unserved}
+use Rattle.sv_container.specs.Serving.{Deployed, IsSound, answered_by, bared, container_meaning, place_for, served, served_in, served_new, unserved}
 use Rattle.sv_container.specs.declared.admission.Admission.{Admission}
 use Rattle.sv_container.specs.declared.admission.Admission.TheVariants.{Joined}
 use Rattle.sv_container.specs.declared.recall.Refusal.TheVariants.{Gone}
@@ -129,3 +134,59 @@ IsJoined =
     → slice_get d.apps place ≡ Some a → is_turned_away a.number (session_cookie r.cookies a.number) s ≡ false → is_expired s now ≡ false
     → served d r (Some (key, s)) now fresh
     ≡ outcome_at a key s (record { request = r; path = path_in_context (context_at d.paths place) r.path; now = now; fresh = fresh })
+
+-- ---- in the order of all commits
+
+-- a request names the session of this key
+abbrev pub is_for : Key → Option (Key × Secret) → Bool
+is_for key None = false
+is_for key (Some named) = same_key key named.0
+
+abbrev pub ask_if : Bool → Ask → Option Ask
+ask_if true q = Some q
+ask_if false q = None
+
+-- the request of a commit to which the session of this key is handed
+abbrev pub ask_by : Deployed → ℕ → Key → Commit → Option Ask
+ask_by d place key (Served token r now handed fresh) =
+    ask_if (handed && is_for key ((container_meaning d).names r))
+    (record { request = r; path = path_in_context (context_at d.paths place) r.path; now = now; fresh = fresh })
+ask_by d place key (Expired k now) = None
+
+abbrev pub with_ask : Option Ask → List Ask → List Ask
+with_ask None qs = qs
+with_ask (Some q) qs = q ∷ qs
+
+-- those of a list of commits, in order
+abbrev pub asks_in : Deployed → ℕ → Key → List Commit → List Ask
+asks_in d place key [] = []
+asks_in d place key (c ∷ cs) = with_ask (ask_by d place key c) (asks_in d place key cs)
+
+-- the session, while it is there, is asked for in its context, by its secret, and before it has expired; and it isn't ended by time
+abbrev pub IsJoinedAt : Deployed → ℕ → App → Key → Store → Commit → Type 0
+IsJoinedAt d place a key store (Served token r now handed fresh) =
+    handed ≡ true → is_for key ((container_meaning d).names r) ≡ true → (s : Session) → store.map key ≡ Some s
+    → (place_for d r.path ≡ Some place) × ((is_turned_away a.number (session_cookie r.cookies a.number) s ≡ false) × (is_expired s now ≡ false))
+IsJoinedAt d place a key store (Expired k now) = same_key key k ≡ false
+
+abbrev pub AreJoined : Deployed → ℕ → App → Key → Store → List Commit → Type 0
+AreJoined d place a key store [] = ⊤
+AreJoined d place a key store (c ∷ cs) =
+    IsJoinedAt d place a key store c × AreJoined d place a key (committed (always (container_meaning d)) store c) cs
+
+-- What a run of the container leaves of a session is what the requests for it leave, in that order: so the law above is about what a
+-- cluster does, whose commits are such a run.
+abbrev pub IsInOrder : Type 0
+IsInOrder =
+    (d : Deployed) → IsSound d → (place : ℕ) (a : App) (key : Key) (store : Store) (commits : List Commit) → slice_get d.apps place ≡ Some a
+    → store.made key ≡ true → AreLawful (always (container_meaning d)) store commits → AreJoined d place a key store commits
+    → (run (always (container_meaning d)) store commits).map key ≡ after a key (store.map key) (asks_in d place key commits)
+
+-- And each of them is answered as the law says.
+abbrev pub IsAnsweredInOrder : Type 0
+IsAnsweredInOrder =
+    (d : Deployed) (place : ℕ) (a : App) (key : Key) (store : Store) (token : Token) (r : Request) (now : ℕ) (fresh : Key × Secret) (s : Session)
+    → slice_get d.apps place ≡ Some a → is_for key ((container_meaning d).names r) ≡ true → store.map key ≡ Some s
+    → IsJoinedAt d place a key store (Served token r now true fresh)
+    → reply_of (always (container_meaning d)) store (Served token r now true fresh)
+    ≡ Some (token, (outcome_at a key s (record { request = r; path = path_in_context (context_at d.paths place) r.path; now = now; fresh = fresh })).response)

@@ -190,23 +190,24 @@ remembering a r joined key w =
 
 -- ---- the request
 
--- the session that the client has to know of
-abbrev pub announced_by : Admission → Key × Secret → Edited → Option (Key × Secret)
-announced_by joined fresh e = announced (joined_of joined) fresh e.fate e.birth e.id_changed
+-- what comes of a request that was served, by its answer and what its edit leaves
+abbrev pub plain_parts : App → Option Key → Option Key → Key × Secret → Response → Edited → Outcome
+plain_parts a joined expired fresh response e =
+    outcome_of a.number expired (with_cookie a.number a.path (announced joined fresh e.fate e.birth e.id_changed) response) e.fate e.birth e.events
 
+-- the same, of a session with what became of it
 abbrev pub outcome_by : App → Admission → Key × Secret → Response → Edited → Outcome
-outcome_by a joined fresh response e =
-    outcome_of a.number (expired_of joined) (with_cookie a.number a.path (announced_by joined fresh e) response) e.fate e.birth e.events
+outcome_by a joined fresh response e = plain_parts a (joined_of joined) (expired_of joined) fresh response e
 
 -- a request that is answered and not served
 abbrev pub unserved : App → Admission → Response → Outcome
 unserved a joined response =
     unserved_of a.number (expired_of joined) (with_cookie a.number a.path (renamed_of joined) response) (fate_of (held_of joined))
 
--- what comes of a request that was served, by what is known of its session, its answer, and what its edit leaves
+-- the same, by what is known of its session, with what its sessions are to remember
 abbrev pub served_parts : App → Request → Arrival → Option Key → List ℕ → Key × Secret → Response → Edited → Option Outcome
 served_parts a r arrival expired memory fresh response e =
-    option_map (λ x. outcome_of a.number expired (with_cookie a.number a.path (announced arrival.joined fresh x.fate x.birth x.id_changed) response) x.fate x.birth x.events)
+    option_map (plain_parts a arrival.joined expired fresh response)
     (remembering_with a.once a.number r arrival.is_away arrival.secret memory fresh.0 response e)
 
 abbrev pub served_with : App → Request → Admission → Key × Secret → Answered → Option Outcome

@@ -50,7 +50,7 @@ impl Admission {
     }
 
     /// The key of a session that is joined.
-    fn joined(&self) -> Option<Key>
+    pub fn joined(&self) -> Option<Key>
         ensures { result ≡ joined_of self.now }
     {
         match *self {

@@ -1,12 +1,12 @@
 //! What an application answers to a request: the dispatch, and the response that comes of it.
 
-ghost use Rattle.std.specs.Prelude.{◌≡◌, IfOk, IsTrue, Some, true, option_map};
+ghost use Rattle.std.specs.Prelude.{◌≡◌, IfOk, IsTrue, Some, false, is_some, option_map, true};
 ghost use Rattle.sv_dispatch.specs.Pages.{ran, served as served_by_table};
 ghost use Rattle.sv_dispatch.specs.Place.{place_of};
 ghost use Rattle.sv_dispatch.specs.Stages.{lent_of};
 ghost use Rattle.sv_container.specs.Application.{IsSoundApp, app_of};
 ghost use Rattle.sv_container.specs.Recalling.{refused as refused_page};
-ghost use Rattle.sv_container.specs.Serving.{answered, answered_by, asked, replied, served_by, served_new, served_parts, unserved};
+ghost use Rattle.sv_container.specs.Serving.{answered, answered_by, asked, plain_parts, replied, served_by, served_in, served_new, served_parts, unserved};
 ghost use Rattle.sv_container.specs.SetCookie.{is_sendable};
 ghost use Rattle.sv_container.specs.declared.recall.Refusal.TheVariants.{Full};
 ghost use Rattle.sv_session.specs.Edit.{begun, fate_of};
@@ -150,6 +150,24 @@ impl<S: Servlet, F: Filter> Application<S, F> {
         SessionEdit::begin(alloc, held, self.number, self.interval, now, fresh)
     }
 
+    /// What comes of a request that was served, with what its edit leaves.
+    fn plain_outcome(
+        &self,
+        alloc: Global,
+        joined: Option<Key>,
+        expired: Option<Key>,
+        fresh: (Key, Secret),
+        response: Response,
+        edited: Edited,
+    ) -> Result<Outcome, AllocError>
+        requires { IsTrue (is_sendable self.now.path) }
+        ensures { IfOk result (λ o. o ≡ plain_parts (app_of S.serves S.servlet_phase F.filtering F.filter_phase self.now) joined expired fresh response edited) }
+    {
+        let announced = announced(joined, fresh, &edited);
+        let response = with_cookie(alloc, self.number, self.path.as_str(), announced, response)?;
+        outcome_of(alloc, self.number, expired, response, edited)
+    }
+
     /// What comes of a request that was served, with what its edit leaves and its sessions are to remember; nothing where they have no
     /// room for that.
     fn outcome(
@@ -182,9 +200,9 @@ impl<S: Servlet, F: Filter> Application<S, F> {
         let Some(edited) = kept else {
             return Ok(None);
         };
-        let announced = announced(arrival.joined, fresh, &edited);
-        let response = with_cookie(alloc, self.number, self.path.as_str(), announced, response)?;
-        Ok(Some(outcome_of(alloc, self.number, expired, response, edited)?))
+        let outcome =
+            self.plain_outcome(alloc, arrival.joined, expired, fresh, response, edited)?;
+        Ok(Some(outcome))
     }
 
     /// Serves a request for a path within the context, with what became of the session that was handed in; nothing comes of it where
@@ -214,6 +232,32 @@ impl<S: Servlet, F: Filter> Application<S, F> {
         self.outcome(
             alloc, request, arrival, expired, memory, fresh, response, edited,
         )
+    }
+
+    /// The same where sessions remember nothing.
+    fn serve_plain(
+        &mut self,
+        alloc: Global,
+        request: &Request,
+        path: &str,
+        admission: Admission,
+        now: u64,
+        fresh: (Key, Secret),
+    ) -> Result<Outcome, AllocError>
+        requires sound { IsSoundApp (app_of S.serves S.servlet_phase F.filtering F.filter_phase self.old) }
+        requires serving { self.old.is_in_service ≡ true }
+        requires plain { is_some self.old.once ≡ false }
+        ensures same { app_of S.serves S.servlet_phase F.filtering F.filter_phase self.new
+            ≡ app_of S.serves S.servlet_phase F.filtering F.filter_phase self.old }
+        ensures outcome { IfOk result (λ o. o ≡ served_in (app_of S.serves S.servlet_phase F.filtering F.filter_phase self.old) request.now path.now admission
+            now fresh) }
+    {
+        let joined = admission.joined();
+        let (expired, held) = admission.into_parts();
+        let edit = self.begin(alloc, held, now, fresh);
+        let (response, edit) = self.answer(alloc, request, path, edit)?;
+        let edited = edit.finish();
+        self.plain_outcome(alloc, joined, expired, fresh, response, edited)
     }
 
     /// What comes of a request that is answered and not served.
@@ -295,6 +339,9 @@ impl<S: Servlet, F: Filter> Application<S, F> {
             (option_map (λ s. (s.0, s.1.now)) handed.entry) now fresh) }
     {
         let admission = self.admit(alloc, request, handed, now)?;
+        if self.once.is_none() {
+            return self.serve_plain(alloc, request, path, admission, now, fresh);
+        }
         let recalled = recalled(alloc, self.once.as_ref(), request, admission.held())?;
         if let Some(response) = recalled {
             return self.unserved(alloc, admission, response);
