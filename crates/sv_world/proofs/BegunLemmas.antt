@@ -1,27 +1,36 @@
 -- A world whose nodes have just started, and its engines.
-use Rattle.std.proofs.Common.{◌≡◌, ℕ, zero, suc, ◌<◌, ◌≤◌, true, Option, Some, None, List, [], ◌∷◌, map, length, arith, refl, sym, ap, ◌∙◌, subst}
+use Rattle.std.proofs.Common.{◌≡◌, ℕ, zero, suc, ◌<◌, ◌≤◌, true, Option, Some, None, List, [], ◌∷◌, ◌++◌, map, length, arith, refl, sym, ap, ◌∙◌, subst}
 use Rattle.std.specs.Prelude.{is_some, is_none, IfSome, slice_get, Result, Ok, Err, IfOk}
 use Rattle.std.specs.List.{All}
 use Rattle.std.specs.Option.{option_map}
 use Rattle.std.proofs.lemmas.List.{length-map}
 use Rattle.std.proofs.lemmas.Option.{slice_get-get_or}
 use Rattle.sv_core.specs.declared.node.Core.{Core}
+use Rattle.sv_model.specs.declared.node.Setting.{Setting}
 use Rattle.sv_model.specs.declared.record.Record.{Record}
 use Rattle.sv_model.specs.declared.node.Stage.TheVariants.{Blank}
 use Rattle.sv_model.specs.Container.{always}
-use Rattle.sv_model.specs.Engine.{EngineMeaning}
+use Rattle.sv_model.specs.Engine.{EngineMeaning, TouchesOnlyHanded}
 use Rattle.sv_model.specs.Replay.{blank, replayed}
 use Rattle.sv_model.specs.Fitting.{AllFit}
+use Rattle.sv_world.specs.declared.event.WorldEvent.{WorldEvent}
+use Rattle.sv_world.specs.declared.line.Line.{Line}
 use Rattle.sv_world.specs.declared.rules.Rules.{Rules}
 use Rattle.sv_world.specs.Rules.{setting_by}
 use Rattle.sv_world.specs.declared.seat.Seat.{Seat}
 use Rattle.sv_world.specs.declared.world.World.{World as Nodes}
+use Rattle.sv_world.specs.Headline.{IsHeadline}
+use Rattle.sv_world.specs.Journals.{HaveFitted}
 use Rattle.sv_world.specs.Seat.{IsSeat, RunsOver, durable_of, engine_in, engine_by, place_of, place_by}
-use Rattle.sv_world.specs.World.{steady, stopped, nothing_happened, run}
-use Rattle.sv_world.specs.Worlds.{place_in, meant_in, noted_in, world_of, cluster_of, meanings_of, heard_of, IsWorld, AllMean}
-use Rattle.sv_world.specs.Happened.{AllAlike, AreStarted, AreBack, restarts}
-use Rattle.sv_world.specs.Making.{IsIdle, AreSeated, HaveBegun, AreOf}
+use Rattle.sv_world.specs.World.{Cluster, steady, setting_of, stopped, nothing_happened, run}
+use Rattle.sv_world.specs.Worlds.{rules_in, place_in, meant_in, noted_in, world_of, size_of, cluster_of, meanings_of, heard_of, IsWorld}
+use Rattle.sv_world.specs.Happened.{AllAlike, AreMade, AreBack, restarts}
+use Rattle.sv_world.specs.Making.{IsIdle, IsUntouched, AreSeated, HaveBegun, AreOf}
+use Rattle.sv_world.specs.Planned.{IsPlanned, Ran}
+use Rattle.sv_world.proofs.HappenedLemmas.{told_there}
 use Rattle.sv_world.proofs.MakingLemmas.{all_some}
+use Rattle.sv_world.proofs.PlanLemmas.{run_on}
+use Rattle.sv_world.proofs.RanLemmas.{planned_there, ran_steady, ran_fit}
 
 all_by : {X : Type 0} (P : X → Type 0) (xs : List X) → ((k : ℕ) → IfSome (slice_get xs k) P) → All P xs
 all_by P xs h k d less = subst (λ o. IfSome o P) (slice_get-get_or xs k d less) (h k)
@@ -88,12 +97,12 @@ module _ {E : Type 0} where
     idle_fit (Some s) h e = idle_seat s h e
 
     -- engines in their seats are a world
-    pub seated_world : (w : Nodes E) (engines : List E) → AreSeated (length engines) w.rules engines w.seats.items → All fit engines → 0 < length engines → length engines ≤ 8 → IsWorld fit w
-    seated_world w engines h all some few =
+    pub seated_world : (w : Nodes E) (rules : Rules) (engines : List E) → AreSeated (length engines) rules engines w.seats.items → All fit engines → 0 < length engines → length engines ≤ 8 → IsWorld fit w
+    seated_world w rules engines h all some few =
         let number = number_is w.seats.items engines h.engines_in in
         record {
           seats = all_by (λ s. IsSeat fit s) w.seats.items (λ k. idle_fit (slice_get w.seats.items k) (all_some IsIdle w.seats.items h.idle k) (subst (λ o. IfSome o fit) (sym (at_place w.seats.items engines h.engines_in k)) (all_some fit engines all k)));
-          settings = λ n less. h.settings n less ∙ (λ i. setting_by w.rules n (sym number i));
+          settings = λ n less. record { own = ap (λ (s : Setting). s.node) (h.settings n less); told = subst (λ (s : Setting). n < s.nodes) (sym (h.settings n less)) (omega (arith, number, less)) };
           some = omega (arith, number);
           few = omega (arith, number);
         }
@@ -113,28 +122,47 @@ module _ {E : Type 0} where
     heard_are w engines h n = noted_is noted (slice_get w.seats.items n) ∙ ap (option_map noted) (at_place w.seats.items engines h n)
 
     -- the engines of a world's nodes are those of a world before it
-    pub are_of : (fit : E → Type 0) (old new : Nodes E) (engines : List E) → cluster_of new ≡ cluster_of old → meanings_of meaning new ≡ meanings_of meaning old → heard_of noted new ≡ heard_of noted old
+    pub are_of : (fit : E → Type 0) (old new : Nodes E) (engines : List E) → size_of new ≡ size_of old → meanings_of meaning new ≡ meanings_of meaning old → heard_of noted new ≡ heard_of noted old
         → All (λ s. IsSeat fit s) new.seats.items → map Some engines ≡ map engine_in new.seats.items → AreOf meaning noted fit old engines
-    are_of fit old new engines cluster meanings heard all is = record {
+    are_of fit old new engines size meanings heard all is = record {
       valid = all_by fit engines (λ k. subst (λ o. IfSome o fit) (at_place new.seats.items engines (sym is) k) (seen_fit fit (slice_get new.seats.items k) (all_some (λ s. IsSeat fit s) new.seats.items all k)));
-      number = sym (number_is new.seats.items engines (sym is)) ∙ (λ i. (cluster i).nodes 0 0);
+      number = sym (number_is new.seats.items engines (sym is)) ∙ size;
       meanings = λ n. sym (meanings_are new engines (sym is) n) ∙ (λ i. meanings i n);
       heard = λ n. sym (heard_are new engines (sym is) n) ∙ (λ i. heard i n);
     }
 
-    module _ (w : Nodes E) (engines : List E) (h : AreSeated (length engines) w.rules engines w.seats.items) where
-      pub started : w.packets.items ≡ [] → w.trace.items ≡ [] → (new : Nodes E) → HaveBegun meaning noted w new → AreStarted meaning noted engines w.rules new
-      started packets trace new b =
-          let number = number_is w.seats.items engines h.engines_in in
-          let nothing : world_of w ≡ nothing_happened = λ i. record { places = λ n. place_is (slice_get w.seats.items n) (all_some IsIdle w.seats.items h.idle n) i; packets = packets i; trace = trace i } in
-          record {
-            cluster = b.happened.cluster ∙ (λ i. steady (number i) w.rules);
-            world = λ m alike.
-                b.happened.world m (λ n less. meanings_are w engines h.engines_in n ∙ alike_at meaning m engines alike n (omega (arith, number, less)))
-                ∙ (λ i. run (always m) (sym b.happened.cluster i) (nothing i) (restarts (number i)));
-            meanings = λ n. (λ i. b.happened.meanings i n) ∙ meanings_are w engines h.engines_in n;
-            heard = λ n. (λ i. b.heard i n) ∙ heard_are w engines h.engines_in n;
-          }
+    module _ (w : Nodes E) (rules : Rules) (engines : List E) (h : AreSeated (length engines) rules engines w.seats.items) where
+      size_is : size_of w ≡ length engines
+      size_is = number_is w.seats.items engines h.engines_in
+
+      settings_are : (n boot : ℕ) → n < length engines → setting_of (cluster_of w) n boot ≡ setting_by rules n (length engines)
+      settings_are n boot less = ap (λ (s : Setting). setting_by (rules_in s) n s.nodes) (h.settings n (omega (arith, size_is, less)))
+
+      nothing : IsUntouched w → world_of w ≡ nothing_happened
+      nothing u = λ i. record { places = λ n. place_is (slice_get w.seats.items n) (all_some IsIdle w.seats.items h.idle n) i; packets = u.packets i; trace = u.trace i }
+
+      -- nothing has happened to them
+      pub at_rest : IsUntouched w → AreMade meaning noted engines rules [] w
+      at_rest u = record {
+        size = size_is;
+        settings = settings_are;
+        world = λ m alike. nothing u;
+        each = ap (λ (ls : List Line). map (λ (l : Line). l.event) ls) u.trace;
+        meanings = meanings_are w engines h.engines_in;
+        heard = heard_are w engines h.engines_in;
+      }
+
+      pub started : IsUntouched w → (new : Nodes E) → HaveBegun meaning noted w new → AreMade meaning noted engines rules (restarts (length engines)) new
+      started u new b = record {
+        size = b.happened.size ∙ size_is;
+        settings = λ n boot less. ap (λ (k : Cluster). setting_of k n boot) b.happened.cluster ∙ settings_are n boot less;
+        world = λ m alike.
+            b.happened.world (λ n. m) (λ n less. meanings_are w engines h.engines_in n ∙ alike_at meaning m engines alike n (omega (arith, size_is, less)))
+            ∙ (λ i. run (always m) (sym b.happened.cluster i) (nothing u i) (restarts (size_is i)));
+        each = ap (map (λ (l : Line). l.event)) (b.happened.trace ∙ ap (λ (ls : List Line). ls ++ b.happened.lines) u.trace) ∙ b.happened.each ∙ ap restarts size_is;
+        meanings = λ n. (λ i. b.happened.meanings i n) ∙ meanings_are w engines h.engines_in n;
+        heard = λ n. (λ i. b.heard i n) ∙ heard_are w engines h.engines_in n;
+      }
 
       pub back : (fit : E → Type 0) (engines' : List E) → AreOf meaning noted fit w engines' → AreBack meaning noted fit engines engines'
       back fit engines' a = record {
@@ -144,5 +172,34 @@ module _ {E : Type 0} where
         heard = λ n. a.heard n ∙ heard_are w engines h.engines_in n;
       }
 
-    pub all_mean : (engines : List E) (rules : Rules) (w : Nodes E) → AreStarted meaning noted engines rules w → (m : EngineMeaning) → AllAlike meaning m engines → AllMean meaning m w
-    all_mean engines rules w s m alike n less = s.meanings n ∙ alike_at meaning m engines alike n (subst (λ k. n < k) (λ i. (s.cluster i).nodes 0 0) less)
+    -- the law of one engine is that of all
+    touches_by : (valid : E → Type 0) → ((e : E) → valid e → TouchesOnlyHanded (meaning e)) → (m : EngineMeaning) (engines : List E) → 0 < length engines → All valid engines → AllAlike meaning m engines → TouchesOnlyHanded m
+    touches_by valid law m [] some all alike = absurd (omega (arith, some))
+    touches_by valid law m (e ∷ es) some all alike = subst TouchesOnlyHanded (alike 0 e some) (law e (all 0 e some))
+
+    -- what was made by engines of one meaning is by a plan of the same for each start
+    module _ (valid : E → Type 0) (law : (e : E) → valid e → TouchesOnlyHanded (meaning e)) (m : EngineMeaning) (engines : List E) (rules : Rules) (events : List WorldEvent) (w : Nodes E)
+        (some : 0 < length engines) (all : All valid engines) (a : AreMade meaning noted engines rules events w) (alike : AllAlike meaning m engines) where
+      made_plan : IsPlanned meaning (always m) (steady (length engines) rules) w
+      made_plan = record {
+        inside = λ n boot less. omega (arith, a.size, less);
+        beyond = λ n boot past. omega (arith, a.size, past);
+        meanings = λ n boot less le. a.meanings n ∙ alike_at meaning m engines alike n (omega (arith, a.size, less));
+        settings = λ n boot less le. a.settings n boot (omega (arith, a.size, less));
+      }
+
+      pub made_ran : Ran meaning (always m) (steady (length engines) rules) w
+      made_ran = record {
+        touches = λ n boot. touches_by valid law m engines some all alike;
+        plan = made_plan;
+        world = a.world m alike
+            ∙ run_on (always m) (always m) (cluster_of w) (steady (length engines) rules) (planned_there meaning noted (always m) (steady (length engines) rules) w made_plan) events nothing_happened
+            (λ n boot told le. record { meaning = refl; setting = a.settings n boot (let less = told_there w.seats.items n told in omega (arith, a.size, less)) })
+            ∙ ap (run (always m) (steady (length engines) rules) nothing_happened) (sym a.each);
+      }
+
+      pub made_headline : IsHeadline (always m) (world_of w)
+      made_headline = ran_steady meaning noted m (length engines) rules w made_ran
+
+      pub made_fit : HaveFitted rules (world_of w)
+      made_fit = ran_fit meaning noted (always m) (steady (length engines) rules) w made_ran rules (λ n boot. omega arith)

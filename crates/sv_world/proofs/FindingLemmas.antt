@@ -1,5 +1,5 @@
 -- The fault that is found from the node that an event is about is the one that the definitions give it.
-use Rattle.std.proofs.Common.{◌≡◌, ℕ, inl, inr, Bool, true, Option, Some, None, List, length, refl, sym, ap, ◌∙◌}
+use Rattle.std.proofs.Common.{◌≡◌, ℕ, inl, inr, Bool, true, Option, Some, None, List, arith, refl, sym, ap, ◌∙◌}
 use Rattle.std.proofs.lemmas.Bool.{lt-ltb, le-ltb}
 use Rattle.std.proofs.lemmas.Option.{slice_get_cases}
 use Rattle.std.specs.Option.{option_map}
@@ -14,18 +14,13 @@ use Rattle.sv_model.specs.Serving.{token_of}
 use Rattle.sv_model.specs.Trace.{asked_by, asked_of}
 use Rattle.sv_core.specs.declared.node.Core.{Core}
 use Rattle.sv_world.specs.declared.line.Line.{Line}
-use Rattle.sv_world.specs.declared.rules.Rules.{Rules}
 use Rattle.sv_world.specs.declared.seat.Seat.{Seat}
-use Rattle.sv_world.specs.Faults.{step_fault, call_fault, stop_fault}
-use Rattle.sv_world.specs.Finding.{boot_by, boot_in, stop_by, number_in, token_by, step_by, delivery_by}
+use Rattle.sv_world.specs.Faults.{step_fault, call_fault, start_fault, stop_fault}
+use Rattle.sv_world.specs.Finding.{boot_by, boot_in, started_by, start_in, stop_by, number_in, token_by, step_by, delivery_by}
 use Rattle.sv_world.specs.Seat.{boot_of, durable_of, place_by}
 use Rattle.sv_world.specs.Sent.{may_come}
-use Rattle.sv_world.specs.World.{items, is_unused, is_there}
-use Rattle.sv_world.specs.Rules.{setting_by}
-use Rattle.sv_world.specs.Worlds.{place_in, places_by, state_by, cluster_by}
-
-there : {X : Type 0} (xs : List X) (n : ℕ) → is_some (slice_get xs n) ≡ nat_lt n (length xs)
-there xs n = elim (slice_get_cases xs n).1 [ inl found ↦ ap is_some found.2 ∙ sym (lt-ltb n (length xs) found.1) | inr past ↦ ap is_some past.1 ∙ sym (le-ltb n (length xs) past.0) ]
+use Rattle.sv_world.specs.World.{items, is_unused, is_there, setting_of}
+use Rattle.sv_world.specs.Worlds.{place_in, places_by, setting_in, settings_by, state_by, cluster_by, AreSet}
 
 module _ {E : Type 0} where
   core_steps : (o : Option (Core E)) (d : Durable) (trace : List Line) (n : ℕ) (sent : Bool) (number : Option ℕ)
@@ -46,8 +41,13 @@ module _ {E : Type 0} where
   seat_stops None = refl
   seat_stops (Some s) = core_stops s.core (durable_of s)
 
-module _ {E : Type 0} (seats : List (Seat E)) (packets : List Packet) (trace : List Line) (rules : Rules) where
-  asked : (n : ℕ) (d : Durable) (input : Input) → token_by n d.boot (number_in input) ≡ asked_by (token_of (setting_by rules n (length seats)) d) input
+module _ {E : Type 0} (seats : List (Seat E)) (set : AreSet seats) where
+  -- a node is there where it was told of itself
+  there : (n : ℕ) → is_some (slice_get seats n) ≡ nat_lt n (settings_by seats n).nodes
+  there n = elim (slice_get_cases seats n).1 [ inl found ↦ ap is_some found.2 ∙ sym (lt-ltb n (settings_by seats n).nodes (set n found.1).told) | inr past ↦ ap is_some past.1 ∙ sym (ap (λ (o : Option (Seat E)). nat_lt n (setting_in o).nodes) past.1 ∙ le-ltb n 0 (omega arith)) ]
+
+module _ {E : Type 0} (seats : List (Seat E)) (packets : List Packet) (trace : List Line) (set : AreSet seats) where
+  asked : (n : ℕ) (d : Durable) (input : Input) → token_by n d.boot (number_in input) ≡ asked_by (token_of (setting_of (cluster_by seats) n d.boot) d) input
   asked n d (Ask token r) = refl
   asked n d (Comes p) = refl
   asked n d Poke = refl
@@ -55,17 +55,28 @@ module _ {E : Type 0} (seats : List (Seat E)) (packets : List Packet) (trace : L
   asked n d (Move k to) = refl
 
   pub steps : (n : ℕ) (moment : Moment) (input : Input)
-      → step_by trace n (may_come packets input) (number_in input) (boot_in (slice_get seats n)) ≡ call_fault (cluster_by seats rules) (state_by seats packets trace) (Some (record { node = n; moment = moment; input = input }))
+      → step_by trace n (may_come packets input) (number_in input) (boot_in (slice_get seats n)) ≡ call_fault (cluster_by seats) (state_by seats packets trace) (Some (record { node = n; moment = moment; input = input }))
   steps n moment input =
       let p = places_by seats n in
       seat_steps (slice_get seats n) trace n (may_come packets input) (number_in input)
-      ∙ ap (λ b. step_fault b p.up (may_come packets input) (is_unused (asked_of (items trace)) (token_by n p.node.durable.boot (number_in input)))) (there seats n)
-      ∙ ap (λ t. step_fault (nat_lt n (length seats)) p.up (may_come packets input) (is_unused (asked_of (items trace)) t)) (asked n p.node.durable input)
+      ∙ ap (λ b. step_fault b p.up (may_come packets input) (is_unused (asked_of (items trace)) (token_by n p.node.durable.boot (number_in input)))) (there seats set n)
+      ∙ ap (λ t. step_fault (nat_lt n (settings_by seats n).nodes) p.up (may_come packets input) (is_unused (asked_of (items trace)) t)) (asked n p.node.durable input)
 
   pub delivers : (o : Option Packet) (moment : Moment)
-      → delivery_by seats packets trace o ≡ call_fault (cluster_by seats rules) (state_by seats packets trace) (option_map (λ p. record { node = addressee p; moment = moment; input = Comes p }) o)
+      → delivery_by seats packets trace o ≡ call_fault (cluster_by seats) (state_by seats packets trace) (option_map (λ p. record { node = addressee p; moment = moment; input = Comes p }) o)
   delivers None moment = refl
   delivers (Some p) moment = steps (addressee p) moment (Comes p)
 
-  pub stops : (n : ℕ) → stop_by (boot_in (slice_get seats n)) ≡ stop_fault (is_there (cluster_by seats rules) n (places_by seats n).node.durable.boot) (places_by seats n).up
-  stops n = seat_stops (slice_get seats n) ∙ ap (λ b. stop_fault b (places_by seats n).up) (there seats n)
+  pub stops : (n : ℕ) → stop_by (boot_in (slice_get seats n)) ≡ stop_fault (is_there (cluster_by seats) n (places_by seats n).node.durable.boot) (places_by seats n).up
+  stops n = seat_stops (slice_get seats n) ∙ ap (λ b. stop_fault b (places_by seats n).up) (there seats set n)
+
+  core_starts : (o : Option (Core E)) (d : Durable) → started_by (boot_of (place_by o d)) ≡ start_fault true (place_by o d).up
+  core_starts None d = refl
+  core_starts (Some c) d = refl
+
+  seat_starts : (o : Option (Seat E)) → start_in o ≡ start_fault (is_some o) (place_in o).up
+  seat_starts None = refl
+  seat_starts (Some s) = core_starts s.core (durable_of s)
+
+  pub starts : (n boot : ℕ) → start_in (slice_get seats n) ≡ start_fault (is_there (cluster_by seats) n boot) (places_by seats n).up
+  starts n boot = seat_starts (slice_get seats n) ∙ ap (λ b. start_fault b (places_by seats n).up) (there seats set n)

@@ -10,7 +10,6 @@ use Rattle.sv_core.specs.Core.{engine_of}
 use Rattle.sv_model.specs.declared.event.Told.{Told}
 use Rattle.sv_model.specs.declared.packet.Packet.{Packet}
 use Rattle.sv_model.specs.declared.node.Setting.{Setting}
-use Rattle.sv_model.specs.Container.{always}
 use Rattle.sv_model.specs.Engine.{EngineMeaning, heard_all}
 use Rattle.sv_model.specs.NodeState.{last_number}
 use Rattle.sv_model.specs.Outputs.{sends_in}
@@ -23,13 +22,13 @@ use Rattle.sv_world.specs.declared.seat.Seat.{Seat}
 use Rattle.sv_world.specs.declared.task.Task.{Task}
 use Rattle.sv_world.specs.declared.task.Task.TheVariants as task
 use Rattle.sv_world.specs.declared.world.World.{World as Nodes}
-use Rattle.sv_world.specs.Deed.{Done, deed, told_by, line_of, quiet_at, heading_at, heading_by, halted, booted}
+use Rattle.sv_world.specs.Deed.{Done, deed, number_for, told_by, line_of, quiet_at, heading_at, heading_by, halted, booted}
 use Rattle.sv_world.specs.Seat.{IsSeat, engine_by}
 use Rattle.sv_world.specs.Order.{order_of}
-use Rattle.sv_world.specs.World.{Place, steady, set_place, stopped, started}
+use Rattle.sv_world.specs.World.{Place, set_place, setting_of, stopped, started}
 use Rattle.sv_world.specs.Rules.{setting_by}
-use Rattle.sv_world.specs.Worlds.{places_by, settings_by, meant_in, meanings_by, world_of, cluster_of, meanings_of, heard_of, IsWorld, AllMean}
-use Rattle.sv_world.specs.Happened.{HaveDone, AreUndone, HaveHappened, HasActed, IsStill, told_at, is_start}
+use Rattle.sv_world.specs.Worlds.{rules_in, places_by, setting_in, settings_by, meant_in, meanings_by, world_of, size_of, cluster_of, meanings_of, heard_of, IsSet, IsWorld, AllMean}
+use Rattle.sv_world.specs.Happened.{by_node, HaveDone, AreUndone, HaveHappened, HasActed, IsStill, told_at, is_start}
 use Rattle.sv_world.proofs.OrderLemmas.{Goes, done_at, goes}
 
 -- ---- what was done is done at the node, and a start tells nothing
@@ -74,25 +73,41 @@ module _ {E : Type 0} (meaning : E → EngineMeaning) where
       (λ (h : (length seats ≤ n) × (slice_get seats n ≡ None)). absurd (omega arith))
       (slice_get_cases seats n).1
 
+-- ---- settings
+
+module _ {E : Type 0} where
+  -- a node that isn't there was told of none
+  pub told_there : (seats : List (Seat E)) (n : ℕ) → n < (settings_by seats n).nodes → n < length seats
+  told_there seats n told = ⊎_elim
+      (λ (h : (s : Seat E) × (n < length seats) × (slice_get seats n ≡ Some s) × (get_or seats n s ≡ s)). h.1)
+      (λ (h : (length seats ≤ n) × (slice_get seats n ≡ None)). let none : n < 0 = subst (λ (o : Option (Seat E)). n < (setting_in o).nodes) h.1 told in absurd (omega (arith, none)))
+      (slice_get_cases seats n).1
+
+-- a setting that is a node's own is that of its rules
+pub own_setting : (n : ℕ) (set : Setting) → set.node ≡ n → set ≡ setting_by (rules_in set) n set.nodes
+own_setting n set own = λ i. record { node = own i; nodes = set.nodes; deadline = set.deadline; keys = set.keys; forget = set.forget }
+
 -- ---- the numbers of nodes stay
 
-module _ {E : Type 0} (valid : E → Type 0) (old new : Nodes E) (number : length new.seats.items ≡ length old.seats.items) (rules : new.rules ≡ old.rules) where
-  pub same_cluster : cluster_of new ≡ cluster_of old
-  same_cluster = λ i. steady (number i) (rules i)
+module _ {E : Type 0} (old new : Nodes E) where
+  pub same_cluster : settings_by new.seats.items ≡ settings_by old.seats.items → cluster_of new ≡ cluster_of old
+  same_cluster same = λ i. record { nodes = λ n boot. (same i n).nodes; rules = λ n boot. rules_in (same i n) }
 
+module _ {E : Type 0} (valid : E → Type 0) (old new : Nodes E) (number : length new.seats.items ≡ length old.seats.items) where
   pub still_world : IsWorld valid old → All (λ s. IsSeat valid s) new.seats.items → settings_by new.seats.items ≡ settings_by old.seats.items → IsWorld valid new
   still_world w all same = record {
     seats = all;
-    settings = λ n less. (λ i. same i n) ∙ w.settings n (omega (arith, number)) ∙ (λ i. setting_by (sym rules i) n (sym number i));
+    settings = λ n less. subst (λ (s : Setting). IsSet n s) (λ i. sym same i n) (w.settings n (omega (arith, number)));
     some = omega (arith, number, w.some);
     few = omega (arith, number, w.few);
   }
 
-module _ {E : Type 0} (meaning : E → EngineMeaning) (noted : E → List (List ℕ)) (old new : Nodes E) (number : length new.seats.items ≡ length old.seats.items) (rules : new.rules ≡ old.rules)
+module _ {E : Type 0} (meaning : E → EngineMeaning) (noted : E → List (List ℕ)) (old new : Nodes E) (number : length new.seats.items ≡ length old.seats.items) (settings : settings_by new.seats.items ≡ settings_by old.seats.items)
     (meanings : meanings_of meaning new ≡ meanings_of meaning old) where
   pub stays : AreUndone noted old.seats.items new.seats.items → new.packets.items ≡ old.packets.items → new.trace.items ≡ old.trace.items → IsStill meaning noted old new
   stays undone packets trace = record {
-    cluster = λ i. steady (number i) (rules i);
+    size = number;
+    cluster = same_cluster old new settings;
     world = λ i. record { places = undone.places i; packets = packets i; trace = trace i };
     meanings = meanings;
     heard = undone.heard;
@@ -104,25 +119,29 @@ option_same f (Some x) h = ap Some (h x)
 
 -- ---- one event
 
-module _ {E : Type 0} (meaning : E → EngineMeaning) (noted : E → List (List ℕ)) (old new : Nodes E) (number : length new.seats.items ≡ length old.seats.items) (rules : new.rules ≡ old.rules)
-    (meanings : meanings_of meaning new ≡ meanings_of meaning old) (e : WorldEvent) (o : Order) (f : Effect) (goes : Goes (cluster_of old) (world_of old) e o)
-    (set : settings_by old.seats.items o.node ≡ setting_by old.rules o.node (length old.seats.items)) (means : (m : EngineMeaning) × (meanings_of meaning old o.node ≡ Some m))
+module _ {E : Type 0} (meaning : E → EngineMeaning) (noted : E → List (List ℕ)) (old new : Nodes E) (number : length new.seats.items ≡ length old.seats.items) (settings : settings_by new.seats.items ≡ settings_by old.seats.items)
+    (meanings : meanings_of meaning new ≡ meanings_of meaning old) (e : WorldEvent) (o : Order) (f : Effect) (goes : Goes (cluster_of old) (world_of old) e o) (inside : o.node < size_of old)
+    (set : IsSet o.node (settings_by old.seats.items o.node)) (means : (m : EngineMeaning) × (meanings_of meaning old o.node ≡ Some m))
     (done : (m : EngineMeaning) → meanings_of meaning old o.node ≡ Some m → HaveDone noted m old.seats.items new.seats.items o f) where
   abbrev deeds : EngineMeaning → Done
   deeds m = deed m (settings_by old.seats.items o.node) (places_by old.seats.items o.node) o.task
 
-  as_set : (m : EngineMeaning) → deeds m ≡ deed m (setting_by old.rules o.node (length old.seats.items)) (places_by old.seats.items o.node) o.task
-  as_set m = ap (λ s. deed m s (places_by old.seats.items o.node) o.task) set
+  -- the number of the start that the task is of
+  abbrev number_now : ℕ
+  number_now = number_for (places_by old.seats.items o.node).node.durable o.task
+
+  as_set : (m : EngineMeaning) → deeds m ≡ deed m (setting_of (cluster_of old) o.node number_now) (places_by old.seats.items o.node) o.task
+  as_set m = ap (λ s. deed m s (places_by old.seats.items o.node) o.task) (own_setting o.node (settings_by old.seats.items o.node) set.own)
 
   at_node : f.heading.node ≡ o.node
-  at_node = ap (λ (x : Effect). x.heading.node) (done means.0 means.1).effect ∙ deed_node means.0 (settings_by old.seats.items o.node) (places_by old.seats.items o.node) o.task ∙ ap (λ (s : Setting). s.node) set
+  at_node = ap (λ (x : Effect). x.heading.node) (done means.0 means.1).effect ∙ deed_node means.0 (settings_by old.seats.items o.node) (places_by old.seats.items o.node) o.task ∙ set.own
 
-  world_is : new.packets.items ≡ old.packets.items ++ sends_in f.outputs → new.trace.items ≡ old.trace.items ++ line_of e f ∷ [] → (m : EngineMeaning) → AllMean meaning m old → world_of new ≡ done_at (always m) (cluster_of old) (world_of old) e o
+  world_is : new.packets.items ≡ old.packets.items ++ sends_in f.outputs → new.trace.items ≡ old.trace.items ++ line_of e f ∷ [] → (m : ℕ → EngineMeaning) → AllMean meaning m old → world_of new ≡ done_at (by_node m) (cluster_of old) (world_of old) e o
   world_is packets trace m all =
-      let h = done m (all o.node goes.there) in
-      let is : f ≡ (deed m (setting_by old.rules o.node (length old.seats.items)) (places_by old.seats.items o.node) o.task).effect = h.effect ∙ ap (λ (d : Done). d.effect) (as_set m) in
+      let h = done (m o.node) (all o.node inside) in
+      let is : f ≡ (deed (m o.node) (setting_of (cluster_of old) o.node number_now) (places_by old.seats.items o.node) o.task).effect = h.effect ∙ ap (λ (d : Done). d.effect) (as_set (m o.node)) in
       λ i. record {
-        places = (h.places ∙ ap (λ (d : Done). set_place (places_by old.seats.items) o.node d.place) (as_set m)) i;
+        places = (h.places ∙ ap (λ (d : Done). set_place (places_by old.seats.items) o.node d.place) (as_set (m o.node))) i;
         packets = (packets ∙ ap (λ (x : Effect). old.packets.items ++ sends_in x.outputs) is) i;
         trace = (trace ∙ ap (λ (x : Effect). old.trace.items ++ line_of e x ∷ []) is) i;
       }
@@ -144,8 +163,9 @@ module _ {E : Type 0} (meaning : E → EngineMeaning) (noted : E → List (List 
 
   pub happened : new.packets.items ≡ old.packets.items ++ sends_in f.outputs → new.trace.items ≡ old.trace.items ++ line_of e f ∷ [] → HaveHappened meaning noted old new (e ∷ [])
   happened packets trace = record {
-    cluster = λ i. steady (number i) (rules i);
-    world = λ m all. world_is packets trace m all ∙ sym (goes.happens (always m));
+    size = number;
+    cluster = same_cluster old new settings;
+    world = λ m all. world_is packets trace m all ∙ sym (goes.happens (by_node m));
     lines = line_of e f ∷ [];
     trace = trace;
     each = refl;
@@ -179,20 +199,21 @@ start_task sent (TornRestart n kept) o h is = absurd (let no : false ≡ true = 
 -- ---- what a node has done, and then the line
 
 -- the lists of a world are those of another
-pub acted_world : {E : Type 0} (valid : E → Type 0) (mid new : Nodes E) → new.seats ≡ mid.seats → new.rules ≡ mid.rules → IsWorld valid mid → new.seats.items ≡ mid.seats.items → IsWorld valid new
-acted_world valid mid new seats rules w items = still_world valid mid new (ap length items) rules w (subst (λ xs. All (λ s. IsSeat valid s) xs) (sym items) w.seats) (ap settings_by items)
+pub acted_world : {E : Type 0} (valid : E → Type 0) (mid new : Nodes E) → new.seats ≡ mid.seats → IsWorld valid mid → new.seats.items ≡ mid.seats.items → IsWorld valid new
+acted_world valid mid new seats w items = still_world valid mid new (ap length items) w (subst (λ xs. All (λ s. IsSeat valid s) xs) (sym items) w.seats) (ap settings_by items)
 
 module _ {E : Type 0} (meaning : E → EngineMeaning) (noted : E → List (List ℕ)) (valid : E → Type 0) (old mid : Nodes E) where
   acted_goes : (e : WorldEvent) (f : Effect) (h : HasActed meaning noted old mid e f) → Goes (cluster_of old) (world_of old) e h.order
   acted_goes e f h = goes (cluster_of old) (world_of old) h.order e h.possible h.asked
 
   module _ (new : Nodes E) (e : WorldEvent) (f : Effect) (w : IsWorld valid old) (h : HasActed meaning noted old mid e f) where
-    pub acted_happened : new.seats.items ≡ mid.seats.items → new.rules ≡ mid.rules → new.packets.items ≡ mid.packets.items → new.trace.items ≡ mid.trace.items ++ line_of e f ∷ [] → HaveHappened meaning noted old new (e ∷ [])
-    acted_happened seats rules packets trace =
+    pub acted_happened : new.seats.items ≡ mid.seats.items → new.packets.items ≡ mid.packets.items → new.trace.items ≡ mid.trace.items ++ line_of e f ∷ [] → HaveHappened meaning noted old new (e ∷ [])
+    acted_happened seats packets trace =
         let o = h.order in
         let gone = acted_goes e f h in
-        happened meaning noted old new (ap length seats ∙ h.number) (rules ∙ h.rules) (ap (meanings_by meaning) seats ∙ h.meanings) e o f gone
-        (w.settings o.node gone.there) (means_at meaning valid old.seats.items w.seats o.node gone.there)
+        let inside = told_there old.seats.items o.node gone.there in
+        happened meaning noted old new (ap length seats ∙ h.number) (ap settings_by seats ∙ h.settings) (ap (meanings_by meaning) seats ∙ h.meanings) e o f gone inside
+        (w.settings o.node inside) (means_at meaning valid old.seats.items w.seats o.node inside)
         (λ m is. subst (λ xs. HaveDone noted m old.seats.items xs o f) (sym seats) (h.done m is))
         (packets ∙ h.packets) (trace ∙ ap (λ ls. ls ++ line_of e f ∷ []) h.trace)
 
@@ -201,5 +222,6 @@ module _ {E : Type 0} (meaning : E → EngineMeaning) (noted : E → List (List 
     acted_silent start =
         let o = h.order in
         let gone = acted_goes e f h in
-        silent_start meaning noted old mid h.number h.rules h.meanings e o f gone (w.settings o.node gone.there) (means_at meaning valid old.seats.items w.seats o.node gone.there) h.done
+        let inside = told_there old.seats.items o.node gone.there in
+        silent_start meaning noted old mid h.number h.settings h.meanings e o f gone inside (w.settings o.node inside) (means_at meaning valid old.seats.items w.seats o.node inside) h.done
         (start_task old.packets.items e o start h.asked)

@@ -43,10 +43,12 @@ pub mod FindingLemmas
 pub mod TracedLemmas
 pub mod NodeLemmas
 pub mod OrderLemmas
+pub mod PlanLemmas
 pub mod HappenedLemmas
 pub mod RanLemmas
 pub mod ActingLemmas
 pub mod SeatLemmas
+pub mod InstallLemmas
 pub mod MakingLemmas
 pub mod BegunLemmas
 pub mod LivesLemmas

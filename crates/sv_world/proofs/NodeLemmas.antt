@@ -8,7 +8,9 @@ use Rattle.sv_world.specs.declared.line.Effect.{Effect}
 use Rattle.sv_world.specs.declared.seat.Seat.{Seat}
 use Rattle.sv_world.specs.declared.task.Task.{Task}
 use Rattle.sv_world.specs.Deed.{deed, told_by, Done}
-use Rattle.sv_world.specs.Seat.{HasDone, IsUndone, heard_in}
+use Rattle.sv_model.specs.declared.node.Setting.{Setting}
+use Rattle.sv_world.specs.Planned.{AreInstalled}
+use Rattle.sv_world.specs.Seat.{HasDone, IsUndone, engine_in, heard_in}
 use Rattle.sv_world.specs.Worlds.{place_in, setting_in, noted_in, meant_in, places_by, settings_by, heard_by, meanings_by}
 use Rattle.sv_world.specs.Happened.{HaveDone, AreUndone}
 
@@ -68,6 +70,18 @@ module _ {E : Type 0} (seats : List (Seat E)) (n : ℕ) (old new : Seat E) (less
         effect = h.effect ∙ ap (λ (d : Done). d.effect) deeds;
         heard = λ x. changed (noted_in noted) seats n new less x ∙ at_number (heard_by noted seats) listen x n (x == n) (heard_in noted new) refl (h.heard ∙ ap (λ o. listen (noted_in noted o)) (sym there));
       }
+
+module _ {E : Type 0} (meaning : E → EngineMeaning) (noted : E → List (List ℕ)) (seats : List (Seat E)) (n : ℕ) (old new : Seat E) (less : n < length seats) (there : slice_get seats n ≡ Some old) where
+  -- it has another engine and another setting
+  pub installed : (set : Setting) (engine : E) → set.node ≡ n → new.setting ≡ set → engine_in new ≡ Some engine → AreInstalled meaning noted set engine seats (slice_set seats n new)
+  installed set engine own is has = record {
+    settings = λ x. changed setting_in seats n new less x ∙ (λ i. cond (x == sym own i) (is i) (settings_by seats x));
+    meanings = λ x. changed (meant_in meaning) seats n new less x ∙ (λ i. cond (x == sym own i) (option_map meaning (has i)) (meanings_by meaning seats x));
+    heard = λ x. changed (noted_in noted) seats n new less x ∙ (λ i. cond (x == sym own i) (option_map noted (has i)) (heard_by noted seats x));
+  }
+
+  pub places_same : place_in (Some new) ≡ place_in (Some old) → places_by (slice_set seats n new) ≡ places_by seats
+  places_same is = same place_in seats n old new less there is
 
 -- an answer's clause, at what it answers
 pub ok_then : {T F : Type 0} (r : Result T F) (P Q : T → Type 0) → ((x : T) → P x → Q x) → IfOk r P → IfOk r Q

@@ -1,29 +1,33 @@
 -- What has happened in a world in code, one behind the other, and the theorem of it.
-use Rattle.std.proofs.Common.{◌≡◌, ℕ, ◌+◌, ◌<◌, ◌≤◌, Option, Some, None, List, [], ◌∷◌, ◌++◌, take, get_or, length, arith, refl, sym, ap, ◌∙◌, subst, ⊎_elim, append-nil, append_assoc}
-use Rattle.std.specs.Prelude.{IfSome, slice_get, Result, Ok, Err, IfErr, OnOk}
+use Rattle.std.proofs.Common.{◌≡◌, ℕ, ◌+◌, ◌<◌, ◌≤◌, Option, Some, None, List, [], ◌∷◌, ◌++◌, map, take, length, arith, refl, sym, ap, ◌∙◌, subst, ⊎_elim, append-nil, append_assoc}
+use Rattle.std.specs.Prelude.{slice_get, Result, Ok, Err, IfErr, OnOk}
 use Rattle.std.specs.Option.{option_map}
+use Rattle.std.proofs.lemmas.Bool.{cases_lt}
 use Rattle.std.proofs.lemmas.List.{map-append}
 use Rattle.std.proofs.lemmas.List.Concat.{flat_map-append}
-use Rattle.std.proofs.lemmas.Option.{same_Some, slice_get_cases}
+use Rattle.std.proofs.lemmas.Option.{same_Some}
 use Rattle.sv_model.specs.declared.event.Told.{Told}
-use Rattle.sv_model.specs.Container.{always}
-use Rattle.sv_model.specs.Engine.{EngineMeaning, TouchesOnlyHanded, heard_all}
+use Rattle.sv_model.specs.declared.node.Setting.{Setting}
+use Rattle.sv_model.specs.Container.{Meanings, always}
+use Rattle.sv_model.specs.Engine.{EngineMeaning, heard_all}
 use Rattle.sv_world.specs.declared.event.WorldEvent.{WorldEvent}
 use Rattle.sv_world.specs.declared.fault.WorldFault.{WorldFault}
 use Rattle.sv_world.specs.declared.line.Line.{Line}
+use Rattle.sv_world.specs.declared.rules.Rules.{Rules}
 use Rattle.sv_world.specs.declared.running.RunFault.{RunFault}
-use Rattle.sv_world.specs.declared.seat.Seat.{Seat}
 use Rattle.sv_world.specs.declared.world.World.{World as Nodes}
 use Rattle.sv_world.specs.Faults.{fault_of}
 use Rattle.sv_world.specs.Headline.{IsHeadline}
-use Rattle.sv_world.specs.Journals.{HaveFitted}
+use Rattle.sv_world.specs.Journals.{AreWithin, HaveFitted}
 use Rattle.sv_world.specs.Progress.{IsProgress}
-use Rattle.sv_world.specs.Seat.{IsSeat, engine_in}
-use Rattle.sv_world.specs.World.{Cluster, World, run, nothing_happened}
-use Rattle.sv_world.specs.Worlds.{meant_in, world_of, size_of, rules_of, cluster_of, meanings_of, heard_of, IsWorld, AllMean}
-use Rattle.sv_world.specs.Happened.{HaveHappened, IsStill, IsRefused, HaveStopped, Ran, refusal, told_in, told_at}
+use Rattle.sv_world.specs.World.{Cluster, World, steady, setting_of, run, nothing_happened, AlwaysKnows}
+use Rattle.sv_world.specs.Worlds.{settings_by, world_of, size_of, cluster_of, meanings_of, heard_of, AllMean}
+use Rattle.sv_world.specs.Happened.{by_node, events_in, HaveHappened, IsStill, IsRefused, HaveStopped, refusal, told_in, told_at}
+use Rattle.sv_world.specs.Planned.{since, IsPlanned, Ran}
 use Rattle.sv_world.proofs.Events.{run_more}
-use Rattle.sv_world.proofs.HeadlineLemmas.{same, same_fit}
+use Rattle.sv_world.proofs.HappenedLemmas.{told_there}
+use Rattle.sv_world.proofs.HeadlineLemmas.{headline, same, kept}
+use Rattle.sv_world.proofs.PlanLemmas.{AreThere, FromNowOn, there_by, run_on, run_later}
 use Rattle.sv_world.proofs.PromiseLemmas.{progress}
 
 heard_more : (m : EngineMeaning) (h : List (List ℕ)) (a b : List Told) → heard_all m (heard_all m h a) b ≡ heard_all m h (a ++ b)
@@ -39,12 +43,13 @@ option_still f None h = refl
 option_still f (Some x) h = ap Some (sym (h x))
 
 module _ {E : Type 0} (meaning : E → EngineMeaning) (noted : E → List (List ℕ)) where
-  pub mean_still : (m : EngineMeaning) (old new : Nodes E) → cluster_of new ≡ cluster_of old → meanings_of meaning new ≡ meanings_of meaning old → AllMean meaning m old → AllMean meaning m new
-  mean_still m old new cluster same all n less = (λ i. same i n) ∙ all n (subst (λ (c : Cluster). n < c.nodes n 0) cluster less)
+  pub mean_still : (m : ℕ → EngineMeaning) (old new : Nodes E) → size_of new ≡ size_of old → meanings_of meaning new ≡ meanings_of meaning old → AllMean meaning m old → AllMean meaning m new
+  mean_still m old new size same all n less = (λ i. same i n) ∙ all n (omega (arith, size, less))
 
   -- nothing is no events
   pub none_happened : (old new : Nodes E) → IsStill meaning noted old new → HaveHappened meaning noted old new []
   none_happened old new h = record {
+    size = h.size;
     cluster = h.cluster;
     world = λ m all. h.world;
     lines = [];
@@ -55,13 +60,14 @@ module _ {E : Type 0} (meaning : E → EngineMeaning) (noted : E → List (List 
   }
 
   pub still_self : (w : Nodes E) → IsStill meaning noted w w
-  still_self w = record { cluster = refl; world = refl; meanings = refl; heard = refl }
+  still_self w = record { size = refl; cluster = refl; world = refl; meanings = refl; heard = refl }
 
   module _ (old mid new : Nodes E) (es fs : List WorldEvent) where
     pub joined : HaveHappened meaning noted old mid es → HaveHappened meaning noted mid new fs → HaveHappened meaning noted old new (es ++ fs)
     joined h g = record {
+      size = g.size ∙ h.size;
       cluster = g.cluster ∙ h.cluster;
-      world = λ m all. g.world m (mean_still m old mid h.cluster h.meanings all) ∙ (λ i. run (always m) (h.cluster i) (h.world m all i) fs) ∙ run_more (always m) (cluster_of old) (world_of old) es fs;
+      world = λ m all. g.world m (mean_still m old mid h.size h.meanings all) ∙ (λ i. run (by_node m) (h.cluster i) (h.world m all i) fs) ∙ run_more (by_node m) (cluster_of old) (world_of old) es fs;
       lines = h.lines ++ g.lines;
       trace = g.trace ∙ ap (λ ls. ls ++ g.lines) h.trace ∙ append_assoc (world_of old).trace h.lines g.lines;
       each = map-append (λ (l : Line). l.event) h.lines g.lines ∙ (λ i. h.each i ++ g.each i);
@@ -73,37 +79,65 @@ module _ {E : Type 0} (meaning : E → EngineMeaning) (noted : E → List (List 
           (λ x. heard_more m x (told_at n h.lines) (told_at n g.lines) ∙ ap (heard_all m x) (sym (flat_map-append (told_in n) h.lines g.lines)));
     }
 
-  -- ---- a run, from the start
+  -- ---- by a plan
 
-  module _ (m : EngineMeaning) (old new : Nodes E) (es : List WorldEvent) where
-    pub ran_more : HaveHappened meaning noted old new es → AllMean meaning m old → Ran m old → Ran m new
-    ran_more h all r = record {
-      events = r.events ++ es;
-      world = h.world m all ∙ ap (λ w. run (always m) (cluster_of old) w es) r.world ∙ run_more (always m) (cluster_of old) nothing_happened r.events es ∙ (λ i. run (always m) (sym h.cluster i) nothing_happened (r.events ++ es));
+  -- the plan tells the nodes that are there of themselves, as what they have does
+  pub planned_there : (m : Meanings) (c : Cluster) (w : Nodes E) → IsPlanned meaning m c w → AreThere (cluster_of w) c
+  planned_there m c w plan n boot =
+      let now = since (world_of w) n in
+      let here : n < c.nodes n boot → n < size_of w = λ told. ⊎_elim (λ (less : n < size_of w). less) (λ (past : size_of w ≤ n). let none = plan.beyond n boot past in absurd (omega (arith, told, none))) (cases_lt n (size_of w)) in
+      there_by n (settings_by w.seats.items n).nodes (c.nodes n boot)
+      (λ told. plan.inside n boot (told_there w.seats.items n told))
+      (λ told. let less = here told in subst (λ (s : Setting). n < s.nodes) (sym (plan.settings n now less (omega arith))) (plan.inside n now less))
+
+  module _ (m : Meanings) (c : Cluster) (old new : Nodes E) (es : List WorldEvent) (h : HaveHappened meaning noted old new es) (r : Ran meaning m c old) where
+    -- what each node has now
+    abbrev now : ℕ → EngineMeaning
+    now n = m n (since (world_of old) n)
+
+    same_from : FromNowOn (by_node now) m (cluster_of old) c (planned_there m c old r.plan) (world_of old)
+    same_from n boot told le =
+        let less = told_there old.seats.items n told in
+        record {
+          meaning = same_Some (now n) (m n boot) (sym (r.plan.meanings n (since (world_of old) n) less (omega arith)) ∙ r.plan.meanings n boot less le);
+          setting = r.plan.settings n boot less le;
+        }
+
+    world_on : world_of new ≡ run m c (world_of old) es
+    world_on = h.world now (λ n less. r.plan.meanings n (since (world_of old) n) less (omega arith)) ∙ run_on (by_node now) m (cluster_of old) c (planned_there m c old r.plan) es (world_of old) same_from
+
+    events_on : events_in (world_of new) ≡ events_in (world_of old) ++ es
+    events_on = ap (map (λ (l : Line). l.event)) h.trace ∙ map-append (λ (l : Line). l.event) (world_of old).trace h.lines ∙ ap (λ fs. events_in (world_of old) ++ fs) h.each
+
+    since_on : (n : ℕ) → since (world_of old) n ≤ since (world_of new) n
+    since_on n = subst (λ (w : World). since (world_of old) n ≤ since w n) (sym world_on) ((run_later m c es (world_of old)).from n)
+
+    pub ran_more : Ran meaning m c new
+    ran_more = record {
+      touches = r.touches;
+      plan = record {
+        inside = λ n boot less. r.plan.inside n boot (omega (arith, h.size, less));
+        beyond = λ n boot past. r.plan.beyond n boot (omega (arith, h.size, past));
+        meanings = λ n boot less le. (λ i. h.meanings i n) ∙ r.plan.meanings n boot (omega (arith, h.size, less)) (omega (arith, le, since_on n));
+        settings = λ n boot less le. ap (λ (k : Cluster). setting_of k n boot) h.cluster ∙ r.plan.settings n boot (omega (arith, h.size, less)) (omega (arith, le, since_on n));
+      };
+      world = world_on ∙ ap (λ w. run m c w es) r.world ∙ run_more m c nothing_happened (events_in (world_of old)) es ∙ ap (run m c nothing_happened) (sym events_on);
     }
 
-  -- ---- the law of one engine is that of all
+  -- ---- the theorem
 
-  touches_by : (valid : E → Type 0) → ((e : E) → valid e → TouchesOnlyHanded (meaning e)) → (m : EngineMeaning) (o : Option E) → IfSome o valid → option_map meaning o ≡ Some m → TouchesOnlyHanded m
-  touches_by valid law m None v is = absurd (cc)
-  touches_by valid law m (Some e) v is = subst TouchesOnlyHanded (same_Some (meaning e) m is) (law e v)
+  module _ (m : Meanings) (c : Cluster) (w : Nodes E) (r : Ran meaning m c w) where
+    pub ran_headline : AlwaysKnows m c nothing_happened (events_in (world_of w)) → IsHeadline m (world_of w)
+    ran_headline knows = subst (IsHeadline m) (sym r.world) (headline m r.touches c (events_in (world_of w)) knows)
 
-  pub touches_at : (valid : E → Type 0) → ((e : E) → valid e → TouchesOnlyHanded (meaning e)) → (m : EngineMeaning) (w : Nodes E) → IsWorld valid w → AllMean meaning m w → TouchesOnlyHanded m
-  touches_at valid law m w is all = ⊎_elim
-      (λ (h : (s : Seat E) × (0 < length w.seats.items) × (slice_get w.seats.items 0 ≡ Some s) × (get_or w.seats.items 0 s ≡ s)).
-      let seat : IsSeat valid h.0 = subst (IsSeat valid) h.3 (is.seats 0 h.0 is.some) in
-      touches_by valid law m (engine_in h.0) seat.engine (sym (ap (meant_in meaning) h.2) ∙ all 0 is.some))
-      (λ (h : (length w.seats.items ≤ 0) × (slice_get w.seats.items 0 ≡ None)). absurd (omega (arith, is.some)))
-      (slice_get_cases w.seats.items 0).1
+    pub ran_fit : (wide : Rules) → AreWithin wide c → HaveFitted wide (world_of w)
+    ran_fit wide within = subst (HaveFitted wide) (sym r.world) (kept m r.touches c wide within (events_in (world_of w))).fits
 
-  pub ran_headline : (valid : E → Type 0) → ((e : E) → valid e → TouchesOnlyHanded (meaning e)) → (m : EngineMeaning) (w : Nodes E) → IsWorld valid w → AllMean meaning m w → Ran m w → IsHeadline (always m) (world_of w)
-  ran_headline valid law m w is all r = subst (IsHeadline (always m)) (sym r.world) (same m (touches_at valid law m w is all) (size_of w) (rules_of w) r.events)
+    pub ran_progress : IsProgress m c (world_of w)
+    ran_progress = subst (IsProgress m c) (sym r.world) (progress m r.touches c (events_in (world_of w)))
 
-  pub ran_fit : (valid : E → Type 0) → ((e : E) → valid e → TouchesOnlyHanded (meaning e)) → (m : EngineMeaning) (w : Nodes E) → IsWorld valid w → AllMean meaning m w → Ran m w → HaveFitted (rules_of w) (world_of w)
-  ran_fit valid law m w is all r = subst (HaveFitted (rules_of w)) (sym r.world) (same_fit m (touches_at valid law m w is all) (size_of w) (rules_of w) r.events)
-
-  pub ran_progress : (valid : E → Type 0) → ((e : E) → valid e → TouchesOnlyHanded (meaning e)) → (m : EngineMeaning) (w : Nodes E) → IsWorld valid w → AllMean meaning m w → Ran m w → IsProgress (always m) (cluster_of w) (world_of w)
-  ran_progress valid law m w is all r = subst (IsProgress (always m) (cluster_of w)) (sym r.world) (progress (always m) (λ n b. touches_at valid law m w is all) (cluster_of w) r.events)
+  pub ran_steady : (m : EngineMeaning) (nodes : ℕ) (rules : Rules) (w : Nodes E) → Ran meaning (always m) (steady nodes rules) w → IsHeadline (always m) (world_of w)
+  ran_steady m nodes rules w r = subst (IsHeadline (always m)) (sym r.world) (same m (r.touches 0 0) nodes rules (events_in (world_of w)))
 
   -- ---- by the answer of a call
 
@@ -119,15 +153,8 @@ module _ {E : Type 0} (meaning : E → EngineMeaning) (noted : E → List (List 
   run_some (Ok x) old new es happened stopped = (es, happened)
   run_some (Err f) old new es happened stopped = (take f.place es, stopped.before)
 
-  module _ (valid : E → Type 0) (law : (e : E) → valid e → TouchesOnlyHanded (meaning e)) (m : EngineMeaning) (old new : Nodes E) (is : IsWorld valid new) (some : SomeHappened old new) (all : AllMean meaning m old) (r : Ran m old) where
-    pub some_headline : IsHeadline (always m) (world_of new)
-    some_headline = ran_headline valid law m new is (mean_still m old new some.1.cluster some.1.meanings all) (ran_more m old new some.0 some.1 all r)
-
-    pub some_fit : HaveFitted (rules_of new) (world_of new)
-    some_fit = ran_fit valid law m new is (mean_still m old new some.1.cluster some.1.meanings all) (ran_more m old new some.0 some.1 all r)
-
-    pub some_progress : IsProgress (always m) (cluster_of new) (world_of new)
-    some_progress = ran_progress valid law m new is (mean_still m old new some.1.cluster some.1.meanings all) (ran_more m old new some.0 some.1 all r)
+  pub some_ran : (old new : Nodes E) → SomeHappened old new → (m : Meanings) (c : Cluster) → Ran meaning m c old → Ran meaning m c new
+  some_ran old new some m c r = ran_more m c old new some.0 some.1 r
 
   -- ---- up to a place
 

@@ -109,7 +109,7 @@ module _ {E : Type 0} (meaning : E → EngineMeaning) (old : Seat E) (c : Core E
       let d = (place_of old).node.durable in
       sym (ap (torn_by h d kept) is_row) ∙ torn_is h d kept row (j.gives ∙ ap (λ (p : Place). applied_if row.entry p.node.durable) (sym (runs_at old c is))) ∙ ap (halted_with h d) (sym rest)
 
-none_by : {E : Type 0} (o : Option (Core E)) (d : Durable) → (place_by o d).up ≡ false → o ≡ None
+pub none_by : {E : Type 0} (o : Option (Core E)) (d : Durable) → (place_by o d).up ≡ false → o ≡ None
 none_by None d down = refl
 none_by (Some c) d down = absurd (cc)
 

@@ -3,11 +3,12 @@ use Rattle.std.specs.Prelude.{◌≡◌, ℕ, ◌==◌, ◌<◌, zero, suc, Bool
 use Rattle.std.specs.List.{All, flat_map}
 use Rattle.std.specs.Option.{option_map}
 use Rattle.sv_model.specs.declared.event.Told.{Told}
-use Rattle.sv_model.specs.Container.{always}
+use Rattle.sv_model.specs.Container.{Meanings, always}
 use Rattle.sv_model.specs.Engine.{EngineMeaning, heard_all}
 use Rattle.sv_model.specs.Outputs.{sends_in}
 use Rattle.sv_model.specs.Step.{with_mark}
 use Rattle.sv_world.specs.declared.rules.Rules.{Rules}
+use Rattle.sv_world.specs.Rules.{setting_by}
 use Rattle.sv_world.specs.declared.event.WorldEvent.{WorldEvent}
 use Rattle.sv_world.specs.declared.event.WorldEvent.TheVariants.{Ask, Deliver, Poke, Tick, Move, Crash, Torn, Silent, Restart, TornRestart}
 use Rattle.sv_world.specs.declared.fault.WorldFault.{WorldFault}
@@ -21,8 +22,8 @@ use Rattle.sv_world.specs.declared.world.World.{World as Nodes}
 use Rattle.sv_world.specs.Deed.{deed, told_by}
 use Rattle.sv_world.specs.Faults.{fault_of}
 use Rattle.sv_world.specs.Order.{order_of}
-use Rattle.sv_world.specs.World.{steady, set_place, nothing_happened, run}
-use Rattle.sv_world.specs.Worlds.{places_by, settings_by, heard_by, world_of, size_of, rules_of, cluster_of, meanings_of, heard_of, AllMean}
+use Rattle.sv_world.specs.World.{World, setting_of, set_place, nothing_happened, run}
+use Rattle.sv_world.specs.Worlds.{places_by, settings_by, heard_by, world_of, size_of, cluster_of, meanings_of, heard_of, AllMean}
 
 -- ---- a task
 
@@ -39,6 +40,10 @@ pub record AreUndone {E : Type 0} (noted : E → List (List ℕ)) (old new : Lis
 
 -- ---- events
 
+-- the events of a trace
+abbrev pub events_in : World → List WorldEvent
+events_in w = map (λ l. l.event) w.trace
+
 -- what a line has told at a node
 abbrev pub told_in : ℕ → Line → List Told
 told_in n l = cond (l.node == n) (with_mark l.events l.mark) []
@@ -46,11 +51,16 @@ told_in n l = cond (l.node == n) (with_mark l.events l.mark) []
 abbrev pub told_at : ℕ → List Line → List Told
 told_at n lines = flat_map (told_in n) lines
 
--- these events have happened, each with a line of its own; the world is what they make of it, each engine means what it
--- meant, and its listeners have noted what its node has told
+-- each start of a node means this
+abbrev pub by_node : (ℕ → EngineMeaning) → Meanings
+by_node m = λ n boot. m n
+
+-- these events have happened, each with a line of its own; the world is what they make of it, each node has what it had, and
+-- its listeners have noted what it has told
 pub record HaveHappened {E : Type 0} (meaning : E → EngineMeaning) (noted : E → List (List ℕ)) (old new : Nodes E) (events : List WorldEvent) : Type 0 where
+  pub size : size_of new ≡ size_of old
   pub cluster : cluster_of new ≡ cluster_of old
-  pub world : (m : EngineMeaning) → AllMean meaning m old → world_of new ≡ run (always m) (cluster_of old) (world_of old) events
+  pub world : (m : ℕ → EngineMeaning) → AllMean meaning m old → world_of new ≡ run (by_node m) (cluster_of old) (world_of old) events
   pub lines : List Line
   pub trace : (world_of new).trace ≡ (world_of old).trace ++ lines
   pub each : map (λ l. l.event) lines ≡ events
@@ -64,7 +74,7 @@ pub record HasActed {E : Type 0} (meaning : E → EngineMeaning) (noted : E → 
   pub order : Order
   pub asked : order_of (world_of old).packets e ≡ Some order
   pub number : size_of new ≡ size_of old
-  pub rules : rules_of new ≡ rules_of old
+  pub settings : settings_by new.seats.items ≡ settings_by old.seats.items
   pub meanings : meanings_of meaning new ≡ meanings_of meaning old
   pub done : (m : EngineMeaning) → meanings_of meaning old order.node ≡ Some m → HaveDone noted m old.seats.items new.seats.items order f
   pub packets : (world_of new).packets ≡ (world_of old).packets ++ sends_in f.outputs
@@ -72,6 +82,7 @@ pub record HasActed {E : Type 0} (meaning : E → EngineMeaning) (noted : E → 
 
 -- nothing has happened
 pub record IsStill {E : Type 0} (meaning : E → EngineMeaning) (noted : E → List (List ℕ)) (old new : Nodes E) : Type 0 where
+  pub size : size_of new ≡ size_of old
   pub cluster : cluster_of new ≡ cluster_of old
   pub world : world_of new ≡ world_of old
   pub meanings : meanings_of meaning new ≡ meanings_of meaning old
@@ -106,10 +117,12 @@ restarts (suc n) = restarts n ++ Restart n ∷ []
 abbrev pub AllAlike : {E : Type 0} → (E → EngineMeaning) → EngineMeaning → List E → Type 0
 AllAlike meaning m engines = All (λ e. meaning e ≡ m) engines
 
--- nodes that have just started, each over the engine of its number
-pub record AreStarted {E : Type 0} (meaning : E → EngineMeaning) (noted : E → List (List ℕ)) (engines : List E) (rules : Rules) (w : Nodes E) : Type 0 where
-  pub cluster : cluster_of w ≡ steady (length engines) rules
-  pub world : (m : EngineMeaning) → AllAlike meaning m engines → world_of w ≡ run (always m) (cluster_of w) nothing_happened (restarts (length engines))
+-- nodes to which these events have happened and nothing else, each over the engine of its number, and told of all
+pub record AreMade {E : Type 0} (meaning : E → EngineMeaning) (noted : E → List (List ℕ)) (engines : List E) (rules : Rules) (events : List WorldEvent) (w : Nodes E) : Type 0 where
+  pub size : size_of w ≡ length engines
+  pub settings : (n boot : ℕ) → n < length engines → setting_of (cluster_of w) n boot ≡ setting_by rules n (length engines)
+  pub world : (m : EngineMeaning) → AllAlike meaning m engines → world_of w ≡ run (always m) (cluster_of w) nothing_happened events
+  pub each : events_in (world_of w) ≡ events
   pub meanings : (n : ℕ) → meanings_of meaning w n ≡ option_map meaning (slice_get engines n)
   pub heard : (n : ℕ) → heard_of noted w n ≡ option_map noted (slice_get engines n)
 
@@ -119,11 +132,6 @@ pub record AreBack {E : Type 0} (meaning : E → EngineMeaning) (noted : E → L
   pub number : length new ≡ length old
   pub meanings : (n : ℕ) → option_map meaning (slice_get new n) ≡ option_map meaning (slice_get old n)
   pub heard : (n : ℕ) → option_map noted (slice_get new n) ≡ option_map noted (slice_get old n)
-
--- the world is what some events have made of one in which nothing had happened
-pub record Ran {E : Type 0} (m : EngineMeaning) (w : Nodes E) : Type 0 where
-  pub events : List WorldEvent
-  pub world : world_of w ≡ run (always m) (cluster_of w) nothing_happened events
 
 -- a start that no stop cuts
 abbrev pub is_start : WorldEvent → Bool

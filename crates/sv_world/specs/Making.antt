@@ -23,6 +23,11 @@ pub record AreSeated {E : Type 0} (nodes : ℕ) (rules : Rules) (engines : List 
   pub idle : All IsIdle seats
   pub settings : (n : ℕ) → n < length seats → settings_by seats n ≡ setting_by rules n nodes
 
+-- nothing has happened
+pub record IsUntouched {E : Type 0} (w : Nodes E) : Type 0 where
+  pub packets : w.packets.items ≡ []
+  pub trace : w.trace.items ≡ []
+
 -- all nodes were started, and nothing was told
 pub record HaveBegun {E : Type 0} (meaning : E → EngineMeaning) (noted : E → List (List ℕ)) (old new : Nodes E) : Type 0 where
   pub happened : HaveHappened meaning noted old new (restarts (size_of old))

@@ -11,7 +11,7 @@ use Rattle.sv_world.specs.Rules.{rules_for, setting_by}
 use Rattle.sv_world.specs.declared.seat.Seat.{Seat}
 use Rattle.sv_world.specs.declared.world.World.{World as Nodes}
 use Rattle.sv_world.specs.Seat.{IsSeat, place_of, meaning_in, heard_in}
-use Rattle.sv_world.specs.World.{Cluster, Place, World, steady, stopped}
+use Rattle.sv_world.specs.World.{Cluster, Place, World, stopped}
 
 -- ---- nodes, by their numbers
 
@@ -48,8 +48,22 @@ heard_by noted seats n = noted_in noted (slice_get seats n)
 abbrev pub state_by : {E : Type 0} → List (Seat E) → List Packet → List Line → World
 state_by seats packets trace = record { places = places_by seats; packets = packets; trace = trace }
 
-abbrev pub cluster_by : {E : Type 0} → List (Seat E) → Rules → Cluster
-cluster_by seats rules = steady (length seats) rules
+-- the rules of a setting
+abbrev pub rules_in : Setting → Rules
+rules_in set = record { deadline = set.deadline; keys = set.keys; forget = set.forget }
+
+-- each start of a node is told what the node has now; one that isn't there is told of none
+abbrev pub cluster_by : {E : Type 0} → List (Seat E) → Cluster
+cluster_by seats = record { nodes = λ n boot. (settings_by seats n).nodes; rules = λ n boot. rules_in (settings_by seats n) }
+
+-- a setting is its node's own, and tells of it
+pub record IsSet (n : ℕ) (set : Setting) : Type 0 where
+  pub own : set.node ≡ n
+  pub told : n < set.nodes
+
+-- so are those of nodes
+abbrev pub AreSet : {E : Type 0} → List (Seat E) → Type 0
+AreSet seats = (n : ℕ) → n < length seats → IsSet n (settings_by seats n)
 
 -- ---- a world
 
@@ -60,12 +74,9 @@ world_of w = state_by w.seats.items w.packets.items w.trace.items
 abbrev pub size_of : {E : Type 0} → Nodes E → ℕ
 size_of w = length w.seats.items
 
-abbrev pub rules_of : {E : Type 0} → Nodes E → Rules
-rules_of w = w.rules
-
--- each start is told of all of them, and has these rules
+-- what each node has now
 abbrev pub cluster_of : {E : Type 0} → Nodes E → Cluster
-cluster_of w = cluster_by w.seats.items w.rules
+cluster_of w = cluster_by w.seats.items
 
 abbrev pub meanings_of : {E : Type 0} → (E → EngineMeaning) → Nodes E → ℕ → Option EngineMeaning
 meanings_of meaning w = meanings_by meaning w.seats.items
@@ -73,13 +84,13 @@ meanings_of meaning w = meanings_by meaning w.seats.items
 abbrev pub heard_of : {E : Type 0} → (E → List (List ℕ)) → Nodes E → ℕ → Option (List (List ℕ))
 heard_of noted w = heard_by noted w.seats.items
 
--- what holds between the events: each node has its journal and a core or an engine, and its own number
+-- what holds between the events: each node has its journal and a core or an engine, and a setting of its own
 pub record IsWorld {E : Type 0} (valid : E → Type 0) (w : Nodes E) : Type 0 where
   pub seats : All (λ s. IsSeat valid s) w.seats.items
-  pub settings : (n : ℕ) → n < length w.seats.items → settings_by w.seats.items n ≡ setting_by w.rules n (length w.seats.items)
+  pub settings : AreSet w.seats.items
   pub some : 0 < length w.seats.items
   pub few : length w.seats.items ≤ 8
 
--- all engines mean the same
-abbrev pub AllMean : {E : Type 0} → (E → EngineMeaning) → EngineMeaning → Nodes E → Type 0
-AllMean meaning m w = (n : ℕ) → n < size_of w → meanings_of meaning w n ≡ Some m
+-- what each node's engine means
+abbrev pub AllMean : {E : Type 0} → (E → EngineMeaning) → (ℕ → EngineMeaning) → Nodes E → Type 0
+AllMean meaning m w = (n : ℕ) → n < size_of w → meanings_of meaning w n ≡ Some (m n)

@@ -4,8 +4,7 @@ ghost use Rattle.std.specs.Prelude.{◌≡◌, ℕ, length, slice_get};
 ghost use Rattle.sv_world.specs.Faults.{fault_of};
 ghost use Rattle.sv_world.specs.Finding.{boot_in, start_in, stop_by, number_in, token_by, step_by, delivery_by};
 ghost use Rattle.sv_world.specs.Sent.{may_come};
-ghost use Rattle.sv_world.specs.Worlds.{state_by, cluster_by};
-ghost use Rattle.sv_world.specs.declared.rules.Rules.{Rules};
+ghost use Rattle.sv_world.specs.Worlds.{state_by, cluster_by, AreSet};
 
 use crate::call::addressee;
 use crate::event::WorldEvent;
@@ -135,14 +134,14 @@ fn given_fault<E>(
     )
 }
 
-/// The first fault of an event, in the order of their numbers.
+/// The first fault of an event, in the order of their numbers, at nodes that were told of themselves.
 pub fn fault_of<E>(
     seats: &[Seat<E>],
     packets: &[Packet],
     trace: &[Line],
     event: &WorldEvent,
 ) -> Option<WorldFault>
-    ensures { (rules : Rules) → result ≡ fault_of (cluster_by seats.now rules) (state_by seats.now packets.now trace.now) event.now }
+    ensures { AreSet seats.now → result ≡ fault_of (cluster_by seats.now) (state_by seats.now packets.now trace.now) event.now }
 {
     match *event {
         WorldEvent::Ask { node, token, .. } => step_fault(seats, trace, node, true, Some(token)),

@@ -1,12 +1,14 @@
 //! One event.
 
-ghost use Rattle.std.specs.Prelude.{◌≡◌, ◌<◌, [], ◌∷◌, None, true, IfOk, IfErr, OnOk, vec_len, vec_capacity};
-ghost use Rattle.sv_model.specs.Container.{always};
+ghost use Rattle.std.specs.Prelude.{◌≡◌, ℕ, ◌<◌, [], ◌∷◌, None, true, IfOk, IfErr, OnOk, vec_len, vec_capacity};
+ghost use Rattle.sv_model.specs.Container.{Meanings, always};
 ghost use Rattle.sv_model.specs.Engine.{EngineMeaning};
 ghost use Rattle.sv_world.specs.Faults.{fault_of};
 ghost use Rattle.sv_world.specs.Headline.{IsHeadline};
-ghost use Rattle.sv_world.specs.Journals.{HaveFitted};
+ghost use Rattle.sv_world.specs.Journals.{AreWithin, HaveFitted};
 ghost use Rattle.sv_world.specs.Progress.{IsProgress};
+ghost use Rattle.sv_world.specs.World.{Cluster, steady, nothing_happened, AlwaysKnows};
+ghost use Rattle.sv_world.specs.declared.rules.Rules.{Rules};
 
 use crate::event::WorldEvent;
 use crate::fault::WorldFault;
@@ -18,8 +20,9 @@ use crate::world::World;
 use sv_model::Engine;
 
 impl<E: Engine + Drop> World<E> {
-    ghost use Rattle.sv_world.specs.Worlds.{world_of, rules_of, cluster_of, heard_of, IsWorld, AllMean};
-    ghost use Rattle.sv_world.specs.Happened.{HaveHappened, HasActed, IsRefused, Ran, is_start};
+    ghost use Rattle.sv_world.specs.Worlds.{world_of, cluster_of, heard_of, IsWorld};
+    ghost use Rattle.sv_world.specs.Happened.{HaveHappened, HasActed, IsRefused, events_in, is_start};
+    ghost use Rattle.sv_world.specs.Planned.{Ran};
 
     /// A node does what an event asks of it, where the event can happen. The trace then has room for its line.
     fn act(&mut self, event: &WorldEvent) -> Result<Effect, WorldFault>
@@ -53,18 +56,23 @@ impl<E: Engine + Drop> World<E> {
 
     /// What an event does, or the first reason why it can't happen; then all is as it was.
     ///
-    /// Where all engines mean the same, and the world is what some events have made of one in which nothing had happened, it
-    /// is so behind this event too, and the theorem of `Headline.antt` and what `Progress.antt` promises hold of it.
+    /// Where the world is what its events make, by a plan of what each start is started with, of one in which nothing had
+    /// happened, it is so behind this event too, and the theorem of `Headline.antt` and what `Progress.antt` promises hold of
+    /// it: the theorem as long as each node that ran was told of each node whose sessions lived, as it is where all starts have
+    /// the same.
     pub fn step(&mut self, event: WorldEvent) -> Result<(), WorldFault>
         requires { IsWorld E.valid self.old }
         ensures world { IsWorld E.valid self.new }
         ensures possible { OnOk result (fault_of (cluster_of self.old) (world_of self.old) event ≡ None) }
         ensures happened { OnOk result (HaveHappened E.meaning E.heard self.old self.new (event ∷ [])) }
         ensures refused { IfErr result (λ f. IsRefused E.meaning E.heard self.old self.new event f) }
-        ensures ran { (m : EngineMeaning) → AllMean E.meaning m self.old → Ran m self.old → Ran m self.new }
-        ensures headline { (m : EngineMeaning) → AllMean E.meaning m self.old → Ran m self.old → IsHeadline (always m) (world_of self.new) }
-        ensures fit { (m : EngineMeaning) → AllMean E.meaning m self.old → Ran m self.old → HaveFitted (rules_of self.new) (world_of self.new) }
-        ensures progress { (m : EngineMeaning) → AllMean E.meaning m self.old → Ran m self.old → IsProgress (always m) (cluster_of self.new) (world_of self.new) }
+        ensures ran { (m : Meanings) (c : Cluster) → Ran E.meaning m c self.old → Ran E.meaning m c self.new }
+        ensures headline { (m : Meanings) (c : Cluster) → Ran E.meaning m c self.old → AlwaysKnows m c nothing_happened (events_in (world_of self.new))
+            → IsHeadline m (world_of self.new) }
+        ensures steady { (m : EngineMeaning) (nodes : ℕ) (rules : Rules) → Ran E.meaning (always m) (steady nodes rules) self.old
+            → IsHeadline (always m) (world_of self.new) }
+        ensures fit { (m : Meanings) (c : Cluster) (wide : Rules) → Ran E.meaning m c self.old → AreWithin wide c → HaveFitted wide (world_of self.new) }
+        ensures progress { (m : Meanings) (c : Cluster) → Ran E.meaning m c self.old → IsProgress m c (world_of self.new) }
     {
         self.happen(event)
     }

@@ -7,6 +7,7 @@ ghost use Rattle.sv_model.specs.Engine.{EngineMeaning};
 ghost use Rattle.sv_world.specs.Rules.{rules_for};
 ghost use Rattle.sv_world.specs.Headline.{IsHeadline};
 ghost use Rattle.sv_world.specs.Journals.{HaveFitted};
+ghost use Rattle.sv_world.specs.World.{steady};
 
 use crate::event::WorldEvent;
 use crate::fault::WorldFault;
@@ -24,16 +25,17 @@ pub struct Unmade<E> {
 }
 
 impl<E: Engine + Drop> World<E> {
-    ghost use Rattle.sv_world.specs.Worlds.{world_of, size_of, rules_of, cluster_of, meanings_of, heard_of, IsWorld, AllMean};
-    ghost use Rattle.sv_world.specs.Happened.{HaveHappened, AreStarted, AreBack, AllAlike, Ran, restarts};
-    ghost use Rattle.sv_world.specs.Making.{HaveBegun, AreOf, AreSeated};
+    ghost use Rattle.sv_world.specs.Worlds.{world_of, size_of, meanings_of, heard_of, IsWorld};
+    ghost use Rattle.sv_world.specs.Happened.{HaveHappened, AreMade, AreBack, AllAlike, restarts};
+    ghost use Rattle.sv_world.specs.Planned.{Ran};
+    ghost use Rattle.sv_world.specs.Making.{HaveBegun, IsUntouched, AreOf, AreSeated};
 
     /// Starts each node, by number, up to the first for which memory is refused.
     fn start_all(&mut self, nodes: u8) -> Result<(), WorldFault>
         requires { IsWorld E.valid self.old }
         ensures world { IsWorld E.valid self.new }
         ensures happened { OnOk result (HaveHappened E.meaning E.heard self.old self.new (restarts nodes)) }
-        ensures cluster { cluster_of self.new ≡ cluster_of self.old }
+        ensures size { size_of self.new ≡ size_of self.old }
         ensures meanings { meanings_of E.meaning self.new ≡ meanings_of E.meaning self.old }
         ensures heard { heard_of E.heard self.new ≡ heard_of E.heard self.old }
     {
@@ -60,6 +62,38 @@ impl<E: Engine + Drop> World<E> {
         Ok(())
     }
 
+    /// Nodes to which nothing has happened.
+    fn of(alloc: Global, seats: Vec<Seat<E>>) -> World<E>
+        ensures seats { result.seats ≡ seats }
+        ensures untouched { IsUntouched result }
+    {
+        World {
+            alloc,
+            seats,
+            packets: Vec::new(alloc),
+            trace: Vec::new(alloc),
+        }
+    }
+
+    /// Seats the engines, and starts no node.
+    fn seated_at_rest(
+        alloc: Global,
+        mut engines: Vec<E>,
+        mut seats: Vec<Seat<E>>,
+        rules: Rules,
+    ) -> World<E>
+        requires some { 0 < length engines.items }
+        requires few { length engines.items ≤ 8 }
+        requires valid { All (λ e. E.valid e) engines.items }
+        requires empty { seats.items ≡ [] }
+        requires room { vec_len engines ≤ vec_capacity seats }
+        ensures world { IsWorld E.valid result }
+        ensures made { AreMade E.meaning E.heard engines.items rules [] result }
+    {
+        seat_all(alloc, &mut engines, rules, &mut seats);
+        World::of(alloc, seats)
+    }
+
     /// Seats the engines, and starts all nodes.
     fn seated(
         alloc: Global,
@@ -73,20 +107,31 @@ impl<E: Engine + Drop> World<E> {
         requires empty { seats.items ≡ [] }
         requires room { vec_len engines ≤ vec_capacity seats }
         ensures world { IfOk result (λ w. IsWorld E.valid w) }
-        ensures started { IfOk result (λ w. AreStarted E.meaning E.heard engines.items rules w) }
+        ensures started { IfOk result (λ w. AreMade E.meaning E.heard engines.items rules (restarts (length engines.items)) w) }
         ensures back { IfErr result (λ u. AreBack E.meaning E.heard E.valid engines.items u.engines.items) }
     {
         let nodes = engines.len() as u8;
         seat_all(alloc, &mut engines, rules, &mut seats);
-        let mut world = World {
-            alloc,
-            seats,
-            rules,
-            packets: Vec::new(alloc),
-            trace: Vec::new(alloc),
-        };
+        let mut world = World::of(alloc, seats);
         match world.begin(nodes, &mut engines) {
             Ok(()) => Ok(world),
+            Err(_) => Err(Unmade { engines }),
+        }
+    }
+
+    /// A world of as many nodes as there are engines, 1 to 8, in which nothing has happened, and no node runs.
+    pub fn at_rest(alloc: Global, engines: Vec<E>, rules: Rules) -> Result<World<E>, Unmade<E>>
+        requires some { 0 < length engines.items }
+        requires few { length engines.items ≤ 8 }
+        requires valid { All (λ e. E.valid e) engines.items }
+        ensures world { IfOk result (λ w. IsWorld E.valid w) }
+        ensures made { IfOk result (λ w. AreMade E.meaning E.heard engines.items rules [] w) }
+        ensures ran { IfOk result (λ w. (m : EngineMeaning) → AllAlike E.meaning m engines.items
+            → Ran E.meaning (always m) (steady (length engines.items) rules) w) }
+        ensures back { IfErr result (λ u. AreBack E.meaning E.heard E.valid engines.items u.engines.items) }
+    {
+        match Vec::with_capacity(alloc, engines.len()) {
+            Ok(seats) => Ok(World::seated_at_rest(alloc, engines, seats, rules)),
             Err(_) => Err(Unmade { engines }),
         }
     }
@@ -98,11 +143,11 @@ impl<E: Engine + Drop> World<E> {
         requires few { length engines.items ≤ 8 }
         requires valid { All (λ e. E.valid e) engines.items }
         ensures world { IfOk result (λ w. IsWorld E.valid w) }
-        ensures started { IfOk result (λ w. AreStarted E.meaning E.heard engines.items rules w) }
-        ensures alike { IfOk result (λ w. (m : EngineMeaning) → AllAlike E.meaning m engines.items → AllMean E.meaning m w) }
-        ensures ran { IfOk result (λ w. (m : EngineMeaning) → AllAlike E.meaning m engines.items → Ran m w) }
+        ensures started { IfOk result (λ w. AreMade E.meaning E.heard engines.items rules (restarts (length engines.items)) w) }
+        ensures ran { IfOk result (λ w. (m : EngineMeaning) → AllAlike E.meaning m engines.items
+            → Ran E.meaning (always m) (steady (length engines.items) rules) w) }
         ensures headline { IfOk result (λ w. (m : EngineMeaning) → AllAlike E.meaning m engines.items → IsHeadline (always m) (world_of w)) }
-        ensures fit { IfOk result (λ w. (m : EngineMeaning) → AllAlike E.meaning m engines.items → HaveFitted (rules_of w) (world_of w)) }
+        ensures fit { IfOk result (λ w. (m : EngineMeaning) → AllAlike E.meaning m engines.items → HaveFitted rules (world_of w)) }
         ensures back { IfErr result (λ u. AreBack E.meaning E.heard E.valid engines.items u.engines.items) }
     {
         match Vec::with_capacity(alloc, engines.len()) {
@@ -117,11 +162,11 @@ impl<E: Engine + Drop> World<E> {
         requires few { length engines.items ≤ 8 }
         requires valid { All (λ e. E.valid e) engines.items }
         ensures world { IfOk result (λ w. IsWorld E.valid w) }
-        ensures started { IfOk result (λ w. AreStarted E.meaning E.heard engines.items (rules_for deadline) w) }
-        ensures alike { IfOk result (λ w. (m : EngineMeaning) → AllAlike E.meaning m engines.items → AllMean E.meaning m w) }
-        ensures ran { IfOk result (λ w. (m : EngineMeaning) → AllAlike E.meaning m engines.items → Ran m w) }
+        ensures started { IfOk result (λ w. AreMade E.meaning E.heard engines.items (rules_for deadline) (restarts (length engines.items)) w) }
+        ensures ran { IfOk result (λ w. (m : EngineMeaning) → AllAlike E.meaning m engines.items
+            → Ran E.meaning (always m) (steady (length engines.items) (rules_for deadline)) w) }
         ensures headline { IfOk result (λ w. (m : EngineMeaning) → AllAlike E.meaning m engines.items → IsHeadline (always m) (world_of w)) }
-        ensures fit { IfOk result (λ w. (m : EngineMeaning) → AllAlike E.meaning m engines.items → HaveFitted (rules_of w) (world_of w)) }
+        ensures fit { IfOk result (λ w. (m : EngineMeaning) → AllAlike E.meaning m engines.items → HaveFitted (rules_for deadline) (world_of w)) }
         ensures back { IfErr result (λ u. AreBack E.meaning E.heard E.valid engines.items u.engines.items) }
     {
         World::with(alloc, engines, Rules::of(deadline))

@@ -3,17 +3,15 @@
 ghost use Rattle.std.specs.Prelude.{◌≡◌};
 
 use crate::line::Line;
-use crate::rules::Rules;
 use crate::seat::Seat;
 use std::alloc::Global;
 use sv_model::Packet;
 
-/// Up to 8 nodes, from 0, and all that has happened to them. Their engines are to mean the same.
+/// Up to 8 nodes, from 0, and all that has happened to them. What a node is started with may be another from start to start.
 #[derive(Drop)]
 pub struct World<E> {
     pub(crate) alloc: Global,
     pub(crate) seats: Vec<Seat<E>>,
-    pub(crate) rules: Rules,
     /// All packets that were ever sent, the first at 0.
     pub(crate) packets: Vec<Packet>,
     pub(crate) trace: Vec<Line>,

@@ -6,6 +6,7 @@
 //! to do, and never from the program.
 //!
 //! - `world SHOP RULES`: three nodes and all packets that they have sent; `nodes`, `event`, `rules`.
+//! - `unstarted SHOP RULES`: the same of four nodes, none of which was ever started.
 //! - `node SHOP BYTES`: one of three nodes, over a disk A of these bytes and a blank disk B; `running`.
 //! - `fails DISK`: the same over blank disks, once for each call of the disk A or B, which fails; `failing`.
 //! - `client TARGET COOKIE`: two nodes, and a client that waits at one of them for the other; `client`.

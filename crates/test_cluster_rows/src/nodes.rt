@@ -1,4 +1,4 @@
-//! Worlds of three nodes.
+//! Worlds of three nodes, and of four.
 
 ghost use Rattle.std.specs.Prelude.{◌≡◌, ◌+◌, length, IfOk};
 ghost use Rattle.std.specs.List.{All};
@@ -32,15 +32,33 @@ fn no_engines<E: Engine>(alloc: Global) -> Vec<E>
     Vec::new(alloc)
 }
 
-/// Three nodes in their first start, which serve by the same applications.
-pub fn three_nodes(alloc: Global, name: &str, rules: Rules) -> Result<World<Shop>, RowFault>
-    ensures { IfOk result (λ world. IsWorld ⟦<Shop as Engine>⟧.valid world) }
+/// Three engines of the same applications.
+fn three(alloc: Global, name: &str) -> Result<Vec<Shop>, RowFault>
+    ensures all { IfOk result (λ v. All (λ e. ⟦<Shop as Engine>⟧.valid e) v.items) }
+    ensures count { IfOk result (λ v. length v.items ≡ 3) }
 {
     let engines = no_engines(alloc);
     let engines = with_one(engines, shop(alloc, name)?)?;
     let engines = with_one(engines, shop(alloc, name)?)?;
-    let engines = with_one(engines, shop(alloc, name)?)?;
-    match World::with(alloc, engines, rules) {
+    Ok(with_one(engines, shop(alloc, name)?)?)
+}
+
+/// Three nodes in their first start, which serve by the same applications.
+pub fn three_nodes(alloc: Global, name: &str, rules: Rules) -> Result<World<Shop>, RowFault>
+    ensures { IfOk result (λ world. IsWorld ⟦<Shop as Engine>⟧.valid world) }
+{
+    match World::with(alloc, three(alloc, name)?, rules) {
+        Ok(world) => Ok(world),
+        Err(_) => Err(RowFault::Start),
+    }
+}
+
+/// Four nodes of the same applications, none of which was ever started.
+pub fn four_nodes(alloc: Global, name: &str, rules: Rules) -> Result<World<Shop>, RowFault>
+    ensures { IfOk result (λ world. IsWorld ⟦<Shop as Engine>⟧.valid world) }
+{
+    let engines = with_one(three(alloc, name)?, shop(alloc, name)?)?;
+    match World::at_rest(alloc, engines, rules) {
         Ok(world) => Ok(world),
         Err(_) => Err(RowFault::Start),
     }

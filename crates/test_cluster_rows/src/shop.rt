@@ -145,6 +145,18 @@ fn deployment(alloc: Global, name: &str) -> Result<Deployment, RowFault> {
     Ok(Deployment::from_toml(alloc, text.as_str())?)
 }
 
+/// An engine that is started by a name.
+pub trait ByName: Engine {
+    fn by_name(alloc: Global, name: &str) -> Result<Self, RowFault>
+        ensures { IfOk result (λ e. Self.valid e) };
+}
+
+impl ByName for Shop {
+    fn by_name(alloc: Global, name: &str) -> Result<Self, RowFault> {
+        shop(alloc, name)
+    }
+}
+
 /// The applications of a name, started.
 pub fn shop(alloc: Global, name: &str) -> Result<Shop, RowFault>
     ensures { IfOk result (λ c. ⟦<Shop as Engine>⟧.valid c) }

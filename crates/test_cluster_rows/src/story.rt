@@ -9,6 +9,7 @@ use std::alloc::{AllocError, Global};
 fn play(alloc: Global, stage: &str, lines: &str, told: &mut String) -> Result<(), RowFault> {
     match word(stage) {
         ("world", words) => worlds::play(alloc, words, lines, told),
+        ("unstarted", words) => worlds::play_unstarted(alloc, words, lines, told),
         ("node", words) => running::play(alloc, words, lines, told),
         ("fails", disk) => failing::play(alloc, disk, lines, told),
         ("client", words) => client::play(alloc, words, told),

@@ -4,16 +4,19 @@
 //! - `fill NODE COUNT`: so many requests at a node, for the first session of node 0, the second and so on; and what they have put out,
 //!   counted.
 //! - `counted EVENT`: an event, and what it has put out, counted.
+//! - `install NODE COUNT SHOP RULES`: what a node that is stopped is started with from its next start on: these applications and
+//!   rules, and told of so many nodes.
 
 ghost use Rattle.sv_world.specs.Worlds.{IsWorld};
 
 use crate::clock;
 use crate::event::event;
 use crate::fault::RowFault;
-use crate::nodes::three_nodes;
+use crate::nodes::{four_nodes, three_nodes};
 use crate::rules::rules;
 use crate::said::{said, sent};
-use crate::words::{number, word};
+use crate::shop::ByName;
+use crate::words::{number, small, word};
 use std::alloc::{AllocError, Global};
 use sv_model::{Cause, Engine, Moment, Output};
 use sv_world::{Line, World};
@@ -157,8 +160,27 @@ fn fill<E: Engine + Drop>(
     Ok(counted_from(alloc, world, place)?)
 }
 
+/// A node gets other applications, other rules or another number of nodes; the fault's name, where it doesn't.
+fn install<E: ByName + Drop>(
+    alloc: Global,
+    world: &mut World<E>,
+    words: &str,
+) -> Result<String, RowFault>
+    requires { IsWorld E.valid world.old }
+    ensures { IsWorld E.valid world.new }
+{
+    let (node, words) = word(words);
+    let (count, words) = word(words);
+    let (name, words) = word(words);
+    let engine = E::by_name(alloc, name)?;
+    match world.install(small(node)?, engine, rules(words)?, small(count)?) {
+        Ok(_) => Ok(String::new(alloc)),
+        Err(uninstalled) => Ok(format!(in alloc; "{:?}", uninstalled.fault)?),
+    }
+}
+
 /// What happens by a line at a moment.
-fn happen_at<E: Engine + Drop>(
+fn happen_at<E: ByName + Drop>(
     alloc: Global,
     world: &mut World<E>,
     moment: Moment,
@@ -171,6 +193,7 @@ fn happen_at<E: Engine + Drop>(
     match word(line) {
         ("at", _) => Ok(String::new(alloc)),
         ("fill", words) => fill(alloc, world, moment, words),
+        ("install", words) => install(alloc, world, words),
         ("counted", words) => {
             happen(alloc, world, moment, words)?;
             Ok(counted_from(alloc, world, place)?)
@@ -192,7 +215,7 @@ pub fn push_row(told: &mut String, line: &str, said: &str) -> Result<(), AllocEr
 }
 
 /// What happens by a line, told; the moment of what follows.
-fn take<E: Engine + Drop>(
+fn take<E: ByName + Drop>(
     alloc: Global,
     world: &mut World<E>,
     moment: Moment,
@@ -209,7 +232,7 @@ fn take<E: Engine + Drop>(
 }
 
 /// What happens by these lines.
-fn happen_all<E: Engine + Drop>(
+fn happen_all<E: ByName + Drop>(
     alloc: Global,
     world: &mut World<E>,
     lines: &str,
@@ -228,5 +251,17 @@ fn happen_all<E: Engine + Drop>(
 pub fn play(alloc: Global, words: &str, lines: &str, told: &mut String) -> Result<(), RowFault> {
     let (name, rest) = word(words);
     let mut world = three_nodes(alloc, name, rules(rest)?)?;
+    happen_all(alloc, &mut world, lines, told)
+}
+
+/// A world of four nodes, none of which was ever started: `NAME RULES`.
+pub fn play_unstarted(
+    alloc: Global,
+    words: &str,
+    lines: &str,
+    told: &mut String,
+) -> Result<(), RowFault> {
+    let (name, rest) = word(words);
+    let mut world = four_nodes(alloc, name, rules(rest)?)?;
     happen_all(alloc, &mut world, lines, told)
 }

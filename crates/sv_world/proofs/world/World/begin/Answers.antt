@@ -1,5 +1,4 @@
-use Rattle.std.proofs.Common.{◌≡◌, ap, arith}
-use Rattle.sv_world.specs.World.{Cluster}
+use Rattle.std.proofs.Common.{◌≡◌, arith}
 use Rattle.sv_world.specs.Worlds.{size_of}
 use Rattle.sv_world.proofs.BegunLemmas.{all_engines, are_of}
 use Rattle.sv_world.proofs.world.World.begin.Goals as goal
@@ -9,10 +8,10 @@ unseat_all-requires-clause-all g c = all_engines g.E.Engine.valid c.start_all.ne
 
 pub unseat_all-requires-clause-room : goal.unseat_all-requires-clause-room
 unseat_all-requires-clause-room g c =
-    let same : size_of c.start_all.new.self ≡ size_of c.args.self.now = ap (λ (k : Cluster). k.nodes 0 0) c.start_all.ensures.cluster in
+    let same : size_of c.start_all.new.self ≡ size_of c.args.self.now = c.start_all.ensures.size in
     omega (arith, same, c.requires.nodes, c.requires.room)
 
 pub returns-in-Err-clause-back : goal.returns-in-Err-clause-back
 returns-in-Err-clause-back g c =
     let s = c.start_all.ensures in
-    are_of g.E.Engine.meaning g.E.Engine.heard g.E.Engine.valid c.args.self.now c.start_all.new.self c.unseat_all.new.engines.items s.cluster s.meanings s.heard s.world.seats c.unseat_all.ensures
+    are_of g.E.Engine.meaning g.E.Engine.heard g.E.Engine.valid c.args.self.now c.start_all.new.self c.unseat_all.new.engines.items s.size s.meanings s.heard s.world.seats c.unseat_all.ensures

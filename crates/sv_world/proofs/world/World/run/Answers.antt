@@ -1,30 +1,39 @@
-use Rattle.sv_world.proofs.RanLemmas.{ran_more, run_some, some_headline, some_fit, some_progress}
+use Rattle.sv_model.specs.Container.{always}
+use Rattle.sv_world.specs.World.{steady}
+use Rattle.sv_world.proofs.RanLemmas.{run_some, some_ran, ran_headline, ran_steady, ran_fit, ran_progress}
 use Rattle.sv_world.proofs.world.World.run.Goals as goal
 
 pub returns-clause-ran : goal.returns-clause-ran
-returns-clause-ran g c m all r =
+returns-clause-ran g c m k r =
     let old = c.args.self.now in
     let new = c.happen_all.new.self in
     let some = run_some g.E.Engine.meaning g.E.Engine.heard c.happen_all.result old new c.args.events.now c.happen_all.ensures.happened c.happen_all.ensures.stopped in
-    ran_more g.E.Engine.meaning g.E.Engine.heard m old new some.0 some.1 all r
+    some_ran g.E.Engine.meaning g.E.Engine.heard old new some m k r
 
 pub returns-clause-headline : goal.returns-clause-headline
-returns-clause-headline g c m all r =
+returns-clause-headline g c m k r knows =
     let old = c.args.self.now in
     let new = c.happen_all.new.self in
     let some = run_some g.E.Engine.meaning g.E.Engine.heard c.happen_all.result old new c.args.events.now c.happen_all.ensures.happened c.happen_all.ensures.stopped in
-    some_headline g.E.Engine.meaning g.E.Engine.heard g.E.Engine.valid g.met.E.Engine.untouched m old new c.happen_all.ensures.world some all r
+    ran_headline g.E.Engine.meaning g.E.Engine.heard m k new (some_ran g.E.Engine.meaning g.E.Engine.heard old new some m k r) knows
+
+pub returns-clause-steady : goal.returns-clause-steady
+returns-clause-steady g c m nodes rules r =
+    let old = c.args.self.now in
+    let new = c.happen_all.new.self in
+    let some = run_some g.E.Engine.meaning g.E.Engine.heard c.happen_all.result old new c.args.events.now c.happen_all.ensures.happened c.happen_all.ensures.stopped in
+    ran_steady g.E.Engine.meaning g.E.Engine.heard m nodes rules new (some_ran g.E.Engine.meaning g.E.Engine.heard old new some (always m) (steady nodes rules) r)
 
 pub returns-clause-fit : goal.returns-clause-fit
-returns-clause-fit g c m all r =
+returns-clause-fit g c m k wide r within =
     let old = c.args.self.now in
     let new = c.happen_all.new.self in
     let some = run_some g.E.Engine.meaning g.E.Engine.heard c.happen_all.result old new c.args.events.now c.happen_all.ensures.happened c.happen_all.ensures.stopped in
-    some_fit g.E.Engine.meaning g.E.Engine.heard g.E.Engine.valid g.met.E.Engine.untouched m old new c.happen_all.ensures.world some all r
+    ran_fit g.E.Engine.meaning g.E.Engine.heard m k new (some_ran g.E.Engine.meaning g.E.Engine.heard old new some m k r) wide within
 
 pub returns-clause-progress : goal.returns-clause-progress
-returns-clause-progress g c m all r =
+returns-clause-progress g c m k r =
     let old = c.args.self.now in
     let new = c.happen_all.new.self in
     let some = run_some g.E.Engine.meaning g.E.Engine.heard c.happen_all.result old new c.args.events.now c.happen_all.ensures.happened c.happen_all.ensures.stopped in
-    some_progress g.E.Engine.meaning g.E.Engine.heard g.E.Engine.valid g.met.E.Engine.untouched m old new c.happen_all.ensures.world some all r
+    ran_progress g.E.Engine.meaning g.E.Engine.heard m k new (some_ran g.E.Engine.meaning g.E.Engine.heard old new some m k r)

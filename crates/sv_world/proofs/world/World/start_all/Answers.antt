@@ -14,8 +14,8 @@ loop-node-preserved g c =
       heard = c.in_ok-happen.ensures.silent refl ∙ c.loop-node.invariant.heard;
     }
 
-pub returns-in_err-happen-clause-cluster : goal.returns-in_err-happen-clause-cluster
-returns-in_err-happen-clause-cluster g c = c.in_err-happen.ensures.refused.still.cluster ∙ c.loop-node.invariant.happened.cluster
+pub returns-in_err-happen-clause-size : goal.returns-in_err-happen-clause-size
+returns-in_err-happen-clause-size g c = c.in_err-happen.ensures.refused.still.size ∙ c.loop-node.invariant.happened.size
 
 pub returns-in_err-happen-clause-meanings : goal.returns-in_err-happen-clause-meanings
 returns-in_err-happen-clause-meanings g c = c.in_err-happen.ensures.refused.still.meanings ∙ c.loop-node.invariant.happened.meanings
