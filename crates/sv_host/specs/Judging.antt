@@ -28,16 +28,27 @@ differ here there = list_any (λ p. clash p.0 p.1) (zip here there)
 abbrev pub next_start : ℕ → ℕ
 next_start start = min (start + 1) (2 ^ 64 - 1)
 
--- a start that isn't later than the latest one that was heard of; who is just being started has one that nobody has heard of
-abbrev pub is_before : Errand → ℕ → ℕ → Bool
-is_before Opening start latest = nat_le start latest
-is_before Serving start latest = nat_lt start latest
-is_before Answer start latest = nat_lt start latest
-is_before Look start latest = nat_lt start latest
+-- its latest start may ask yet, though it was heard of by what it has said since
+abbrev pub may_ask : Known → ℕ → Bool
+may_ask known steady = not known.has_asked && nat_lt steady (min (known.since + 30) (2 ^ 64 - 1))
 
--- who says that runs over an older copy: its start was heard of, or is the next of a copy that was refused
-abbrev pub is_older : Known → Greeting → Bool
-is_older known said = is_before said.errand said.start known.start || (not (known.refused == 0) && (said.start == next_start known.refused))
+-- a start that asks before it serves was heard of before, or a later one was
+abbrev pub has_begun : Known → ℕ → ℕ → Bool
+has_begun known start steady = nat_lt start known.start || ((start == known.start) && not (may_ask known steady))
+
+abbrev pub is_before : Known → Errand → ℕ → ℕ → Bool
+is_before known Opening start steady = has_begun known start steady
+is_before known Serving start steady = nat_lt start known.start
+is_before known Answer start steady = nat_lt start known.start
+is_before known Look start steady = nat_lt start known.start
+
+-- the next start of a copy that was refused
+abbrev pub is_next_copy : Known → ℕ → Bool
+is_next_copy known start = not (known.refused == 0) && (nat_lt known.start start && (start == next_start known.refused))
+
+-- who says that runs over an older copy
+abbrev pub is_older : Known → Greeting → ℕ → Bool
+is_older known said steady = is_before known said.errand said.start steady || is_next_copy known said.start
 
 abbrev pub heard_by : Doubt → ℕ → ℕ → ℕ
 heard_by doubt.None start refused = start
@@ -49,8 +60,8 @@ abbrev pub heard : Known → ℕ
 heard known = heard_by known.doubt known.start known.refused
 
 -- why packets of a node aren't taken that says this
-abbrev pub doubt_of : Own → Greeting → Known → Doubt
-doubt_of own said known = if is_older known said then doubt.OlderStart else if differ own.contexts said.contexts then doubt.Contexts else doubt.None
+abbrev pub doubt_of : Own → Greeting → Known → ℕ → Doubt
+doubt_of own said known steady = if is_older known said steady then doubt.OlderStart else if differ own.contexts said.contexts then doubt.Contexts else doubt.None
 
 -- a later start of this node was heard of than is running; while it isn't ready nobody can have heard of this one
 abbrev pub is_behind : Errand → ℕ → ℕ → Bool
@@ -85,26 +96,36 @@ refused_by doubt.OlderStart start refused = start
 abbrev pub with_doubt : Doubt → Greeting → Known → Known
 with_doubt d said known = record known { doubt = d; refused = refused_by d said.start known.refused }
 
-abbrev pub doubted : Own → Greeting → Known → Known
-doubted own said known = with_doubt (doubt_of own said known) said known
+abbrev pub doubted : Own → Greeting → ℕ → Known → Known
+doubted own said steady known = with_doubt (doubt_of own said known steady) said known
 
--- the latest start of it that was none of an older copy's
-abbrev pub start_by : Doubt → ℕ → ℕ → ℕ
-start_by doubt.None start known = max start known
-start_by doubt.Contexts start known = max start known
-start_by doubt.OlderStart start known = known
+abbrev pub is_opening : Errand → Bool
+is_opening Opening = true
+is_opening Serving = false
+is_opening Answer = false
+is_opening Look = false
+
+-- what is known of its latest start
+abbrev pub begun : Greeting → ℕ → Known → Known
+begun said steady known =
+    if nat_lt known.start said.start then (record known { start = said.start; since = steady; has_asked = is_opening said.errand; refused = 0 })
+    else (record known { has_asked = known.has_asked || (is_opening said.errand && (said.start == known.start)) })
+
+abbrev pub started_by : Doubt → Greeting → ℕ → Known → Known
+started_by doubt.None said steady known = begun said steady known
+started_by doubt.Contexts said steady known = begun said steady known
+started_by doubt.OlderStart said steady known = known
+
+-- the same, unless it is an older copy
+abbrev pub started : Greeting → ℕ → Known → Known
+started said steady known = started_by known.doubt said steady known
 
 -- what two clocks differ by
 abbrev pub apart : ℕ → ℕ → ℕ
 apart a b = if nat_lt a b then b - a else a - b
 
 abbrev pub knew : Greeting → ℕ → ℕ → Known → Known
-knew said clock steady known = record known {
-  start = start_by known.doubt said.start known.start;
-  is_apart = nat_lt 5 (apart clock said.clock);
-  homes = said.homes;
-  at = steady;
-}
+knew said clock steady known = record (started said steady known) { is_apart = nat_lt 5 (apart clock said.clock); homes = said.homes; at = steady }
 
 -- the highest of a number and of the homes that it has said of late
 abbrev pub with_homes : ℕ → ℕ → Known → ℕ

@@ -71,7 +71,7 @@ fault_after peers said = fault_by peers said peers.own
 abbrev pub known_by : Peers → Greeting → ℕ → ℕ → Option Own → List Known
 known_by peers said clock steady None = peers.known
 known_by peers said clock steady (Some own) =
-    if is_told peers said then changed (knew said clock steady) said.from (changed (doubted own said) said.from peers.known) else peers.known
+    if is_told peers said then changed (knew said clock steady) said.from (changed (doubted own said steady) said.from peers.known) else peers.known
 
 -- what is known of the others by a node that has heard this
 abbrev pub known_after : Peers → Greeting → Time → List Known

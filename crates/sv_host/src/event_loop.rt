@@ -18,6 +18,20 @@ use sv_model::Engine;
 use sv_net::Acceptor;
 use sv_node::Node;
 
+/// What is done for those who wait, and of those whose time has passed.
+fn wait_on<E: Engine, D: Disk>(
+    machine: &HostRuntime,
+    server: &mut Server,
+    node: &mut Node<E, D>,
+    group: &mut Group,
+) -> Result<(), Stop>
+    requires { IsServing E.valid D.tells D.seen D.may_leave node.old group.old }
+    ensures { HasServed E.meaning E.heard E.valid D.tells D.seen D.may_leave node.old group.old node.new group.new result }
+{
+    ask_again(machine, server, node, group)?;
+    expire(machine, server, node, group)
+}
+
 /// What is done at the end of each turn as time passes.
 fn keep_time<E: Engine, D: Disk>(
     machine: &HostRuntime,
@@ -29,8 +43,7 @@ fn keep_time<E: Engine, D: Disk>(
     ensures { HasServed E.meaning E.heard E.valid D.tells D.seen D.may_leave node.old group.old node.new group.new result }
 {
     tick(machine, server, node, group)?;
-    ask_again(machine, server, node, group)?;
-    expire(machine, server, node, group)
+    wait_on(machine, server, node, group)
 }
 
 /// What is done at the end of each turn as sessions come.

@@ -13,6 +13,10 @@ use sv_record::{CONTEXTS_LEN, Errand, Greeting};
 /// that is gone says nothing any more.
 const PASSED_ON: u64 = 30;
 
+/// In seconds: so long after a start of it was first heard of, the question that a node asks before it serves may come. It may have waited
+/// at the door of this one while this one asked it, say, or stood still.
+const LATE: u64 = 30;
+
 /// In seconds: the clocks of two machines that differ by more than that are told of.
 const APART: u64 = 5;
 
@@ -31,7 +35,11 @@ pub enum Doubt {
 pub struct Known {
     /// The latest start of it that was heard of, and was none of an older copy's; 0 for none.
     pub start: u64,
-    /// The latest start that was one of an older copy's; 0 for none.
+    /// When that was first heard of, in seconds by the clock that nobody sets.
+    pub since: u64,
+    /// That start has asked, as each does before it serves.
+    pub has_asked: bool,
+    /// The latest start that was one of an older copy's; 0 for none, and once a later start was heard of that was the right one's.
     pub refused: u64,
     pub doubt: Doubt,
     /// Its machine's clock differs from this one's.
@@ -45,6 +53,8 @@ pub struct Known {
 /// Nothing is known yet.
 pub const UNKNOWN: Known = Known {
     start: 0,
+    since: 0,
+    has_asked: false,
     refused: 0,
     doubt: Doubt::None,
     is_apart: false,
@@ -101,23 +111,43 @@ fn differ(here: &[u8; CONTEXTS_LEN], there: &[u8; CONTEXTS_LEN]) -> bool
 }
 
 impl Known {
-    /// A node that says this runs over an older copy of its journal. Who is just being started has a start that nobody has heard of;
-    /// and each further start of the same copy counts one more than its last, until it has overtaken what was heard.
-    pub fn is_older(&self, said: &Greeting) -> bool
-        ensures { result ≡ spec.is_older self.now said.now }
+    /// Its latest start may ask yet, though it was heard of by what it has said since.
+    fn may_ask(&self, steady: u64) -> bool
+        ensures { result ≡ spec.may_ask self.now steady }
+    {
+        !self.has_asked && steady < self.since.saturating_add(LATE)
+    }
+
+    /// A node that asks this before it serves runs over an older copy of its journal: of a start of it nobody has heard yet.
+    fn has_begun(&self, start: u64, steady: u64) -> bool
+        ensures { result ≡ spec.has_begun self.now start steady }
+    {
+        start < self.start || (start == self.start && !self.may_ask(steady))
+    }
+
+    /// It is the next start of a copy that was refused: each counts one more than the last, until it has overtaken what was heard.
+    fn is_next_copy(&self, start: u64) -> bool
+        ensures { result ≡ spec.is_next_copy self.now start }
+    {
+        self.refused != 0 && self.start < start && start == self.refused.saturating_add(1)
+    }
+
+    /// A node that says this runs over an older copy of its journal.
+    fn is_older(&self, said: &Greeting, steady: u64) -> bool
+        ensures { result ≡ spec.is_older self.now said.now steady }
     {
         let is_before = match said.errand {
-            Errand::Opening => said.start <= self.start,
+            Errand::Opening => self.has_begun(said.start, steady),
             Errand::Serving | Errand::Answer | Errand::Look => said.start < self.start,
         };
-        is_before || (self.refused != 0 && said.start == self.refused.saturating_add(1))
+        is_before || self.is_next_copy(said.start)
     }
 
     /// What is known of it once it has said this: whether its packets are taken.
-    pub fn doubted(self, own: &Own, said: &Greeting) -> Known
-        ensures { result ≡ spec.doubted own.now said.now self }
+    pub fn doubted(self, own: &Own, said: &Greeting, steady: u64) -> Known
+        ensures { result ≡ spec.doubted own.now said.now steady self }
     {
-        let doubt = doubt_of(own, said, &self);
+        let doubt = doubt_of(own, said, &self, steady);
         Known {
             refused: if doubt == Doubt::OlderStart {
                 said.start
@@ -129,20 +159,46 @@ impl Known {
         }
     }
 
+    /// The same of the latest start of it that was none of an older copy's, at this time by the clock that nobody sets.
+    fn begun(self, said: &Greeting, steady: u64) -> Known
+        ensures { result ≡ spec.begun said.now steady self }
+    {
+        let asks = said.errand == Errand::Opening;
+        if self.start < said.start {
+            Known {
+                start: said.start,
+                since: steady,
+                has_asked: asks,
+                refused: 0,
+                ..self
+            }
+        } else {
+            Known {
+                has_asked: self.has_asked || (asks && said.start == self.start),
+                ..self
+            }
+        }
+    }
+
+    /// The same, unless it is an older copy.
+    fn started(self, said: &Greeting, steady: u64) -> Known
+        ensures { result ≡ spec.started said.now steady self }
+    {
+        match self.doubt {
+            Doubt::OlderStart => self,
+            Doubt::None | Doubt::Contexts => self.begun(said, steady),
+        }
+    }
+
     /// And what else, at these times by its machine's clock and by the one that nobody sets.
     pub fn knew(self, said: &Greeting, seconds: u64, steady: u64) -> Known
         ensures { result ≡ spec.knew said.now seconds steady self }
     {
         Known {
-            start: if self.doubt == Doubt::OlderStart {
-                self.start
-            } else {
-                self.start.max(said.start)
-            },
             is_apart: seconds.abs_diff(said.clock) > APART,
             homes: said.homes,
             at: steady,
-            ..self
+            ..self.started(said, steady)
         }
     }
 
@@ -169,10 +225,10 @@ impl Known {
 }
 
 /// Why packets of a node aren't taken that says this.
-pub fn doubt_of(own: &Own, said: &Greeting, known: &Known) -> Doubt
-    ensures { result ≡ spec.doubt_of own.now said.now known.now }
+fn doubt_of(own: &Own, said: &Greeting, known: &Known, steady: u64) -> Doubt
+    ensures { result ≡ spec.doubt_of own.now said.now known.now steady }
 {
-    if known.is_older(said) {
+    if known.is_older(said, steady) {
         Doubt::OlderStart
     } else if differ(&own.contexts, &said.contexts) {
         Doubt::Contexts
@@ -183,7 +239,7 @@ pub fn doubt_of(own: &Own, said: &Greeting, known: &Known) -> Doubt
 
 /// A later start of this node was heard of than is running: its journal is an older copy. While it isn't ready nobody can have heard
 /// of this one.
-pub fn is_older(own: &Own, said: &Greeting) -> bool
+fn is_older(own: &Own, said: &Greeting) -> bool
     ensures { result ≡ spec.own_is_older own.now said.now }
 {
     match said.errand {

@@ -200,16 +200,16 @@ impl Peers {
     }
 
     /// Finds whether packets of a node are taken that says this.
-    fn doubt(&mut self, own: &Own, said: &Greeting, report: &mut Report)
+    fn doubt(&mut self, own: &Own, said: &Greeting, steady: u64, report: &mut Report)
         requires { IsGreeting said.now }
-        ensures known { self.new.known ≡ spec.changed (doubted own.now said.now) said.now.from self.old.known }
+        ensures known { self.new.known ≡ spec.changed (doubted own.now said.now steady) said.now.from self.old.known }
         ensures node { self.new.node ≡ self.old.node }
         ensures own { self.new.own ≡ self.old.own }
         ensures fault { self.new.fault ≡ self.old.fault }
     {
         let at = usize::from(said.from);
         let before = self.known[at];
-        let known = before.doubted(own, said);
+        let known = before.doubted(own, said, steady);
         self.known[at] = known;
         note_doubt(said.from, before.doubt, known.doubt, report);
     }
@@ -253,7 +253,7 @@ impl Peers {
         if said.errand == Errand::Look || said.from == self.node {
             return self.answer(said, time);
         }
-        self.doubt(&own, said, report);
+        self.doubt(&own, said, time.steady_seconds(), report);
         // By what was heard before: who asks at its start learns whether an earlier process has said the same or more.
         let answer = self.answer(said, time);
         self.know(said, time, report);

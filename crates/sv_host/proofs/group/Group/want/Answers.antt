@@ -4,4 +4,4 @@ use Rattle.sv_host.proofs.group.Group.want.Goals as goal
 pub of-requires : goal.of-requires
 of-requires c =
     let there = c.in-Some.ensures.lookup in
-    within_at c.args.self.now.inputs.items c.args.at c.in-Some.field-0.now c.requires.within there.1.1.1.0.0 there.1.0
+    within_at c.args.self.now.inputs.items c.args.at c.in-Some.field-0.now c.requires.within there.0 there.1
