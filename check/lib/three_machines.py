@@ -47,8 +47,8 @@ class Machines:
         self.names, self.front = self.wire.names[:3], "front"
         self.nodes, self.proxies, self.nginx = {}, {}, None
         self.link = "tls"
-        # As deploy/machines/node.conf has it.
-        self.words = ["--keep-alive"]
+        # As the unit has it.
+        self.words = ["--keep-alive", "--greet"]
         self.log = open(f"{ROOM}/log", "a", encoding="utf-8")
         script("certificates", "make", self.certs, "3")
 
