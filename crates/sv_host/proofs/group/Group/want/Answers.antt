@@ -1,7 +1,14 @@
+use Rattle.std.proofs.Common.{List, subst, sym}
+use Rattle.std.specs.List.{AllByRecursion}
+use Rattle.sv_model.specs.declared.input.Input.{Input}
+use Rattle.sv_model.specs.declared.key.Moment.{Moment}
+use Rattle.sv_model.specs.Ranges.{IsInput}
 use Rattle.sv_host.proofs.GroupLemmas.{within_at}
 use Rattle.sv_host.proofs.group.Group.want.Goals as goal
 
 pub of-requires : goal.of-requires
 of-requires c =
     let there = c.in-Some.ensures.lookup in
-    within_at c.args.self.now.inputs.items c.args.at c.in-Some.field-0.now c.requires.within there.0 there.1
+    let all : AllByRecursion (λ x. IsInput x.1) c.deref.result.now =
+    subst (λ (is : List (Moment × Input)). AllByRecursion (λ x. IsInput x.1) is) (sym c.deref.ensures.value) c.requires.within in
+    within_at c.deref.result.now c.args.at c.in-Some.field-0.now all there.3.0 there.1
