@@ -93,7 +93,7 @@ module _ (a : App) (r : Request) (path : List ℕ) (j : Admission) (now : ℕ) (
       → o ≡ served_in a r path j now fresh
   served_plain b joined expired held begin behind response edited o same plain joined_is expired_is held_is begin_is answers edited_is is =
       let w_is : answered response behind ≡ answer_for None =
-          answers ∙ ap (answered_by a r path) (begin_is ∙ ap (λ (x : Option (Key × Session)). begun x a.number a.interval now fresh) held_is) in
+      answers ∙ ap (answered_by a r path) (begin_is ∙ ap (λ (x : Option (Key × Session)). begun x a.number a.interval now fresh) held_is) in
       let response_is : response ≡ (answer_for None).response = ap (λ (x : Answered). x.response) w_is in
       let edited_w : edited ≡ edited_of (answer_for None).edit = edited_is ∙ ap (λ (x : Answered). edited_of x.edit) w_is in
       is

@@ -200,8 +200,7 @@ impl<S: Servlet, F: Filter> Application<S, F> {
         let Some(edited) = kept else {
             return Ok(None);
         };
-        let outcome =
-            self.plain_outcome(alloc, arrival.joined, expired, fresh, response, edited)?;
+        let outcome = self.plain_outcome(alloc, arrival.joined, expired, fresh, response, edited)?;
         Ok(Some(outcome))
     }
 
