@@ -114,8 +114,7 @@ def run(program, asks, count):
     cluster = Watched(program)
     cluster.start_watched()
     asks(cluster, count)
-    status, _, err = cluster.halt(0)
-    expect("the end of the node", (status, err), (0, ""))
+    expect("the status of the node", cluster.halt(0)[0], 0)
     cluster.end()
     return costs_of(cluster.out)
 
