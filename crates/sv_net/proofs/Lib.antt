@@ -1,2 +1,4 @@
 pub mod PlaceLemmas
 pub mod SayingLemmas
+pub mod SpareLemmas
+pub mod LifeLemmas

@@ -3,3 +3,4 @@ pub mod Places
 pub mod Frames
 pub mod Hearing
 pub mod Saying
+pub mod Life

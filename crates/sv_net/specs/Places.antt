@@ -1,5 +1,5 @@
 -- The connections that are open, each at its place.
-use Rattle.std.specs.Prelude.{◌≡◌, ◌⊎◌, ◌-◌, ℕ, ◌==◌, Bool, cond, List, Option, Some, None, IfSome, slice_get, slice_set}
+use Rattle.std.specs.Prelude.{◌≡◌, ◌⊎◌, ◌-◌, ℕ, ◌==◌, Bool, true, false, cond, List, Option, Some, None, IfSome, slice_get, slice_set}
 use Rattle.sv_net.specs.declared.connections.Connections.{Connections}
 use Rattle.sv_net.specs.declared.open.Open.{Open}
 use Rattle.sv_net.specs.declared.persistence.Persistence.{Persistence}
@@ -29,6 +29,31 @@ held_in (Some held) = held
 
 abbrev pub held_at : Connections → ℕ → Option Open
 held_at c place = held_in (slice_get (places_of c) place)
+
+-- whoever stood at a place stands there as before
+abbrev pub Spares : Connections → Connections → Type 0
+Spares old new = (place : ℕ) → IfSome (held_at old place) (λ was. held_at new place ≡ Some was)
+
+-- a client's request waits
+abbrev pub waits : State → Bool
+waits New = false
+waits (Asking client) = false
+waits (Asked client) = false
+waits (Resting client) = false
+waits (Framing bytes) = false
+waits (Greeting bytes) = false
+waits (Taken peer) = false
+waits (Peer peer) = false
+waits (Waiting client head_only close own silent) = true
+waits Ordering = false
+waits (Holding byte) = false
+waits (Saying text next) = false
+waits (Parting bytes) = false
+waits (Calling to frame holder) = false
+
+-- each client whose request waits still waits at its place
+abbrev pub SparesClients : Connections → Connections → Type 0
+SparesClients old new = (place : ℕ) → IfSome (held_at old place) (λ was. waits was.state ≡ true → held_at new place ≡ Some was)
 
 -- how many are open
 abbrev pub count_of : Connections → ℕ

@@ -1,7 +1,11 @@
 //! Packets on their way to other nodes, and the commands that wait until they are sent.
 
+ghost use Rattle.std.specs.Prelude.{◌≡◌, None, IfSome};
 ghost use Rattle.sv_model.specs.Ranges.{IsPacket};
+ghost use Rattle.sv_net.specs.Places.{Spares, SparesClients, elsewhere, held_at, places_of};
+ghost use Rattle.sv_record.specs.Frame.{spelling};
 ghost use Rattle.sv_record.specs.Greeting.{IsGreeting};
+ghost use Rattle.sv_record.specs.declared.frame.Frame.TheVariants.{Peer as PeerFrame};
 
 use crate::connections::Connections;
 use crate::links::Link;
@@ -21,6 +25,7 @@ const CALL_LIMIT: usize = 128;
 /// A packet as a frame; none where memory is refused.
 fn spelled(alloc: Global, packet: Packet) -> Option<Vec<u8>>
     requires { IsPacket packet }
+    ensures { IfSome result (λ frame. frame.items ≡ spelling (PeerFrame packet)) }
 {
     let mut frame = Vec::new(alloc);
     write_frame(&Frame::Peer(packet), &mut frame).ok()?;
@@ -46,7 +51,10 @@ impl Connections {
     }
 
     /// Gives a packet on its way a place. Where there is none, or no memory for it, the packet is lost: nobody gives way for it.
-    fn admit_call(&mut self, socket: Socket, state: State) -> Option<usize> {
+    fn admit_call(&mut self, socket: Socket, state: State) -> Option<usize>
+        ensures vacant { IfSome result (λ place. held_at self.old place ≡ None) }
+        ensures spares { Spares self.old self.new }
+    {
         if self.calls() >= CALL_LIMIT {
             return None;
         }
@@ -75,6 +83,7 @@ impl Connections {
     /// Sends a packet to a node. What isn't sent is a packet that is lost.
     pub fn send(&mut self, machine: &HostRuntime, to: u8, addr: SocketAddr, packet: Packet)
         requires { IsPacket packet }
+        ensures { Spares self.old self.new }
     {
         match spelled(self.alloc, packet) {
             Some(frame) => self.send_frame(machine, to, addr, frame),
@@ -112,7 +121,9 @@ impl Connections {
     }
 
     /// Sends a frame.
-    fn send_frame(&mut self, machine: &HostRuntime, to: u8, addr: SocketAddr, frame: Vec<u8>) {
+    fn send_frame(&mut self, machine: &HostRuntime, to: u8, addr: SocketAddr, frame: Vec<u8>)
+        ensures { Spares self.old self.new }
+    {
         match self.links.link_to(machine, to, addr, self.clock) {
             Some(link) => self.call(link, frame),
             None => self.report.lost(to, Loss::NoSocket),
@@ -120,7 +131,9 @@ impl Connections {
     }
 
     /// Sends a frame on a connection. It stays there as long as the frame isn't taken whole; one on which it was is kept for the next.
-    fn call(&mut self, link: Link, frame: Vec<u8>) {
+    fn call(&mut self, link: Link, frame: Vec<u8>)
+        ensures { Spares self.old self.new }
+    {
         let mut link = link;
         let mut frame = frame;
         match link.socket.write(&mut frame) {
@@ -134,7 +147,9 @@ impl Connections {
     }
 
     /// Keeps a connection on which the rest of a frame is to be sent.
-    fn keep_call(&mut self, socket: Socket, to: u8, frame: Vec<u8>) {
+    fn keep_call(&mut self, socket: Socket, to: u8, frame: Vec<u8>)
+        ensures { Spares self.old self.new }
+    {
         self.calling = self.admit_call(
             socket,
             State::Calling {
@@ -150,23 +165,40 @@ impl Connections {
     }
 
     /// Has the poll report when more of a packet can be sent.
-    fn watch_call(&mut self, place: usize) {
+    fn watch_call(&mut self, place: usize)
+        ensures { elsewhere place self.new ≡ elsewhere place self.old }
+    {
         if let Some(open) = self.take(place) {
             self.keep(place, open);
         }
     }
 
     /// Forgets the last packet, before a step.
-    pub fn forget_call(&mut self) {
+    pub fn forget_call(&mut self)
+        ensures { places_of self.new ≡ places_of self.old }
+    {
         self.calling = None;
     }
 
-    /// Answers the command at a place by a byte, once the packet is sent or lost that it has put out.
-    pub fn obeyed(&mut self, place: usize, byte: u8) {
+    /// Answers the command at a place by a byte, once the packet is sent or lost that it has put out. Whoever else stands there by now
+    /// is told nothing.
+    pub fn obeyed(&mut self, place: usize, byte: u8)
+        ensures { SparesClients self.old self.new }
+    {
         let Some(open) = self.take(place) else {
             return;
         };
-        let (socket, _stage, _begun, _heard) = open.into_parts();
+        match open.state {
+            State::Ordering => self.tell_in_time(place, open, byte),
+            _ => self.seat(place, open),
+        }
+    }
+
+    /// Tells the byte of a command that was taken from its place: at once, if no packet is on its way that its step has put out.
+    fn tell_in_time(&mut self, place: usize, open: Open, byte: u8)
+        ensures { held_at self.old place ≡ None → SparesClients self.old self.new }
+    {
+        let (socket, _state, _begun, _heard) = open.into_parts();
         if self.hold(place) {
             self.begin(place, socket, State::Holding(byte));
         } else {
@@ -174,24 +206,25 @@ impl Connections {
         }
     }
 
-    /// Keeps a command's connection until the packet is sent or lost that its step has put out; false where none is on its way.
-    fn hold(&mut self, place: usize) -> bool {
+    /// Keeps a command's connection until the packet is sent or lost that its step has put out; false if none is on its way.
+    fn hold(&mut self, place: usize) -> bool
+        ensures { SparesClients self.old self.new }
+    {
         let Some(call) = self.calling else {
             return false;
         };
-        match self.places.get_mut(call) {
-            Some(
-                Some(
-                    Open {
-                        state: State::Calling { holder, .. },
-                        ..
-                    },
-                ),
-            ) => {
-                *holder = Some(place);
+        let Some(open) = self.take(call) else {
+            return false;
+        };
+        match open.state {
+            State::Calling { .. } => {
+                self.seat(call, open.held_for(place));
                 true
             }
-            _ => false,
+            _ => {
+                self.seat(call, open);
+                false
+            }
         }
     }
 

@@ -1,5 +1,8 @@
 //! A client's connection among those that are open.
 
+ghost use Rattle.std.specs.Prelude.{◌≡◌, Bool, Some, []};
+ghost use Rattle.sv_connection.specs.Connection.{IsFresh, is_single, is_waiting, stand_of};
+
 use crate::persistence::Persistence;
 use crate::state::Next;
 use std::alloc::Global;
@@ -28,7 +31,9 @@ impl Drop for Client {
 }
 
 impl Client {
-    pub(crate) fn new(alloc: Global, persistence: Persistence) -> Client {
+    pub(crate) fn new(alloc: Global, persistence: Persistence) -> Client
+        ensures { (single : Bool) × IsFresh result.connection single }
+    {
         Client {
             connection: Connection::new(alloc, persistence == Persistence::Single),
             answered: 0,
@@ -37,14 +42,20 @@ impl Client {
     }
 
     /// The piece by which its request became whole was as large as one may be, so that more may lie unread.
-    pub(crate) fn with_piece(self, is_whole: bool) -> Client {
+    pub(crate) fn with_piece(self, is_whole: bool) -> Client
+        ensures { result.connection ≡ self.connection }
+    {
         let mut client = self;
         client.unread = is_whole;
         client
     }
 
     /// It has begun no request, and may be silent for long: it keeps little memory meanwhile.
-    pub(crate) fn at_rest(self) -> Client {
+    pub(crate) fn at_rest(self) -> Client
+        ensures single { is_single result.connection ≡ is_single self.connection }
+        ensures waiting { is_waiting result.connection ≡ is_waiting self.connection }
+        ensures stand { stand_of result.connection (Some []) ≡ stand_of self.connection (Some []) }
+    {
         let mut client = self;
         client.connection.give_back();
         client

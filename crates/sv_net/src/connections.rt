@@ -1,6 +1,6 @@
 //! The connections that are open.
 
-ghost use Rattle.std.specs.Prelude.{◌≡◌, ◌-◌};
+ghost use Rattle.std.specs.Prelude.{◌≡◌, ◌-◌, ℕ, None, IfSome, is_none};
 ghost use Rattle.sv_net.specs.Places.{places_of, count_of, elsewhere, held_at, with_at, persistence_of, IsKept, Keeps, HasStood};
 
 use crate::links::Links;
@@ -166,7 +166,7 @@ impl Connections {
     }
 
     /// Sets a connection at its place.
-    fn seat(&mut self, place: usize, open: Open)
+    pub(crate) fn seat(&mut self, place: usize, open: Open)
         ensures places { places_of self.new ≡ with_at place «open» self.old }
         ensures count { count_of self.new ≡ count_of self.old }
         ensures others { elsewhere place self.new ≡ elsewhere place self.old }
@@ -289,9 +289,24 @@ impl Connections {
         let _: Result<(), AllocFailed<usize>> = self.free.push(place);
     }
 
+    /// Nobody stands at a place.
+    fn is_vacant(&self, place: usize) -> bool
+        ensures { result ≡ is_none (held_at self.now place) }
+    {
+        match self.places.get(place) {
+            Some(Some(_)) => false,
+            _ => true,
+        }
+    }
+
     /// A place where nobody is; none where memory is refused.
-    fn vacant(&mut self) -> Option<usize> {
-        if let Some(place) = self.free.pop() {
+    fn vacant(&mut self) -> Option<usize>
+        ensures vacant { IfSome result (λ place. held_at self.new place ≡ None) }
+        ensures same { (place : ℕ) → held_at self.new place ≡ held_at self.old place }
+    {
+        if let Some(place) = self.free.pop()
+            && self.is_vacant(place)
+        {
             return Some(place);
         }
         let place = self.places.len();
@@ -300,7 +315,10 @@ impl Connections {
     }
 
     /// A place for one more connection, which is kept for it; none where as many are open as may be, or there is no memory for it.
-    pub fn free_place(&mut self) -> Option<usize> {
+    pub fn free_place(&mut self) -> Option<usize>
+        ensures vacant { IfSome result (λ place. held_at self.new place ≡ None) }
+        ensures same { (place : ℕ) → held_at self.new place ≡ held_at self.old place }
+    {
         if self.is_full() {
             return None;
         }

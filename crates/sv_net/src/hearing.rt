@@ -1,7 +1,7 @@
 //! What has come on a connection: a request, a frame, or a part of one.
 
-ghost use Rattle.std.specs.Prelude.{◌≡◌};
-ghost use Rattle.sv_net.specs.Hearing.{is_of, IsHeard, IsOfPeer};
+ghost use Rattle.std.specs.Prelude.{◌≡◌, ◌++◌};
+ghost use Rattle.sv_net.specs.Hearing.{is_of, Finds, HearsAt, HearsClient, HearsFramer, HearsGreeter, HearsPeer, IsHeard, IsOfPeer};
 
 use crate::client::Client;
 use crate::connections::Connections;
@@ -48,7 +48,8 @@ pub enum Heard {
 
 /// Takes what stands at the front of a client's bytes.
 fn hear_client(client: Client, piece: &[u8]) -> Heard
-    ensures { IsHeard result }
+    ensures heard { IsHeard result }
+    ensures client { HearsClient client piece.now result }
 {
     let mut client = client;
     if client.connection.waiting() {
@@ -74,7 +75,8 @@ fn hear_client(client: Client, piece: &[u8]) -> Heard
 
 /// Puts a piece behind what came before it of a connection's first frame, and takes the frame that is then whole.
 fn hear_framer(alloc: Global, bytes: Vec<u8>, piece: &[u8]) -> Heard
-    ensures { IsHeard result }
+    ensures heard { IsHeard result }
+    ensures framer { HearsFramer (bytes.items ++ piece.now) result }
 {
     let mut bytes = bytes;
     match take_in(alloc, &mut bytes, piece) {
@@ -86,7 +88,8 @@ fn hear_framer(alloc: Global, bytes: Vec<u8>, piece: &[u8]) -> Heard
 
 /// Puts a piece behind what came before it of a greeting, which is all that its connection brings.
 fn hear_greeter(bytes: Vec<u8>, piece: &[u8]) -> Heard
-    ensures { IsHeard result }
+    ensures heard { IsHeard result }
+    ensures greeter { HearsGreeter (bytes.items ++ piece.now) result }
 {
     let mut bytes = bytes;
     if bytes.extend_from_slice(piece).is_err() {
@@ -115,6 +118,7 @@ fn is_of(frame: &Frame, node: u8) -> bool
 fn hear_peer(alloc: Global, peer: Peer, piece: &[u8]) -> Heard
     ensures heard { IsHeard result }
     ensures own { IsOfPeer peer.node result }
+    ensures peer { HearsPeer (peer.bytes.items ++ piece.now) result }
 {
     let Peer { node, mut bytes } = peer;
     match take_in(alloc, &mut bytes, piece) {
@@ -127,7 +131,8 @@ fn hear_peer(alloc: Global, peer: Peer, piece: &[u8]) -> Heard
 impl Connections {
     /// Takes what has come on a connection that is at a state.
     pub fn hear(&self, state: State, piece: &[u8]) -> Heard
-        ensures { IsHeard result }
+        ensures heard { IsHeard result }
+        ensures at { HearsAt state piece.now result }
     {
         match state {
             State::Asking(client) | State::Asked(client) | State::Resting(client) => {
@@ -141,7 +146,9 @@ impl Connections {
     }
 
     /// The state of a connection on which this comes.
-    fn state_at(&self, state: State, piece: &[u8]) -> State {
+    fn state_at(&self, state: State, piece: &[u8]) -> State
+        ensures { Finds self.now.greets state piece.now result }
+    {
         match (state, piece) {
             (State::New, [first, ..]) => {
                 State::begin(self.alloc, self.links.persistence(), self.greets, *first)
@@ -151,7 +158,9 @@ impl Connections {
     }
 
     /// A connection on which this comes: its socket, its state, and when that began.
-    pub fn begun(&self, open: Open, piece: &[u8]) -> (Socket, State, Duration) {
+    pub fn begun(&self, open: Open, piece: &[u8]) -> (Socket, State, Duration)
+        ensures { Finds self.now.greets «open».state piece.now result.1 }
+    {
         let (socket, state, since, _) = open.into_parts();
         let since = self.since(&state, since);
         (socket, self.state_at(state, piece), since)

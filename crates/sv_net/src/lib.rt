@@ -19,6 +19,7 @@ mod deadline;
 mod ending;
 mod frames;
 mod hearing;
+pub mod laws;
 mod lingering;
 mod links;
 mod open;

@@ -51,7 +51,9 @@ impl Open {
     }
 
     /// Its socket, its state, when that began, and when something was last read.
-    pub(crate) fn into_parts(self) -> (Socket, State, Duration, Duration) {
+    pub(crate) fn into_parts(self) -> (Socket, State, Duration, Duration)
+        ensures state { result.1 ≡ self.state }
+    {
         let Open {
             socket,
             state,
@@ -74,6 +76,22 @@ impl Open {
             state: state.silenced(),
             begun,
             heard: Duration::ZERO,
+        }
+    }
+
+    /// A packet on its way, for which the command at a place waits.
+    pub(crate) fn held_for(self, place: usize) -> Open {
+        let Open {
+            socket,
+            state,
+            begun,
+            heard,
+        } = self;
+        Open {
+            socket,
+            state: state.held_for(place),
+            begun,
+            heard,
         }
     }
 

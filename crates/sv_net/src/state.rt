@@ -1,5 +1,7 @@
 //! How far a connection has come.
 
+ghost use Rattle.sv_net.specs.Hearing.{BeginsBy};
+
 use crate::client::Client;
 use crate::persistence::Persistence;
 use crate::socket::Socket;
@@ -157,7 +159,9 @@ impl State {
     }
 
     /// Who sends this byte first is a peer or gives a command, greets, where greetings are taken, or is a client.
-    pub(crate) fn begin(alloc: Global, persistence: Persistence, greets: bool, first: u8) -> State {
+    pub(crate) fn begin(alloc: Global, persistence: Persistence, greets: bool, first: u8) -> State
+        ensures { BeginsBy greets first result }
+    {
         match first {
             PEER | CONTROL => State::Framing(Vec::new(alloc)),
             GREETING if greets => State::Greeting(Vec::new(alloc)),
@@ -264,6 +268,22 @@ impl State {
                 close,
                 token,
                 silent: true,
+            },
+            other => other,
+        }
+    }
+
+    /// The state of a packet on its way, once the command at a place waits for it.
+    pub(crate) fn held_for(self, place: usize) -> State {
+        match self {
+            State::Calling {
+                to,
+                frame,
+                holder: _,
+            } => State::Calling {
+                to,
+                frame,
+                holder: Some(place),
             },
             other => other,
         }
