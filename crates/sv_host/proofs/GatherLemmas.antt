@@ -1,22 +1,25 @@
 -- What is gathered stands behind what was gathered before.
-use Rattle.std.proofs.Common.{◌≡◌, ℕ, [], ◌∷◌, true, refl}
-use Rattle.sv_host.specs.declared.group.Asker.{Asker}
+use Rattle.std.proofs.Common.{ℕ, [], ◌∷◌, Option, Some, None, Err, sym, subst, ◌∙◌}
+use Rattle.std.proofs.lemmas.List.{append-nil}
 use Rattle.sv_host.specs.declared.group.Group.{Group}
 use Rattle.sv_host.specs.declared.group.Way.{Way}
-use Rattle.sv_host.specs.declared.packets.Packets.{Packets}
-use Rattle.sv_host.specs.Group.{is_of_others, HasMore, HasOneMore, IsAskedBy}
+use Rattle.sv_host.specs.Group.{HasMore, HasOneMore, IsSame, inputs_of}
+use Rattle.sv_host.specs.Heard.{IsHeardOf}
+use Rattle.sv_host.specs.Secrets.{Draws}
+use Rattle.sv_host.specs.Stops.{LacksSecrets}
+use Rattle.sv_host.specs.declared.fault.Stop.{Stop}
 use Rattle.sv_model.specs.declared.input.Input.{Input}
-use Rattle.sv_model.specs.declared.input.Input.TheVariants as input
 use Rattle.sv_model.specs.declared.key.Moment.{Moment}
 
--- one more
-pub one_more : {one : Moment × Input} {way : Way} {group next : Group} → HasOneMore one way group next → is_of_others one.1 ≡ true → HasMore group next
-one_more {one = one} added is = record { more = one ∷ []; inputs = added.inputs; came = (is, tt) }
+-- one more, which was heard on a connection
+pub one_more : {one : Moment × Input} {way : Way} {group next : Group} (number : ℕ) → HasOneMore one way group next → IsHeardOf number one.1 → HasMore group next
+one_more {one = one} number added heard = record { more = one ∷ []; inputs = added.inputs; heard = ((number, heard), tt) }
 
--- what is asked for has come from others
-pub asked_others : (number : ℕ) (i : Input) (asker : Asker) (packets : Packets) → IsAskedBy number i asker packets → is_of_others i ≡ true
-asked_others number (input.Ask own r) asker packets asked = refl
-asked_others number (input.Packet p) asker packets asked = refl
-asked_others number input.Poke asker packets asked = absurd asked
-asked_others number input.Tick asker packets asked = refl
-asked_others number (input.Move k to) asker packets asked = refl
+-- none
+pub none_more : {group next : Group} → IsSame group next → HasMore group next
+none_more {group = group} same = record { more = []; inputs = same.inputs ∙ sym (append-nil (inputs_of group)); heard = tt }
+
+-- no secret is left, or none can be read
+pub lacks : (old new : Option ℕ) (stop : Stop) → Draws old (Err stop) new → LacksSecrets new stop
+lacks None new stop drawn = subst (λ n. LacksSecrets n stop) (sym drawn.1) drawn.0
+lacks (Some last) new stop drawn = subst (λ n. LacksSecrets n stop) (sym drawn.2) (drawn.1, drawn.0)

@@ -5,5 +5,7 @@ pub mod GroupLemmas
 pub mod GatherLemmas
 pub mod RoomLemmas
 pub mod RoundLemmas
+pub mod HandLemmas
 pub mod HoldingLemmas
 pub mod ServingLemmas
+pub mod TakeLemmas

@@ -1,6 +1,7 @@
 -- Inputs that have come to a node and are still to be given to it, as its next group of steps.
-use Rattle.std.specs.Prelude.{◌≡◌, ◌⊎◌, ◌<◌, ◌≤◌, ◌++◌, ◌∷◌, [], ℕ, Bool, true, false, List, Option, Some, None, vec_len, vec_capacity}
+use Rattle.std.specs.Prelude.{◌≡◌, ◌⊎◌, ◌<◌, ◌≤◌, ◌++◌, ◌∷◌, [], ℕ, List, Option, Some, None, vec_len, vec_capacity}
 use Rattle.std.specs.List.{AllByRecursion}
+use Rattle.sv_host.specs.Heard.{IsHeardOf}
 use Rattle.sv_host.specs.declared.group.Asker.{Asker}
 use Rattle.sv_host.specs.declared.group.Asker.TheVariants.{Client, Command, Nobody}
 use Rattle.sv_host.specs.declared.group.Group.{Group}
@@ -65,31 +66,23 @@ pub record HasOneMore (one : Moment × Input) (way : Way) (group next : Group) :
 abbrev pub IsFull : Group → Type 0
 IsFull g = (vec_capacity g.inputs ≤ vec_len g.inputs) ⊎ (vec_capacity g.ways ≤ vec_len g.ways)
 
--- an input that comes on a connection, and none that a node is told by itself
-abbrev pub is_of_others : Input → Bool
-is_of_others (input.Ask number r) = true
-is_of_others (input.Packet p) = true
-is_of_others input.Poke = false
-is_of_others input.Tick = true
-is_of_others (input.Move k to) = true
-
--- what stands behind the others has come on connections
+-- what stands behind the others was heard on connections, each under a number
 pub record HasMore (group next : Group) : Type 0 where
   pub more : List (Moment × Input)
   pub inputs : inputs_of next ≡ inputs_of group ++ more
-  pub came : AllByRecursion (λ i. is_of_others i.1 ≡ true) more
+  pub heard : AllByRecursion (λ i. (number : ℕ) × IsHeardOf number i.1) more
 
--- who asks for an input, and which packets that come of it are sent: a request is its client's, a packet nobody's, and the others are
--- commands
-abbrev pub IsAskedBy : ℕ → Input → Asker → Packets → Type 0
-IsAskedBy number (input.Ask own r) asker sent = (own ≡ number) × ((place : ℕ) × (asker ≡ Client place number)) × (sent ≡ packets.All)
-IsAskedBy number (input.Packet p) asker sent = (asker ≡ Nobody) × (sent ≡ packets.All)
-IsAskedBy number input.Poke asker sent = ⊥
-IsAskedBy number input.Tick asker sent = ((place : ℕ) × (asker ≡ Command place)) × (sent ≡ packets.InTurn)
-IsAskedBy number (input.Move k to) asker sent = ((place : ℕ) × (asker ≡ Command place)) × (sent ≡ packets.All)
+-- who asks for an input that has come on the connection at a place, and which packets that come of it are sent: a request is its
+-- client's, a packet nobody's, and the others are commands
+abbrev pub IsAskedBy : ℕ → ℕ → Input → Asker → Packets → Type 0
+IsAskedBy place number (input.Ask own r) asker sent = (own ≡ number) × (asker ≡ Client place number) × (sent ≡ packets.All)
+IsAskedBy place number (input.Packet p) asker sent = (asker ≡ Nobody) × (sent ≡ packets.All)
+IsAskedBy place number input.Poke asker sent = ⊥
+IsAskedBy place number input.Tick asker sent = (asker ≡ Command place) × (sent ≡ packets.InTurn)
+IsAskedBy place number (input.Move k to) asker sent = (asker ≡ Command place) × (sent ≡ packets.All)
 
--- what has come on a connection may be given to the node, a request under this number
-pub record Comes (number : ℕ) (came : Came) : Type 0 where
+-- what has come on the connection at a place may be given to the node, a request under this number
+pub record Comes (place number : ℕ) (came : Came) : Type 0 where
   pub within : IsInput came.input
   pub above : (low : ℕ) → low < number → IsAbove low came.input
-  pub asked : IsAskedBy number came.input came.asker came.packets
+  pub asked : IsAskedBy place number came.input came.asker came.packets

@@ -1,5 +1,5 @@
 -- Sessions that have come here of late, each under its key, in the order in which they came.
-use Rattle.std.specs.Prelude.{ℕ, ◌++◌, ◌∷◌, [], ◌==◌, ◌&&◌, Bool, true, false, not, cond, nat_lt, length, List, Option, Some, None, position, remove, slice_get, slice_set}
+use Rattle.std.specs.Prelude.{ℕ, ◌++◌, ◌∷◌, [], ◌==◌, ◌&&◌, Bool, false, not, cond, nat_lt, length, List, Option, Some, None, position, remove, slice_get, slice_set}
 use Rattle.sv_model.specs.declared.key.Key.{Key}
 use Rattle.sv_host.specs.declared.lease.Lease.{Lease}
 use Rattle.sv_host.specs.declared.lease.Leases.{Leases}

@@ -15,6 +15,8 @@ pub mod Host
 pub mod Group
 pub mod Judging
 pub mod Peers
+pub mod Heard
 pub mod Serve
 pub mod Stops
 pub mod Serving
+pub mod HandingOut

@@ -1,5 +1,5 @@
 -- What a node knows of the others, what it says to them, and whose packets are taken.
-use Rattle.std.specs.Prelude.{ℕ, ◌+◌, ◌-◌, ◌^◌, Bool, true, false, cond, not, ◌&&◌, ◌||◌, ◌==◌, min, max, if◌then◌else◌, List, Option, Some, None, is_some, option_map, slice_get, slice_set}
+use Rattle.std.specs.Prelude.{ℕ, ◌+◌, Bool, true, false, cond, not, ◌&&◌, ◌||◌, ◌==◌, min, max, if◌then◌else◌, List, Option, Some, None, is_some, option_map, slice_get, slice_set}
 use Rattle.std.specs.List.{fold}
 use Rattle.sv_model.specs.Migration.{sender}
 use Rattle.sv_model.specs.declared.input.Input.TheVariants as input

@@ -1,25 +1,45 @@
--- What comes on a connection, as what may be given to the node.
-use Rattle.std.specs.Prelude.{ℕ, cond, Option, Some, None, ⊤}
+-- What comes on a connection.
+use Rattle.std.specs.Prelude.{◌≡◌, ℕ, Bool, true, false, List, Option, Some, None, IfSome, ⊤}
+use Rattle.sv_host.specs.Group.{Comes}
+use Rattle.sv_host.specs.Heard.{IsHeardOf, IsOfBytes}
+use Rattle.sv_host.specs.declared.group.Came.{Came}
+use Rattle.sv_host.specs.declared.peers.Peers.{Peers}
 use Rattle.sv_host.specs.declared.serve.Progress.{Progress}
 use Rattle.sv_host.specs.declared.serve.Progress.TheVariants as progress
-use Rattle.sv_host.specs.Group.{Comes}
-use Rattle.sv_host.specs.Peers.{takes}
-use Rattle.sv_host.specs.declared.peers.Peers.{Peers}
-use Rattle.sv_model.specs.Migration.{sender}
-use Rattle.sv_model.specs.declared.input.Input.{Input}
-use Rattle.sv_model.specs.declared.input.Input.TheVariants as input
-use Rattle.sv_record.specs.declared.frame.Frame.{Frame}
-use Rattle.sv_record.specs.declared.frame.Frame.TheVariants as frame
+use Rattle.sv_host.specs.declared.server.Server.{Server}
+use Rattle.sv_net.specs.Hearing.{Finds, HearsAt}
+use Rattle.sv_net.specs.Places.{held_at}
+use Rattle.sv_net.specs.declared.hearing.Heard.TheVariants as heard
+use Rattle.sv_net.specs.declared.state.State.{State}
 
--- what a frame has for the node; a packet of a node whose packets aren't taken has nothing
-abbrev pub input_of : Peers → Frame → Option Input
-input_of peers (frame.Peer p) = cond (takes peers (sender p)) (Some (input.Packet p)) None
-input_of peers (frame.Move key to) = Some (input.Move key to)
-input_of peers frame.Tick = Some input.Tick
-input_of peers frame.Halt = None
+-- what it has for the node
+abbrev pub came_in : Progress → Option Came
+came_in progress.More = None
+came_in progress.Done = None
+came_in (progress.Came came) = Some came
 
--- what has come for the node may be given to it, a request under this number
-abbrev pub Brings : ℕ → Progress → Type 0
-Brings number progress.More = ⊤
-Brings number progress.Done = ⊤
-Brings number (progress.Came came) = Comes number came
+-- more of it is to be read at once
+abbrev pub is_more : Progress → Bool
+is_more progress.More = true
+is_more progress.Done = false
+is_more (progress.Came came) = false
+
+-- what has come for the node may be given to it, a request under this number, as it came on the connection at this place
+abbrev pub Brings : ℕ → ℕ → Progress → Type 0
+Brings place number progress = IfSome (came_in progress) (λ came. Comes place number came)
+
+-- it stands at the front of these bytes
+abbrev pub Takes : Peers → Bool → State → List ℕ → ℕ → Progress → Type 0
+Takes peers greets was piece number progress = IfSome (came_in progress) (λ came. IsOfBytes peers greets was piece number came.input)
+
+-- it stands at the front of what some connection has brought
+abbrev pub IsHeard : ℕ → Progress → Type 0
+IsHeard number progress = IfSome (came_in progress) (λ came. IsHeardOf number came.input)
+
+-- less than a request or a frame has come: the connection stands at its place with all of it, or is closed
+abbrev pub StaysAt : Bool → State → List ℕ → ℕ → Server → Progress → Type 0
+StaysAt greets was piece place new progress.More =
+    (begun : State) × (next : State) × Finds greets was piece begun × HearsAt begun piece (heard.More next)
+    × IfSome (held_at new.connections place) (λ held. held.state ≡ next)
+StaysAt greets was piece place new progress.Done = ⊤
+StaysAt greets was piece place new (progress.Came came) = ⊤

@@ -1,7 +1,8 @@
 //! What has come on the connections, gathered as the next group.
 
-ghost use Rattle.std.specs.Prelude.{IfOk, IfErr, IfSome, ◌<◌};
+ghost use Rattle.std.specs.Prelude.{ℕ, IfOk, IfErr, IfSome, ◌<◌};
 ghost use Rattle.sv_host.specs.Group.{Comes, HasMore, IsRising, number_of};
+ghost use Rattle.sv_host.specs.Heard.{IsHeardOf};
 ghost use Rattle.sv_host.specs.Serving.{HasGathered};
 ghost use Rattle.sv_host.specs.Stops.{IsEnding, IsTold, LacksNumbers};
 
@@ -42,7 +43,8 @@ fn add(
     came: Came,
     number: u64,
 ) -> Result<(), Stop>
-    requires comes { Comes number came }
+    requires comes { (place : ℕ) × Comes place number came }
+    requires heard { IsHeardOf number came.input }
     requires above { number_of group.old < number }
     requires rising { IsRising group.old }
     ensures gathered { HasGathered group.old group.new }
@@ -76,7 +78,8 @@ fn add_some(
     came: Result<Option<Came>, Stop>,
     number: u64,
 ) -> Result<bool, Stop>
-    requires comes { IfOk came (λ came. IfSome came (λ came. Comes number came)) }
+    requires comes { IfOk came (λ came. IfSome came (λ came. (place : ℕ) × Comes place number came)) }
+    requires heard { IfOk came (λ came. IfSome came (λ came. IsHeardOf number came.input)) }
     requires above { number_of group.old < number }
     requires rising { IsRising group.old }
     ensures gathered { HasGathered group.old group.new }

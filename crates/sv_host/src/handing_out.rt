@@ -5,9 +5,11 @@ ghost use Rattle.sv_model.specs.Ranges.{IsPacket};
 ghost use Rattle.sv_node.specs.Call.{step_ends};
 ghost use Rattle.std.specs.List.{AllByRecursion};
 ghost use Rattle.sv_host.specs.Outputs.{AreHandedOn, AreSendable, IsHandedOn, IsSendable};
+ghost use Rattle.sv_host.specs.HandingOut.{Concludes, ConcludesRefused, HandsOn, HandsOnAll, HandsOut, HandsOutFrom, HandsOutGroup, RefusesAll, SameElsewhere, TellsNobody, way_at};
 ghost use Rattle.sv_host.specs.Outcome.{refused};
 ghost use Rattle.sv_host.specs.Parked.{clients_of, place_under, without};
-ghost use Rattle.sv_net.specs.Places.{held_at, manner_at};
+ghost use Rattle.sv_net.specs.Places.{Spares, held_at, manner_at};
+ghost use Rattle.sv_host.specs.Time.{seconds_of};
 ghost use Rattle.sv_net.specs.Saying.{Answers, Tells, refused_as};
 
 use crate::fault::Stop;
@@ -26,10 +28,22 @@ const NO_WAY: Way = Way {
     packets: Packets::All,
 };
 
+/// Where what comes of the input at a place goes.
+fn way_at(ways: &[Way], at: usize) -> Way
+    ensures { result ≡ way_at ways.now at }
+{
+    match ways.get(at) {
+        Some(way) => *way,
+        None => NO_WAY,
+    }
+}
+
 impl Server {
     /// Sends a packet to its node.
     fn send(&mut self, machine: &HostRuntime, packet: Packet)
         requires { IsPacket packet }
+        ensures clients { clients_of self.new.parked ≡ clients_of self.old.parked }
+        ensures spares { Spares self.old.connections self.new.connections }
     {
         let to = addressee(&packet);
         match address_of(self.ports.as_slice(), to) {
@@ -43,6 +57,7 @@ impl Server {
         ensures clients { clients_of self.new.parked ≡ without token (clients_of self.old.parked) }
         ensures answered { IfSome (place_under token (clients_of self.old.parked)) (λ place. IfSome (manner_at self.old.connections place token)
             (λ _. IfSome (held_at self.new.connections place) (λ held. Tells response.now now held.state))) }
+        ensures others { SameElsewhere (place_under token (clients_of self.old.parked)) self.old.connections self.new.connections }
     {
         if let Some(place) = self.parked.take(token) {
             self.connections
@@ -55,6 +70,7 @@ impl Server {
         ensures clients { clients_of self.new.parked ≡ without token (clients_of self.old.parked) }
         ensures refused { IfSome (place_under token (clients_of self.old.parked)) (λ place. IfSome (manner_at self.old.connections place token)
             (λ manner. IfSome (held_at self.new.connections place) (λ held. Answers (refused_as cause manner) now held.state))) }
+        ensures others { SameElsewhere (place_under token (clients_of self.old.parked)) self.old.connections self.new.connections }
     {
         if let Some(place) = self.parked.take(token) {
             self.connections.report.note(Event::Refused {
@@ -69,6 +85,7 @@ impl Server {
     /// Hands on one output.
     fn hand_on_one(&mut self, machine: &HostRuntime, output: Output, now: u64)
         requires { IsSendable output }
+        ensures { HandsOn output now self.old self.new }
     {
         match output {
             Output::Send(packet) => self.send(machine, packet),
@@ -88,6 +105,7 @@ impl Server {
         sending: &mut Sending,
     )
         requires { IsSendable output }
+        ensures { HandsOn output now self.old self.new }
     {
         if sending.takes(&output) {
             self.hand_on_one(machine, output, now);
@@ -103,6 +121,7 @@ impl Server {
         packets: Packets,
     )
         requires { AreSendable outputs.items }
+        ensures { HandsOnAll outputs.items now self.old self.new }
     {
         let mut sending = Sending::of(packets, self.round, outputs.as_slice());
         for output in outputs {
@@ -120,7 +139,9 @@ impl Server {
     }
 
     /// What came of a command, told to whoever gave it; a client that waits from now on is watched.
-    fn conclude(&mut self, asker: Asker, taken: Taken) {
+    fn conclude(&mut self, asker: Asker, taken: Taken)
+        ensures { Concludes asker self.old self.new }
+    {
         match asker {
             Asker::Client { place, token } => {
                 if self.connections.waits_at(place, token) {
@@ -133,7 +154,9 @@ impl Server {
     }
 
     /// The step of an input was refused.
-    fn conclude_refused(&mut self, asker: Asker, fault: StepFault, now: u64) {
+    fn conclude_refused(&mut self, asker: Asker, fault: StepFault, now: u64)
+        ensures { ConcludesRefused asker fault now self.old self.new }
+    {
         match asker {
             Asker::Client { token, .. } => self.refuse(token, cause_of(fault), now),
             Asker::Command(place) => {
@@ -157,6 +180,7 @@ impl Server {
         now: u64,
     ) -> Taken
         requires { IsHandedOn answer }
+        ensures { HandsOut way.asker answer now self.old self.new }
     {
         match answer {
             Ok(outputs) => {
@@ -181,23 +205,25 @@ impl Server {
         answers: Vec<Result<Vec<Output>, StepFault>>,
     ) -> Taken
         requires { AllByRecursion (λ a. IsHandedOn a) answers.items }
+        ensures { HandsOutFrom 0 ways.now answers.items (seconds_of self.old.time) self.old self.new }
     {
         let now = self.time.seconds();
-        self.connections.report.note(Event::Group {
-            steps: answers.len() as u64,
-        });
+        let steps = answers.len() as u64;
         let mut taken = Taken::Quiet;
         let mut place: usize = 0;
         for answer in answers {
-            let way = ways.get(place).copied().unwrap_or(NO_WAY);
+            let way = way_at(ways, place);
             place = place.saturating_add(1);
             taken = self.hand_out_one(machine, way, answer, now);
         }
+        self.connections.report.note(Event::Group { steps });
         taken
     }
 
     /// Refuses all of a group, of which no step was taken.
-    fn refuse_all(&mut self, ways: &[Way], fault: StepFault) {
+    fn refuse_all(&mut self, ways: &[Way], fault: StepFault)
+        ensures { RefusesAll ways.now fault (seconds_of self.old.time) self.old self.new }
+    {
         let now = self.time.seconds();
         for way in ways {
             self.conclude_refused(way.asker, fault, now);
@@ -208,6 +234,8 @@ impl Server {
     fn not_taken(&mut self, ways: &[Way], fault: StepFault) -> Result<Taken, Stop>
         ensures refused { result ≡ refused fault }
         ensures goes_on { OnOk result (step_ends fault ≡ false) }
+        ensures told { OnOk result (RefusesAll ways.now fault (seconds_of self.old.time) self.old self.new) }
+        ensures untold { IfErr result (λ stop. TellsNobody self.old self.new) }
     {
         let taken = refused(fault)?;
         self.refuse_all(ways, fault);
@@ -225,6 +253,7 @@ impl Server {
         ensures refused { IfErr answers (λ fault. result ≡ refused fault) }
         ensures taken { OnOk answers (IsOk result) }
         ensures goes_on { IfErr answers (λ fault. OnOk result (step_ends fault ≡ false)) }
+        ensures told { HandsOutGroup ways.now answers result (seconds_of self.old.time) self.old self.new }
     {
         match answers {
             Ok(answers) => Ok(self.hand_out_all(machine, ways, answers)),

@@ -1,14 +1,17 @@
 //! What is done with what has come on a connection.
 
-ghost use Rattle.std.specs.Prelude.{◌≡◌, ◌++◌, ◌∷◌, [], Some, IfOk, IfErr, IfSome, IfNone, ℕ, ◌<◌};
+ghost use Rattle.std.specs.Prelude.{◌≡◌, ◌++◌, ◌∷◌, [], false, Some, IfOk, IfErr, IfSome, IfNone, ℕ, ◌<◌};
 ghost use Rattle.std.specs.Option.{option_map};
+ghost use Rattle.sv_model.specs.Method.{is_head};
+ghost use Rattle.sv_net.specs.Places.{held_at};
+ghost use Rattle.sv_net.specs.declared.state.State.TheVariants.{Waiting};
 ghost use Rattle.sv_record.specs.Frame.{IsFrame};
 ghost use Rattle.sv_record.specs.declared.frame.Frame.TheVariants.{Halt as HaltFrame};
 ghost use Rattle.sv_model.specs.declared.input.Input.TheVariants.{Ask, Packet as PacketInput};
 ghost use Rattle.sv_host.specs.Group.{Comes};
 ghost use Rattle.sv_host.specs.Parked.{clients_of, IsFull};
 ghost use Rattle.sv_host.specs.Peers.{came_of};
-ghost use Rattle.sv_host.specs.Serve.{input_of};
+ghost use Rattle.sv_host.specs.Heard.{input_of};
 ghost use Rattle.sv_host.specs.Stops.{IsTold};
 ghost use Rattle.sv_host.specs.declared.group.Asker.TheVariants.{Client as ClientAsker, Command, Nobody};
 ghost use Rattle.sv_host.specs.declared.packets.Packets.TheVariants.{All};
@@ -40,10 +43,12 @@ pub fn ask(
     request: Request,
     token: u64,
 ) -> Option<Came>
-    ensures comes { IfSome result (λ came. Comes token came) }
+    ensures comes { IfSome result (λ came. Comes from.place token came) }
     ensures full { IfNone result (IsFull server.old.parked) }
     ensures parked { IfSome result (λ came. clients_of server.new.parked ≡ clients_of server.old.parked ++ (record { token = token; place = from.place })
         ∷ []) }
+    ensures stands { IfSome result (λ came. IfSome (held_at server.new.connections from.place)
+        (λ held. held.state ≡ Waiting client (is_head request.method) request.close token false)) }
     ensures came { IfSome result (λ came. came ≡ record { input = Ask token request; asker = ClientAsker from.place token; packets = All }) }
 {
     let Lifted { place, socket } = from;
@@ -156,7 +161,7 @@ pub fn take_frame(
     rest: Vec<u8>,
 ) -> Result<Option<Came>, Stop>
     requires { IsFrame frame }
-    ensures comes { (number : ℕ) → IfOk result (λ came. IfSome came (λ came. Comes number came)) }
+    ensures comes { (number : ℕ) → IfOk result (λ came. IfSome came (λ came. Comes from.place number came)) }
     ensures input { IfOk result (λ came. option_map (λ came. came.input) came ≡ input_of server.old.peers frame) }
     ensures told { IfErr result (λ stop. (frame ≡ HaltFrame) × IsTold server.new stop) }
 {

@@ -1,6 +1,7 @@
 //! The secrets under which sessions are made.
 
 ghost use Rattle.std.specs.Prelude.{◌≡◌, IfOk, IfErr};
+ghost use Rattle.std.specs.Io.KnownBytes.{Consumes};
 ghost use Rattle.sv_host.specs.Secrets.{secret_of, first_by, last_in, last_of, Draws};
 ghost use Rattle.sv_host.specs.declared.fault.HostFault.TheVariants.{Secrets as SecretsFault};
 ghost use Rattle.sv_host.specs.declared.fault.Stop.TheVariants.{Fault};
@@ -40,12 +41,13 @@ pub fn secret_of(number: u64) -> Secret
     Secret(bytes)
 }
 
-/// The next 16 bytes of a file.
-fn read_secret(file: &mut File) -> Result<Secret, Stop>
-    ensures { IfErr result (λ stop. stop ≡ Fault SecretsFault) }
+/// The next 16 bytes.
+fn read_secret<R: Read>(from: &mut R) -> Result<Secret, Stop>
+    ensures read { IfOk result (λ secret. Consumes (R.remaining from.old) (R.remaining from.new) secret.0) }
+    ensures fault { IfErr result (λ stop. stop ≡ Fault SecretsFault) }
 {
     let mut bytes = [0u8; 16];
-    match file.read_exact(&mut bytes) {
+    match from.read_exact(&mut bytes) {
         Ok(()) => Ok(Secret(bytes)),
         Err(_) => Err(Stop::Fault(HostFault::Secrets)),
     }

@@ -1,8 +1,9 @@
 //! What comes on one connection.
 
-ghost use Rattle.std.specs.Prelude.{IfOk, IfErr, IfSome, ℕ, ◌<◌};
+ghost use Rattle.std.specs.Prelude.{◌≡◌, false, IfOk, IfErr, IfSome};
 ghost use Rattle.sv_host.specs.Group.{Comes};
-ghost use Rattle.sv_host.specs.Serve.{Brings};
+ghost use Rattle.sv_host.specs.Heard.{IsHeardOf};
+ghost use Rattle.sv_host.specs.Serve.{Brings, IsHeard, StaysAt, Takes, came_in, is_more};
 ghost use Rattle.sv_host.specs.Stops.{IsTold};
 
 use crate::fault::Stop;
@@ -26,7 +27,8 @@ pub enum Progress {
 }
 
 fn progress_of(came: Option<Came>) -> Progress
-    ensures { (number : ℕ) → IfSome came (λ came. Comes number came) → Brings number result }
+    ensures same { came_in result ≡ came }
+    ensures ends { is_more result ≡ false }
 {
     match came {
         Some(came) => Progress::Came(came),
@@ -42,8 +44,10 @@ fn take(
     piece: &[u8],
     token: u64,
 ) -> Result<Progress, Stop>
-    ensures brings { IfOk result (λ progress. Brings token progress) }
+    ensures brings { IfOk result (λ progress. Brings place token progress) }
     ensures told { IfErr result (IsTold server.new) }
+    ensures takes { IfOk result (λ progress. Takes server.old.peers server.old.connections.greets «open».state piece.now token progress) }
+    ensures stays { IfOk result (λ progress. StaysAt server.old.connections.greets «open».state piece.now place server.new progress) }
 {
     let (socket, state, since) = server.connections.begun(open, piece);
     let from = Lifted { place, socket };
@@ -113,7 +117,8 @@ fn listen_once(
     piece: &mut [u8; PIECE],
     token: u64,
 ) -> Result<Progress, Stop>
-    ensures brings { IfOk result (λ progress. Brings token progress) }
+    ensures brings { IfOk result (λ progress. Brings place token progress) }
+    ensures heard { IfOk result (λ progress. IsHeard token progress) }
     ensures told { IfErr result (IsTold server.new) }
 {
     let mut open = open;
@@ -134,7 +139,8 @@ fn go_on_with(
     piece: &mut [u8; PIECE],
     token: u64,
 ) -> Result<Progress, Stop>
-    ensures brings { IfOk result (λ progress. Brings token progress) }
+    ensures brings { IfOk result (λ progress. Brings place token progress) }
+    ensures heard { IfOk result (λ progress. IsHeard token progress) }
     ensures told { IfErr result (IsTold server.new) }
 {
     match open.state.turn() {
@@ -155,7 +161,8 @@ pub fn serve(
     piece: &mut [u8; PIECE],
     token: u64,
 ) -> Result<Option<Came>, Stop>
-    ensures comes { IfOk result (λ came. IfSome came (λ came. Comes token came)) }
+    ensures comes { IfOk result (λ came. IfSome came (λ came. Comes place token came)) }
+    ensures heard { IfOk result (λ came. IfSome came (λ came. IsHeardOf token came.input)) }
     ensures told { IfErr result (IsTold server.new) }
 {
     for _ in 0..PIECES {
@@ -180,7 +187,8 @@ pub fn serve_newcomer(
     piece: &mut [u8; PIECE],
     token: u64,
 ) -> Result<Option<Came>, Stop>
-    ensures comes { IfOk result (λ came. IfSome came (λ came. Comes token came)) }
+    ensures comes { IfOk result (λ came. IfSome came (λ came. Comes place token came)) }
+    ensures heard { IfOk result (λ came. IfSome came (λ came. IsHeardOf token came.input)) }
     ensures told { IfErr result (IsTold server.new) }
 {
     match listen_once(server, place, open, piece, token)? {

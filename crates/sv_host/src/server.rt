@@ -1,6 +1,7 @@
 //! What a running node keeps beside its journal: its clients, its peers, its secrets, and the time.
 
 ghost use Rattle.std.specs.Prelude.{◌≡◌, ◌≤◌, IfErr, IfOk};
+ghost use Rattle.sv_host.specs.HandingOut.{IsHandedOut};
 ghost use Rattle.sv_host.specs.Secrets.{last_of, secret_in, Draws};
 ghost use Rattle.sv_host.specs.Serving.{IsServing, HasServed};
 ghost use Rattle.sv_host.specs.Stops.{IsLost};
@@ -195,7 +196,9 @@ impl Server {
     }
 
     /// The journal has so many bytes behind it: where it has grown the group was written and synced.
-    fn end_write(&mut self, machine: &HostRuntime, write: Write, len: u64) {
+    fn end_write(&mut self, machine: &HostRuntime, write: Write, len: u64)
+        ensures { self.new.parked ≡ self.old.parked }
+    {
         if let Some(begun) = write.begun
             && len != write.len
             && let Ok(now) = machine.monotonic()
@@ -249,6 +252,7 @@ impl Server {
     ) -> Result<Taken, Stop>
         requires { IsServing E.valid D.tells D.seen D.may_leave node.old group.old }
         ensures served { HasServed E.meaning E.heard E.valid D.tells D.seen D.may_leave node.old group.old node.new group.new result }
+        ensures told { IsHandedOut E.meaning E.heard D.failed node.old node.new group.old self.old self.new result }
         ensures stops { IfErr result IsLost }
     {
         let (inputs, ways) = group.take();

@@ -1,19 +1,18 @@
 use Rattle.std.proofs.Common.{◌≡◌, Bool, true, false, cond, ℕ, Option, Some, None, refl, sym, ap, subst, ◌∙◌}
 use Rattle.std.specs.Prelude.{IfSome}
 use Rattle.std.specs.Option.{option_map}
-use Rattle.sv_model.specs.declared.input.Input.{Input}
 use Rattle.sv_model.specs.Migration.{sender}
 use Rattle.sv_host.specs.declared.group.Came.{Came}
 use Rattle.sv_host.specs.Group.{Comes}
 use Rattle.sv_host.specs.Peers.{takes}
-use Rattle.sv_host.specs.Serve.{input_of}
+use Rattle.sv_host.specs.Heard.{input_of}
 use Rattle.sv_record.specs.Frame.{IsFrame}
 use Rattle.sv_host.proofs.intake.take_frame.Goals as goal
 
 -- what comes of a packet, whether its node's are taken or not
-comes_if : (number : ℕ) (taken : Bool) (came : Came) → Comes number came → IfSome (cond taken (Some came) None) (λ came. Comes number came)
-comes_if number true came comes = comes
-comes_if number false came comes = tt
+comes_if : (place number : ℕ) (taken : Bool) (came : Came) → Comes place number came → IfSome (cond taken (Some came) None) (λ came. Comes place number came)
+comes_if place number true came comes = comes
+comes_if place number false came comes = tt
 
 input_if : (taken : Bool) (came : Came) → option_map (λ (came : Came). came.input) (cond taken (Some came) None) ≡ cond taken (Some came.input) None
 input_if true came = refl
@@ -21,8 +20,8 @@ input_if false came = refl
 
 pub returns-in-Peer-clause-comes : goal.returns-in-Peer-clause-comes
 returns-in-Peer-clause-comes c = λ number.
-    subst (λ (o : Option Came). IfSome o (λ came. Comes number came)) (sym c.take_packet.ensures)
-    (comes_if number (takes c.args.server.now.peers (sender c.in-Peer.packet)) _
+    subst (λ (o : Option Came). IfSome o (λ came. Comes c.args.from.place number came)) (sym c.take_packet.ensures)
+    (comes_if c.args.from.place number (takes c.args.server.now.peers (sender c.in-Peer.packet)) _
     (record { within = subst (λ f. IsFrame f) c.in-Peer.is c.requires; above = λ low below. tt; asked = (refl, refl) }))
 
 pub returns-in-Peer-clause-input : goal.returns-in-Peer-clause-input
@@ -32,10 +31,10 @@ returns-in-Peer-clause-input c =
 
 pub returns-in-Move-clause-comes : goal.returns-in-Move-clause-comes
 returns-in-Move-clause-comes c = λ number.
-    subst (λ (o : Option Came). IfSome o (λ came. Comes number came)) (sym c.obey.ensures)
-    (record { within = tt; above = λ low below. tt; asked = ((c.args.from.place, refl), refl) })
+    subst (λ (o : Option Came). IfSome o (λ came. Comes c.args.from.place number came)) (sym c.obey.ensures)
+    (record { within = tt; above = λ low below. tt; asked = (refl, refl) })
 
 pub returns-in-Tick-clause-comes : goal.returns-in-Tick-clause-comes
 returns-in-Tick-clause-comes c = λ number.
-    subst (λ (o : Option Came). IfSome o (λ came. Comes number came)) (sym c.obey-in-Tick.ensures)
-    (record { within = tt; above = λ low below. tt; asked = ((c.args.from.place, refl), refl) })
+    subst (λ (o : Option Came). IfSome o (λ came. Comes c.args.from.place number came)) (sym c.obey-in-Tick.ensures)
+    (record { within = tt; above = λ low below. tt; asked = (refl, refl) })

@@ -1,8 +1,14 @@
-use Rattle.std.proofs.Common.{◌≤◌, ℕ, List, ap, sym, subst}
+use Rattle.std.proofs.Common.{◌≤◌, ℕ, List, map, vec_items, ap, sym, subst, ◌∙◌}
 use Rattle.std.specs.List.{AllByRecursion}
 use Rattle.sv_model.specs.declared.input.Input.{Input}
 use Rattle.sv_model.specs.declared.key.Moment.{Moment}
 use Rattle.sv_model.specs.Ranges.{IsInput}
+use Rattle.sv_host.specs.HandingOut.{HandsOutGroup}
+use Rattle.sv_host.specs.Parked.{clients_of}
+use Rattle.sv_host.specs.Time.{seconds_of}
+use Rattle.sv_host.specs.declared.group.Way.{Way}
+use Rattle.sv_model.specs.Site.{with_list}
+use Rattle.sv_node.specs.Group.{GroupEnds}
 use Rattle.sv_node.specs.GroupCalls.{all_given}
 use Rattle.sv_node.specs.History.{RiseIn, numbers_in}
 use Rattle.sv_node.specs.Node.{engine_of}
@@ -31,4 +37,19 @@ returns-clause-served g c =
           (subst (λ (xs : List (Moment × Input)). RiseIn c.args.group.now.before (all_given xs)) (sym t.inputs) rising.rises)
           (subst (λ (n : ℕ). n ≤ c.take-inputs.new.self.before) (ap (λ (xs : List (Moment × Input)). numbers_in c.args.group.now.before (all_given xs)) (sym t.inputs)) (subst (λ (n : ℕ). numbers_in c.args.group.now.before (all_given c.args.group.now.inputs.items) ≤ n) (sym t.before) rising.number))
           c.step_all-answers.result c.hand_out.result c.step_all-answers.ensures.group c.hand_out.ensures.goes_on;
+    }
+
+-- what the node gives is handed out
+pub returns-clause-told : goal.returns-clause-told
+returns-clause-told g c =
+    let e = g.E.Engine in
+    let written = c.end_write.new.self in
+    let start = record written { connections = c.look_at_clock.new.self } in
+    record {
+      answers = c.step_all-answers.result;
+      ends = subst (λ (xs : List (Moment × Input)). GroupEnds e.meaning e.heard g.D.Disk.failed c.args.node.now xs (with_list (λ a. map (with_list vec_items) a.items) c.step_all-answers.result) c.step_all-answers.new.self)
+          c.take-inputs.ensures.inputs c.step_all-answers.ensures.group.ends;
+      start = start;
+      clients = ap (λ p. clients_of p) c.end_write.ensures;
+      told = subst (λ (ways : List Way). HandsOutGroup ways c.step_all-answers.result c.hand_out.result (seconds_of start.time) start c.hand_out.new.self) (c.as_slice.ensures.value ∙ c.take-inputs.ensures.ways) c.hand_out.ensures.told;
     }

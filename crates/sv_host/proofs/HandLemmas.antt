@@ -1,0 +1,91 @@
+-- Each output is handed on.
+use Rattle.std.proofs.Common.{◌≡◌, ◌<◌, ◌≤◌, ℕ, ◌+◌, Bool, false, List, [], ◌∷◌, Vec, length, drop, get_or, None, Result, Ok, refl, ap, sym, ◌∙◌, subst, true≢false, arith}
+use Rattle.std.specs.Prelude.{is_none}
+use Rattle.std.specs.declared.alloc.Global.{Global}
+use Rattle.std.proofs.lemmas.List.{drop_all, drop_more}
+use Rattle.sv_host.specs.HandingOut.{ConcludesRefused, HandsOn, HandsOnAll, HandsOut, HandsOutFrom, HandsOutGroup, RefusesAll, TellsNobody, TellsOne, way_at}
+use Rattle.sv_host.specs.Outcome.{cause_of}
+use Rattle.sv_host.specs.Packets.{Passes}
+use Rattle.sv_host.specs.Round.{lets}
+use Rattle.sv_host.specs.declared.packets.Sending.{Sending}
+use Rattle.sv_host.specs.declared.packets.Sending.TheVariants.{All, Share, Nothing}
+use Rattle.sv_host.specs.declared.group.Asker.{Asker}
+use Rattle.sv_host.specs.declared.group.Asker.TheVariants.{Client}
+use Rattle.sv_host.specs.declared.group.Way.{Way}
+use Rattle.sv_host.specs.declared.server.Server.{Server}
+use Rattle.sv_model.specs.Outputs.{packet_in}
+use Rattle.sv_model.specs.declared.output.Output.{Output}
+use Rattle.sv_model.specs.declared.output.Output.TheVariants.{Answer, Refuse, Send, Moved, MoveRefused}
+use Rattle.sv_model.specs.declared.output.Cause.{Cause}
+use Rattle.sv_model.specs.declared.site.StepFault.{StepFault}
+use Rattle.sv_net.proofs.SpareLemmas.{spares_same}
+use Rattle.sv_net.specs.Saying.{Answers, refused_as}
+
+-- a packet alone isn't sent
+is_packet : (sending : Sending) (output : Output) → Passes sending output false → packet_in output ≡ None → ⊥
+is_packet All output passes none = true≢false (sym passes)
+is_packet (Share share) output passes none = true≢false (sym (passes ∙ ap (λ p. lets share p) none))
+is_packet Nothing output passes none = true≢false (sym (passes ∙ ap (λ p. is_none p) none))
+
+packet_to_nobody : (output : Output) (now : ℕ) (server : Server) → (packet_in output ≡ None → ⊥) → HandsOn output now server server
+packet_to_nobody (Answer number response) now server packet = absurd (packet refl)
+packet_to_nobody (Refuse number cause) now server packet = absurd (packet refl)
+packet_to_nobody (Send p) now server packet = (refl, spares_same server.connections server.connections (λ place. refl))
+packet_to_nobody Moved now server packet = absurd (packet refl)
+packet_to_nobody (MoveRefused why) now server packet = absurd (packet refl)
+
+pub not_sent : (sending : Sending) (output : Output) (taken : Bool) (now : ℕ) (server : Server) → Passes sending output taken → taken ≡ false → HandsOn output now server server
+not_sent sending output taken now server passes is =
+    packet_to_nobody output now server (is_packet sending output (subst (λ t. Passes sending output t) is passes))
+
+-- one, and then the others
+pub one_handed : (items rest : List Output) (output : Output) (now : ℕ) (before mid final : Server) → items ≡ output ∷ rest → HandsOn output now before mid → HandsOnAll rest now mid final
+    → HandsOnAll items now before final
+one_handed items rest output now before mid final is handed all = subst (λ xs. HandsOnAll xs now before final) (sym is) (mid, handed, all)
+
+-- ---- a group
+
+-- the client that has asked
+pub client_refused : (asker : Asker) (place number : ℕ) (fault : StepFault) (cause : Cause) (now : ℕ) (old new : Server) → asker ≡ Client place number → cause ≡ cause_of fault
+    → TellsOne number (λ manner state. Answers (refused_as cause manner) now state) old new → ConcludesRefused asker fault now old new
+client_refused asker place number fault cause now old new is by told =
+    subst (λ a. ConcludesRefused a fault now old new) (sym is) (subst (λ (c : Cause). TellsOne number (λ manner state. Answers (refused_as c manner) now state) old new) by told)
+
+-- one way, and then the others
+pub one_refused : (ways : List Way) (at : ℕ) (other way : Way) (fault : StepFault) (now : ℕ) (before mid final : Server) → at < length ways → way ≡ get_or ways at other
+    → ConcludesRefused way.asker fault now before mid → RefusesAll (drop (at + 1) ways) fault now mid final → RefusesAll (drop at ways) fault now before final
+one_refused ways at other way fault now before mid final within is refused all =
+    subst (λ xs. RefusesAll xs fault now before final) (sym (drop_more ways at other within))
+    (mid, subst (λ (w : Way). ConcludesRefused w.asker fault now before mid) is refused, all)
+
+pub none_refused : (ways : List Way) (at : ℕ) (fault : StepFault) (now : ℕ) (server : Server) → length ways ≤ at → RefusesAll (drop at ways) fault now server server
+none_refused ways at fault now server past = subst (λ xs. RefusesAll xs fault now server server) (sym (drop_all at ways past)) (refl, refl)
+
+-- what came of one input
+pub one_out : (asker : Asker) (answer : Result (Vec Output Global) StepFault) (outputs : Vec Output Global) (now : ℕ) (old new : Server) → answer ≡ Ok outputs
+    → HandsOut asker (Ok outputs) now old new → HandsOut asker answer now old new
+one_out asker answer outputs now old new is out = subst (λ (a : Result (Vec Output Global) StepFault). HandsOut asker a now old new) (sym is) out
+
+-- one input, and then the others
+pub one_more_out : (at next : ℕ) (ways : List Way) (way : Way) (items rest : List (Result (Vec Output Global) StepFault)) (answer : Result (Vec Output Global) StepFault) (now : ℕ) (before mid final : Server)
+    → items ≡ answer ∷ rest → way ≡ way_at ways at → next ≡ at + 1 → HandsOut way.asker answer now before mid → HandsOutFrom next ways rest now mid final
+    → HandsOutFrom at ways items now before final
+one_more_out at next ways way items rest answer now before mid final is by up out all =
+    subst (λ xs. HandsOutFrom at ways xs now before final) (sym is)
+    (mid, subst (λ (w : Way). HandsOut w.asker answer now before mid) by out, subst (λ n. HandsOutFrom n ways rest now mid final) up all)
+
+-- the group
+pub group_out : {T F : Type 0} (ways : List Way) (answers : Vec (Result (Vec Output Global) StepFault) Global) (whole : Result (Vec (Result (Vec Output Global) StepFault) Global) StepFault)
+    (result : Result T F) (now : ℕ) (old new : Server) → whole ≡ Ok answers → HandsOutFrom 0 ways answers.items now old new → HandsOutGroup ways whole result now old new
+group_out ways answers whole result now old new is out =
+    subst (λ (w : Result (Vec (Result (Vec Output Global) StepFault) Global) StepFault). HandsOutGroup ways w result now old new) (sym is) out
+
+pub none_out : (at : ℕ) (ways : List Way) (items : List (Result (Vec Output Global) StepFault)) (now : ℕ) (before final : Server) → length items ≡ 0 → TellsNobody before final
+    → HandsOutFrom at ways items now before final
+none_out at ways [] now before final none told = told
+none_out at ways (answer ∷ items) now before final none told = absurd (omega (arith, none))
+
+pub all_out : (ways : List Way) (items answers : List (Result (Vec Output Global) StepFault)) (now seconds : ℕ) (old final : Server) → items ≡ answers → now ≡ seconds
+    → HandsOutFrom 0 ways items now old final → HandsOutFrom 0 ways answers seconds old final
+all_out ways items answers now seconds old final same at out =
+    subst (λ xs. HandsOutFrom 0 ways xs seconds old final) same (subst (λ n. HandsOutFrom 0 ways items n old final) at out)
