@@ -6,8 +6,10 @@ import shutil
 import signal
 
 from lib import TOP
-from lib.expect import expect
+from lib.client import listens
+from lib.expect import expect, wait_for
 from lib.journals import current_entries, replay
+from lib.nodes import ready
 from lib.ports import free_ports
 from subjects.common import APPLICATIONS, Cluster, compacted, login
 
@@ -117,9 +119,28 @@ def a_journal_that_another_process_has():
     cluster.end()
 
 
+def a_node_that_waits_for_its_journal():
+    """With --wait a second process doesn't listen while another has the journal, and goes on with it once that has ended."""
+    cluster = Cluster(1)
+    cluster.start(0)
+    _, cookie = cluster.count(0)
+    ports, log = free_ports(1), cluster.write("waiting.log", "")
+    elsewhere = cluster.write("elsewhere.toml", f"[cluster]\nports = {ports}\n{APPLICATIONS}")
+    waiting = cluster.launch(["--wait", "--log", log, elsewhere, cluster.journal(0), "0"])
+    wait_for("the start of a node that waits", lambda: "info starting" in open(log, encoding="utf-8").read())
+    for count in ("2\n", "3\n"):
+        expect("a count of the node that has the journal", cluster.count(0, cookie), (count, cookie))
+        expect("whether the other one listens, and how it ended", (listens(ports[0]), waiting.poll()), (False, None))
+    cluster.kill(0)
+    cluster.config, cluster.ports, cluster.running[0] = elsewhere, ports, ready(waiting, 0)
+    expect("a count of the node that waited", cluster.count(0, cookie), ("4\n", cookie))
+    cluster.end()
+
+
 CHECKS = (
     a_journal_that_is_written_anew,
     a_journal_of_the_program_before,
     a_disk_that_is_full,
     a_journal_that_another_process_has,
+    a_node_that_waits_for_its_journal,
 )

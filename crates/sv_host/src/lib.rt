@@ -41,7 +41,7 @@ mod want;
 
 pub use fault::HostFault;
 pub use host::{Ended, Host};
-pub use paths::Paths;
+pub use paths::{IfLocked, Paths};
 pub use place::{Place, PlaceFault};
 pub use round::{ROUND_LIMIT, Round, Share};
 pub use run::run_node;

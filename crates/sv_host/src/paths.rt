@@ -2,6 +2,15 @@
 
 use sv_journal::IfMissing;
 
+/// What becomes of a node whose journal another process has.
+#[derive(Clone, Copy, Debug, PartialEq, Eq)]
+pub enum IfLocked {
+    /// It ends.
+    End,
+    /// It waits until it has the journal, and listens only then.
+    Wait,
+}
+
 /// The paths of the files that a node writes.
 #[derive(Clone, Copy)]
 pub struct Paths<'a> {
@@ -9,6 +18,8 @@ pub struct Paths<'a> {
     pub journal: &'a str,
     /// What becomes of the journal's files where they aren't there.
     pub if_missing: IfMissing,
+    /// What becomes of the node where another process has them.
+    pub if_locked: IfLocked,
     /// The log, to which lines are added; `-` for standard error.
     pub log: Option<&'a str>,
     /// The figures, which are written anew every few seconds.

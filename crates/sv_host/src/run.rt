@@ -2,21 +2,39 @@
 
 use crate::fault::HostFault;
 use crate::host::{Ended, Host};
-use crate::paths::Paths;
+use crate::paths::{IfLocked, Paths};
 use crate::place::Place;
 use crate::time::read;
-use sv_journal::FileDisk;
+use std::thread;
+use std::time::Duration;
+use sv_journal::{FileDisk, FileFault};
 use sv_log::{Level, Milestone, Report, ReportFault};
 use sv_model::{Engine, Setting};
 use sv_net::{Persistence, port_of};
+
+/// Between two tries to open a file that another process has, in thousandths of a second.
+const PAUSE: u64 = 500;
+
+/// A file of the journal, once no other process has it, if the node is to wait for that.
+fn open_file(machine: &HostRuntime, path: &str, paths: Paths<'_>) -> Result<FileDisk, FileFault> {
+    for _ in 0..u64::MAX {
+        match FileDisk::open(machine, path, paths.if_missing) {
+            Err(FileFault::Locked) if paths.if_locked == IfLocked::Wait => {
+                thread::sleep(machine, Duration::from_millis(PAUSE));
+            }
+            opened => return opened,
+        }
+    }
+    Err(FileFault::Locked)
+}
 
 /// The journal's file, and the second one beside it.
 fn open_files(machine: &HostRuntime, paths: Paths<'_>) -> Result<(FileDisk, FileDisk), HostFault> {
     let Ok(other) = format!(in machine.alloc(); "{}.b", paths.journal) else {
         return Err(HostFault::Memory);
     };
-    let a = FileDisk::open(machine, paths.journal, paths.if_missing)?;
-    let b = FileDisk::open(machine, other.as_str(), paths.if_missing)?;
+    let a = open_file(machine, paths.journal, paths)?;
+    let b = open_file(machine, other.as_str(), paths)?;
     Ok((a, b))
 }
 
@@ -54,28 +72,37 @@ fn report_of(machine: &HostRuntime, place: &Place, paths: Paths<'_>) -> Result<R
     Ok(report)
 }
 
-/// What a node has of its machine, and what it tells.
-fn open_host(
+/// What a node has of its machine, and the files of its journal. One that waits for its journal doesn't listen meanwhile.
+fn open_both(
     machine: &HostRuntime,
     place: Place,
     persistence: Persistence,
     paths: Paths<'_>,
-) -> Result<Host, HostFault> {
-    let report = report_of(machine, &place, paths)?;
-    let host = Host::at(machine, place, persistence)?;
-    Ok(host.reporting(report))
+) -> Result<(Host, FileDisk, FileDisk), HostFault> {
+    match paths.if_locked {
+        IfLocked::End => {
+            let host = Host::at(machine, place, persistence)?;
+            let (a, b) = open_files(machine, paths)?;
+            Ok((host, a, b))
+        }
+        IfLocked::Wait => {
+            let (a, b) = open_files(machine, paths)?;
+            let host = Host::at(machine, place, persistence)?;
+            Ok((host, a, b))
+        }
+    }
 }
 
-/// What a node has of its machine, and the files of its journal.
+/// The same, with what the node tells.
 fn open(
     machine: &HostRuntime,
     place: Place,
     persistence: Persistence,
     paths: Paths<'_>,
 ) -> Result<(Host, FileDisk, FileDisk), HostFault> {
-    let host = open_host(machine, place, persistence, paths)?;
-    let (a, b) = open_files(machine, paths)?;
-    Ok((host, a, b))
+    let report = report_of(machine, &place, paths)?;
+    let (host, a, b) = open_both(machine, place, persistence, paths)?;
+    Ok((host.reporting(report), a, b))
 }
 
 /// Why a node has ended, if not by a command.
@@ -89,7 +116,8 @@ fn how_ended<E: Drop>(ended: Ended<E, FileDisk>) -> Result<(), HostFault> {
 /// Runs the node at a place of a cluster over its files. Once it listens at its port it says so by the line `ready` with its number,
 /// and serves until a command stops it.
 ///
-/// Faults are found in this order: the log, the figures, the file of secrets, the port, the journal.
+/// Faults are found in this order: the log, the figures, the file of secrets, the port, the journal; where the node waits for its
+/// journal, those of the journal come before those of the secrets.
 pub fn run_node<E: Engine + Drop>(
     machine: &HostRuntime,
     engine: E,

@@ -5,6 +5,8 @@ use Rattle.sv_net.specs.declared.persistence.Persistence.{Persistence}
 use Rattle.sv_net.specs.declared.persistence.Persistence.TheVariants.{Single, Kept}
 use Rattle.sv_journal.specs.declared.file_disk.IfMissing.{IfMissing}
 use Rattle.sv_journal.specs.declared.file_disk.IfMissing.TheVariants.{Make, Refuse}
+use Rattle.sv_host.specs.declared.paths.IfLocked.{IfLocked}
+use Rattle.sv_host.specs.declared.paths.IfLocked.TheVariants.{End, Wait}
 use Rattle.sv_web.specs.Numeral.{number_in}
 use Rattle.sv_launch.specs.declared.words.Words.{Words}
 use Rattle.sv_launch.specs.declared.words.Words.TheVariants.{Once, Node, Help, Version}
@@ -13,10 +15,10 @@ use Rattle.sv_launch.specs.declared.words.Greetings.TheVariants.{Off, On}
 use Rattle.sv_launch.specs.declared.words.Options.{Options}
 use Rattle.sv_launch.specs.declared.words.Arguments.{Arguments}
 
--- how a node runs: whether its clients' connections are kept, what becomes of a journal that isn't there, whether it greets the others,
--- where its log goes, and where its figures
+-- how a node runs: whether its clients' connections are kept, what becomes of a journal that isn't there, and of a node whose journal
+-- another process has, whether it greets the others, where its log goes, and where its figures
 pub data Manner : Type 0 where
-  Runs : (persistence : Persistence) (if_missing : IfMissing) (greetings : Greetings) (log metrics : Option (List ℕ)) → Manner
+  Runs : (persistence : Persistence) (if_missing : IfMissing) (if_locked : IfLocked) (greetings : Greetings) (log metrics : Option (List ℕ)) → Manner
 
 -- what the program is asked to do
 pub data Command : Type 0 where
@@ -35,7 +37,7 @@ node_at manner config journal (Some number) = Some (RunNode manner config journa
 
 -- where no option says otherwise
 abbrev pub plain : Manner
-plain = Runs Single Make Off None None
+plain = Runs Single Make End Off None None
 
 -- one word: its help or its version, by its long name or its short one
 abbrev pub of_one : List ℕ → Option Command
@@ -50,30 +52,35 @@ of_three first second third =
 
 -- with the option at the front of the words, and the words after it: `--keep-alive`, `--existing`, `--log FILE` or `--metrics FILE`
 abbrev pub with_option : Manner → List ℕ → List ℕ → List (List ℕ) → Manner × List (List ℕ)
-with_option (Runs persistence if_missing greetings log metrics) first second rest =
-    if bytes_eq first (codes "--keep-alive") then (Runs Kept if_missing greetings log metrics, second ∷ rest) else
-    if bytes_eq first (codes "--existing") then (Runs persistence Refuse greetings log metrics, second ∷ rest) else
-    if bytes_eq first (codes "--log") then (Runs persistence if_missing greetings (Some second) metrics, rest) else
-    if bytes_eq first (codes "--metrics") then (Runs persistence if_missing greetings log (Some second), rest)
-    else (Runs persistence if_missing greetings log metrics, first ∷ second ∷ rest)
+with_option (Runs persistence if_missing if_locked greetings log metrics) first second rest =
+    if bytes_eq first (codes "--keep-alive") then (Runs Kept if_missing if_locked greetings log metrics, second ∷ rest) else
+    if bytes_eq first (codes "--existing") then (Runs persistence Refuse if_locked greetings log metrics, second ∷ rest) else
+    if bytes_eq first (codes "--log") then (Runs persistence if_missing if_locked greetings (Some second) metrics, rest) else
+    if bytes_eq first (codes "--metrics") then (Runs persistence if_missing if_locked greetings log (Some second), rest)
+    else (Runs persistence if_missing if_locked greetings log metrics, first ∷ second ∷ rest)
 
 abbrev pub other_of : Manner → List (List ℕ) → Manner × List (List ℕ)
 other_of manner [] = (manner, [])
 other_of manner (first ∷ []) = (manner, first ∷ [])
 other_of manner (first ∷ second ∷ rest) = with_option manner first second rest
 
--- `--greet` stands at the front of the words, with another behind it
-abbrev pub is_greet : List (List ℕ) → Bool
-is_greet [] = false
-is_greet (first ∷ []) = false
-is_greet (first ∷ second ∷ rest) = bytes_eq first (codes "--greet")
+-- this word stands at the front of the words, with another behind it
+abbrev pub is_first : List ℕ → List (List ℕ) → Bool
+is_first word [] = false
+is_first word (first ∷ []) = false
+is_first word (first ∷ second ∷ rest) = bytes_eq first word
 
 abbrev pub greets : Manner → Manner
-greets (Runs persistence if_missing greetings log metrics) = Runs persistence if_missing On log metrics
+greets (Runs persistence if_missing if_locked greetings log metrics) = Runs persistence if_missing if_locked On log metrics
 
--- that one, or another
+abbrev pub waits : Manner → Manner
+waits (Runs persistence if_missing if_locked greetings log metrics) = Runs persistence if_missing Wait greetings log metrics
+
+-- `--greet`, `--wait`, or another
 abbrev pub option_of : Manner → List (List ℕ) → Manner × List (List ℕ)
-option_of manner words = if is_greet words then (greets manner, drop 1 words) else other_of manner words
+option_of manner words =
+    if is_first (codes "--greet") words then (greets manner, drop 1 words) else
+    if is_first (codes "--wait") words then (waits manner, drop 1 words) else other_of manner words
 
 -- a CONFIG, a JOURNAL and a NUMBER within 8 bits, and nothing else
 abbrev pub last_of : Manner → List (List ℕ) → Option Command
@@ -83,7 +90,7 @@ last_of manner (first ∷ second ∷ []) = None
 last_of manner (config ∷ journal ∷ number ∷ []) = node_at manner config journal (number_in 8 number)
 last_of manner (first ∷ second ∷ third ∷ fourth ∷ more) = None
 
--- up to five options, and the words of a node
+-- up to six options, and the words of a node
 abbrev pub of_more : List (List ℕ) → Option Command
 of_more words =
     let one = option_of plain words in
@@ -91,7 +98,8 @@ of_more words =
     let three = option_of two.0 two.1 in
     let four = option_of three.0 three.1 in
     let five = option_of four.0 four.1 in
-    last_of five.0 five.1
+    let six = option_of five.0 five.1 in
+    last_of six.0 six.1
 
 abbrev pub command_in : List (List ℕ) → Option Command
 command_in [] = None
@@ -101,7 +109,7 @@ command_in (first ∷ second ∷ third ∷ []) = of_three first second third
 command_in (first ∷ second ∷ third ∷ fourth ∷ more) = of_more (first ∷ second ∷ third ∷ fourth ∷ more)
 
 abbrev pub options_of : Options → Manner
-options_of options = Runs options.persistence options.if_missing options.greetings (option_map (λ text. text.now) options.log) (option_map (λ text. text.now) options.metrics)
+options_of options = Runs options.persistence options.if_missing options.if_locked options.greetings (option_map (λ text. text.now) options.log) (option_map (λ text. text.now) options.metrics)
 
 -- what was read
 abbrev pub command_of : Result Words Arguments → Option Command

@@ -112,6 +112,7 @@ const HELP: &str = " serves web applications over HTTP/1.1, and keeps their sess
 
     --keep-alive    lets each connection of a client bring many requests, else one
     --existing      ends with NoJournal where a file of the journal isn't there, and makes none: kegctl init does
+    --wait          waits where another process has the journal, without listening meanwhile, in place of ending with Locked
     --greet         asks the other nodes before it serves, and greets them every 10 seconds: which start of this node they
                     have heard of, how many nodes they were told of, and which contexts they have; packets of a node that
                     has others aren't taken

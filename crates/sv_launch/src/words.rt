@@ -2,9 +2,9 @@
 
 ghost use Rattle.std.specs.Prelude.{◌≡◌, map, string_bytes};
 ghost use Rattle.sv_web.specs.Numeral.{number_in};
-ghost use Rattle.sv_launch.specs.Words.{command_of, command_in, once_at, node_at, of_one, of_three, of_more, is_greet, other_of, option_of, options_of, last_of};
+ghost use Rattle.sv_launch.specs.Words.{command_of, command_in, once_at, node_at, of_one, of_three, of_more, is_first, other_of, option_of, options_of, last_of};
 
-use sv_host::Paths;
+use sv_host::{IfLocked, Paths};
 use sv_journal::IfMissing;
 use sv_net::Persistence;
 use sv_web::{read_u8, read_u64};
@@ -38,6 +38,7 @@ impl<'a> NodeWords<'a> {
         Paths {
             journal: self.journal,
             if_missing: self.options.if_missing,
+            if_locked: self.options.if_locked,
             log: self.options.log,
             metrics: self.options.metrics,
         }
@@ -58,6 +59,8 @@ pub struct Options<'a> {
     pub persistence: Persistence,
     /// `--existing`: the journal's files have to be there.
     pub if_missing: IfMissing,
+    /// `--wait`: it waits for a journal that another process has.
+    pub if_locked: IfLocked,
     /// `--greet`: it asks the other nodes before it serves, and greets them while it does.
     pub greetings: Greetings,
     /// `--log FILE`: what happens is written there, or to standard error where FILE is `-`.
@@ -71,6 +74,7 @@ impl Options<'_> {
     pub const NONE: Options<'static> = Options {
         persistence: Persistence::Single,
         if_missing: IfMissing::Make,
+        if_locked: IfLocked::End,
         greetings: Greetings::Off,
         log: None,
         metrics: None,
@@ -136,12 +140,12 @@ fn read_three<'a>(first: &'a str, second: &'a str, third: &str) -> Result<Words<
     }
 }
 
-/// `--greet` stands at the front of the words, with another behind it.
-fn is_greet(words: &[String]) -> bool
-    ensures { result ≡ is_greet (map string_bytes words.now) }
+/// This word stands at the front of the words, with another behind it.
+fn is_first(word: &str, words: &[String]) -> bool
+    ensures { result ≡ is_first word.now (map string_bytes words.now) }
 {
     match words {
-        [first, _, ..] => first.as_str() == "--greet",
+        [first, _, ..] => first.as_str() == word,
         _ => false,
     }
 }
@@ -193,12 +197,18 @@ fn read_option<'a>(options: Options<'a>, words: &'a [String]) -> (Options<'a>, &
     ensures options { options_of result.0 ≡ (option_of (options_of options.entry) (map string_bytes words.now)).0 }
     ensures words { map string_bytes result.1.now ≡ (option_of (options_of options.entry) (map string_bytes words.now)).1 }
 {
-    if !is_greet(words) {
+    let options = if is_first("--greet", words) {
+        Options {
+            greetings: Greetings::On,
+            ..options
+        }
+    } else if is_first("--wait", words) {
+        Options {
+            if_locked: IfLocked::Wait,
+            ..options
+        }
+    } else {
         return read_other(options, words);
-    }
-    let options = Options {
-        greetings: Greetings::On,
-        ..options
     };
     match words {
         [_, rest @ ..] => (options, rest),
@@ -221,11 +231,12 @@ fn read_last<'a>(options: Options<'a>, words: &'a [String]) -> Result<Words<'a>,
     }
 }
 
-/// Up to five options, and the words of a node. Of two equal options the last one counts.
+/// Up to six options, and the words of a node. Of two equal options the last one counts.
 fn read_more(words: &[String]) -> Result<Words<'_>, Arguments>
     ensures { command_of result ≡ of_more (map string_bytes words.now) }
 {
     let (options, words) = read_option(Options::NONE, words);
+    let (options, words) = read_option(options, words);
     let (options, words) = read_option(options, words);
     let (options, words) = read_option(options, words);
     let (options, words) = read_option(options, words);

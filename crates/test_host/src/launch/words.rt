@@ -4,6 +4,7 @@ use super::NOW;
 use crate::fixtures::{push, text};
 use std::alloc::Global;
 use std::process::Abort;
+use sv_host::IfLocked;
 use sv_journal::IfMissing;
 use sv_launch::{Arguments, Greetings, NodeWords, Options, Words, read_words};
 use sv_net::Persistence;
@@ -76,6 +77,11 @@ const EXISTING: Options<'static> = Options {
     ..Options::NONE
 };
 
+const WAITING: Options<'static> = Options {
+    if_locked: IfLocked::Wait,
+    ..Options::NONE
+};
+
 const GREETING: Options<'static> = Options {
     greetings: Greetings::On,
     ..Options::NONE
@@ -94,15 +100,18 @@ const COUNTED: Options<'static> = Options {
 const ALL: Options<'static> = Options {
     persistence: Persistence::Kept,
     if_missing: IfMissing::Refuse,
+    if_locked: IfLocked::Wait,
     greetings: Greetings::On,
     log: Some("l"),
     metrics: Some("m"),
 };
 
-/// Options in any order, five at most, and of two equal ones the last one counts. What comes after `--log` and `--metrics` is a
+/// Options in any order, six at most, and of two equal ones the last one counts. What comes after `--log` and `--metrics` is a
 /// path, whatever it is.
-static OPTIONS: [Line; 10] = [
+static OPTIONS: [Line; 12] = [
     Line(&["--existing", "c", "j", "7"], Meant::Node(EXISTING)),
+    Line(&["--wait", "c", "j", "7"], Meant::Node(WAITING)),
+    Line(&["--wait", "--wait", "c", "j", "7"], Meant::Node(WAITING)),
     Line(&["--greet", "c", "j", "7"], Meant::Node(GREETING)),
     Line(&["--log", "l", "c", "j", "7"], Meant::Node(LOGGED)),
     Line(&["--metrics", "m", "c", "j", "7"], Meant::Node(COUNTED)),
@@ -113,6 +122,7 @@ static OPTIONS: [Line; 10] = [
             "--metrics",
             "m",
             "--existing",
+            "--wait",
             "--greet",
             "--keep-alive",
             "c",
@@ -126,6 +136,7 @@ static OPTIONS: [Line; 10] = [
             "--greet",
             "--keep-alive",
             "--existing",
+            "--wait",
             "--metrics",
             "m",
             "--log",
@@ -144,8 +155,8 @@ static OPTIONS: [Line; 10] = [
     Line(&["l", "--log", "c", "j", "7"], Meant::Nothing),
     Line(
         &[
-            "--log", "x", "--log", "x", "--log", "x", "--log", "x", "--log", "x", "--log", "l",
-            "c", "j", "7",
+            "--log", "x", "--log", "x", "--log", "x", "--log", "x", "--log", "x", "--log", "x",
+            "--log", "l", "c", "j", "7",
         ],
         Meant::Nothing,
     ),
