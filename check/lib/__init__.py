@@ -35,7 +35,7 @@ and has a line in `programs` of check/all, and one in the table of docs/CONTRIBU
     journals        a reader of journals, apart from the nodes' own code
     shims, strace   libraries that stand in for what the system does (a disk that is slow, memory that is refused), and who watches it
     namespaces      a program that goes on in namespaces of its own; `network` has machines there, `three_machines` our nodes on them,
-                    and `booted` one with a systemd
+                    `booted` one with a systemd, `booted_machines` several that lose their power, and `failover` our nodes on those
     front_servers   nginx and haproxy by their files in deploy/
     browser, pages, sources, toolchain     a Chromium; what documents have their readers paste; sums over sources; which rt it is
 """

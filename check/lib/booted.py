@@ -16,14 +16,8 @@ from lib.patience import patience
 SYSTEMD = "/lib/systemd/systemd"
 UNSHARED = ["unshare", "--pid", "--mount", "--uts", "--ipc", "--net", "--cgroup", "--fork", "--kill-child"]
 
-# The root of the new machine: a layer over this one's, with devices, a loopback interface, and /mnt for the room.
-BOOT = r"""
-set -eu
-mount -t tmpfs tmpfs "$1/layer"
-cd "$1/layer"
-mkdir up work root
-mount -t overlay overlay -o lowerdir=/,upperdir=up,workdir=work root
-cd root
+# Below the root of a new machine, which is the folder at hand: what a kernel gives, and devices.
+DEVICES = r"""
 mount -t proc proc proc
 mount -t sysfs sysfs sys
 mount -t cgroup2 cgroup2 sys/fs/cgroup
@@ -33,17 +27,38 @@ mkdir dev/shm dev/pts
 mknod -m 666 dev/null c 1 3; mknod -m 666 dev/zero c 1 5; mknod -m 666 dev/full c 1 7; mknod -m 666 dev/random c 1 8
 mknod -m 666 dev/urandom c 1 9; mknod -m 666 dev/tty c 5 0; mknod -m 600 dev/console c 5 1; mknod -m 666 dev/ptmx c 5 2
 ln -s /proc/self/fd dev/fd; ln -s fd/0 dev/stdin; ln -s fd/1 dev/stdout; ln -s fd/2 dev/stderr
-mkdir -p mnt old
-mount --bind "$1" mnt
+mkdir -p old
 ip link set lo up
-rm -rf etc/systemd/system/*.wants
-cp "$1"/units/* etc/systemd/system/
+"""
+
+# That folder becomes the root, and systemd begins with a unit.
+START = r"""
 pivot_root . old
 umount -l old
 mount --make-rshared /
 exec env -i container=other PATH=/usr/sbin:/usr/bin:/sbin:/bin \
-  /lib/systemd/systemd --system --unit=steps.target --log-target=journal --show-status=no
+  /lib/systemd/systemd --system --unit=UNIT --log-target=journal --show-status=no
 """
+
+# A machine whose root is a layer over this one's, with /mnt for the room.
+BOOT = (
+    r"""
+set -eu
+mount -t tmpfs tmpfs "$1/layer"
+cd "$1/layer"
+mkdir up work root
+mount -t overlay overlay -o lowerdir=/,upperdir=up,workdir=work root
+cd root
+"""
+    + DEVICES
+    + r"""
+mkdir -p mnt
+mount --bind "$1" mnt
+rm -rf etc/systemd/system/*.wants
+cp "$1"/units/* etc/systemd/system/
+"""
+    + START.replace("UNIT", "steps.target")
+)
 
 # What a kernel may not allow of that.
 TRIED = r"""
@@ -81,6 +96,20 @@ def missing(*programs):
     return namespaces.refused(UNSHARED, "sh", "-ec", TRIED)
 
 
+def bring(program, place, seen=None):
+    """Copies a program to a place, which the machine sees as another one. One that is a script over a program beside it brings that along."""
+    with open(program, "rb") as file:
+        text = file.read()
+    beside = re.search(rb"(\S+\.made) ", text) if text.startswith(b"#!") else None
+    if beside:
+        shutil.copy(beside[1], f"{place}.made")
+        os.chmod(f"{place}.made", 0o755)
+        text = text.replace(beside[1], f"{seen or place}.made".encode())
+    with open(place, "wb") as file:
+        file.write(text)
+    os.chmod(place, 0o755)
+
+
 class Room:
     """A folder that the machine has as /mnt."""
 
@@ -91,17 +120,7 @@ class Room:
         os.mkdir(f"{path}/units")
 
     def bring(self, program, name):
-        """Copies a program into the room. One that is a script over a program beside it brings that along."""
-        with open(program, "rb") as file:
-            text = file.read()
-        beside = re.search(rb"(\S+\.made) ", text) if text.startswith(b"#!") else None
-        if beside:
-            shutil.copy(beside[1], f"{self.path}/{name}.made")
-            os.chmod(f"{self.path}/{name}.made", 0o755)
-            text = text.replace(beside[1], f"/mnt/{name}.made".encode())
-        with open(f"{self.path}/{name}", "wb") as file:
-            file.write(text)
-        os.chmod(f"{self.path}/{name}", 0o755)
+        bring(program, f"{self.path}/{name}", f"/mnt/{name}")
 
     def write(self, name, text):
         with open(f"{self.path}/{name}", "w", encoding="utf-8") as file:

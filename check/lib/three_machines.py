@@ -195,6 +195,9 @@ class Machines:
 class Client:
     """A session, and what its client was told. No number may come twice, and none be left out but those of asks that broke off."""
 
+    # The front server asks up to so many machines where one breaks off, and each may count, where the context has no `once`.
+    tries_of_front = 3
+
     def __init__(self, machines, home):
         self.machines, self.told, self.open, self.cookie = machines, 0, 0, None
         self.answers, self.times, self.skipped = {}, [], 0
@@ -214,8 +217,7 @@ class Client:
         self.cookie = cookie
         kind = text.split()[-1] if status == 503 and text.split() else status
         self.answers[kind] = self.answers.get(kind, 0) + 1
-        # The front server asks up to three machines where one breaks off.
-        tries = 3 if where == "front" else 1
+        tries = self.tries_of_front if where == "front" else 1
         if status == 200:
             self.take(int(text), tries)
             self.times.append(took)
