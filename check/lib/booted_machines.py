@@ -122,8 +122,9 @@ class Machine:
         wait_for(f"{self.name}'s boot", self.is_up)
 
     def is_up(self):
+        """Units may be started; some may wait for more."""
         try:
-            return self.tried("systemctl is-system-running").stdout.strip() in ("running", "degraded")
+            return self.tried("systemctl is-active basic.target").stdout.strip() == "active"
         except (OSError, IndexError):
             return False
 
