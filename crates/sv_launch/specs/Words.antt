@@ -50,19 +50,17 @@ abbrev pub of_three : List ℕ → List ℕ → List ℕ → Option Command
 of_three first second third =
     if bytes_eq first (codes "--once") then once_at second (number_in 64 third) else node_at plain first second (number_in 8 third)
 
--- with the option at the front of the words, and the words after it: `--keep-alive`, `--existing`, `--log FILE` or `--metrics FILE`
-abbrev pub with_option : Manner → List ℕ → List ℕ → List (List ℕ) → Manner × List (List ℕ)
-with_option (Runs persistence if_missing if_locked greetings log metrics) first second rest =
-    if bytes_eq first (codes "--keep-alive") then (Runs Kept if_missing if_locked greetings log metrics, second ∷ rest) else
-    if bytes_eq first (codes "--existing") then (Runs persistence Refuse if_locked greetings log metrics, second ∷ rest) else
+-- with the option at the front of the words that names a file, and the words after it: `--log FILE` or `--metrics FILE`
+abbrev pub with_file : Manner → List ℕ → List ℕ → List (List ℕ) → Manner × List (List ℕ)
+with_file (Runs persistence if_missing if_locked greetings log metrics) first second rest =
     if bytes_eq first (codes "--log") then (Runs persistence if_missing if_locked greetings (Some second) metrics, rest) else
     if bytes_eq first (codes "--metrics") then (Runs persistence if_missing if_locked greetings log (Some second), rest)
     else (Runs persistence if_missing if_locked greetings log metrics, first ∷ second ∷ rest)
 
-abbrev pub other_of : Manner → List (List ℕ) → Manner × List (List ℕ)
-other_of manner [] = (manner, [])
-other_of manner (first ∷ []) = (manner, first ∷ [])
-other_of manner (first ∷ second ∷ rest) = with_option manner first second rest
+abbrev pub file_of : Manner → List (List ℕ) → Manner × List (List ℕ)
+file_of manner [] = (manner, [])
+file_of manner (first ∷ []) = (manner, first ∷ [])
+file_of manner (first ∷ second ∷ rest) = with_file manner first second rest
 
 -- this word stands at the front of the words, with another behind it
 abbrev pub is_first : List ℕ → List (List ℕ) → Bool
@@ -76,11 +74,27 @@ greets (Runs persistence if_missing if_locked greetings log metrics) = Runs pers
 abbrev pub waits : Manner → Manner
 waits (Runs persistence if_missing if_locked greetings log metrics) = Runs persistence if_missing Wait greetings log metrics
 
--- `--greet`, `--wait`, or another
+abbrev pub keeps : Manner → Manner
+keeps (Runs persistence if_missing if_locked greetings log metrics) = Runs Kept if_missing if_locked greetings log metrics
+
+abbrev pub refuses : Manner → Manner
+refuses (Runs persistence if_missing if_locked greetings log metrics) = Runs persistence Refuse if_locked greetings log metrics
+
+-- `--greet`, `--wait`, `--keep-alive` or `--existing`
+abbrev pub flag_of : Manner → List (List ℕ) → Option Manner
+flag_of manner words =
+    if is_first (codes "--greet") words then Some (greets manner) else
+    if is_first (codes "--wait") words then Some (waits manner) else
+    if is_first (codes "--keep-alive") words then Some (keeps manner) else
+    if is_first (codes "--existing") words then Some (refuses manner) else None
+
+abbrev pub by_flag : Option Manner → Manner → List (List ℕ) → Manner × List (List ℕ)
+by_flag None manner words = file_of manner words
+by_flag (Some flagged) manner words = (flagged, drop 1 words)
+
+-- one of them, or one that names a file
 abbrev pub option_of : Manner → List (List ℕ) → Manner × List (List ℕ)
-option_of manner words =
-    if is_first (codes "--greet") words then (greets manner, drop 1 words) else
-    if is_first (codes "--wait") words then (waits manner, drop 1 words) else other_of manner words
+option_of manner words = by_flag (flag_of manner words) manner words
 
 -- a CONFIG, a JOURNAL and a NUMBER within 8 bits, and nothing else
 abbrev pub last_of : Manner → List (List ℕ) → Option Command

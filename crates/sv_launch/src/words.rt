@@ -1,8 +1,8 @@
 //! The words of the command line.
 
-ghost use Rattle.std.specs.Prelude.{◌≡◌, map, string_bytes};
+ghost use Rattle.std.specs.Prelude.{◌≡◌, drop, map, option_map, string_bytes};
 ghost use Rattle.sv_web.specs.Numeral.{number_in};
-ghost use Rattle.sv_launch.specs.Words.{command_of, command_in, once_at, node_at, of_one, of_three, of_more, is_first, other_of, option_of, options_of, last_of};
+ghost use Rattle.sv_launch.specs.Words.{command_of, command_in, once_at, node_at, of_one, of_three, of_more, is_first, file_of, flag_of, option_of, options_of, last_of};
 
 use sv_host::{IfLocked, Paths};
 use sv_journal::IfMissing;
@@ -150,30 +150,16 @@ fn is_first(word: &str, words: &[String]) -> bool
     }
 }
 
-/// The options, with one of the others that stands at the front of the words, and the words behind it; as they are where none stands
+/// The options, with one that names a file and stands at the front of the words, and the words behind it; as they are where none stands
 /// there.
-fn read_other<'a>(options: Options<'a>, words: &'a [String]) -> (Options<'a>, &'a [String])
-    ensures options { options_of result.0 ≡ (other_of (options_of options.entry) (map string_bytes words.now)).0 }
-    ensures words { map string_bytes result.1.now ≡ (other_of (options_of options.entry) (map string_bytes words.now)).1 }
+fn read_file<'a>(options: Options<'a>, words: &'a [String]) -> (Options<'a>, &'a [String])
+    ensures options { options_of result.0 ≡ (file_of (options_of options.entry) (map string_bytes words.now)).0 }
+    ensures words { map string_bytes result.1.now ≡ (file_of (options_of options.entry) (map string_bytes words.now)).1 }
 {
     let [first, second, rest @ ..] = words else {
         return (options, words);
     };
     match first.as_str() {
-        "--keep-alive" => (
-            Options {
-                persistence: Persistence::Kept,
-                ..options
-            },
-            &words[1..],
-        ),
-        "--existing" => (
-            Options {
-                if_missing: IfMissing::Refuse,
-                ..options
-            },
-            &words[1..],
-        ),
         "--log" => (
             Options {
                 log: Some(second.as_str()),
@@ -192,27 +178,53 @@ fn read_other<'a>(options: Options<'a>, words: &'a [String]) -> (Options<'a>, &'
     }
 }
 
+/// The options, with one that is a word alone and stands at the front of the words; none where none stands there.
+fn flagged<'a>(options: Options<'a>, words: &[String]) -> Option<Options<'a>>
+    ensures { option_map options_of result ≡ flag_of (options_of options.entry) (map string_bytes words.now) }
+{
+    if is_first("--greet", words) {
+        Some(Options {
+            greetings: Greetings::On,
+            ..options
+        })
+    } else if is_first("--wait", words) {
+        Some(Options {
+            if_locked: IfLocked::Wait,
+            ..options
+        })
+    } else if is_first("--keep-alive", words) {
+        Some(Options {
+            persistence: Persistence::Kept,
+            ..options
+        })
+    } else if is_first("--existing", words) {
+        Some(Options {
+            if_missing: IfMissing::Refuse,
+            ..options
+        })
+    } else {
+        None
+    }
+}
+
+/// The words behind the first.
+fn behind_first(words: &[String]) -> &[String]
+    ensures { map string_bytes result.now ≡ drop 1 (map string_bytes words.now) }
+{
+    match words {
+        [_, rest @ ..] => rest,
+        [] => words,
+    }
+}
+
 /// The options, with the one that stands at the front of the words, and the words behind it; as they are where none stands there.
 fn read_option<'a>(options: Options<'a>, words: &'a [String]) -> (Options<'a>, &'a [String])
     ensures options { options_of result.0 ≡ (option_of (options_of options.entry) (map string_bytes words.now)).0 }
     ensures words { map string_bytes result.1.now ≡ (option_of (options_of options.entry) (map string_bytes words.now)).1 }
 {
-    let options = if is_first("--greet", words) {
-        Options {
-            greetings: Greetings::On,
-            ..options
-        }
-    } else if is_first("--wait", words) {
-        Options {
-            if_locked: IfLocked::Wait,
-            ..options
-        }
-    } else {
-        return read_other(options, words);
-    };
-    match words {
-        [_, rest @ ..] => (options, rest),
-        [] => (options, words),
+    match flagged(options, words) {
+        Some(options) => (options, behind_first(words)),
+        None => read_file(options, words),
     }
 }
 
