@@ -1,2 +1,6 @@
+pub mod FoundLemmas
+pub mod HtmlLemmas
+pub mod JsonLemmas
 pub mod NumeralLemmas
+pub mod PartLemmas
 pub mod WorkLemmas

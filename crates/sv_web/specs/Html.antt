@@ -1,5 +1,5 @@
 -- Text in HTML (HTML Living Standard, section "Character references").
-use Rattle.std.specs.Prelude.{◌≡◌, ℕ, ◌==◌, Result, Ok, Err, List, [], ◌∷◌, codes, if◌then◌else◌}
+use Rattle.std.specs.Prelude.{◌≡◌, ℕ, ◌==◌, ◌||◌, not, Bool, false, Result, Ok, Err, List, [], ◌∷◌, ◌++◌, codes, if◌then◌else◌}
 use Rattle.std.specs.List.{flat_map}
 use Rattle.sv_servlet.specs.ReplyState.{ReplyState}
 use Rattle.sv_servlet.specs.declared.reply.ReplyFault.{ReplyFault}
@@ -32,3 +32,21 @@ WritesEscaped old expected (Err BadHeader) new = (expected ≡ Err BadHeader) ×
 WritesEscaped old expected (Err Reserved) new = (expected ≡ Err Reserved) × (new ≡ old)
 WritesEscaped old expected (Err TooMany) new = (expected ≡ Err TooMany) × (new ≡ old)
 WritesEscaped old expected (Err TooLong) new = (expected ≡ Err TooLong) × (new ≡ old)
+
+-- a byte that is markup where it stands by itself
+abbrev pub is_special : ℕ → Bool
+is_special c = (c == 60) || (c == 62) || (c == 38) || (c == 34) || (c == 39)
+
+-- `Reads html text`: what stands there is read as the text, and as no markup
+pub data Reads : List ℕ → List ℕ → Type 0 where
+  Nothing : Reads [] []
+  Plain : (c : ℕ) (html text : List ℕ) → is_special c ≡ false → Reads html text → Reads (c ∷ html) (c ∷ text)
+  Less : (html text : List ℕ) → Reads html text → Reads (codes "&lt;" ++ html) (60 ∷ text)
+  Greater : (html text : List ℕ) → Reads html text → Reads (codes "&gt;" ++ html) (62 ∷ text)
+  Ampersand : (html text : List ℕ) → Reads html text → Reads (codes "&amp;" ++ html) (38 ∷ text)
+  Quote : (html text : List ℕ) → Reads html text → Reads (codes "&quot;" ++ html) (34 ∷ text)
+  Apostrophe : (html text : List ℕ) → Reads html text → Reads (codes "&#39;" ++ html) (39 ∷ text)
+
+-- a byte with which no markup begins or ends
+abbrev pub is_harmless : ℕ → Bool
+is_harmless c = not ((c == 60) || (c == 62) || (c == 34) || (c == 39))

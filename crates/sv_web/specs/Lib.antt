@@ -7,3 +7,10 @@ pub mod Request
 pub mod Numeral
 pub mod Attributes
 pub mod Html
+pub mod Exchange
+pub mod Methods
+pub mod Page
+pub mod Cutting
+pub mod Json
+pub mod Multipart
+pub mod Place

@@ -1,11 +1,19 @@
 -- What a request asks (Jakarta Servlet 6.0, section 3.1).
 use Rattle.std.specs.Prelude.{ℕ, Bool, List, bytes_eq, codes, Option, option_map, unwrap_or}
 use Rattle.std.specs.List.{find}
+use Rattle.sv_model.specs.declared.field.Field.{Field}
 use Rattle.sv_model.specs.declared.request.Param.{Param}
 
 -- the method is POST (RFC 9110, section 9.3.3)
 abbrev pub is_post : List ℕ → Bool
 is_post method = bytes_eq method (codes "POST")
+
+abbrev pub is_of : List ℕ → Field → Bool
+is_of name f = bytes_eq f.name name
+
+-- the value of the first header field of a name in lower case
+abbrev pub field : List Field → List ℕ → Option (List ℕ)
+field fields name = option_map (λ f. f.value.bytes) (find (is_of name) fields)
 
 abbrev pub has_name : List ℕ → Param → Bool
 has_name name p = bytes_eq p.name name

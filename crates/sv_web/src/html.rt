@@ -22,15 +22,23 @@ fn write_byte(bytes: &mut Vec<u8>, byte: u8) -> Result<(), AllocError>
     }
 }
 
-/// A text with the five characters that markup is made of replaced by references, so that it is shown, whatever is in it.
+/// Adds a text with the five characters that markup is made of replaced by references.
 #[tactic(auto, unfolding(crate::specs::Html::escaped))]
+pub(crate) fn add_escaped(bytes: &mut Vec<u8>, text: &[u8]) -> Result<(), AllocError>
+    ensures { OnOk result (bytes.new.items ≡ bytes.old.items ++ escaped text.now) }
+{
+    for byte in text {
+        write_byte(bytes, *byte)?;
+    }
+    Ok(())
+}
+
+/// A text with the five characters that markup is made of replaced by references, so that it is shown, whatever is in it.
 pub fn escape(alloc: Global, text: &[u8]) -> Result<Vec<u8>, AllocError>
     ensures { IfOk result (λ bytes. bytes.items ≡ escaped text.now) }
 {
     let mut bytes = Vec::new(alloc);
-    for byte in text {
-        write_byte(&mut bytes, *byte)?;
-    }
+    add_escaped(&mut bytes, text)?;
     Ok(bytes)
 }
 

@@ -6,23 +6,41 @@
 #![tactic(auto)]
 
 mod attributes;
+mod cutting;
+mod exchange;
+mod handler;
 mod header;
 mod html;
 mod http_filter;
 mod http_servlet;
+mod json_body;
+pub mod laws;
+mod methods;
+mod multipart;
 mod numeral;
+mod page;
+mod place;
 mod refusal;
 mod request;
+mod resource;
 mod send;
 mod web;
 
 pub use attributes::{get_number, has_session, number_of, set_number, set_text};
+pub use exchange::Exchange;
+pub use handler::{Absent, Deletes, Gets, Handler, Posts, Puts};
 pub use header::{set_header, set_html, set_plain_text};
 pub use html::{escape, write_escaped};
 pub use http_filter::HttpFilter;
 pub use http_servlet::HttpServlet;
+pub use json_body::{json, send_json, send_json_error};
+pub use methods::Methods;
+pub use multipart::{FormPart, part};
 pub use numeral::{read_u8, read_u16, read_u64};
+pub use page::{Page, Piece, send_page};
+pub use place::{is_own_path, send_to};
 pub use refusal::Refusal;
-pub use request::{is_post, parameter, parameter_or};
+pub use request::{field, is_post, parameter, parameter_or};
+pub use resource::{Delete, Get, Post, Put};
 pub use send::{send_error, send_redirect};
 pub use web::Web;

@@ -16,6 +16,8 @@ pub enum Refusal {
     Memory,
     /// The edit or the reply refused a call, by the fault of this name.
     Fault(&'static str),
+    /// Another answer than the one that was wanted has been written.
+    Answered,
 }
 
 impl From<AllocError> for Refusal {
@@ -59,6 +61,7 @@ pub fn next_after(alloc: Global, ended: Result<Next, Refusal>) -> Result<Next, A
             let text = Text::from_str(alloc, name)?;
             Ok(Next::SendError { code: 500, text })
         }
+        Err(Refusal::Answered) => Ok(Next::Done),
     }
 }
 
@@ -73,5 +76,6 @@ pub fn before_after(alloc: Global, ended: Result<Before, Refusal>) -> Result<Bef
             let text = Text::from_str(alloc, name)?;
             Ok(Before::SendError { code: 500, text })
         }
+        Err(Refusal::Answered) => Ok(Before::Stop),
     }
 }

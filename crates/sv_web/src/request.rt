@@ -6,13 +6,30 @@ ghost use Rattle.sv_web.specs.Request as spec;
 
 use http::Method;
 use std::alloc::{AllocError, Global};
-use sv_model::{Param, Text};
+use sv_model::{Field, Param, Text};
 
 /// Whether the method is POST (RFC 9110, section 9.3.3).
 pub fn is_post(method: &Method) -> bool
     ensures { result ≡ spec.is_post method.now }
 {
     method.as_str() == "POST"
+}
+
+/// The first header field of a name in lower case.
+fn first_field<'a>(fields: &'a [Field], name: &str) -> Option<&'a Field>
+    ensures { option_copied result ≡ find (spec.is_of name.now) fields.now }
+{
+    fields.iter().find(|field| field.name.as_str() == name)
+}
+
+/// The value of the first header field of a name in lower case (`getHeader`).
+pub fn field<'a>(fields: &'a [Field], name: &str) -> Option<&'a [u8]>
+    ensures { option_copied result ≡ spec.field fields.now name.now }
+{
+    match first_field(fields, name) {
+        Some(field) => Some(field.value.as_bytes()),
+        None => None,
+    }
 }
 
 /// The first parameter of a name.
