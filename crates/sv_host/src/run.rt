@@ -47,7 +47,7 @@ fn open_report(
     let mut report = Report::none();
     report.know(setting.limit());
     let reading = read(machine);
-    report.begin(reading.steady);
+    report.begin(reading.steady, reading.seconds());
     if let Some(path) = paths.log {
         report.log_to(machine.alloc(), machine, path)?;
     }

@@ -129,7 +129,35 @@ pub struct Sort {
     node: u8,
 }
 
+/// In seconds: a line that may be written each second.
+const OFTEN: u64 = 1;
+
+/// The same of what a node does again and again by itself.
+const SELDOM: u64 = 60;
+
 impl Event {
+    /// How many seconds pass, at least, between two lines of its like.
+    pub fn pause(self) -> u64 {
+        match self {
+            Event::PacketLost { .. } | Event::PacketRefused { .. } | Event::LeftOut { .. } =>
+                SELDOM,
+            _ => OFTEN,
+        }
+    }
+
+    /// It may say that something happens no more.
+    pub fn ends_something(self) -> bool {
+        matches!(self, Event::PeerAnswers { .. })
+    }
+
+    /// It says that another event happens no more: no packet is lost on its way to a node that is reached again.
+    pub fn ends(self, other: Event) -> bool {
+        match (self, other) {
+            (Event::PeerAnswers { node }, Event::PacketLost { to, .. }) => node == to,
+            _ => false,
+        }
+    }
+
     /// How much it matters; none where the log has no line for it, as it happens all the time.
     pub fn level(self) -> Option<Level> {
         match self {

@@ -1,5 +1,6 @@
 //! The text of figures, as Prometheus reads it (text format, version 0.0.4).
 
+use crate::durations::{Durations, LENGTHS};
 use std::alloc::AllocError;
 use std::fmt;
 
@@ -9,6 +10,8 @@ pub enum Kind {
     /// It only rises, from 0 at the start.
     Counter,
     Gauge,
+    /// How many were at most so long, for several lengths; how long all were, and how many.
+    Histogram,
 }
 
 impl fmt::Display for Kind {
@@ -16,6 +19,7 @@ impl fmt::Display for Kind {
         f.write_str(match self {
             Kind::Counter => "counter",
             Kind::Gauge => "gauge",
+            Kind::Histogram => "histogram",
         })
     }
 }
@@ -52,12 +56,58 @@ impl Family {
 
     /// A figure of a node in seconds.
     pub fn seconds(&self, out: &mut String, node: u8, nanoseconds: u64) -> Result<(), AllocError> {
+        self.seconds_of(out, "", node, nanoseconds)
+    }
+
+    /// The same of a part of the name.
+    fn seconds_of(
+        &self,
+        out: &mut String,
+        part: &'static str,
+        node: u8,
+        nanoseconds: u64,
+    ) -> Result<(), AllocError> {
         let name = self.name;
         let (seconds, rest) = (nanoseconds / 1_000_000_000, nanoseconds % 1_000_000_000);
         writeln!(
             out,
-            "kegbramble_{name}{{node=\"{node}\"}} {seconds}.{rest:09}"
+            "kegbramble_{name}{part}{{node=\"{node}\"}} {seconds}.{rest:09}"
         )
+    }
+
+    /// How many were at most so long.
+    fn bucket(
+        &self,
+        out: &mut String,
+        node: u8,
+        most: &'static str,
+        count: u64,
+    ) -> Result<(), AllocError> {
+        let name = self.name;
+        writeln!(
+            out,
+            "kegbramble_{name}_bucket{{node=\"{node}\",le=\"{most}\"}} {count}"
+        )
+    }
+
+    /// A histogram of a node.
+    pub fn histogram(
+        &self,
+        out: &mut String,
+        node: u8,
+        durations: &Durations,
+    ) -> Result<(), AllocError> {
+        self.head(out)?;
+        let mut count = 0_u64;
+        for (most, more) in LENGTHS.iter().zip(&durations.counts) {
+            count = count.saturating_add(*more);
+            self.bucket(out, node, most.word, count)?;
+        }
+        self.bucket(out, node, "+Inf", durations.all)?;
+        self.seconds_of(out, "_sum", node, durations.nanoseconds)?;
+        let name = self.name;
+        let all = durations.all;
+        writeln!(out, "kegbramble_{name}_count{{node=\"{node}\"}} {all}")
     }
 
     /// One of several figures of a node.

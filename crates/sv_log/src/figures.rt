@@ -1,16 +1,19 @@
 //! What has happened at a node since its start, in numbers.
 
 use crate::census::Census;
+use crate::durations::Durations;
 use crate::event::{Event, cause_name};
 use crate::family::{Family, Label};
 use crate::loss::Loss;
 use crate::names::{
-    ACCEPTED, BAD_REQUESTS, COMPACTIONS, CONNECTIONS, ENDED, GAVE_WAY, GONE, GROUPS, JOURNAL,
-    KNOWN, KNOWN_LIMIT, LATE, LOST, MOVED, NO_ROOM, NOT_TAKEN, ORDERED, REFUSED, REQUESTS, SENT,
-    SESSIONS, STEPS, TIME, WAITING, WRITE_SECONDS, WRITES,
+    ACCEPTED, BAD_REQUESTS, BUILD, COMPACTIONS, CONNECTIONS, ENDED, GAVE_WAY, GONE, GROUPS,
+    JOURNAL, KNOWN, KNOWN_LIMIT, LATE, LOST, MOVED, NO_ROOM, NOT_TAKEN, ORDERED, PEERS, REFUSED,
+    REQUESTS, SENT, SESSIONS, STARTED, STEPS, TIME, WAITING, WRITE_DURATION, WRITE_SECONDS, WRITES,
 };
+use crate::reach::{NODES, Peers, Reach};
 use std::alloc::AllocError;
 use sv_model::Cause;
+use sv_version::version;
 
 /// The causes of a refusal, in the order in which figures have them.
 const CAUSES: [Cause; 7] = [
@@ -25,6 +28,9 @@ const CAUSES: [Cause; 7] = [
 
 /// The classes of a status (RFC 9110, section 15).
 const CLASSES: [&str; 5] = ["1xx", "2xx", "3xx", "4xx", "5xx"];
+
+/// The numbers of nodes.
+const NUMBERS: [&str; NODES] = ["0", "1", "2", "3", "4", "5", "6", "7"];
 
 /// What has happened at a node since its start, in numbers.
 #[derive(Clone, Copy, Default)]
@@ -44,9 +50,8 @@ pub struct Figures {
     groups: u64,
     steps: u64,
     compactions: u64,
-    writes: u64,
-    /// What those took together.
-    write_nanoseconds: u64,
+    /// Groups that were written to the journal and synced.
+    writes: Durations,
 }
 
 /// What there is at a node at a moment.
@@ -64,6 +69,10 @@ pub struct Gauges {
     pub keys: Option<Census>,
     /// So many keys the node knows at most.
     pub limit: u64,
+    /// When the node was started, in seconds since 1970.
+    pub started: u64,
+    /// Whether another node can be reached, by its number.
+    pub peers: Peers,
 }
 
 /// Writes figures that have one number each.
@@ -84,6 +93,34 @@ fn write_sessions(out: &mut String, node: u8, keys: Census) -> Result<(), AllocE
             value: state,
         };
         SESSIONS.labelled(out, node, label, count)?;
+    }
+    Ok(())
+}
+
+/// Writes which version of the program runs.
+fn write_build(out: &mut String, node: u8) -> Result<(), AllocError> {
+    BUILD.head(out)?;
+    let label = Label {
+        key: "version",
+        value: version(),
+    };
+    BUILD.labelled(out, node, label, 1)
+}
+
+/// Writes which other nodes can be reached.
+fn write_peers(out: &mut String, node: u8, peers: &Peers) -> Result<(), AllocError> {
+    PEERS.head(out)?;
+    for (number, reach) in NUMBERS.iter().zip(peers) {
+        let value = match reach {
+            Reach::Unknown => continue,
+            Reach::Silent => 0,
+            Reach::Answers => 1,
+        };
+        let label = Label {
+            key: "peer",
+            value: *number,
+        };
+        PEERS.labelled(out, node, label, value)?;
     }
     Ok(())
 }
@@ -143,8 +180,7 @@ impl Figures {
 
     /// Counts a group that was written to the journal and synced, which took so long.
     pub fn count_write(&mut self, nanoseconds: u64) {
-        rise(&mut self.writes, 1);
-        rise(&mut self.write_nanoseconds, nanoseconds);
+        self.writes.add(nanoseconds);
     }
 
     /// The counters that have one number each.
@@ -162,7 +198,7 @@ impl Figures {
             (GROUPS, self.groups),
             (STEPS, self.steps),
             (COMPACTIONS, self.compactions),
-            (WRITES, self.writes),
+            (WRITES, self.writes.all),
         ]
     }
 
@@ -212,7 +248,11 @@ impl Figures {
         self.write_lost(out, node)?;
         write_plain(out, node, &self.counters())?;
         WRITE_SECONDS.head(out)?;
-        WRITE_SECONDS.seconds(out, node, self.write_nanoseconds)?;
+        WRITE_SECONDS.seconds(out, node, self.writes.nanoseconds)?;
+        WRITE_DURATION.histogram(out, node, &self.writes)?;
+        write_build(out, node)?;
+        write_plain(out, node, &[(STARTED, gauges.started)])?;
+        write_peers(out, node, &gauges.peers)?;
         gauges.write_keys(out, node)?;
         write_plain(out, node, &gauges.of_clients())?;
         gauges.write_journal(out, node)?;

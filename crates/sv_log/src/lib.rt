@@ -8,6 +8,7 @@
 #![tactic(auto)]
 
 mod census;
+mod durations;
 mod event;
 mod failure;
 mod family;
@@ -20,6 +21,7 @@ mod milestone;
 mod names;
 mod phase;
 mod quoted;
+mod reach;
 mod report;
 mod stamp;
 mod tally;
@@ -35,5 +37,6 @@ pub use metrics::{Metrics, can_be_figures};
 pub use milestone::Milestone;
 pub use phase::Phase;
 pub use quoted::Quoted;
+pub use reach::{NODES, Peers, Reach};
 pub use report::{Report, ReportFault};
 pub use stamp::Stamp;

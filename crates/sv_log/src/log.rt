@@ -3,7 +3,7 @@
 use crate::event::Event;
 use crate::level::Level;
 use crate::stamp::Stamp;
-use crate::tally::{Said, Tally};
+use crate::tally::{Entry, Said, Tally};
 use std::alloc::{AllocError, Global};
 use std::fs::{File, Files, OpenOptions};
 use std::io::Write;
@@ -168,30 +168,64 @@ impl Log {
         }
     }
 
-    /// Puts down what has happened, or counts it.
+    /// Puts down what has happened, or counts it; before it, how often it had happened what it ends.
     pub fn note(&mut self, event: Event) {
+        self.say_ended(event);
         if let Some(level) = event.level()
-            && self.tally.count(event) == Said::Now
+            && self.tally.count(event, self.second) == Said::Now
         {
             self.say(level, event);
         }
     }
 
-    /// Says what was counted in the second before, where another one has begun.
-    pub fn at(&mut self, second: u64) {
-        if second != self.second {
-            self.second = second;
-            self.say_counted();
+    /// Says how often something has happened.
+    fn say_entry(&mut self, entry: Option<Entry>) {
+        if let Some(entry) = entry {
+            self.say(entry.event.level().unwrap_or(Level::Warn), entry);
         }
     }
 
-    /// Says what was counted, once for all of its kind.
+    /// Says how often it has happened what an event ends.
+    fn say_ended(&mut self, event: Event) {
+        if !event.ends_something() {
+            return;
+        }
+        for place in 0..self.tally.len() {
+            let entry = self.tally.ended(place, event);
+            self.say_entry(entry);
+        }
+        self.tally.forget(event);
+    }
+
+    /// Says what was counted before and may be said now, if another second has begun.
+    pub fn at(&mut self, second: u64) {
+        if second != self.second {
+            self.second = second;
+            self.say_due();
+        }
+    }
+
+    /// The same, once for all of its kind.
+    fn say_due(&mut self) {
+        for place in 0..self.tally.len() {
+            let entry = self.tally.due(place, self.second);
+            self.say_entry(entry);
+        }
+        self.say_skipped();
+        self.tally.begin(self.second);
+    }
+
+    /// Says all that was counted.
     pub fn say_counted(&mut self) {
         for place in 0..self.tally.len() {
-            if let Some(entry) = self.tally.repeated(place) {
-                self.say(entry.event.level().unwrap_or(Level::Warn), entry);
-            }
+            let entry = self.tally.repeated(place);
+            self.say_entry(entry);
         }
+        self.say_skipped();
+    }
+
+    /// Says how many events were neither said nor counted by their kind.
+    fn say_skipped(&mut self) {
         let skipped = self.tally.skipped();
         if skipped > 0 {
             self.say(
@@ -203,7 +237,6 @@ impl Log {
                 },
             );
         }
-        self.tally.begin();
     }
 
     /// Ends a line that was cut off, and says how many were lost; whether that could be written.

@@ -98,6 +98,30 @@ pub const WRITES: Family = Family {
     help: "Groups that were written to the journal and synced.",
 };
 
+pub const WRITE_DURATION: Family = Family {
+    name: "journal_write_duration_seconds",
+    kind: Kind::Histogram,
+    help: "How long each of those writes took, its syncs included.",
+};
+
+pub const PEERS: Family = Family {
+    name: "peer_reachable",
+    kind: Kind::Gauge,
+    help: "Whether the last packet to another node went out, by its number; nothing until one was sent.",
+};
+
+pub const STARTED: Family = Family {
+    name: "start_time_seconds",
+    kind: Kind::Gauge,
+    help: "When the node was started, in seconds since 1970.",
+};
+
+pub const BUILD: Family = Family {
+    name: "build_info",
+    kind: Kind::Gauge,
+    help: "Which version of the program runs; always 1.",
+};
+
 pub const WRITE_SECONDS: Family = Family {
     name: "journal_write_seconds_total",
     kind: Kind::Counter,

@@ -8,13 +8,11 @@ use crate::log::Log;
 use crate::loss::Loss;
 use crate::metrics::Metrics;
 use crate::milestone::Milestone;
+use crate::reach::{NODES, Peers, Reach};
 use std::alloc::Global;
 use std::fmt;
 use std::fs::{File, Files};
 use std::rt::Env;
-
-/// So many nodes may be in a cluster.
-const NODES: usize = 8;
 
 /// Why a report can't be begun.
 #[derive(Clone, Copy, Debug, PartialEq, Eq)]
@@ -29,8 +27,7 @@ pub enum ReportFault {
 pub struct Report {
     log: Option<Log>,
     metrics: Option<Metrics>,
-    /// By its number, whether a node can't be reached.
-    is_silent: [bool; NODES],
+    peers: Peers,
     now: u64,
     journal: u64,
     /// None until they were counted, which is when the journal was opened.
@@ -39,6 +36,8 @@ pub struct Report {
     limit: u64,
     /// When it was begun, by the clock that nobody sets, in milliseconds.
     begun: u64,
+    /// The same in seconds since 1970.
+    started: u64,
 }
 
 /// By hand, so that the proof of a caller has one step for it.
@@ -47,12 +46,13 @@ impl Drop for Report {
         let Report {
             log: _,
             metrics: _,
-            is_silent: _,
+            peers: _,
             now: _,
             journal: _,
             keys: _,
             limit: _,
             begun: _,
+            started: _,
         } = self;
     }
 }
@@ -63,12 +63,13 @@ impl Report {
         Report {
             log: None,
             metrics: None,
-            is_silent: [false; NODES],
+            peers: [Reach::Unknown; NODES],
             now: 0,
             journal: 0,
             keys: None,
             limit: 0,
             begun: 0,
+            started: 0,
         }
     }
 
@@ -112,9 +113,10 @@ impl Report {
         }
     }
 
-    /// When the node begins to be opened, by the clock that nobody sets, in milliseconds.
-    pub fn begin(&mut self, milliseconds: u64) {
+    /// When the node begins to be opened: by the clock that nobody sets, in milliseconds, and in seconds since 1970.
+    pub fn begin(&mut self, milliseconds: u64, now: u64) {
         self.begun = milliseconds;
+        self.started = now;
     }
 
     /// The journal was opened, in which so many records were, and has so many bytes; its keys were counted.
@@ -165,31 +167,31 @@ impl Report {
     /// A packet was sent to a node.
     pub fn sent(&mut self, to: u8) {
         self.note(Event::PacketSent { to });
-        self.hear(to, false);
+        self.hear(to, Reach::Answers);
     }
 
     /// A packet to a node was lost.
     pub fn lost(&mut self, to: u8, why: Loss) {
         self.note(Event::PacketLost { to, why });
         if why.is_silence() {
-            self.hear(to, true);
+            self.hear(to, Reach::Silent);
         }
     }
 
     /// Whether a node can be reached is known: said where it was otherwise before.
-    fn hear(&mut self, node: u8, is_silent: bool) {
-        let Some(before) = self.is_silent.get_mut(usize::from(node)) else {
+    fn hear(&mut self, node: u8, reach: Reach) {
+        let Some(peer) = self.peers.get_mut(usize::from(node)) else {
             return;
         };
-        if *before == is_silent {
-            return;
+        let before = *peer;
+        *peer = reach;
+        match (before, reach) {
+            (Reach::Unknown | Reach::Answers, Reach::Silent) => {
+                self.note(Event::PeerSilent { node });
+            }
+            (Reach::Silent, Reach::Answers) => self.note(Event::PeerAnswers { node }),
+            _ => {}
         }
-        *before = is_silent;
-        self.note(if is_silent {
-            Event::PeerSilent { node }
-        } else {
-            Event::PeerAnswers { node }
-        });
     }
 
     /// The length of the journal, in bytes.
@@ -238,6 +240,8 @@ impl Report {
             now: self.now,
             keys: self.keys,
             limit: self.limit,
+            started: self.started,
+            peers: self.peers,
         }
     }
 

@@ -1,4 +1,4 @@
-//! How often things have happened within a second.
+//! How often things have happened since their lines were written.
 
 use crate::event::Event;
 use std::alloc::{AllocFailed, Global};
@@ -13,16 +13,29 @@ pub struct Entry {
     /// The last one.
     pub event: Event,
     pub times: u64,
+    /// When its line was written last, in seconds since 1970.
+    said: u64,
+}
+
+impl Entry {
+    /// So long has passed since its line was written that the next one may be.
+    fn is_due(&self, second: u64) -> bool {
+        second.abs_diff(self.said) >= self.event.pause()
+    }
 }
 
 impl fmt::Display for Entry {
     fn fmt<W: fmt::Write>(&self, f: &mut fmt::Formatter<W>) -> fmt::Result {
-        let Entry { event, times } = *self;
+        let Entry {
+            event,
+            times,
+            said: _,
+        } = *self;
         write!(f, "{event} times={times}")
     }
 }
 
-/// What has happened within a second.
+/// What has happened since its line was written.
 #[derive(Drop)]
 pub struct Tally {
     entries: Vec<Entry>,
@@ -34,7 +47,7 @@ pub struct Tally {
 pub enum Said {
     /// Its line is to be written.
     Now,
-    /// It is counted, and said in the next second.
+    /// It is counted, and said once its next line may be written.
     Later,
 }
 
@@ -54,8 +67,8 @@ impl Tally {
             .position(|entry| entry.event.sort() == sort)
     }
 
-    /// Counts an event.
-    pub fn count(&mut self, event: Event) -> Said {
+    /// Counts an event of this second.
+    pub fn count(&mut self, event: Event, second: u64) -> Said {
         if let Some(place) = self.place_of(event) {
             if let Some(entry) = self.entries.get_mut(place) {
                 entry.event = event;
@@ -64,9 +77,11 @@ impl Tally {
             return Said::Later;
         }
         if self.entries.len() < KINDS {
-            let added: Result<(), AllocFailed<Entry>> = self
-                .entries
-                .push(Entry { event, times: 0 });
+            let added: Result<(), AllocFailed<Entry>> = self.entries.push(Entry {
+                event,
+                times: 0,
+                said: second,
+            });
             if added.is_ok() {
                 return Said::Now;
             }
@@ -80,13 +95,27 @@ impl Tally {
         self.entries.len()
     }
 
-    /// What has happened again since its line was written, at a place of the list; none where it hasn't.
+    /// What has happened again since its line was written, at a place of the list; none if it hasn't.
     pub fn repeated(&self, place: usize) -> Option<Entry> {
-        let entry = self.entries.get(place).copied()?;
-        if entry.times == 0 {
-            return None;
-        }
-        Some(entry)
+        self.entries
+            .get(place)
+            .copied()
+            .filter(|entry| entry.times > 0)
+    }
+
+    /// The same, if it may be said in this second.
+    pub fn due(&self, place: usize, second: u64) -> Option<Entry> {
+        self.repeated(place).filter(|entry| entry.is_due(second))
+    }
+
+    /// The same, if an event says that it happens no more.
+    pub fn ended(&self, place: usize, event: Event) -> Option<Entry> {
+        self.repeated(place).filter(|entry| event.ends(entry.event))
+    }
+
+    /// Forgets what happens no more, as an event says: what is like it is said at once.
+    pub fn forget(&mut self, event: Event) {
+        self.entries.retain(|entry| !event.ends(entry.event));
     }
 
     /// How many events were neither written nor counted by their kind.
@@ -94,11 +123,15 @@ impl Tally {
         self.skipped
     }
 
-    /// Begins a second. What has happened again is on the list, so that it is said once a second.
-    pub fn begin(&mut self) {
-        self.entries.retain(|entry| entry.times > 0);
+    /// Begins a second. What has happened again stays on the list, so that it is said no more often than it may be.
+    pub fn begin(&mut self, second: u64) {
+        self.entries
+            .retain(|entry| entry.times > 0 || !entry.is_due(second));
         for entry in &mut self.entries {
-            entry.times = 0;
+            if entry.is_due(second) {
+                entry.times = 0;
+                entry.said = second;
+            }
         }
         self.skipped = 0;
     }

@@ -3,7 +3,7 @@
 use crate::fixtures::add;
 use std::alloc::Global;
 use std::process::Abort;
-use sv_log::{Census, Event, Figures, Gauges, Loss, Phase};
+use sv_log::{Census, Event, Figures, Gauges, Loss, NODES, Phase, Reach};
 use sv_model::{Cause, Key};
 
 /// What is counted.
@@ -18,7 +18,7 @@ enum Counted {
 struct Row(&'static [Counted], &'static str);
 
 /// Each event counts in its own figure.
-static ROWS: [Row; 19] = [
+static ROWS: [Row; 22] = [
     Row(
         &[Counted::Event(Event::Answered { class: 5 })],
         "\nkegbramble_requests_total{node=\"3\",class=\"5xx\"} 1\n",
@@ -113,7 +113,68 @@ kegbramble_journal_write_seconds_total{node=\"3\"} 1.504000001
         &[Counted::Write(1_500_000_000), Counted::Write(4_000_001)],
         "\nkegbramble_journal_writes_total{node=\"3\"} 2\n",
     ),
+    // 4.000001 milliseconds are more than 3 and at most 10; a second and a half is more than 1 and at most 3.
+    Row(
+        &[Counted::Write(1_500_000_000), Counted::Write(4_000_001)],
+        "
+# TYPE kegbramble_journal_write_duration_seconds histogram
+kegbramble_journal_write_duration_seconds_bucket{node=\"3\",le=\"0.0001\"} 0
+kegbramble_journal_write_duration_seconds_bucket{node=\"3\",le=\"0.0003\"} 0
+kegbramble_journal_write_duration_seconds_bucket{node=\"3\",le=\"0.001\"} 0
+kegbramble_journal_write_duration_seconds_bucket{node=\"3\",le=\"0.003\"} 0
+kegbramble_journal_write_duration_seconds_bucket{node=\"3\",le=\"0.01\"} 1
+kegbramble_journal_write_duration_seconds_bucket{node=\"3\",le=\"0.03\"} 1
+kegbramble_journal_write_duration_seconds_bucket{node=\"3\",le=\"0.1\"} 1
+kegbramble_journal_write_duration_seconds_bucket{node=\"3\",le=\"0.3\"} 1
+kegbramble_journal_write_duration_seconds_bucket{node=\"3\",le=\"1\"} 1
+kegbramble_journal_write_duration_seconds_bucket{node=\"3\",le=\"3\"} 2
+kegbramble_journal_write_duration_seconds_bucket{node=\"3\",le=\"+Inf\"} 2
+kegbramble_journal_write_duration_seconds_sum{node=\"3\"} 1.504000001
+kegbramble_journal_write_duration_seconds_count{node=\"3\"} 2
+",
+    ),
+    // What is at most a length is in its bucket; what is longer than all of them is among all alone.
+    Row(
+        &[Counted::Write(100_000), Counted::Write(3_000_000_001)],
+        "
+kegbramble_journal_write_duration_seconds_bucket{node=\"3\",le=\"0.0001\"} 1
+kegbramble_journal_write_duration_seconds_bucket{node=\"3\",le=\"0.0003\"} 1
+kegbramble_journal_write_duration_seconds_bucket{node=\"3\",le=\"0.001\"} 1
+kegbramble_journal_write_duration_seconds_bucket{node=\"3\",le=\"0.003\"} 1
+kegbramble_journal_write_duration_seconds_bucket{node=\"3\",le=\"0.01\"} 1
+kegbramble_journal_write_duration_seconds_bucket{node=\"3\",le=\"0.03\"} 1
+kegbramble_journal_write_duration_seconds_bucket{node=\"3\",le=\"0.1\"} 1
+kegbramble_journal_write_duration_seconds_bucket{node=\"3\",le=\"0.3\"} 1
+kegbramble_journal_write_duration_seconds_bucket{node=\"3\",le=\"1\"} 1
+kegbramble_journal_write_duration_seconds_bucket{node=\"3\",le=\"3\"} 1
+kegbramble_journal_write_duration_seconds_bucket{node=\"3\",le=\"+Inf\"} 2
+",
+    ),
+    // Of a node that nothing was sent to nothing is known.
+    Row(
+        &[],
+        "
+# TYPE kegbramble_start_time_seconds gauge
+kegbramble_start_time_seconds{node=\"3\"} 784111000
+# HELP kegbramble_peer_reachable Whether the last packet to another node went out, by its number; nothing until one was sent.
+# TYPE kegbramble_peer_reachable gauge
+kegbramble_peer_reachable{node=\"3\",peer=\"1\"} 1
+kegbramble_peer_reachable{node=\"3\",peer=\"2\"} 0
+# HELP kegbramble_sessions ",
+    ),
     Row(&[Counted::Event(Event::Moved)], LAST),
+];
+
+/// Node 1 is reached, node 2 isn't, and nothing was sent to the others.
+const PEERS: [Reach; NODES] = [
+    Reach::Unknown,
+    Reach::Answers,
+    Reach::Silent,
+    Reach::Unknown,
+    Reach::Unknown,
+    Reach::Unknown,
+    Reach::Unknown,
+    Reach::Unknown,
 ];
 
 /// What there is at a node.
@@ -129,6 +190,8 @@ const GAUGES: Gauges = Gauges {
         ended: 4,
     }),
     limit: 65_536,
+    started: 784_111_000,
+    peers: PEERS,
 };
 
 /// That stands behind the counters, each name with its own two lines before it, and nothing but the full stop comes after it. All known

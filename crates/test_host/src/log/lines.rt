@@ -54,7 +54,7 @@ struct Row(
     &'static str,
 );
 
-static ROWS: [Row; 6] = [
+static ROWS: [Row; 7] = [
     Row(
         "equal lines of a second are said once, and how many more there were in the next second, with the numbers of the last; what \
          goes on has a line a second; what happens all the time has none",
@@ -80,7 +80,6 @@ static ROWS: [Row; 6] = [
 1994-11-06T08:49:37Z warn packet_lost to=1 why=Broken
 1994-11-06T08:49:38Z warn request_refused cause=Deadline number=3 times=2
 1994-11-06T08:49:39Z warn request_refused cause=Deadline number=4 times=1
-1994-11-06T08:49:39Z warn packet_lost to=1 why=Broken
 1994-11-06T08:49:41Z warn request_refused cause=Deadline number=5
 ",
     ),
@@ -155,6 +154,39 @@ static ROWS: [Row; 6] = [
 1994-11-06T08:49:37Z warn peer_silent node=1
 1994-11-06T08:49:37Z warn packet_lost to=1 why=Late
 1994-11-06T08:49:37Z info peer_answers node=1
+",
+    ),
+    Row(
+        "of a node that stays out of reach a line a minute says how many packets were lost, and one once it is reached again",
+        Written::Log,
+        &[&[
+            Step::At(784_111_777),
+            Step::Lost(Loss::Broken),
+            Step::At(784_111_778),
+            Step::Lost(Loss::Broken),
+            Step::At(784_111_779),
+            Step::Lost(Loss::Broken),
+            Step::At(784_111_836),
+            Step::Lost(Loss::Broken),
+            Step::At(784_111_837),
+            Step::Lost(Loss::Broken),
+            Step::At(784_111_840),
+            Step::Sent,
+            Step::At(784_111_841),
+            Step::Lost(Loss::Broken),
+            Step::Lost(Loss::Broken),
+            Step::Lost(Loss::Broken),
+            Step::End,
+        ]],
+        "\
+1994-11-06T08:49:37Z warn packet_lost to=1 why=Broken
+1994-11-06T08:49:37Z warn peer_silent node=1
+1994-11-06T08:50:37Z warn packet_lost to=1 why=Broken times=3
+1994-11-06T08:50:40Z warn packet_lost to=1 why=Broken times=1
+1994-11-06T08:50:40Z info peer_answers node=1
+1994-11-06T08:50:41Z warn packet_lost to=1 why=Broken
+1994-11-06T08:50:41Z warn peer_silent node=1
+1994-11-06T08:50:41Z warn packet_lost to=1 why=Broken times=2
 ",
     ),
     Row(
