@@ -27,7 +27,7 @@ use Rattle.sv_connection.specs.declared.received.Received.TheVariants.{Request a
 use Rattle.sv_connection.specs.Receive.{Stand, GivesRequest, IsDirected, IsFound, IsRead, IsRefused, Receives}
 use Rattle.sv_connection.specs.Request.{request_of, HasTargetFault}
 use Rattle.sv_target.specs.declared.target.Target.{Target as TargetValue}
-use Rattle.sv_connection.specs.Serve.{How, how, Sight, Verdict, Says, Parks, Fails, verdict, outputs_of, Follows, IsAnswered, IsStarved, IsSaid, IsPage, IsServed, Faulty, status_of}
+use Rattle.sv_connection.specs.Serve.{How, how, Sight, verdict, outputs_of, Follows, IsAnswered, IsStarved, IsSaid, IsPage, IsServed, Faulty, status_of}
 
 -- the site was stepped, and what follows was said
 pub answered : {S : Type 0} (steps : S → Moment → Input → Result (List Output) StepFault → S → Type 0) (moment : Moment) (token : ℕ) (single : Bool)

@@ -20,6 +20,6 @@ mod table;
 pub use connection::Connection;
 pub use outcome::{Outcome, RequestFault, Served};
 pub use received::Received;
-pub use reply::refusal;
+pub use reply::{Naming, refusal, refusal_by};
 pub use solo::Solo;
 pub use speak::memory_lines;

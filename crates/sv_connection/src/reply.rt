@@ -2,11 +2,21 @@
 
 ghost use Rattle.std.specs.Prelude.{◌≡◌, IfOk, find};
 ghost use Rattle.std.specs.Option.{option_copied};
-ghost use Rattle.sv_connection.specs.Reply.{cause_name, refusal, speaks_to};
+ghost use Rattle.sv_connection.specs.Reply.{cause_field, cause_name, refusal, refusal_by, speaks_to};
 
 use http::StatusCode;
+use http_header::{HeaderName, HeaderValue};
 use std::alloc::{AllocError, Global};
-use sv_model::{Cause, Output, Response, Sequence, plain_type};
+use sv_model::{Cause, Field, Output, Response, Sequence, plain_type};
+
+/// Where a refusal names its cause.
+#[derive(Clone, Copy, Debug, PartialEq, Eq)]
+pub enum Naming {
+    /// In its body.
+    InBody,
+    /// In a field, too: `kegbramble-cause`, which a front server can decide by.
+    InField,
+}
 
 /// The name of a cause, as it stands in a refusal's body.
 fn cause_name(cause: Cause) -> &'static str
@@ -23,6 +33,16 @@ fn cause_name(cause: Cause) -> &'static str
     }
 }
 
+/// `kegbramble-cause`, with the cause's name.
+fn cause_field(cause: Cause) -> Field
+    ensures { result ≡ cause_field cause }
+{
+    Field {
+        name: HeaderName::from_static("kegbramble-cause"),
+        value: HeaderValue::from_static(cause_name(cause)),
+    }
+}
+
 /// The response for a refused request: status 503 (RFC 9110, section 15.6.4), and the cause's name in the body.
 pub fn refusal(
     alloc: Global,
@@ -32,8 +52,24 @@ pub fn refusal(
 ) -> Result<Response, AllocError>
     ensures { IfOk result (λ response. response ≡ refusal cause head_only close) }
 {
+    refusal_by(alloc, Naming::InBody, cause, head_only, close)
+}
+
+/// The same where the cause is named as the node is told to.
+pub fn refusal_by(
+    alloc: Global,
+    naming: Naming,
+    cause: Cause,
+    head_only: bool,
+    close: bool,
+) -> Result<Response, AllocError>
+    ensures { IfOk result (λ response. response ≡ refusal_by naming cause head_only close) }
+{
     let mut fields = Sequence::new(alloc);
     fields.push(plain_type())?;
+    if naming == Naming::InField {
+        fields.push(cause_field(cause))?;
+    }
     let mut body = Sequence::new(alloc);
     body.extend_from_slice(b"503 ")?;
     body.extend_from_slice(cause_name(cause).as_bytes())?;

@@ -19,6 +19,7 @@ use Rattle.sv_model.specs.declared.output.Output.TheVariants.{Answer, Refuse, Se
 use Rattle.sv_model.specs.declared.output.Cause.{Cause}
 use Rattle.sv_model.specs.declared.site.StepFault.{StepFault}
 use Rattle.sv_net.proofs.SpareLemmas.{spares_same}
+use Rattle.sv_net.specs.Places.{naming_of}
 use Rattle.sv_net.specs.Saying.{Answers, refused_as}
 
 -- a packet alone isn't sent
@@ -47,9 +48,9 @@ one_handed items rest output now before mid final is handed all = subst (λ xs. 
 
 -- the client that has asked
 pub client_refused : (asker : Asker) (place number : ℕ) (fault : StepFault) (cause : Cause) (now : ℕ) (old new : Server) → asker ≡ Client place number → cause ≡ cause_of fault
-    → TellsOne number (λ manner state. Answers (refused_as cause manner) now state) old new → ConcludesRefused asker fault now old new
+    → TellsOne number (λ manner state. Answers (refused_as (naming_of old.connections) cause manner) now state) old new → ConcludesRefused asker fault now old new
 client_refused asker place number fault cause now old new is by told =
-    subst (λ a. ConcludesRefused a fault now old new) (sym is) (subst (λ (c : Cause). TellsOne number (λ manner state. Answers (refused_as c manner) now state) old new) by told)
+    subst (λ a. ConcludesRefused a fault now old new) (sym is) (subst (λ (c : Cause). TellsOne number (λ manner state. Answers (refused_as (naming_of old.connections) c manner) now state) old new) by told)
 
 -- one way, and then the others
 pub one_refused : (ways : List Way) (at : ℕ) (other way : Way) (fault : StepFault) (now : ℕ) (before mid final : Server) → at < length ways → way ≡ get_or ways at other

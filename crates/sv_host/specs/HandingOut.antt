@@ -20,7 +20,7 @@ use Rattle.sv_node.specs.Group.{GroupEnds}
 use Rattle.sv_node.specs.declared.node.Node.{Node}
 use Rattle.sv_net.specs.declared.connections.Connections.{Connections}
 use Rattle.sv_net.specs.declared.state.State.{State}
-use Rattle.sv_net.specs.Places.{HasStood, Spares, SparesClients, elsewhere, held_at, manner_at, places_of}
+use Rattle.sv_net.specs.Places.{HasStood, Spares, SparesClients, elsewhere, held_at, manner_at, naming_of, places_of}
 use Rattle.sv_net.specs.Saying.{Answers, Tells, refused_as}
 
 -- nothing has changed at any place but this one
@@ -47,7 +47,7 @@ TellsNobody old new = (clients_of new.parked ≡ clients_of old.parked) × (plac
 -- what is handed on of one output: an answer and a refusal to the client that waits for it, a packet to no client
 abbrev pub HandsOn : Output → ℕ → Server → Server → Type 0
 HandsOn (Answer number response) now old new = TellsOne number (λ _ state. Tells response now state) old new
-HandsOn (Refuse number cause) now old new = TellsOne number (λ manner state. Answers (refused_as cause manner) now state) old new
+HandsOn (Refuse number cause) now old new = TellsOne number (λ manner state. Answers (refused_as (naming_of old.connections) cause manner) now state) old new
 HandsOn (Send packet) now old new = (clients_of new.parked ≡ clients_of old.parked) × Spares old.connections new.connections
 HandsOn Moved now old new = TellsNobody old new
 HandsOn (MoveRefused why) now old new = TellsNobody old new
@@ -69,7 +69,7 @@ Concludes Nobody old new = TellsNobody old new
 -- of a step that was refused: the client that has asked is refused by the fault's cause
 abbrev pub ConcludesRefused : Asker → StepFault → ℕ → Server → Server → Type 0
 ConcludesRefused (Client place number) fault now old new =
-    TellsOne number (λ manner state. Answers (refused_as (cause_of fault) manner) now state) old new
+    TellsOne number (λ manner state. Answers (refused_as (naming_of old.connections) (cause_of fault) manner) now state) old new
 ConcludesRefused (Command place) fault now old new = (clients_of new.parked ≡ clients_of old.parked) × SparesClients old.connections new.connections
 ConcludesRefused Nobody fault now old new = TellsNobody old new
 

@@ -1,5 +1,6 @@
 -- Where a host's node stands, where those beside it listen, and how its clients are served.
 use Rattle.std.specs.Prelude.{ℕ, List, Option}
+use Rattle.sv_connection.specs.declared.reply.Naming.{Naming}
 use Rattle.sv_host.specs.Secrets.{last_of}
 use Rattle.sv_host.specs.declared.host.Host.{Host}
 use Rattle.sv_model.specs.declared.node.Setting.{Setting}
@@ -16,6 +17,10 @@ ports_of h = h.server.ports.items
 -- how many requests a client's connection brings
 abbrev pub persistence_of : Host → Persistence
 persistence_of h = places.persistence_of h.server.connections
+
+-- where its refusals name their cause
+abbrev pub naming_of : Host → Naming
+naming_of h = places.naming_of h.server.connections
 
 -- the number of its last secret where they are counted; none where they are read
 abbrev pub counted_of : Host → Option ℕ

@@ -8,7 +8,7 @@ ghost use Rattle.sv_host.specs.Outputs.{AreHandedOn, AreSendable, IsHandedOn, Is
 ghost use Rattle.sv_host.specs.HandingOut.{Concludes, ConcludesRefused, HandsOn, HandsOnAll, HandsOut, HandsOutFrom, HandsOutGroup, RefusesAll, SameElsewhere, TellsNobody, way_at};
 ghost use Rattle.sv_host.specs.Outcome.{refused};
 ghost use Rattle.sv_host.specs.Parked.{clients_of, place_under, without};
-ghost use Rattle.sv_net.specs.Places.{Spares, held_at, manner_at};
+ghost use Rattle.sv_net.specs.Places.{Spares, held_at, manner_at, naming_of};
 ghost use Rattle.sv_host.specs.Time.{seconds_of};
 ghost use Rattle.sv_net.specs.Saying.{Answers, Tells, refused_as};
 
@@ -69,7 +69,7 @@ impl Server {
     pub fn refuse(&mut self, token: u64, cause: Cause, now: u64)
         ensures clients { clients_of self.new.parked ≡ without token (clients_of self.old.parked) }
         ensures refused { IfSome (place_under token (clients_of self.old.parked)) (λ place. IfSome (manner_at self.old.connections place token)
-            (λ manner. IfSome (held_at self.new.connections place) (λ held. Answers (refused_as cause manner) now held.state))) }
+            (λ manner. IfSome (held_at self.new.connections place) (λ held. Answers (refused_as (naming_of self.old.connections) cause manner) now held.state))) }
         ensures others { SameElsewhere (place_under token (clients_of self.old.parked)) self.old.connections self.new.connections }
     {
         if let Some(place) = self.parked.take(token) {

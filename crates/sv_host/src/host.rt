@@ -200,7 +200,7 @@ impl Host {
     ghost use Rattle.sv_journal.specs.Disk.{HasRisen};
     ghost use Rattle.sv_node.specs.Opened.{LacksRoom};
     ghost use Rattle.sv_node.specs.declared.fault.OpenFault.TheVariants.{Damaged, Device, Full};
-    ghost use Rattle.sv_host.specs.Host.{counted_of, setting_of, ports_of, persistence_of};
+    ghost use Rattle.sv_host.specs.Host.{counted_of, naming_of, setting_of, ports_of, persistence_of};
 
     /// Opens the file of secrets, and listens at the node's port. Faults are found in this order.
     pub fn at(
@@ -211,6 +211,7 @@ impl Host {
         ensures setting { IfOk result (λ h. setting_of h ≡ place.setting) }
         ensures ports { IfOk result (λ h. ports_of h ≡ place.ports.items) }
         ensures persistence { IfOk result (λ h. persistence_of h ≡ persistence) }
+        ensures naming { IfOk result (λ h. naming_of h ≡ place.naming) }
         ensures secrets { IfOk result (λ h. counted_of h ≡ first_by place.secrets) }
     {
         let (secrets, acceptor, registry) = open_both(machine, &place)?;
@@ -220,8 +221,11 @@ impl Host {
             ports,
             secrets: _,
             contexts,
+            naming,
         } = place;
         let peers = peers_of(setting, contexts);
+        let mut connections = Connections::new(registry, persistence, alloc);
+        connections.name_causes(naming);
         let time = read(machine);
         Ok(Host {
             setting,
@@ -229,7 +233,7 @@ impl Host {
             server: Server {
                 ports,
                 secrets,
-                connections: Connections::new(registry, persistence, alloc),
+                connections,
                 parked: ParkedClients::new(alloc),
                 peers,
                 text: Vec::new(alloc),

@@ -4,10 +4,12 @@ ghost use Rattle.std.specs.Prelude.{◌≡◌, ◌≢◌, Some, IfOk, IfErr, str
 ghost use Rattle.std.specs.Option.{option_map};
 ghost use Rattle.sv_model.specs.Ranges.{IsSetting};
 ghost use Rattle.sv_host.specs.Place.{setting_in, IsFault};
+ghost use Rattle.sv_connection.specs.declared.reply.Naming.TheVariants.{InBody};
 ghost use Rattle.sv_host.specs.declared.place.PlaceFault.TheVariants.{Memory};
 
 use std::alloc::{AllocError, Global};
 use sv_config::Cluster;
+use sv_connection::Naming;
 use sv_model::{NODE_LIMIT, Setting};
 use sv_record::CONTEXTS_LEN;
 use thiserror::Error;
@@ -22,6 +24,8 @@ pub struct Place {
     pub secrets: Option<String>,
     /// What stands for its contexts where it greets the other nodes; none where it doesn't.
     pub contexts: Option<[u8; CONTEXTS_LEN]>,
+    /// Where its refusals name their cause.
+    pub naming: Naming,
     ghost inside: { IsSetting setting },
 }
 
@@ -62,6 +66,7 @@ impl Place {
     pub fn new(alloc: Global, cluster: &Cluster, number: u8) -> Result<Place, PlaceFault>
         ensures place { IfOk result (λ p. (p.setting ≡ setting_in cluster.now number) × (p.ports.items ≡ cluster.now.ports.items)) }
         ensures secrets { IfOk result (λ p. option_map string_bytes p.secrets ≡ option_map string_bytes cluster.now.secrets) }
+        ensures naming { IfOk result (λ p. p.naming ≡ InBody) }
         ensures fault { IfErr result (λ f. IsFault cluster.now number f) }
     {
         let nodes = cluster.ports.len();
@@ -82,6 +87,7 @@ impl Place {
             ports: cluster.ports.as_slice().to_vec(alloc)?,
             secrets: copied(alloc, cluster.secrets.as_ref())?,
             contexts: None,
+            naming: Naming::InBody,
         })
     }
 
@@ -91,9 +97,23 @@ impl Place {
         ensures ports { result.ports ≡ self.ports }
         ensures secrets { result.secrets ≡ self.secrets }
         ensures contexts { result.contexts ≡ Some contexts }
+        ensures naming { result.naming ≡ self.naming }
     {
         let mut place = self;
         place.contexts = Some(contexts);
+        place
+    }
+
+    /// The same of a node whose refusals name their cause so.
+    pub fn naming(self, naming: Naming) -> Place
+        ensures setting { result.setting ≡ self.setting }
+        ensures ports { result.ports ≡ self.ports }
+        ensures secrets { result.secrets ≡ self.secrets }
+        ensures contexts { result.contexts ≡ self.contexts }
+        ensures naming { result.naming ≡ naming }
+    {
+        let mut place = self;
+        place.naming = naming;
         place
     }
 }

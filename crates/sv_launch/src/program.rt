@@ -57,6 +57,7 @@ fn place_of(
     node: &NodeWords<'_>,
 ) -> Result<Place, Fault> {
     let place = Place::new(machine.alloc(), &deployment.cluster, node.number)?;
+    let place = place.naming(node.options.naming);
     Ok(match node.options.greetings {
         Greetings::On => place.greeting(summed(&deployment.contexts)),
         Greetings::Off => place,
@@ -116,6 +117,7 @@ const HELP: &str = " serves web applications over HTTP/1.1, and keeps their sess
     --greet         asks the other nodes before it serves, and greets them every 10 seconds: which start of this node they
                     have heard of, how many nodes they were told of, and which contexts they have; packets of a node that
                     has others aren't taken
+    --name-causes   names the cause of each 503 of its own in a field of the answer, too: Kegbramble-Cause
     --log FILE      adds a line to FILE, or writes it to standard error where FILE is -, for each thing that may be
                     asked about afterwards: what was opened, refused, lost or ordered, and the fault that ends the node
     --metrics FILE  writes the node's figures to FILE every 5 seconds, as Prometheus reads them

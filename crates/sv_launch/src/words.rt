@@ -2,8 +2,9 @@
 
 ghost use Rattle.std.specs.Prelude.{◌≡◌, drop, map, option_map, string_bytes};
 ghost use Rattle.sv_web.specs.Numeral.{number_in};
-ghost use Rattle.sv_launch.specs.Words.{command_of, command_in, once_at, node_at, of_one, of_three, of_more, is_first, file_of, flag_of, option_of, options_of, last_of};
+ghost use Rattle.sv_launch.specs.Words.{command_of, command_in, once_at, node_at, of_one, of_three, of_more, is_first, file_of, flag_of, naming_flag_of, option_of, options_of, last_of};
 
+use sv_connection::Naming;
 use sv_host::{IfLocked, Paths};
 use sv_journal::IfMissing;
 use sv_net::Persistence;
@@ -63,6 +64,8 @@ pub struct Options<'a> {
     pub if_locked: IfLocked,
     /// `--greet`: it asks the other nodes before it serves, and greets them while it does.
     pub greetings: Greetings,
+    /// `--name-causes`: a refusal's cause stands in a field of the answer, too.
+    pub naming: Naming,
     /// `--log FILE`: what happens is written there, or to standard error where FILE is `-`.
     pub log: Option<&'a str>,
     /// `--metrics FILE`: its figures are written there.
@@ -76,6 +79,7 @@ impl Options<'_> {
         if_missing: IfMissing::Make,
         if_locked: IfLocked::End,
         greetings: Greetings::Off,
+        naming: Naming::InBody,
         log: None,
         metrics: None,
     };
@@ -178,6 +182,20 @@ fn read_file<'a>(options: Options<'a>, words: &'a [String]) -> (Options<'a>, &'a
     }
 }
 
+/// The options, with `--name-causes` where it stands at the front of the words; else none.
+fn naming<'a>(options: Options<'a>, words: &[String]) -> Option<Options<'a>>
+    ensures { option_map options_of result ≡ naming_flag_of (options_of options.entry) (map string_bytes words.now) }
+{
+    if is_first("--name-causes", words) {
+        Some(Options {
+            naming: Naming::InField,
+            ..options
+        })
+    } else {
+        None
+    }
+}
+
 /// The options, with one that is a word alone and stands at the front of the words; none where none stands there.
 fn flagged<'a>(options: Options<'a>, words: &[String]) -> Option<Options<'a>>
     ensures { option_map options_of result ≡ flag_of (options_of options.entry) (map string_bytes words.now) }
@@ -203,7 +221,7 @@ fn flagged<'a>(options: Options<'a>, words: &[String]) -> Option<Options<'a>>
             ..options
         })
     } else {
-        None
+        naming(options, words)
     }
 }
 
@@ -243,11 +261,12 @@ fn read_last<'a>(options: Options<'a>, words: &'a [String]) -> Result<Words<'a>,
     }
 }
 
-/// Up to six options, and the words of a node. Of two equal options the last one counts.
+/// Up to seven options, and the words of a node. Of two equal options the last one counts.
 fn read_more(words: &[String]) -> Result<Words<'_>, Arguments>
     ensures { command_of result ≡ of_more (map string_bytes words.now) }
 {
     let (options, words) = read_option(Options::NONE, words);
+    let (options, words) = read_option(options, words);
     let (options, words) = read_option(options, words);
     let (options, words) = read_option(options, words);
     let (options, words) = read_option(options, words);

@@ -3,6 +3,7 @@ use Rattle.std.proofs.Common.{◌≡◌, ℕ, Bool, List, [], Option, Some, None
 use Rattle.std.specs.Prelude.{IfSome}
 use Rattle.sv_connection.specs.declared.outcome.Outcome.{Outcome}
 use Rattle.sv_connection.specs.declared.outcome.Outcome.TheVariants.{Answered}
+use Rattle.sv_connection.specs.declared.reply.Naming.{Naming}
 use Rattle.sv_connection.specs.Serve.{memory_lines, IsLateAnswer, IsSaid}
 use Rattle.sv_message.specs.Response.{IsResponseText}
 use Rattle.sv_model.specs.declared.output.Cause.{Cause}
@@ -33,17 +34,17 @@ answer_holds response now before items outcome was closed next (Some m) held emp
     holds_more (λ s. Says items next s) (λ s. Tells response now s) (λ s says. (items, next, text, says)) held said
 
 -- a refusal that was said
-pub refusal_holds : (cause : Cause) (now : ℕ) (manner : Bool × Bool) (response : Response) (asked : Option (Bool × Bool)) (held : Option Open) → asked ≡ Some manner → response ≡ refused_as cause manner
-    → IfSome asked (λ _. IfSome held (λ h. Tells response now h.state)) → IfSome asked (λ m. IfSome held (λ h. Answers (refused_as cause m) now h.state))
-refusal_holds cause now manner response asked held is_manner is_response answered =
-    subst (λ (o : Option (Bool × Bool)). IfSome o (λ m. IfSome held (λ h. Answers (refused_as cause m) now h.state))) (sym is_manner)
+pub refusal_holds : (naming : Naming) (cause : Cause) (now : ℕ) (manner : Bool × Bool) (response : Response) (asked : Option (Bool × Bool)) (held : Option Open) → asked ≡ Some manner → response ≡ refused_as naming cause manner
+    → IfSome asked (λ _. IfSome held (λ h. Tells response now h.state)) → IfSome asked (λ m. IfSome held (λ h. Answers (refused_as naming cause m) now h.state))
+refusal_holds naming cause now manner response asked held is_manner is_response answered =
+    subst (λ (o : Option (Bool × Bool)). IfSome o (λ m. IfSome held (λ h. Answers (refused_as naming cause m) now h.state))) (sym is_manner)
     (subst (λ (r : Response). IfSome held (λ h. Answers r now h.state)) is_response
     (holds_more (λ s. Tells response now s) (λ s. Answers response now s) (λ s tells. inl tells) held
     (subst (λ (o : Option (Bool × Bool)). IfSome o (λ _. IfSome held (λ h. Tells response now h.state))) is_manner answered)))
 
 -- that memory was refused was said
-pub starved_holds : (cause : Cause) (now : ℕ) (asked : Option (Bool × Bool)) (held : Option Open) → IfSome held (λ h. Says memory_lines Part h.state)
-    → IfSome asked (λ m. IfSome held (λ h. Answers (refused_as cause m) now h.state))
-starved_holds cause now None held said = tt
-starved_holds cause now (Some m) held said =
-    holds_more (λ s. Says memory_lines Part s) (λ s. Answers (refused_as cause m) now s) (λ s says. inr says) held said
+pub starved_holds : (naming : Naming) (cause : Cause) (now : ℕ) (asked : Option (Bool × Bool)) (held : Option Open) → IfSome held (λ h. Says memory_lines Part h.state)
+    → IfSome asked (λ m. IfSome held (λ h. Answers (refused_as naming cause m) now h.state))
+starved_holds naming cause now None held said = tt
+starved_holds naming cause now (Some m) held said =
+    holds_more (λ s. Says memory_lines Part s) (λ s. Answers (refused_as naming cause m) now s) (λ s says. inr says) held said

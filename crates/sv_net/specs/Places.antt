@@ -1,5 +1,6 @@
 -- The connections that are open, each at its place.
 use Rattle.std.specs.Prelude.{◌≡◌, ◌⊎◌, ◌-◌, ℕ, ◌==◌, Bool, true, false, cond, List, Option, Some, None, IfSome, slice_get, slice_set}
+use Rattle.sv_connection.specs.declared.reply.Naming.{Naming}
 use Rattle.sv_net.specs.declared.connections.Connections.{Connections}
 use Rattle.sv_net.specs.declared.open.Open.{Open}
 use Rattle.sv_net.specs.declared.persistence.Persistence.{Persistence}
@@ -13,6 +14,10 @@ places_of c = c.places.items
 -- how many requests a client's connection brings
 abbrev pub persistence_of : Connections → Persistence
 persistence_of c = c.links.persistence
+
+-- where refusals name their cause
+abbrev pub naming_of : Connections → Naming
+naming_of c = c.naming
 
 -- what stands at all places but one
 abbrev pub elsewhere : ℕ → Connections → List (Option Open)

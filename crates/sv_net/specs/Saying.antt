@@ -1,7 +1,8 @@
 -- What stands at a place where a text was said.
 use Rattle.std.specs.Prelude.{◌≡◌, ◌⊎◌, ℕ, ◌||◌, ◌++◌, List, Vec, Bool, true, false}
 use Rattle.std.specs.declared.alloc.Global.{Global}
-use Rattle.sv_connection.specs.Reply.{refusal}
+use Rattle.sv_connection.specs.Reply.{refusal_by}
+use Rattle.sv_connection.specs.declared.reply.Naming.{Naming}
 use Rattle.sv_connection.specs.Serve.{memory_lines}
 use Rattle.sv_message.specs.Response.{IsResponseText}
 use Rattle.sv_model.specs.declared.output.Cause.{Cause}
@@ -44,5 +45,5 @@ is_deadline JournalFull = false
 is_deadline Memory = false
 
 -- the refusal of a client, by how it wants one; behind one for its time its connection closes
-abbrev pub refused_as : Cause → Bool × Bool → Response
-refused_as cause manner = refusal cause manner.0 (manner.1 || is_deadline cause)
+abbrev pub refused_as : Naming → Cause → Bool × Bool → Response
+refused_as naming cause manner = refusal_by naming cause manner.0 (manner.1 || is_deadline cause)

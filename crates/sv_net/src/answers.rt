@@ -2,7 +2,7 @@
 
 ghost use Rattle.std.specs.Prelude.{◌≡◌, ◌||◌, None, IfSome, is_some};
 ghost use Rattle.sv_connection.specs.Serve.{memory_lines};
-ghost use Rattle.sv_net.specs.Places.{elsewhere, held_at, manner_at};
+ghost use Rattle.sv_net.specs.Places.{elsewhere, held_at, manner_at, naming_of};
 ghost use Rattle.sv_net.specs.Saying.{Answers, Follows, Says, Tells, is_deadline, refused_as};
 ghost use Rattle.sv_net.specs.declared.state.Next.TheVariants.{Part};
 
@@ -12,7 +12,7 @@ use crate::socket::{Socket, Written};
 use crate::state::{Next, State};
 use std::mem::replace;
 use std::time::Duration;
-use sv_connection::{Outcome, memory_lines, refusal};
+use sv_connection::{Outcome, memory_lines, refusal_by};
 use sv_model::{Cause, Response};
 
 /// Whether the connection of a client closes behind its refusal: where it wants that, and where it has waited in vain.
@@ -192,13 +192,19 @@ impl Connections {
     pub fn refuse(&mut self, place: usize, token: u64, cause: Cause, now: u64, text: &mut Vec<u8>)
         ensures nobody { manner_at self.old place token ≡ None → self.new ≡ self.old }
         ensures refused { IfSome (manner_at self.old place token) (λ manner. IfSome (held_at self.new place)
-            (λ held. Answers (refused_as cause manner) now held.state)) }
+            (λ held. Answers (refused_as (naming_of self.old) cause manner) now held.state)) }
         ensures others { elsewhere place self.new ≡ elsewhere place self.old }
     {
         let Some((head_only, close)) = self.manner_at(place, token) else {
             return;
         };
-        match refusal(self.alloc, cause, head_only, closes(cause, close)) {
+        match refusal_by(
+            self.alloc,
+            self.naming,
+            cause,
+            head_only,
+            closes(cause, close),
+        ) {
             Ok(response) => self.answer(place, token, &response, now, text),
             Err(_) => self.starve(place),
         }

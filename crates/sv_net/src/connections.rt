@@ -1,7 +1,7 @@
 //! The connections that are open.
 
 ghost use Rattle.std.specs.Prelude.{◌≡◌, ◌-◌, ℕ, None, IfSome, is_none};
-ghost use Rattle.sv_net.specs.Places.{places_of, count_of, elsewhere, held_at, with_at, persistence_of, IsKept, Keeps, HasStood};
+ghost use Rattle.sv_net.specs.Places.{places_of, count_of, elsewhere, held_at, with_at, naming_of, persistence_of, IsKept, Keeps, HasStood};
 
 use crate::links::Links;
 use crate::open::Open;
@@ -13,6 +13,7 @@ use mio::{Interest, Registry};
 use std::alloc::{AllocFailed, Global};
 use std::rt::Clock;
 use std::time::Duration;
+use sv_connection::Naming;
 use sv_log::Report;
 
 /// So many connections are open at once. Behind that one that has been silent for longest is closed for a new one.
@@ -38,6 +39,8 @@ pub struct Connections {
     pub(crate) links: Links,
     /// Greetings are taken; else they are no request.
     pub(crate) greets: bool,
+    /// Where refusals name their cause.
+    pub(crate) naming: Naming,
     /// What is told to the operator.
     pub report: Report,
     pub(crate) alloc: Global,
@@ -57,6 +60,7 @@ impl Drop for Connections {
             calling: _,
             links: _,
             greets: _,
+            naming: _,
             report: _,
             alloc: _,
         } = self;
@@ -78,6 +82,7 @@ impl Connections {
             calling: None,
             links: Links::new(alloc, persistence),
             greets: false,
+            naming: Naming::InBody,
             report: Report::none(),
             alloc,
         }
@@ -86,6 +91,15 @@ impl Connections {
     /// Has what happens told to the operator.
     pub fn report_by(&mut self, report: Report) {
         self.report = report;
+    }
+
+    /// Has refusals name their cause so.
+    pub fn name_causes(&mut self, naming: Naming)
+        ensures naming { naming_of self.new ≡ naming }
+        ensures persistence { persistence_of self.new ≡ persistence_of self.old }
+        ensures places { places_of self.new ≡ places_of self.old }
+    {
+        self.naming = naming;
     }
 
     /// Has greetings taken.
