@@ -4,6 +4,7 @@ use super::NOW;
 use crate::fixtures::{push, text};
 use std::alloc::Global;
 use std::process::Abort;
+use sv_connection::Naming;
 use sv_host::IfLocked;
 use sv_journal::IfMissing;
 use sv_launch::{Arguments, Greetings, NodeWords, Options, Words, read_words};
@@ -87,6 +88,11 @@ const GREETING: Options<'static> = Options {
     ..Options::NONE
 };
 
+const NAMING: Options<'static> = Options {
+    naming: Naming::InField,
+    ..Options::NONE
+};
+
 const LOGGED: Options<'static> = Options {
     log: Some("l"),
     ..Options::NONE
@@ -102,17 +108,19 @@ const ALL: Options<'static> = Options {
     if_missing: IfMissing::Refuse,
     if_locked: IfLocked::Wait,
     greetings: Greetings::On,
+    naming: Naming::InField,
     log: Some("l"),
     metrics: Some("m"),
 };
 
-/// Options in any order, six at most, and of two equal ones the last one counts. What comes after `--log` and `--metrics` is a
+/// Options in any order, seven at most, and of two equal ones the last one counts. What comes after `--log` and `--metrics` is a
 /// path, whatever it is.
-static OPTIONS: [Line; 12] = [
+static OPTIONS: [Line; 13] = [
     Line(&["--existing", "c", "j", "7"], Meant::Node(EXISTING)),
     Line(&["--wait", "c", "j", "7"], Meant::Node(WAITING)),
     Line(&["--wait", "--wait", "c", "j", "7"], Meant::Node(WAITING)),
     Line(&["--greet", "c", "j", "7"], Meant::Node(GREETING)),
+    Line(&["--name-causes", "c", "j", "7"], Meant::Node(NAMING)),
     Line(&["--log", "l", "c", "j", "7"], Meant::Node(LOGGED)),
     Line(&["--metrics", "m", "c", "j", "7"], Meant::Node(COUNTED)),
     Line(
@@ -124,6 +132,7 @@ static OPTIONS: [Line; 12] = [
             "--existing",
             "--wait",
             "--greet",
+            "--name-causes",
             "--keep-alive",
             "c",
             "j",
@@ -133,6 +142,7 @@ static OPTIONS: [Line; 12] = [
     ),
     Line(
         &[
+            "--name-causes",
             "--greet",
             "--keep-alive",
             "--existing",
@@ -156,7 +166,7 @@ static OPTIONS: [Line; 12] = [
     Line(
         &[
             "--log", "x", "--log", "x", "--log", "x", "--log", "x", "--log", "x", "--log", "x",
-            "--log", "l", "c", "j", "7",
+            "--log", "x", "--log", "l", "c", "j", "7",
         ],
         Meant::Nothing,
     ),

@@ -15,9 +15,9 @@ use std::alloc::Global;
 use std::io::{Read, Write};
 use std::process::Abort;
 use streams::{Drip, GULP, Sink, new_sink, slow_reader};
-use sv_connection::{Connection, Outcome, RequestFault, Served, refusal};
+use sv_connection::{Connection, Naming, Outcome, RequestFault, Served, refusal, refusal_by};
 use sv_message::fault::ReadFault;
-use sv_model::{Cause, Moment, Response, Secret, Sequence};
+use sv_model::{Cause, Field, Moment, Response, Secret, Sequence};
 
 /// Sun, 06 Nov 1994 08:49:37 GMT.
 const AT: Moment = Moment {
@@ -40,6 +40,11 @@ fn bare_answer(alloc: Global, head_only: bool, close: bool) -> Response {
 /// The refusal of a request.
 fn refused(rt: &impl Abort, alloc: Global, cause: Cause, head_only: bool, close: bool) -> Response {
     refusal(alloc, cause, head_only, close).expect(rt, "memory")
+}
+
+/// The same where the cause is named in a field, too.
+fn named(rt: &impl Abort, alloc: Global, cause: Cause, head_only: bool, close: bool) -> Response {
+    refusal_by(alloc, Naming::InField, cause, head_only, close).expect(rt, "memory")
 }
 
 /// One call, behind the answer to a request that waits; with no clause, so that the proof of a test carries none of the
@@ -348,12 +353,34 @@ static CAUSES: [(Cause, &str); 7] = [
     (Cause::Memory, "503 Memory\n"),
 ];
 
+/// A field has this name and this value.
+fn is_field(field: &Field, name: &str, value: &[u8]) -> bool {
+    field.name.as_str() == name && field.value.as_bytes() == value
+}
+
+/// The field of a type.
+fn is_its_type(field: &Field) -> bool {
+    is_field(field, "content-type", b"text/plain")
+}
+
 /// The fields of a refusal are its type alone.
 fn has_its_type(response: &Response) -> bool {
     match response.fields.as_slice() {
-        [field] => {
-            field.name.as_str() == "content-type"
-                && field.value.as_bytes() == b"text/plain".as_slice()
+        [field] => is_its_type(field),
+        _ => false,
+    }
+}
+
+/// The cause in a refusal's body: between its status and the end of the line.
+fn cause_in(text: &str) -> &[u8] {
+    text.trim_start_matches("503 ").trim_end().as_bytes()
+}
+
+/// The fields of a refusal are its type and its cause.
+fn has_its_cause(response: &Response, text: &str) -> bool {
+    match response.fields.as_slice() {
+        [first, second] => {
+            is_its_type(first) && is_field(second, "kegbramble-cause", cause_in(text))
         }
         _ => false,
     }
@@ -363,7 +390,6 @@ fn has_its_type(response: &Response) -> bool {
 fn is_refusal(response: &Response, text: &str, head_only: bool, close: bool) -> bool {
     response.status == StatusCode::SERVICE_UNAVAILABLE
         && response.body.as_slice() == text.as_bytes()
-        && has_its_type(response)
         && response.head_only == head_only
         && response.close == close
 }
@@ -376,7 +402,11 @@ fn is_refused(
     close: bool,
 ) -> bool {
     let response = refused(rt, alloc, row.0, head_only, close);
+    let named = named(rt, alloc, row.0, head_only, close);
     is_refusal(&response, row.1, head_only, close)
+        && has_its_type(&response)
+        && is_refusal(&named, row.1, head_only, close)
+        && has_its_cause(&named, row.1)
 }
 
 pub(super) fn refusals(rt: &impl Abort, alloc: Global, input: usize) -> bool {
