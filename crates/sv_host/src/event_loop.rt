@@ -42,6 +42,7 @@ fn keep_time<E: Engine, D: Disk>(
     requires { IsServing E.valid D.tells D.seen D.may_leave node.old group.old }
     ensures { HasServed E.meaning E.heard E.valid D.tells D.seen D.may_leave node.old group.old node.new group.new result }
 {
+    server.await_by(node.parked());
     tick(machine, server, node, group)?;
     wait_on(machine, server, node, group)
 }

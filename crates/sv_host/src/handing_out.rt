@@ -18,7 +18,7 @@ use crate::outcome::{Taken, answer_byte, cause_of, refused, sum_up};
 use crate::packets::{Packets, Sending};
 use crate::round::Share;
 use crate::server::Server;
-use sv_log::{Event, Loss};
+use sv_log::{Event, Loss, Refusal};
 use sv_model::{Cause, Output, Packet, Response, StepFault};
 use sv_net::{address_of, addressee};
 
@@ -73,10 +73,12 @@ impl Server {
         ensures others { SameElsewhere (place_under token (clients_of self.old.parked)) self.old.connections self.new.connections }
     {
         if let Some(place) = self.parked.take(token) {
-            self.connections.report.note(Event::Refused {
+            let session = self.awaited.key_of(token);
+            self.connections.report.note(Event::Refused(Refusal {
                 cause,
                 number: token,
-            });
+                session,
+            }));
             self.connections
                 .refuse(place, token, cause, now, &mut self.text);
         }

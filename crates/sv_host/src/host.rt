@@ -11,6 +11,7 @@ ghost use Rattle.sv_host.specs.Secrets.{first_by, last_of};
 ghost use Rattle.sv_host.specs.Serving.{HasLived};
 
 use crate::asking::Asking;
+use crate::awaited::Awaited;
 use crate::compaction::renew;
 use crate::event_loop::run;
 use crate::expiry::Expiry;
@@ -244,6 +245,7 @@ impl Host {
                 round: Round::START,
                 asking: Asking::NONE,
                 holding: Holding::new(alloc),
+                awaited: Awaited::new(alloc),
                 compacted: 0,
                 was_told: false,
                 alloc,

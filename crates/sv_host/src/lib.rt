@@ -8,6 +8,7 @@
 #![tactic(auto)]
 
 mod asking;
+mod awaited;
 mod compaction;
 mod event_loop;
 mod expiry;

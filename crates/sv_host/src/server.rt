@@ -8,6 +8,7 @@ ghost use Rattle.sv_host.specs.Stops.{IsLost};
 ghost use Rattle.sv_host.specs.Time.{seconds_of, steady_of};
 
 use crate::asking::Asking;
+use crate::awaited::Awaited;
 use crate::expiry::Expiry;
 use crate::fault::{HostFault, Stop};
 use crate::group::Group;
@@ -24,7 +25,7 @@ use std::time::Duration;
 use sv_core::Census;
 use sv_journal::Disk;
 use sv_log::{Event, Level, Milestone, Report};
-use sv_model::{Engine, Moment};
+use sv_model::{Engine, Moment, Parked};
 use sv_net::{Connections, port_of};
 use sv_node::Node;
 
@@ -50,6 +51,7 @@ pub struct Server {
     pub round: Round,
     pub asking: Asking,
     pub holding: Holding,
+    pub awaited: Awaited,
     /// The length of the journal behind its last compaction; 0 before the first.
     pub compacted: u64,
     /// A command has told it to stop.
@@ -74,6 +76,7 @@ impl Drop for Server {
             round: _,
             asking: _,
             holding: _,
+            awaited: _,
             compacted: _,
             was_told: _,
             alloc: _,
@@ -213,6 +216,13 @@ impl Server {
     /// Has what happens told to the operator.
     pub fn report_by(&mut self, report: Report) {
         self.connections.report_by(report);
+    }
+
+    /// These requests wait at the node, as time passes.
+    pub fn await_by(&mut self, parked: &[Parked]) {
+        if self.connections.report.is_logging() {
+            self.awaited.look(parked);
+        }
     }
 
     /// Tells the operator that the node of this number serves.

@@ -6,6 +6,16 @@ use crate::phase::Phase;
 use std::fmt;
 use sv_model::{Cause, Key, MoveRefusal};
 
+/// A request that is answered 503.
+#[derive(Clone, Copy)]
+pub struct Refusal {
+    pub cause: Cause,
+    /// Its number, counted from the start.
+    pub number: u64,
+    /// The session that it has waited for, if it has waited.
+    pub session: Option<Key>,
+}
+
 /// What happens at a node. It has no text but names of this repository's own.
 #[derive(Clone, Copy)]
 pub enum Event {
@@ -13,8 +23,8 @@ pub enum Event {
     Accepted,
     /// A text was said to a client, whose status is of this class, 1 to 5 (RFC 9110, section 15).
     Answered { class: u8 },
-    /// The request of this number, counted from the start, is answered 503.
-    Refused { cause: Cause, number: u64 },
+    /// A request is answered 503.
+    Refused(Refusal),
     /// What a client has sent is no request that is served; it is answered with a page of this fault's name.
     BadRequest { fault: &'static str },
     /// A connection was closed for somebody who has come.
@@ -183,7 +193,7 @@ impl Event {
         match self {
             Event::Accepted => "accepted",
             Event::Answered { .. } => "answered",
-            Event::Refused { .. } => "request_refused",
+            Event::Refused(_) => "request_refused",
             Event::BadRequest { .. } => "bad_request",
             Event::GaveWay { .. } => "client_gave_way",
             Event::Late { .. } => "client_late",
@@ -213,10 +223,23 @@ impl Event {
         }
     }
 
-    /// What the line says of it.
+    /// The session that the line says last of it.
+    fn session(self) -> Field {
+        match self {
+            Event::Refused(
+                Refusal {
+                    session: Some(key),
+                    ..
+                },
+            ) => Field::Session(key),
+            _ => Field::None,
+        }
+    }
+
+    /// What the line says of it before that.
     fn fields(self) -> (Field, Field) {
         match self {
-            Event::Refused { cause, number } => (
+            Event::Refused(Refusal { cause, number, .. }) => (
                 Field::Word("cause", cause_name(cause)),
                 Field::Number("number", number),
             ),
@@ -270,7 +293,7 @@ impl Event {
     /// What its line is known again by beside what has happened: the event without the numbers that differ each time.
     fn known_by(self) -> (&'static str, u8) {
         match self {
-            Event::Refused { cause, .. }
+            Event::Refused(Refusal { cause, .. })
             | Event::LeftOut { cause }
             | Event::OrderRefused { cause } => (cause_name(cause), 0),
             Event::BadRequest { fault } => (fault, 0),
@@ -297,6 +320,7 @@ impl fmt::Display for Event {
     fn fmt<W: fmt::Write>(&self, f: &mut fmt::Formatter<W>) -> fmt::Result {
         let what = self.what();
         let (first, second) = self.fields();
-        write!(f, "{what}{first}{second}")
+        let session = self.session();
+        write!(f, "{what}{first}{second}{session}")
     }
 }

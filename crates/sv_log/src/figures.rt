@@ -2,7 +2,7 @@
 
 use crate::census::Census;
 use crate::durations::Durations;
-use crate::event::{Event, cause_name};
+use crate::event::{Event, Refusal, cause_name};
 use crate::family::{Family, Label};
 use crate::loss::Loss;
 use crate::names::{
@@ -145,7 +145,7 @@ impl Figures {
             Event::Answered { class } => {
                 rise_at(&mut self.answered, usize::from(class).checked_sub(1));
             }
-            Event::Refused { cause, .. } => rise_at(
+            Event::Refused(Refusal { cause, .. }) => rise_at(
                 &mut self.refused,
                 CAUSES.iter().position(|one| *one == cause),
             ),

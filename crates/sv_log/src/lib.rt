@@ -27,7 +27,7 @@ mod stamp;
 mod tally;
 
 pub use census::Census;
-pub use event::Event;
+pub use event::{Event, Refusal};
 pub use failure::{Failure, Site};
 pub use figures::{Figures, Gauges};
 pub use level::Level;

@@ -199,6 +199,11 @@ impl Report {
         self.journal = journal;
     }
 
+    /// Whether a log is written.
+    pub fn is_logging(&self) -> bool {
+        self.log.is_some()
+    }
+
     /// Whether figures are written.
     pub fn is_counting(&self) -> bool {
         self.metrics.is_some()

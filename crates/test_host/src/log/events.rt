@@ -1,59 +1,74 @@
 //! What happens at a node: the line of each event behind the time.
 
 use super::texts::{Row, Said};
-use sv_log::{Event, Loss, Phase};
+use sv_log::{Event, Loss, Phase, Refusal};
 use sv_model::{Cause, Key, MoveRefusal};
 
 /// An event, and its level and its line; those that have no level happen all the time, and no log has them.
-pub static EVENTS: [Row; 27] = [
+pub static EVENTS: [Row; 28] = [
     Row(
-        Said::Event(Event::Refused {
+        Said::Event(Event::Refused(Refusal {
             cause: Cause::ParkFull,
             number: 1,
-        }),
+            session: None,
+        })),
         "warn request_refused cause=ParkFull number=1",
     ),
     Row(
-        Said::Event(Event::Refused {
+        Said::Event(Event::Refused(Refusal {
             cause: Cause::Deadline,
             number: u64::MAX,
-        }),
+            session: None,
+        })),
         "warn request_refused cause=Deadline number=18446744073709551615",
     ),
     Row(
-        Said::Event(Event::Refused {
+        Said::Event(Event::Refused(Refusal {
             cause: Cause::TableFull,
             number: 2,
-        }),
+            session: None,
+        })),
         "warn request_refused cause=TableFull number=2",
     ),
     Row(
-        Said::Event(Event::Refused {
+        Said::Event(Event::Refused(Refusal {
             cause: Cause::SerialsSpent,
             number: 2,
-        }),
+            session: None,
+        })),
         "warn request_refused cause=SerialsSpent number=2",
     ),
     Row(
-        Said::Event(Event::Refused {
+        Said::Event(Event::Refused(Refusal {
             cause: Cause::WantsSpent,
             number: 2,
-        }),
+            session: None,
+        })),
         "warn request_refused cause=WantsSpent number=2",
     ),
     Row(
-        Said::Event(Event::Refused {
+        Said::Event(Event::Refused(Refusal {
             cause: Cause::JournalFull,
             number: 2,
-        }),
+            session: None,
+        })),
         "warn request_refused cause=JournalFull number=2",
     ),
     Row(
-        Said::Event(Event::Refused {
+        Said::Event(Event::Refused(Refusal {
             cause: Cause::Memory,
             number: 2,
-        }),
+            session: None,
+        })),
         "warn request_refused cause=Memory number=2",
+    ),
+    Row(
+        Said::Event(Event::Refused(Refusal {
+            cause: Cause::Deadline,
+            number: 3,
+            session: Some(Key { home: 1, serial: 7 }),
+        })),
+        "warn request_refused cause=Deadline number=3 key=1.7",
     ),
     Row(Said::Event(Event::Accepted), "- accepted"),
     Row(

@@ -3,7 +3,7 @@
 use crate::fixtures::add;
 use std::alloc::Global;
 use std::process::Abort;
-use sv_log::{Census, Event, Figures, Gauges, Loss, NODES, Phase, Reach};
+use sv_log::{Census, Event, Figures, Gauges, Loss, NODES, Phase, Reach, Refusal};
 use sv_model::{Cause, Key};
 
 /// What is counted.
@@ -28,17 +28,19 @@ static ROWS: [Row; 22] = [
         "\nkegbramble_requests_total{node=\"3\",class=\"1xx\"} 1\n",
     ),
     Row(
-        &[Counted::Event(Event::Refused {
+        &[Counted::Event(Event::Refused(Refusal {
             cause: Cause::ParkFull,
             number: 9,
-        })],
+            session: None,
+        }))],
         "\nkegbramble_requests_refused_total{node=\"3\",cause=\"ParkFull\"} 1\n",
     ),
     Row(
-        &[Counted::Event(Event::Refused {
+        &[Counted::Event(Event::Refused(Refusal {
             cause: Cause::Memory,
             number: 9,
-        })],
+            session: None,
+        }))],
         "\nkegbramble_requests_refused_total{node=\"3\",cause=\"Memory\"} 1\n",
     ),
     Row(

@@ -7,7 +7,7 @@ use std::alloc::Global;
 use std::fs;
 use std::os::unix::fs::PermissionsExt;
 use std::process::Abort;
-use sv_log::{Event, Level, Loss, Quoted, Report};
+use sv_log::{Event, Level, Loss, Quoted, Refusal, Report};
 use sv_model::{Cause, Key};
 
 /// What happens at a node.
@@ -213,10 +213,11 @@ static ROWS: [Row; 7] = [
 ];
 
 fn refused(number: u64) -> Event {
-    Event::Refused {
+    Event::Refused(Refusal {
         cause: Cause::Deadline,
         number,
-    }
+        session: None,
+    })
 }
 
 /// Sessions are to be handed to so many nodes.
