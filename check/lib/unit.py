@@ -16,7 +16,7 @@ from lib.patience import patience
 PROGRAM, CONFIG, JOURNALS = "/usr/local/bin/kegbramble-node", "/etc/kegbramble/cluster.toml", "/var/lib/kegbramble"
 
 # What a node before 0.10.0 doesn't know of the unit's options.
-NEWER = "--existing --greet "
+NEWER = ("--existing", "--greet", "--name-causes")
 
 
 def command_of(key):
@@ -24,6 +24,11 @@ def command_of(key):
     with open(f"{TOP}/deploy/kegbramble@.service", encoding="utf-8") as file:
         line = re.search(rf"^{key}=(.*)$", file.read(), re.MULTILINE)[1]
     return [word.replace("$$", "$") for word in shlex.split(line)]
+
+
+def of_old(text):
+    """The words of a node without those options."""
+    return " ".join(word for word in text.split(" ") if word not in NEWER)
 
 
 class Unit(Cluster):
@@ -51,8 +56,8 @@ class Unit(Cluster):
         """A process of the node, called as the unit calls it, with these words in KEGBRAMBLE_OPTIONS."""
         program = self.programs.get(node)
         line = [
-            word.replace(PROGRAM, program or self.program)
-            .replace(NEWER, "" if program else NEWER)
+            (of_old(word) if program else word)
+            .replace(PROGRAM, program or self.program)
             .replace(CONFIG, self.config)
             .replace(JOURNALS, self.journals)
             .replace("%i", str(node))

@@ -113,6 +113,7 @@ impl<S: Servlet, F: Filter> Application<S, F> {
     }
 
     /// The response to a request, and the edit behind it; edits stand, whatever follows.
+    #[inline(always)]
     #[tactic(auto, unfolding(crate::specs::Serving::answered_by))]
     fn answer(
         &mut self,
@@ -151,6 +152,7 @@ impl<S: Servlet, F: Filter> Application<S, F> {
     }
 
     /// What comes of a request that was served, with what its edit leaves.
+    #[inline(always)]
     fn plain_outcome(
         &self,
         alloc: Global,
@@ -234,6 +236,7 @@ impl<S: Servlet, F: Filter> Application<S, F> {
     }
 
     /// The same where sessions remember nothing.
+    #[inline(always)]
     fn serve_plain(
         &mut self,
         alloc: Global,
@@ -277,6 +280,7 @@ impl<S: Servlet, F: Filter> Application<S, F> {
     }
 
     /// What becomes of the session that is handed in with a request.
+    #[inline(always)]
     fn admit(
         &self,
         alloc: Global,
@@ -318,9 +322,41 @@ impl<S: Servlet, F: Filter> Application<S, F> {
         self.unserved(alloc, admission, page)
     }
 
+    /// Serves a request where sessions remember what was answered: one that its session remembers is answered from its memory.
+    // Apart, so that a request of a context without memory has no room cleared for what is made here.
+    #[inline(never)]
+    #[tactic(auto, unfolding(crate::specs::Serving::served_in))]
+    fn serve_once(
+        &mut self,
+        alloc: Global,
+        request: &Request,
+        path: &str,
+        handed: Option<(Key, &Session)>,
+        admission: Admission,
+        now: u64,
+        fresh: (Key, Secret),
+    ) -> Result<Outcome, AllocError>
+        requires sound { IsSoundApp (app_of S.serves S.servlet_phase F.filtering F.filter_phase self.old) }
+        requires serving { self.old.is_in_service ≡ true }
+        requires admitted { admission ≡ spec.admission self.old.once self.old.number request.now (session_cookie request.now.cookies self.old.number)
+            (option_map (λ s. (s.0, s.1.now)) handed.entry) now }
+        ensures same { app_of S.serves S.servlet_phase F.filtering F.filter_phase self.new
+            ≡ app_of S.serves S.servlet_phase F.filtering F.filter_phase self.old }
+        ensures outcome { IfOk result (λ o. o ≡ served_in (app_of S.serves S.servlet_phase F.filtering F.filter_phase self.old) request.now path.now admission
+            now fresh) }
+    {
+        let recalled = recalled(alloc, self.once.as_ref(), request, admission.held())?;
+        if let Some(response) = recalled {
+            return self.unserved(alloc, admission, response);
+        }
+        match self.serve_new(alloc, request, path, admission, now, fresh)? {
+            Some(outcome) => Ok(outcome),
+            None => self.unserved_full(alloc, request, handed, now),
+        }
+    }
+
     /// Serves a request for a path within the context, with the session that is handed in; one that the session remembers is answered
     /// from its memory.
-    #[tactic(auto, unfolding(crate::specs::Serving::served_in))]
     pub fn serve(
         &mut self,
         alloc: Global,
@@ -341,13 +377,6 @@ impl<S: Servlet, F: Filter> Application<S, F> {
         if self.once.is_none() {
             return self.serve_plain(alloc, request, path, admission, now, fresh);
         }
-        let recalled = recalled(alloc, self.once.as_ref(), request, admission.held())?;
-        if let Some(response) = recalled {
-            return self.unserved(alloc, admission, response);
-        }
-        match self.serve_new(alloc, request, path, admission, now, fresh)? {
-            Some(outcome) => Ok(outcome),
-            None => self.unserved_full(alloc, request, handed, now),
-        }
+        self.serve_once(alloc, request, path, handed, admission, now, fresh)
     }
 }

@@ -13,7 +13,7 @@ use crate::names::{
 use crate::reach::{NODES, Peers, Reach};
 use std::alloc::AllocError;
 use sv_model::Cause;
-use sv_version::version;
+use sv_version::number;
 
 /// The causes of a refusal, in the order in which figures have them.
 const CAUSES: [Cause; 7] = [
@@ -102,7 +102,7 @@ fn write_build(out: &mut String, node: u8) -> Result<(), AllocError> {
     BUILD.head(out)?;
     let label = Label {
         key: "version",
-        value: version(),
+        value: number(),
     };
     BUILD.labelled(out, node, label, 1)
 }

@@ -1,6 +1,7 @@
 -- What stands at a place where a text was said.
-use Rattle.std.specs.Prelude.{◌≡◌, ◌⊎◌, ℕ, ◌||◌, ◌++◌, List, Vec, Bool, true, false}
+use Rattle.std.specs.Prelude.{◌≡◌, ◌⊎◌, ℕ, ◌||◌, ◌++◌, List, [], Vec, Bool, true, false, Some}
 use Rattle.std.specs.declared.alloc.Global.{Global}
+use Rattle.sv_connection.specs.Connection.{is_single, is_waiting, stand_of}
 use Rattle.sv_connection.specs.Reply.{refusal_by}
 use Rattle.sv_connection.specs.declared.reply.Naming.{Naming}
 use Rattle.sv_connection.specs.Serve.{memory_lines}
@@ -8,20 +9,31 @@ use Rattle.sv_message.specs.Response.{IsResponseText}
 use Rattle.sv_model.specs.declared.output.Cause.{Cause}
 use Rattle.sv_model.specs.declared.output.Cause.TheVariants.{ParkFull, Deadline, TableFull, SerialsSpent, WantsSpent, JournalFull, Memory}
 use Rattle.sv_model.specs.declared.response.Response.{Response}
+use Rattle.sv_net.specs.declared.client.Client.{Client}
 use Rattle.sv_net.specs.declared.state.Next.{Next}
 use Rattle.sv_net.specs.declared.state.Next.TheVariants.{Close, Part, Listen}
 use Rattle.sv_net.specs.declared.state.State.{State}
-use Rattle.sv_net.specs.declared.state.State.TheVariants.{Asked, Parting, Saying}
+use Rattle.sv_net.specs.declared.state.State.TheVariants.{Asked, Parting, Resting, Saying}
 
 -- this is left of a text, behind what was taken of it
 abbrev pub IsLeft : List ℕ → List ℕ → Type 0
 IsLeft left text = (taken : List ℕ) × (text ≡ taken ++ left)
 
+-- a client rests: it has less memory, and its connection holds what it held
+pub record IsAtRest (was rested : Client) : Type 0 where
+  pub single : is_single rested.connection ≡ is_single was.connection
+  pub waiting : is_waiting rested.connection ≡ is_waiting was.connection
+  pub stand : stand_of rested.connection (Some []) ≡ stand_of was.connection (Some [])
+
+-- a client is listened to further: what it has sent already is gone on with, or it rests
+abbrev pub IsListenedTo : Client → State → Type 0
+IsListenedTo client state = (state ≡ Asked client) ⊎ ((rested : Client) × (state ≡ Resting rested) × IsAtRest client rested)
+
 -- what is behind a text that was taken whole
 abbrev pub Follows : Next → State → Type 0
 Follows Close state = ⊥
 Follows Part state = (bytes : ℕ) × (state ≡ Parting bytes)
-Follows (Listen client) state = state ≡ Asked client
+Follows (Listen client) state = IsListenedTo client state
 
 -- what is left of a text waits to be said, or it was taken whole
 abbrev pub Says : List ℕ → Next → State → Type 0

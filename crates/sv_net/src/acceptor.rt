@@ -138,7 +138,10 @@ impl Acceptor {
             let Token(place) = event.token();
             if place == DOOR {
                 self.door = true;
-            } else if !event.is_write_closed() || !connections.close_broken(place) {
+                continue;
+            }
+            connections.was_told(place, event.is_read_closed());
+            if !event.is_write_closed() || !connections.close_broken(place) {
                 self.queue.add(place);
             }
         }
@@ -159,8 +162,7 @@ impl Acceptor {
     /// where nobody could be accepted before, which never waits: so `accept`, which would wait for a turn, doesn't, and the
     /// listener needn't be switched to and fro.
     ///
-    /// Who was put down in the turn before is gone on with before the poll is asked again: mostly nothing has come of them, and
-    /// they cost no call of the poll then.
+    /// Who was put down in the turn before is gone on with before the poll is asked again: what has come of them is there already.
     pub fn wait(&mut self, connections: &mut Connections, most: Duration) {
         self.queue.forget(self.done);
         self.done = 0;

@@ -3,9 +3,10 @@
 ghost use Rattle.std.specs.Prelude.{◌≡◌, ◌||◌, None, IfSome, is_some};
 ghost use Rattle.sv_connection.specs.Serve.{memory_lines};
 ghost use Rattle.sv_net.specs.Places.{elsewhere, held_at, manner_at, naming_of};
-ghost use Rattle.sv_net.specs.Saying.{Answers, Follows, Says, Tells, is_deadline, refused_as};
+ghost use Rattle.sv_net.specs.Saying.{Answers, Follows, IsListenedTo, Says, Tells, is_deadline, refused_as};
 ghost use Rattle.sv_net.specs.declared.state.Next.TheVariants.{Part};
 
+use crate::client::Client;
 use crate::connections::Connections;
 use crate::open::Open;
 use crate::socket::{Socket, Written};
@@ -73,8 +74,22 @@ impl Connections {
         if left < before { self.clock } else { heard }
     }
 
-    /// What follows once a text is written. A client that is listened to further is gone on with in the next turn, so that each has
-    /// one request a turn.
+    /// Listens to a client further. One of which nothing more has come rests until the poll reports it; another is gone on with in the
+    /// next turn, so that each has one request a turn.
+    fn listen(&mut self, place: usize, socket: Socket, client: Client)
+        ensures listened { held_at self.old place ≡ None → IfSome (held_at self.new place) (λ held. IsListenedTo client held.state) }
+        ensures others { elsewhere place self.new ≡ elsewhere place self.old }
+    {
+        if socket.is_drained() && client.connection.is_empty() {
+            let state = State::Resting(client.at_rest());
+            self.keep(place, Open::at(socket, state, self.clock));
+        } else {
+            self.begin(place, socket, State::Asked(client));
+            self.put_down(place);
+        }
+    }
+
+    /// What follows once a text is written.
     pub(crate) fn follow(&mut self, place: usize, socket: Socket, next: Next)
         ensures followed { held_at self.old place ≡ None → IfSome (held_at self.new place) (λ held. Follows next held.state) }
         ensures others { elsewhere place self.new ≡ elsewhere place self.old }
@@ -82,10 +97,7 @@ impl Connections {
         match next {
             Next::Close => self.leave(place),
             Next::Part => self.half_close(place, socket),
-            Next::Listen(client) => {
-                self.begin(place, socket, State::Asked(client));
-                self.put_down(place);
-            }
+            Next::Listen(client) => self.listen(place, socket, client),
         }
     }
 

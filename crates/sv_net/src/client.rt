@@ -2,6 +2,7 @@
 
 ghost use Rattle.std.specs.Prelude.{◌≡◌, Bool, Some, []};
 ghost use Rattle.sv_connection.specs.Connection.{IsFresh, is_single, is_waiting, stand_of};
+ghost use Rattle.sv_net.specs.Saying.{IsAtRest};
 
 use crate::persistence::Persistence;
 use crate::state::Next;
@@ -55,6 +56,7 @@ impl Client {
         ensures single { is_single result.connection ≡ is_single self.connection }
         ensures waiting { is_waiting result.connection ≡ is_waiting self.connection }
         ensures stand { stand_of result.connection (Some []) ≡ stand_of self.connection (Some []) }
+        ensures rests { IsAtRest self result }
     {
         let mut client = self;
         client.connection.give_back();

@@ -232,6 +232,13 @@ impl Connections {
         }
     }
 
+    /// The poll has told of a place; whether the other end sends no more.
+    pub(crate) fn was_told(&mut self, place: usize, is_ended: bool) {
+        if let Some(Some(open)) = self.places.get_mut(place) {
+            open.socket.was_told(is_ended);
+        }
+    }
+
     /// Has the poll report once more what comes at a place.
     fn watch_anew(&mut self, place: usize)
         ensures stood { HasStood place self.old self.new }

@@ -36,10 +36,23 @@ enum Patience {
     None,
 }
 
+/// What may lie unread at a socket.
+#[derive(Clone, Copy, Debug, PartialEq, Eq)]
+enum Unread {
+    /// Something may.
+    Maybe,
+    /// Nothing did when it was read last, and the poll has told of nothing since: it tells of what comes next, also if that came before
+    /// the poll was asked to.
+    Nothing,
+    /// That the other end sends no more, which is read as the end of what it has sent, and which the poll tells once.
+    End,
+}
+
 /// A connection's socket.
 pub struct Socket {
     stream: TcpStream,
     patience: Patience,
+    unread: Unread,
     /// What the poll reports of it, once it was registered.
     watched: Option<Interest>,
 }
@@ -50,6 +63,7 @@ impl Drop for Socket {
         let Socket {
             stream: _,
             patience: _,
+            unread: _,
             watched: _,
         } = self;
     }
@@ -100,6 +114,7 @@ impl Socket {
         Socket {
             stream,
             patience,
+            unread: Unread::Maybe,
             watched: None,
         }
     }
@@ -125,6 +140,31 @@ impl Socket {
         Ok(())
     }
 
+    /// The poll has told of it; whether its other end sends no more.
+    pub(crate) fn was_told(&mut self, is_ended: bool) {
+        if is_ended {
+            self.unread = Unread::End;
+        } else if self.unread == Unread::Nothing {
+            self.unread = Unread::Maybe;
+        }
+    }
+
+    /// So many bytes were read of so many that there was room for: fewer were all that lay there (epoll(7)).
+    fn was_read(&mut self, count: usize, room: usize) {
+        if self.unread != Unread::End {
+            self.unread = if 0 < count && count < room {
+                Unread::Nothing
+            } else {
+                Unread::Maybe
+            };
+        }
+    }
+
+    /// Nothing lies unread.
+    pub(crate) fn is_drained(&self) -> bool {
+        self.unread == Unread::Nothing
+    }
+
     /// Reads what is there. Where nothing is, `comes_later` says whether something may still come.
     pub fn read(&mut self, piece: &mut [u8]) -> io::Result<usize>
         ensures { ReadsAtMost result piece.new }
@@ -134,7 +174,9 @@ impl Socket {
         } else {
             self.hurry()?;
         }
-        self.stream.read(piece)
+        let count = self.stream.read(piece)?;
+        self.was_read(count, piece.len());
+        Ok(count)
     }
 
     /// Writes as much of a text as the other end takes now.

@@ -9,6 +9,14 @@
 const STAMP: &str =
     "0.10.0\nnot installed: `./run install` writes here which commit it was made of, and whether that was proved                    ";
 
+/// The version alone, as in `0.10.0`.
+pub fn number() -> &'static str {
+    match STAMP.split_once('\n') {
+        Some((number, _)) => number,
+        None => STAMP,
+    }
+}
+
 /// The version, a line feed, and how the program was made.
 pub fn version() -> &'static str {
     STAMP.trim_end()
