@@ -339,7 +339,7 @@ impl<S: Servlet, F: Filter> Application<S, F> {
         requires sound { IsSoundApp (app_of S.serves S.servlet_phase F.filtering F.filter_phase self.old) }
         requires serving { self.old.is_in_service ≡ true }
         requires admitted { admission ≡ spec.admission self.old.once self.old.number request.now (session_cookie request.now.cookies self.old.number)
-            (option_map (λ s. (s.0, s.1.now)) handed.entry) now }
+            (option_map (λ s. (s.0, s.1.now)) handed) now }
         ensures same { app_of S.serves S.servlet_phase F.filtering F.filter_phase self.new
             ≡ app_of S.serves S.servlet_phase F.filtering F.filter_phase self.old }
         ensures outcome { IfOk result (λ o. o ≡ served_in (app_of S.serves S.servlet_phase F.filtering F.filter_phase self.old) request.now path.now admission
