@@ -4,7 +4,7 @@ use Rattle.std.specs.Prelude.{IfSome, slice_get}
 use Rattle.sv_net.specs.declared.connections.Connections.{Connections}
 use Rattle.sv_net.specs.declared.open.Open.{Open}
 use Rattle.sv_net.specs.declared.state.State.{State}
-use Rattle.sv_net.specs.Places.{places_of, elsewhere, with_at, held_in, held_at, Keeps}
+use Rattle.sv_net.specs.Places.{places_of, elsewhere, with_at, held_in, held_at, HasStood, IsKept, Keeps}
 
 module _ {A : Type 0} where
   -- of two things that are set at one place the last one stands there
@@ -44,6 +44,16 @@ put_holds P place held old new is p = subst (λ xs. IfSome (held_in (slice_get x
 pub keep_holds : (P : State → Type 0) (place : ℕ) (was : Open) (old new : Connections) → Keeps place was old new → held_at old place ≡ None → P was.state → IfSome (held_at new place) (λ held. P held.state)
 keep_holds P place was old new (inl k) none p = put_holds (λ held. P held.state) place k.held old new k.places (subst P (sym k.kept.state) p)
 keep_holds P place was old new (inr k) none p = nobody_holds (λ held. P held.state) (same_held place old new k.places ∙ none)
+
+-- who has stood there before
+stood_in : (P : State → Type 0) (o m : Option Open) → IfSome o (λ held. (was : Open) × (m ≡ Some was) × IsKept was held) → IfSome m (λ was. P was.state)
+    → IfSome o (λ held. P held.state)
+stood_in P None m stood p = tt
+stood_in P (Some held) m (was, is, kept) p = subst P (sym kept.state) (subst (λ (o : Option Open). IfSome o (λ was. P was.state)) is p)
+
+pub stood_holds : (P : State → Type 0) (place : ℕ) (old new : Connections) → HasStood place old new → IfSome (held_at old place) (λ was. P was.state)
+    → IfSome (held_at new place) (λ held. P held.state)
+stood_holds P place old new stood p = stood_in P (held_at new place) (held_at old place) stood p
 
 -- what is so of each is so of whoever stands there
 pub holds_more : (P Q : State → Type 0) → ((s : State) → P s → Q s) → (o : Option Open) → IfSome o (λ held. P held.state) → IfSome o (λ held. Q held.state)

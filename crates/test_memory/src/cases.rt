@@ -25,7 +25,7 @@ use sv_model::{
 };
 
 /// All of them, in the order of the floors.
-pub const NAMES: [&str; 94] = [
+pub const NAMES: [&str; 96] = [
     "text-copy",
     "bytes-copy",
     "field-copy",
@@ -92,6 +92,8 @@ pub const NAMES: [&str; 94] = [
     "dispatch-run",
     "container-start",
     "container-serve",
+    "container-serve-once",
+    "container-serve-recalled",
     "record-read-write",
     "packet-read-write",
     "frame-read-write",
@@ -196,6 +198,8 @@ fn of_container(alloc: Global, refusals: &mut Refusals, name: &str) -> Shown {
         "dispatch-run" => dispatches::dispatched(alloc, refusals),
         "container-start" => containers::start(alloc, refusals),
         "container-serve" => containers::serve_again(alloc, refusals),
+        "container-serve-once" => containers::serve_once(alloc, refusals),
+        "container-serve-recalled" => containers::serve_recalled(alloc, refusals),
         _ => of_records(alloc, refusals, name),
     }
 }
