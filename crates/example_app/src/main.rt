@@ -7,9 +7,11 @@ mod welcome;
 
 use std::process::ExitCode;
 use sv_launch::{Application, launch};
+use sv_web::Methods;
 use welcome::Welcome;
 
 fn main(rt: HostRuntime) -> ExitCode {
-    let application = Application::new(rt.alloc()).servlet("welcome", Welcome);
+    let welcome = Methods::new().get(Welcome);
+    let application = Application::new(rt.alloc()).servlet("welcome", welcome);
     launch(&rt, "example_app", &application)
 }

@@ -5,7 +5,7 @@ use Rattle.sv_servlet.specs.declared.servlet.Next.{Next}
 use Rattle.sv_servlet.specs.declared.servlet.Next.TheVariants.{Done, SendError}
 use Rattle.sv_web.specs.Attributes.{get_number, set_number}
 use Rattle.sv_web.specs.Numeral.{number_in}
-use Rattle.sv_web.specs.Request.{is_post, parameter}
+use Rattle.sv_web.specs.Request.{parameter}
 use Rattle.sv_web.specs.Steps.{plain_text, written}
 use Rattle.sv_web.specs.Work.{Ends, Work}
 
@@ -23,5 +23,8 @@ shown seat = written (codes "seat " ++ decimal seat ++ codes "\n") Done
 unfoldable pub booked : ℕ → Work Next
 booked seat = if seat == 0 then Ends (SendError 400 (codes "seats are 1 to 40")) else set_number (codes "seat") seat (shown seat)
 
-abbrev pub seats : Asked → Work Next
-seats call = plain_text (if is_post call.method then booked (seat_of call) else get_number (codes "seat") (λ n. shown (unwrap_or n 0)))
+abbrev pub asked : Asked → Work Next
+asked call = plain_text (get_number (codes "seat") (λ n. shown (unwrap_or n 0)))
+
+abbrev pub taken : Asked → Work Next
+taken call = plain_text (booked (seat_of call))

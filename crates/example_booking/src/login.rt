@@ -1,14 +1,7 @@
 //! Logging in.
 
-ghost use Rattle.std.specs.Prelude.{◌≡◌};
-ghost use Rattle.sv_servlet.specs.Servlet.{lent};
-ghost use Rattle.sv_web.specs.Refusal.{Does};
-ghost use Rattle.example_booking.specs.Login as spec;
-
-use std::alloc::Global;
-use sv_servlet::{Call, Next, Reply};
-use sv_session::SessionEdit;
-use sv_web::{HttpServlet, Refusal, is_post, parameter_or, send_redirect, set_html, set_text};
+use sv_servlet::Next;
+use sv_web::{Exchange, Get, Post, Refusal, parameter_or, send_redirect, set_html, set_text};
 
 /// The attribute that holds the name of whoever has logged in.
 pub const NAME: &str = "name";
@@ -21,46 +14,29 @@ const FORM: &str =
 #[derive(Clone, Copy)]
 pub struct Login;
 
-/// Shows the form.
-fn show(edit: &SessionEdit, reply: &mut Reply) -> Result<Next, Refusal>
-    ensures { Does spec.shown (lent edit.entry.now reply.old) (lent edit.entry.now reply.new) result }
-{
-    set_html(reply)?;
-    reply.write(FORM.as_bytes())?;
-    Ok(Next::Done)
+impl Get for Login {
+    ghost use Rattle.example_booking.specs.Login.{shown};
+
+    ghost gets = { λ _. shown };
+
+    fn get(&mut self, web: &mut Exchange<'_>) -> Result<Next, Refusal> {
+        set_html(web.reply)?;
+        web.reply.write(FORM.as_bytes())?;
+        Ok(Next::Done)
+    }
 }
 
-/// Keeps the name, and sends the client on.
-fn take(
-    alloc: Global,
-    call: &Call<'_>,
-    edit: &mut SessionEdit,
-    reply: &mut Reply,
-) -> Result<Next, Refusal>
-    ensures { Does (spec.taken call.now) (lent edit.old reply.old) (lent edit.new reply.new) result }
-{
-    let name = parameter_or(alloc, call.params, "name", "somebody")?;
-    edit.create()?;
-    set_text(edit, NAME, name.as_str())?;
-    send_redirect(reply, "seats")?;
-    Ok(Next::Done)
-}
+impl Post for Login {
+    ghost use Rattle.example_booking.specs.Login.{taken};
 
-impl HttpServlet for Login {
-    ghost use Rattle.example_booking.specs.Login.{login};
+    ghost posts = { λ _. taken };
 
-    ghost work = { λ _. login };
-
-    fn serve(
-        &mut self,
-        alloc: Global,
-        call: &Call<'_>,
-        edit: &mut SessionEdit,
-        reply: &mut Reply,
-    ) -> Result<Next, Refusal> {
-        if is_post(call.method) {
-            return take(alloc, call, edit, reply);
-        }
-        show(edit, reply)
+    fn post(&mut self, web: &mut Exchange<'_>) -> Result<Next, Refusal> {
+        let call = web.call;
+        let name = parameter_or(web.alloc, call.params, "name", "somebody")?;
+        web.edit.create()?;
+        set_text(web.edit, NAME, name.as_str())?;
+        send_redirect(web.reply, "seats")?;
+        Ok(Next::Done)
     }
 }

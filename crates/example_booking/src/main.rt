@@ -14,11 +14,12 @@ use oops::Oops;
 use seats::Seats;
 use std::process::ExitCode;
 use sv_launch::{Application, launch};
+use sv_web::Methods;
 
 fn main(rt: HostRuntime) -> ExitCode {
     let booking = Application::new(rt.alloc())
-        .servlet("login", Login)
-        .servlet("seats", Seats)
+        .servlet("login", Methods::new().get(Login).post(Login))
+        .servlet("seats", Methods::new().get(Seats).post(Seats))
         .servlet("oops", Oops)
         .filter("members", Members);
     launch(&rt, "example_booking", &booking)

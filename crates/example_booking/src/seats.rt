@@ -1,15 +1,12 @@
 //! The seats.
 
 ghost use Rattle.std.specs.Prelude.{◌≡◌};
-ghost use Rattle.sv_servlet.specs.Servlet.{lent};
 ghost use Rattle.example_booking.specs.Seats as spec;
-ghost use Rattle.sv_web.specs.Refusal.{Does};
+ghost use Rattle.sv_web.specs.Exchange.{Completes};
 
-use std::alloc::Global;
-use sv_servlet::{Call, Next, Reply};
-use sv_session::SessionEdit;
+use sv_servlet::{Call, Next};
 use sv_web::{
-    HttpServlet, Refusal, get_number, is_post, parameter, read_u64, send_error, set_number,
+    Exchange, Get, Post, Refusal, get_number, parameter, read_u64, send_error, set_number,
     set_plain_text,
 };
 
@@ -31,53 +28,46 @@ fn seat_of(call: &Call<'_>) -> u64
 }
 
 /// Writes which seat it is.
-fn write_seat(
-    alloc: Global,
-    edit: &SessionEdit,
-    reply: &mut Reply,
-    seat: u64,
-) -> Result<Next, Refusal>
-    ensures { Does (spec.shown seat) (lent edit.entry.now reply.old) (lent edit.entry.now reply.new) result }
+fn write_seat(web: &mut Exchange<'_>, seat: u64) -> Result<Next, Refusal>
+    ensures { Completes (spec.shown seat) web.old web.new result }
 {
-    let text = format!(in alloc; "seat {seat}\n")?;
-    reply.write(text.as_bytes())?;
+    let text = format!(in web.alloc; "seat {seat}\n")?;
+    web.reply.write(text.as_bytes())?;
     Ok(Next::Done)
 }
 
 /// Books a seat.
 #[tactic(auto, unfolding(crate::specs::Seats::booked))]
-fn book(
-    alloc: Global,
-    edit: &mut SessionEdit,
-    reply: &mut Reply,
-    seat: u64,
-) -> Result<Next, Refusal>
-    ensures { Does (spec.booked seat) (lent edit.old reply.old) (lent edit.new reply.new) result }
+fn book(web: &mut Exchange<'_>, seat: u64) -> Result<Next, Refusal>
+    ensures { Completes (spec.booked seat) web.old web.new result }
 {
     if seat == 0 {
-        return Ok(send_error(alloc, 400, "seats are 1 to 40")?);
+        return Ok(send_error(web.alloc, 400, "seats are 1 to 40")?);
     }
-    set_number(alloc, edit, SEAT, seat)?;
-    write_seat(alloc, edit, reply, seat)
+    set_number(web.alloc, web.edit, SEAT, seat)?;
+    write_seat(web, seat)
 }
 
-impl HttpServlet for Seats {
-    ghost use Rattle.example_booking.specs.Seats.{seats};
+impl Get for Seats {
+    ghost use Rattle.example_booking.specs.Seats.{asked};
 
-    ghost work = { λ _. seats };
+    ghost gets = { λ _. asked };
 
-    fn serve(
-        &mut self,
-        alloc: Global,
-        call: &Call<'_>,
-        edit: &mut SessionEdit,
-        reply: &mut Reply,
-    ) -> Result<Next, Refusal> {
-        set_plain_text(reply)?;
-        if is_post(call.method) {
-            return book(alloc, edit, reply, seat_of(call));
-        }
-        let seat = get_number(edit, SEAT)?.unwrap_or(0);
-        write_seat(alloc, edit, reply, seat)
+    fn get(&mut self, web: &mut Exchange<'_>) -> Result<Next, Refusal> {
+        set_plain_text(web.reply)?;
+        let seat = get_number(web.edit, SEAT)?.unwrap_or(0);
+        write_seat(web, seat)
+    }
+}
+
+impl Post for Seats {
+    ghost use Rattle.example_booking.specs.Seats.{taken};
+
+    ghost posts = { λ _. taken };
+
+    fn post(&mut self, web: &mut Exchange<'_>) -> Result<Next, Refusal> {
+        let seat = seat_of(web.call);
+        set_plain_text(web.reply)?;
+        book(web, seat)
     }
 }

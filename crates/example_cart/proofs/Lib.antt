@@ -1,5 +1,4 @@
 pub mod FormsLemmas
-pub mod HtmlLemmas
 pub mod JoinLemmas
 pub mod KeptLemmas
 pub mod RowsLemmas

@@ -1,5 +1,6 @@
 -- Forms by the texts of their fields.
-use Rattle.std.specs.Prelude.{ℕ, ◌+◌, ◌-◌, ◌*◌, ◌^◌, ◌&&◌, List, [], ◌∷◌, bytes_eq, codes, nat_le, nat_lt, Option, Some, None, option_and_then, if◌then◌else◌}
+use Rattle.std.specs.Prelude.{ℕ, ◌&&◌, List, bytes_eq, codes, nat_le, Option, Some, None, option_and_then, if◌then◌else◌}
+use Rattle.sv_web.specs.Numeral.{number_in}
 use Rattle.example_cart.specs.declared.form.Sent.{Sent}
 use Rattle.example_cart.specs.declared.form.Sent.TheVariants.{Asks, Wrong, NotOurs}
 use Rattle.example_cart.specs.declared.post.Change.{Change}
@@ -7,26 +8,12 @@ use Rattle.example_cart.specs.declared.post.Change.TheVariants.{Add, Put, Remove
 use Rattle.example_cart.specs.declared.post.Mark.{Mark}
 use Rattle.example_cart.specs.declared.rows.Listing.TheVariants.{Offers, Lines}
 
--- the number with one digit more, within 64 bits
-abbrev pub next_number : ℕ → ℕ → Option ℕ
-next_number n c = if nat_le 48 c && nat_le c 57 && nat_lt (n * 10 + (c - 48)) (2 ^ 64) then Some (n * 10 + (c - 48)) else None
-
--- the number that begins with n and goes on with these digits
-abbrev pub digits_from : ℕ → List ℕ → Option ℕ
-digits_from n [] = Some n
-digits_from n (c ∷ cs) = option_and_then (λ m. digits_from m cs) (next_number n c)
-
--- one or more decimal digits, and nothing else
-abbrev pub number_in : List ℕ → Option ℕ
-number_in [] = None
-number_in (c ∷ cs) = digits_from 0 (c ∷ cs)
-
 abbrev pub between : ℕ → ℕ → ℕ → Option ℕ
 between least most n = if nat_le least n && nat_le n most then Some n else None
 
 -- the number, where it is one from the least to the most
 abbrev pub number_between : ℕ → ℕ → List ℕ → Option ℕ
-number_between least most text = option_and_then (between least most) (number_in text)
+number_between least most text = option_and_then (between least most) (number_in 64 text)
 
 abbrev pub post : Mark → ℕ → Change → Sent
 post mark article change = Asks (record { mark = mark; article = article; change = change })
@@ -58,4 +45,4 @@ sent_by None visit page word quantity = NotOurs
 -- the article's number, those of the page, what is asked for, and how many
 abbrev pub sent_in : List ℕ → List ℕ → List ℕ → List ℕ → List ℕ → Sent
 sent_in article visit page word quantity =
-    sent_by (number_between 0 9 article) (number_in visit) (number_between 0 4294967295 page) word quantity
+    sent_by (number_between 0 9 article) (number_in 64 visit) (number_between 0 4294967295 page) word quantity

@@ -1,7 +1,6 @@
 pub mod Cart
 pub mod Form
 pub mod Forms
-pub mod Html
 pub mod Kept
 pub mod Notice
 pub mod Order

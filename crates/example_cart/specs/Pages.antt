@@ -25,7 +25,8 @@ use Rattle.example_cart.specs.declared.markup.TheConstants.{CHANGE_FAULT, CHANGE
 use Rattle.example_cart.specs.declared.markup.TheConstants.{LOGIN_FIELDS, NEW_CART, NOTHING, NOT_ORDERED, NO_ORDER, OUTDATED}
 use Rattle.example_cart.specs.declared.markup.TheConstants.{STOP, TIMES, WAYS}
 use Rattle.example_cart.specs.Cart.{cost, is_empty, total}
-use Rattle.example_cart.specs.Html.{escaped, price}
+use Rattle.sv_web.specs.Html.{escaped}
+use Rattle.sv_web.specs.Page.{price}
 use Rattle.example_cart.specs.Shape.{shape_html}
 
 -- ---- what stands round every page, and what was typed that is no quantity

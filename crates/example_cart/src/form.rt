@@ -1,11 +1,12 @@
 //! Forms as they are sent, by the texts of their fields.
 
-ghost use Rattle.std.specs.Prelude.{◌≡◌, option_copied};
+ghost use Rattle.std.specs.Prelude.{◌≡◌};
 ghost use Rattle.example_cart.specs.Form as spec;
-ghost use Rattle.example_cart.specs.Form.{next_number, number_between, number_in, sent_in};
+ghost use Rattle.example_cart.specs.Form.{number_between, sent_in};
 
 use crate::post::{Change, Mark, Post};
 use crate::rows::Listing;
+use sv_web::read_u64;
 
 /// What a form of an article asks for.
 #[derive(Clone, Copy, Debug)]
@@ -17,40 +18,11 @@ pub enum Sent {
     NotOurs,
 }
 
-/// The number with one digit more; none where it is no digit, or the number would have more than 64 bits.
-fn next_number(number: u64, digit: u8) -> Option<u64>
-    ensures { result ≡ next_number number digit }
-{
-    if digit < b'0' || digit > b'9' {
-        return None;
-    }
-    let next = u128::from(number) * 10 + u128::from(digit - b'0');
-    if next > 0xffff_ffff_ffff_ffff {
-        return None;
-    }
-    Some(next as u64)
-}
-
-/// The number of decimal digits alone, within 64 bits; leading zeros are taken, and no sign.
-pub fn read_number(text: &str) -> Option<u64>
-    ensures { result ≡ number_in text.now }
-{
-    let digits = text.as_bytes();
-    if digits.is_empty() {
-        return None;
-    }
-    let mut number = 0;
-    for digit in digits {
-        number = next_number(number, *digit)?;
-    }
-    Some(number)
-}
-
 /// The number, where it is one from the least to the most.
 pub fn read_between(text: &str, least: u64, most: u64) -> Option<u64>
     ensures { result ≡ number_between least most text.now }
 {
-    match read_number(text) {
+    match read_u64(text) {
         Some(number) if number >= least && number <= most => Some(number),
         _ => None,
     }
@@ -114,7 +86,7 @@ pub fn read_sent(article: &str, visit: &str, page: &str, word: &str, quantity: &
     let Some(article) = read_between(article, 0, 9) else {
         return Sent::NotOurs;
     };
-    let Some(visit) = read_number(visit) else {
+    let Some(visit) = read_u64(visit) else {
         return Sent::NotOurs;
     };
     let Some(page) = read_between(page, 0, 4_294_967_295) else {

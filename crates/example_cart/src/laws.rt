@@ -1,12 +1,11 @@
-//! Laws of carts and their forms, of what is kept of them, and of text in HTML. Each function does nothing; its contract is the law.
+//! Laws of carts and their forms, and of what is kept of them. Each function does nothing; its contract is the law.
 
 ghost use Rattle.std.specs.Prelude.{◌≡◌, ◌<◌, ◌≤◌, ◌^◌, true, false, ℕ, List, Some, length};
-ghost use Rattle.std.specs.List.{All, fold, list_all, list_any};
+ghost use Rattle.std.specs.List.{All, fold, list_any};
 ghost use Rattle.example_cart.specs.declared.order.Order.{Order};
 ghost use Rattle.example_cart.specs.declared.post.Post.{Post};
 ghost use Rattle.example_cart.specs.declared.visit.Visit.{Visit};
 ghost use Rattle.example_cart.specs.Forms.{Basket, Remembered, after, age, counted, counting, counts, is_same, none_yet, posted};
-ghost use Rattle.example_cart.specs.Html.{Reads, escaped, is_harmless};
 ghost use Rattle.example_cart.specs.Kept.{IsSmall, cart_in, forms_in, kept_forms, kept_visit, visit_in};
 ghost use Rattle.example_cart.specs.Order.{kept_order, order_in};
 
@@ -34,10 +33,4 @@ pub fn read_as_kept()
     ensures order { (order : Order) → length order.cart ≡ 10 → order_in (Some (kept_order order)) ≡ order }
     ensures forms { (forms : Remembered) → forms.floor < 2 ^ 64 → All IsSmall forms.posts → forms_in (Some (kept_forms forms)) ≡ forms }
     ensures visit { (visit : Visit) (node : ℕ) → visit.page < 2 ^ 32 → visit.moves < 2 ^ 32 → visit_in node (Some (kept_visit visit)) ≡ visit }
-{}
-
-/// A text by its references is read as the text, whatever is in it; and none of the bytes that markup begins or ends with is left.
-pub fn shown_as_text()
-    ensures read { (text : List ℕ) → Reads (escaped text) text }
-    ensures harmless { (text : List ℕ) → list_all is_harmless (escaped text) ≡ true }
 {}

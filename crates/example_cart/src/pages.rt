@@ -16,10 +16,10 @@ use crate::markup::{
 };
 use crate::notice::{Notice, Said};
 use crate::order::Order;
-use crate::page::{Page, Piece};
 use crate::post::Mark;
 use crate::rows::{Listing, Rows, Wrong, write_rows};
 use std::alloc::{AllocError, Global};
+use sv_web::{Page, Piece};
 
 /// What stands round every page.
 #[derive(Clone, Copy, Debug)]

@@ -12,10 +12,10 @@ use crate::markup::{
     BEFORE_PICTURE, BEFORE_PRICE, BEFORE_REMOVE, BEFORE_VISIT, BEHIND_ADD, BEHIND_FAULT,
     BEHIND_ORDERED, BEHIND_REMOVE, BEHIND_VALUE, CHANGE_FAULT, CHANGE_FIELD,
 };
-use crate::page::{Page, Piece};
 use crate::post::Mark;
 use crate::shape::write_shapes;
 use std::alloc::AllocError;
+use sv_web::{Page, Piece};
 
 /// What the rows of a page are.
 #[derive(Clone, Copy, Debug)]

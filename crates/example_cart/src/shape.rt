@@ -8,8 +8,8 @@ use crate::markup::{
     ALONG, BEFORE_ACROSS, BEFORE_CIRCLE_FILL, BEFORE_DOWN, BEFORE_FILL, BEFORE_RADIUS,
     BEHIND_SHAPE, LINE_END,
 };
-use crate::page::{Page, Piece};
 use std::alloc::AllocError;
+use sv_web::{Page, Piece};
 
 /// A shape of a picture of 64 by 64 units, as an element of SVG.
 #[derive(Clone, Copy, Debug)]

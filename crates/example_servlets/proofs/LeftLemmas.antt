@@ -1,6 +1,6 @@
 -- What a login leaves of a session as it was: each attribute but the name.
 use Rattle.std.proofs.Common.{◌≡◌, refl, sym, ap, ◌∙◌, subst, ℕ, Bool, true, false, cond, List, [], ◌∷◌, length, Option, Some, None, Result, Ok, Err}
-use Rattle.std.specs.Prelude.{bytes_eq, codes, is_some, nat_lt}
+use Rattle.std.specs.Prelude.{◌||◌, bytes_eq, codes, is_some, nat_lt}
 use Rattle.std.specs.Map.{lookup}
 use Rattle.std.specs.Ordering.{is_eq, match_ordering}
 use Rattle.std.specs.declared.cmp.Ordering.{Ordering}
@@ -23,20 +23,21 @@ use Rattle.sv_session.specs.Edit.{Edit, birth_with, fate_with, has_made, has_use
 use Rattle.sv_session.specs.declared.fault.SessionFault.TheVariants.{BadName, SecondCreation, SecretUsed, SessionTooLarge, ValueTooLong}
 use Rattle.sv_session.specs.Fault.{fault_name as session_fault_name}
 use Rattle.sv_servlet.specs.Call.{Asked}
-use Rattle.sv_servlet.specs.Reply.{fault_name as reply_fault_name}
+use Rattle.sv_servlet.specs.Reply.{fault_name as reply_fault_name, field_result, status_result}
 use Rattle.sv_servlet.specs.ReplyState.{ReplyState}
 use Rattle.sv_servlet.specs.Servlet.{Lent, answer, lent}
 use Rattle.sv_servlet.specs.declared.reply.ReplyFault.{ReplyFault}
 use Rattle.sv_servlet.specs.declared.servlet.Next.{Next}
-use Rattle.sv_servlet.specs.declared.servlet.Next.TheVariants.{Done}
+use Rattle.sv_servlet.specs.declared.servlet.Next.TheVariants.{Done, SendError}
 use Rattle.sv_web.specs.Attributes.{has_session}
 use Rattle.sv_web.specs.Redirect.{redirect_result}
 use Rattle.sv_web.specs.Refusal.{fault_page}
-use Rattle.sv_web.specs.Request.{is_post}
-use Rattle.sv_web.specs.Steps.{change_id, create}
+use Rattle.sv_web.specs.Header.{header}
+use Rattle.sv_web.specs.Methods.{MethodWork, allow_text, by_verb, method_work, not_allowed, options}
+use Rattle.sv_web.specs.Steps.{change_id, create, set_header}
 use Rattle.sv_web.specs.Work.{Ends, Work, answered, on_edit, on_reply}
 use Rattle.example_servlets.specs.Kept.{or_none, seen}
-use Rattle.example_servlets.specs.Login.{login, named, refusal, taken, taken_as}
+use Rattle.example_servlets.specs.Login.{login, named, posted, taken_as}
 use Rattle.example_servlets.specs.Sent.{sent_on}
 use Rattle.example_servlets.specs.Told.{name_of}
 use Rattle.example_servlets.proofs.LoginLemmas.{held_again}
@@ -161,14 +162,15 @@ module _ (q : List ℕ) (apart : bytes_eq q (codes "name") ≡ false) where
   edited l (Ok r) more first leaves = leaves (lent r.1 l.reply) ∙ first
   edited l (Err fault) more first leaves = refl
 
-  replied : (l : Lent) (x : Result ReplyState ReplyFault) → seen (on_reply l x (λ m. answer m Done) (λ fault. answer l (fault_page (reply_fault_name fault)))).lent.edit q ≡ seen l.edit q
-  replied l (Ok reply) = refl
-  replied l (Err fault) = refl
+  replied : (l : Lent) (x : Result ReplyState ReplyFault) (more : Work Next) → ((m : Lent) → Leaves more m)
+      → seen (on_reply l x (λ m. answered more m) (λ fault. answer l (fault_page (reply_fault_name fault)))).lent.edit q ≡ seen l.edit q
+  replied l (Ok reply) more leaves = leaves (lent l.edit reply)
+  replied l (Err fault) more leaves = refl
 
   named_seen : (name : List ℕ) (l : Lent) → Leaves (named name) l
   unfolding named
   named_seen name l =
-      edited l (value_result l.edit (codes "name") name) (sent_on (codes "cart")) (kept_seen q l.edit (codes "name") name apart) (λ m. replied m (redirect_result m.reply (codes "cart")))
+      edited l (value_result l.edit (codes "name") name) (sent_on (codes "cart")) (kept_seen q l.edit (codes "name") name apart) (λ m. replied m (redirect_result m.reply (codes "cart")) (Ends Done) (λ n. refl))
 
   taken_seen : (name : Option (List ℕ)) (l : Lent) → Leaves (taken_as name) l
   taken_seen None l = refl
@@ -176,8 +178,26 @@ module _ (q : List ℕ) (apart : bytes_eq q (codes "name") ≡ false) where
       either_work (has_session l.edit) l (change_id (named name)) (create (named name)) (edited l (change_id_result l.edit) (named name) (changed_seen q l.edit) (named_seen name))
       (edited l (create_result l.edit) (named name) (created_seen q l.edit) (named_seen name))
 
+  allow_seen : (allow : List ℕ) (next : Next) (l : Lent) → Leaves (set_header (codes "allow") allow (Ends next)) l
+  allow_seen allow next l = replied l (field_result l.reply (header (codes "allow") allow)) (Ends next) (λ m. refl)
+
+  options_seen : (allow : List ℕ) (l : Lent) → Leaves (options allow) l
+  options_seen allow l = replied l (status_result l.reply 204) (set_header (codes "allow") allow (Ends Done)) (λ m. allow_seen allow Done m)
+
+  either_asked : {V : Type 0} (work : V → Work Next) (b : Bool) (x y : V) (l : Lent) → Leaves (work x) l → Leaves (work y) l → Leaves (work (cond b x y)) l
+  either_asked work true x y l hx hy = hx
+  either_asked work false x y l hx hy = hy
+
+  -- whatever is asked, the form alone does anything
   pub login_seen : (call : Asked) (l : Lent) → Leaves (login call) l
-  login_seen call l = either_work (is_post call.method) l (taken call.params) (Ends refusal) (taken_seen (name_of call.params) l) refl
+  login_seen call l =
+      let m : MethodWork = method_work None (Some posted) None None in
+      let refused : Leaves (not_allowed (allow_text m)) l = allow_seen (allow_text m) (SendError 405 []) l in
+      either_asked (λ v. by_verb m v call) (bytes_eq call.method (codes "GET") || bytes_eq call.method (codes "HEAD")) _ _ l refused
+      (either_asked (λ v. by_verb m v call) (bytes_eq call.method (codes "POST")) _ _ l (taken_seen (name_of call.params) l)
+      (either_asked (λ v. by_verb m v call) (bytes_eq call.method (codes "PUT")) _ _ l refused
+      (either_asked (λ v. by_verb m v call) (bytes_eq call.method (codes "DELETE")) _ _ l refused
+      (either_asked (λ v. by_verb m v call) (bytes_eq call.method (codes "OPTIONS")) _ _ l (options_seen (allow_text m) l) refused))))
 
 pub cart_seen : (call : Asked) (l : Lent) → seen (answered (login call) l).lent.edit (codes "cart") ≡ seen l.edit (codes "cart")
 cart_seen = login_seen (codes "cart") refl

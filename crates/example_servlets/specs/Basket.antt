@@ -5,7 +5,7 @@ use Rattle.sv_servlet.specs.Call.{Asked}
 use Rattle.sv_servlet.specs.declared.servlet.Next.{Next}
 use Rattle.sv_servlet.specs.declared.servlet.Next.TheVariants.{SendError}
 use Rattle.sv_web.specs.Attributes.{has_session}
-use Rattle.sv_web.specs.Request.{is_post}
+use Rattle.sv_web.specs.Page.{sent}
 use Rattle.sv_web.specs.Steps.{editing, set_attribute}
 use Rattle.sv_web.specs.Work.{Ends, Looking, SetValue, Work}
 use Rattle.example_cart.specs.declared.article.Article.{Article}
@@ -22,7 +22,7 @@ use Rattle.example_cart.specs.Notice.{kept_notice, notice_in, noticed}
 use Rattle.example_cart.specs.Order.{order_in}
 use Rattle.example_cart.specs.Pages.{cart_page, catalogue_page}
 use Rattle.example_servlets.specs.Kept.{seen, session_number}
-use Rattle.example_servlets.specs.Sent.{sent, sent_back, sent_on}
+use Rattle.example_servlets.specs.Sent.{sent_back, sent_on}
 use Rattle.example_servlets.specs.Told.{sent_of, text}
 use Rattle.example_servlets.specs.Visits.{around, begun}
 
@@ -94,13 +94,13 @@ taken_as articles node NotOurs call = Ends refusal
 abbrev pub taken : List Article → ℕ → Asked → Work Next
 taken articles node call = taken_as articles node (sent_of call.params) call
 
--- the notice is forgotten, if there is a session, and a page is sent
+-- the notice is forgotten, if there is a session
+abbrev pub forgotten : Work Next → Work Next
+forgotten more = Looking (λ e. if has_session e then editing (SetValue (codes "notice") None) more else more)
+
 abbrev pub sent_once : List ℕ → Work Next
-sent_once page = Looking (λ e. if has_session e then editing (SetValue (codes "notice") None) (sent page) else sent page)
+sent_once page = forgotten (sent page)
 
 -- the page is shown, and the notice that is on it is forgotten
-abbrev pub shown : List Article → List ℕ → ℕ → Work Next
-shown articles base node = Looking (λ e. sent_once (page_of articles base node None e))
-
-abbrev pub basket : List Article → ℕ → Asked → Work Next
-basket articles node call = if is_post call.method then taken articles node call else shown articles call.context_path node
+abbrev pub shown : List Article → ℕ → Asked → Work Next
+shown articles node call = Looking (λ e. sent_once (page_of articles call.context_path node None e))

@@ -3,7 +3,7 @@ use Rattle.std.specs.Prelude.{ℕ, ◌+◌, List, Option, Some, None, codes, if�
 use Rattle.sv_session.specs.Edit.{Edit}
 use Rattle.sv_servlet.specs.Call.{Asked}
 use Rattle.sv_servlet.specs.declared.servlet.Next.{Next}
-use Rattle.sv_web.specs.Request.{is_post}
+use Rattle.sv_web.specs.Page.{sent}
 use Rattle.sv_web.specs.Steps.{set_attribute}
 use Rattle.sv_web.specs.Work.{Ends, Looking, Work}
 use Rattle.example_cart.specs.declared.article.Article.{Article}
@@ -15,7 +15,7 @@ use Rattle.example_cart.specs.Order.{is_ordered, kept_order, order_in}
 use Rattle.example_cart.specs.Pages.{order_page}
 use Rattle.example_servlets.specs.Basket.{refusal}
 use Rattle.example_servlets.specs.Kept.{seen}
-use Rattle.example_servlets.specs.Sent.{sent, sent_on}
+use Rattle.example_servlets.specs.Sent.{sent_on}
 use Rattle.example_servlets.specs.Told.{order_form}
 use Rattle.example_servlets.specs.Visits.{around}
 
@@ -39,12 +39,12 @@ ordered_by form cart order = if is_ordered order cart form then placed order.num
 unfoldable pub ordered : ℕ → Work Next
 ordered form = Looking (λ e. ordered_by form (cart_in (seen e (codes "cart"))) (order_in (seen e (codes "order"))))
 
-abbrev pub shown : List Article → List ℕ → ℕ → Work Next
-shown articles base node = Looking (λ e. sent (page_of articles base node e))
+abbrev pub shown : List Article → ℕ → Asked → Work Next
+shown articles node call = Looking (λ e. sent (page_of articles call.context_path node e))
 
 abbrev pub taken_as : Option ℕ → Work Next
 taken_as None = Ends refusal
 taken_as (Some form) = ordered form
 
-abbrev pub checkout : List Article → ℕ → Asked → Work Next
-checkout articles node call = if is_post call.method then taken_as (order_form call.params) else shown articles call.context_path node
+abbrev pub taken : Asked → Work Next
+taken call = taken_as (order_form call.params)

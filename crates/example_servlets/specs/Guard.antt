@@ -1,7 +1,6 @@
 -- The filter that guards the pages.
 use Rattle.std.specs.Prelude.{ℕ, ◌&&◌, ◌||◌, not, Bool, true, false, List, bytes_eq, codes}
-use Rattle.std.specs.Prelude.{drop, length, nat_le, take, Option, Some, None, option_map, if◌then◌else◌}
-use Rattle.std.specs.List.{find}
+use Rattle.std.specs.Prelude.{drop, length, nat_le, take, Option, Some, None, if◌then◌else◌}
 use Rattle.sv_model.specs.declared.field.Field.{Field}
 use Rattle.sv_session.specs.Fault.{fault_name as session_fault_name}
 use Rattle.sv_servlet.specs.Call.{Asked}
@@ -11,7 +10,7 @@ use Rattle.sv_servlet.specs.declared.filter.Before.TheVariants.{Pass, SendError}
 use Rattle.sv_web.specs.Attributes.{has_session}
 use Rattle.sv_web.specs.Header.{header}
 use Rattle.sv_web.specs.Refusal.{fault_sent}
-use Rattle.sv_web.specs.Request.{is_post}
+use Rattle.sv_web.specs.Request.{field, is_post}
 use Rattle.sv_web.specs.Work.{Ends, FilterWork, Looking, Replying, SetField, Work}
 use Rattle.example_servlets.specs.declared.guard.TheConstants.{POLICY}
 use Rattle.example_servlets.specs.Visits.{counted}
@@ -25,13 +24,6 @@ no_sniffing = header (codes "x-content-type-options") (codes "nosniff")
 unfoldable pub no_store : Field
 no_store = header (codes "cache-control") (codes "no-store")
 
-abbrev pub has_name : List ℕ → Field → Bool
-has_name name f = bytes_eq f.name name
-
--- the value of the first field of a name
-abbrev pub value : List Field → List ℕ → Option (List ℕ)
-value fields name = option_map (λ f. f.value.bytes) (find (has_name name) fields)
-
 -- the origin begins with a scheme, and goes on as a host
 abbrev pub is_at : List ℕ → List ℕ → List ℕ → Bool
 is_at origin scheme host =
@@ -43,19 +35,19 @@ is_elsewhere_than (Some host) origin = not (is_at origin (codes "http://") host 
 
 -- the origin is another than the host that is asked
 abbrev pub is_elsewhere : List Field → List ℕ → Bool
-is_elsewhere fields origin = is_elsewhere_than (value fields (codes "host")) origin
+is_elsewhere fields origin = is_elsewhere_than (field fields (codes "host")) origin
 
 abbrev pub has_foreign_origin : List Field → Option (List ℕ) → Bool
 has_foreign_origin fields None = false
 has_foreign_origin fields (Some origin) = is_elsewhere fields origin
 
 abbrev pub is_foreign_by : List Field → Option (List ℕ) → Bool
-is_foreign_by fields None = has_foreign_origin fields (value fields (codes "origin"))
+is_foreign_by fields None = has_foreign_origin fields (field fields (codes "origin"))
 is_foreign_by fields (Some site) = not (bytes_eq site (codes "same-origin") || bytes_eq site (codes "none"))
 
 -- the request comes from a page of another site, as the browser says by `Sec-Fetch-Site`, or else by `Origin`
 abbrev pub is_foreign : List Field → Bool
-is_foreign fields = is_foreign_by fields (value fields (codes "sec-fetch-site"))
+is_foreign fields = is_foreign_by fields (field fields (codes "sec-fetch-site"))
 
 -- a field is set before a servlet
 abbrev pub setting : Field → Work Before → Work Before

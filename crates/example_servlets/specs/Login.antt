@@ -9,7 +9,7 @@ use Rattle.sv_servlet.specs.Call.{Asked}
 use Rattle.sv_servlet.specs.declared.servlet.Next.{Next}
 use Rattle.sv_servlet.specs.declared.servlet.Next.TheVariants.{SendError}
 use Rattle.sv_web.specs.Attributes.{has_session}
-use Rattle.sv_web.specs.Request.{is_post}
+use Rattle.sv_web.specs.Methods.{by_method, method_work}
 use Rattle.sv_web.specs.Steps.{change_id, create, set_attribute}
 use Rattle.sv_web.specs.Work.{Ends, Looking, Work}
 use Rattle.example_servlets.specs.Sent.{sent_on}
@@ -30,11 +30,12 @@ taken_as (Some name) = entered (named name)
 abbrev pub taken : List Param → Work Next
 taken params = taken_as (name_of params)
 
-abbrev pub refusal : Next
-refusal = SendError 405 (codes "Please log in above.")
+abbrev pub posted : Asked → Work Next
+posted call = taken call.params
 
+-- the form alone is answered
 abbrev pub login : Asked → Work Next
-login call = if is_post call.method then taken call.params else Ends refusal
+login call = by_method (method_work None (Some posted) None None) call
 
 -- the edit whose session goes on under another id
 abbrev pub renewed : Edit → Edit

@@ -2,12 +2,9 @@
 use Rattle.std.specs.Prelude.{ℕ, List}
 use Rattle.sv_servlet.specs.declared.servlet.Next.{Next}
 use Rattle.sv_servlet.specs.declared.servlet.Next.TheVariants.{Done}
-use Rattle.sv_web.specs.Steps.{html, redirect, set_status, written}
+use Rattle.sv_web.specs.Page.{sent}
+use Rattle.sv_web.specs.Steps.{redirect, set_status}
 use Rattle.sv_web.specs.Work.{Ends, Work}
-
--- a page is sent
-unfoldable pub sent : List ℕ → Work Next
-sent page = html (written page Done)
 
 -- a page is sent that says what was wrong with a form (RFC 9110, section 15.5.1)
 unfoldable pub sent_back : List ℕ → Work Next

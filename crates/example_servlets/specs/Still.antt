@@ -12,6 +12,6 @@ abbrev pub media_type : Kind → List ℕ
 media_type Css = codes "text/css"
 media_type Svg = codes "image/svg+xml"
 
--- the text, whatever is asked
+-- the text
 abbrev pub still : Kind → List ℕ → Asked → Work Next
 still kind text call = set_header (codes "content-type") (media_type kind) (written text Done)

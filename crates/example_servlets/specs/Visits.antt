@@ -28,7 +28,7 @@ abbrev pub counted : {R : Type 0} → ℕ → Work R → (SessionFault → Work 
 counted node more refused = Looking (λ e. Editing (SetValue (codes "visit") (Some (one_more node e))) more refused)
 
 -- there is a session, which is made and counts its first page where there was none
-abbrev pub begun : ℕ → Work Next → Work Next
+unfoldable pub begun : ℕ → Work Next → Work Next
 begun node more = Looking (λ e. if has_session e then more else create (counted node more (λ fault. Ends (fault_page (fault_name fault)))))
 
 -- what stands round a page of the shop at a path, in a session as it is

@@ -1,26 +1,27 @@
 //! The cart, shown and changed.
 
 ghost use Rattle.std.specs.Prelude.{◌≡◌, IfOk};
-ghost use Rattle.sv_servlet.specs.Servlet.{lent};
-ghost use Rattle.sv_web.specs.Refusal.{Does};
+ghost use Rattle.sv_web.specs.Exchange.{Completes, CompletesPart};
 ghost use Rattle.example_cart.specs.Pages.{wrong_of};
 ghost use Rattle.example_servlets.specs.Basket as spec;
 ghost use Rattle.example_servlets.specs.Visits.{begun};
 
 use crate::catalogue::offers_of;
 use crate::kept::{CART, FORMS, NOTICE, ORDER, seen, session_number};
-use crate::sent::{send, send_back};
+use crate::sent::send_back;
 use crate::store::Store;
 use crate::told::{sent_of, text};
-use crate::visits::{count, frame_of};
+use crate::visits::{begin, frame_of};
 use example_cart::{
-    Beside, Cart, Forms, Listing, Notice, Page, Post, Sent, Wrong, cart_page, kept_forms,
+    Beside, Cart, Forms, Listing, Notice, Post as Form, Sent, Wrong, cart_page, kept_forms,
     read_cart, read_forms, read_order, take_post,
 };
 use std::alloc::{AllocError, Global};
-use sv_servlet::{Call, Next, Reply};
+use sv_servlet::Next;
 use sv_session::SessionEdit;
-use sv_web::{HttpServlet, Refusal, has_session, is_post, send_error, send_redirect};
+use sv_web::{
+    Exchange, Get, Page, Post, Refusal, has_session, send_error, send_page, send_redirect,
+};
 
 /// Shows the cart; a POST changes it by the form of an article, and sends the browser on to the page, which says what happened.
 #[derive(Clone, Copy)]
@@ -41,7 +42,7 @@ struct Taken {
 fn basket_after(
     store: Store,
     edit: &SessionEdit,
-    post: Post,
+    post: Form,
     is_new: bool,
 ) -> Result<Taken, AllocError>
     ensures basket { IfOk result (λ t. record { cart = t.cart; forms = t.forms } ≡ spec.basket_after post edit.entry.now) }
@@ -60,40 +61,33 @@ fn basket_after(
 
 /// Keeps a cart, its forms and what is said in the session, and sends the browser on to the page.
 #[tactic(auto, unfolding(crate::specs::Basket::with_basket))]
-fn keep_taken(
-    store: Store,
-    edit: &mut SessionEdit,
-    reply: &mut Reply,
-    taken: &Taken,
-) -> Result<Next, Refusal>
-    ensures { Does (spec.with_basket (record { cart = taken.now.cart; forms = taken.now.forms }) taken.now.notice) (lent edit.old reply.old)
-        (lent edit.new reply.new) result }
+fn keep_taken(web: &mut Exchange<'_>, taken: &Taken) -> Result<Next, Refusal>
+    ensures { Completes (spec.with_basket (record { cart = taken.now.cart; forms = taken.now.forms }) taken.now.notice) web.old web.new result }
 {
-    let forms = kept_forms(store.alloc, &taken.forms)?;
-    edit.set(CART, Some(taken.cart.as_slice()))?;
-    edit.set(FORMS, Some(forms.as_slice()))?;
-    edit.set(NOTICE, Some(&taken.notice.kept()))?;
-    send_redirect(reply, "cart")?;
+    let forms = kept_forms(web.alloc, &taken.forms)?;
+    web.edit.set(CART, Some(taken.cart.as_slice()))?;
+    web.edit.set(FORMS, Some(forms.as_slice()))?;
+    web.edit.set(NOTICE, Some(&taken.notice.kept()))?;
+    send_redirect(web.reply, "cart")?;
     Ok(Next::Done)
+}
+
+/// Changes the cart of a session by a form.
+fn take(store: Store, web: &mut Exchange<'_>, post: Form, is_new: bool) -> Result<Next, Refusal>
+    ensures { Completes (spec.taken_in post is_new) web.old web.new result }
+{
+    let taken = basket_after(store, web.edit, post, is_new)?;
+    keep_taken(web, &taken)
 }
 
 /// Changes the cart by a form, in a session that is made where there is none.
 #[tactic(auto, unfolding(crate::specs::Basket::changed))]
-fn change(
-    store: Store,
-    edit: &mut SessionEdit,
-    reply: &mut Reply,
-    post: Post,
-) -> Result<Next, Refusal>
-    ensures { Does (spec.changed store.node post) (lent edit.old reply.old) (lent edit.new reply.new) result }
+fn change(store: Store, web: &mut Exchange<'_>, post: Form) -> Result<Next, Refusal>
+    ensures { Completes (spec.changed store.node post) web.old web.new result }
 {
-    let is_new = !has_session(edit);
-    if is_new {
-        edit.create()?;
-        count(edit, store.node)?;
-    }
-    let taken = basket_after(store, edit, post, is_new)?;
-    keep_taken(store, edit, reply, &taken)
+    let is_new = !has_session(web.edit);
+    begin(web, store.node)?;
+    take(store, web, post, is_new)
 }
 
 /// The page of the cart, for a session as it is, with what was typed that is no quantity.
@@ -159,99 +153,85 @@ fn wrong_page<'a>(
 #[tactic(auto, unfolding(crate::specs::Basket::wrong_shown))]
 fn show_wrong(
     store: Store,
-    call: &Call<'_>,
-    edit: &SessionEdit,
-    reply: &mut Reply,
+    web: &mut Exchange<'_>,
     listing: Listing,
     article: u8,
 ) -> Result<Next, Refusal>
-    ensures { Does (spec.wrong_shown store.articles.now call.now.context_path store.node listing article (spec.typed call.now)) (lent edit.entry.now reply.old)
-        (lent edit.entry.now reply.new) result }
+    ensures { Completes (spec.wrong_shown store.articles.now web.old.call.now.context_path store.node listing article (spec.typed web.old.call.now))
+        web.old web.new result }
 {
+    let call = web.call;
     let typed = text(call.params, "quantity");
-    let page = wrong_page(store, call.context_path, edit, listing, article, typed)?;
-    send_back(edit, reply, &page)
+    let page = wrong_page(store, call.context_path, web.edit, listing, article, typed)?;
+    send_back(web, &page)
 }
 
 /// The same, in a session that is made where there is none.
 fn show_again(
     store: Store,
-    call: &Call<'_>,
-    edit: &mut SessionEdit,
-    reply: &mut Reply,
+    web: &mut Exchange<'_>,
     listing: Listing,
     article: u8,
 ) -> Result<Next, Refusal>
-    ensures { Does (begun store.node (spec.wrong_shown store.articles.now call.now.context_path store.node listing article (spec.typed call.now)))
-        (lent edit.old reply.old) (lent edit.new reply.new) result }
+    ensures { Completes (begun store.node (spec.wrong_shown store.articles.now web.old.call.now.context_path store.node listing article
+        (spec.typed web.old.call.now))) web.old web.new result }
 {
-    if !has_session(edit) {
-        edit.create()?;
-        count(edit, store.node)?;
-    }
-    show_wrong(store, call, edit, reply, listing, article)
+    begin(web, store.node)?;
+    show_wrong(store, web, listing, article)
 }
 
 /// Refuses what is no form.
-pub fn refuse(store: Store) -> Result<Next, AllocError>
+pub fn refuse(alloc: Global) -> Result<Next, AllocError>
     ensures { IfOk result (λ next. next ≡ spec.refusal) }
 {
     send_error(
-        store.alloc,
+        alloc,
         400,
         "This form is not one of the shop's, or it has lost a field.",
     )
 }
 
-/// Answers a form that was sent.
-fn take(
-    store: Store,
-    call: &Call<'_>,
-    edit: &mut SessionEdit,
-    reply: &mut Reply,
-) -> Result<Next, Refusal>
-    ensures { Does (spec.taken store.articles.now store.node call.now) (lent edit.old reply.old) (lent edit.new reply.new) result }
+/// Forgets the notice, if there is a session.
+fn forget_notice(web: &mut Exchange<'_>) -> Result<(), Refusal>
+    ensures { CompletesPart spec.forgotten web.old web.new result }
 {
-    match sent_of(call.params) {
-        Sent::Asks(post) => change(store, edit, reply, post),
-        Sent::Wrong { listing, article } => {
-            show_again(store, call, edit, reply, listing, article)
-        }
-        Sent::NotOurs => Ok(refuse(store)?),
+    if has_session(web.edit) {
+        web.edit.remove(NOTICE)?;
+    }
+    Ok(())
+}
+
+/// Sends a page, and forgets the notice that is on it.
+fn send_once(web: &mut Exchange<'_>, page: &Page) -> Result<Next, Refusal>
+    ensures { Completes (spec.sent_once page.now) web.old web.new result }
+{
+    forget_notice(web)?;
+    send_page(web, page)
+}
+
+impl Get for Basket {
+    ghost use Rattle.example_servlets.specs.Basket.{shown};
+
+    ghost gets = { λ s. shown s.store.articles.now s.store.node };
+
+    fn get(&mut self, web: &mut Exchange<'_>) -> Result<Next, Refusal> {
+        let call = web.call;
+        let page = page_of(self.store, call.context_path, web.edit, None)?;
+        send_once(web, &page)
     }
 }
 
-/// Shows the cart, and forgets the notice that is on the page.
-fn show(
-    store: Store,
-    base: &str,
-    edit: &mut SessionEdit,
-    reply: &mut Reply,
-) -> Result<Next, Refusal>
-    ensures { Does (spec.shown store.articles.now base.now store.node) (lent edit.old reply.old) (lent edit.new reply.new) result }
-{
-    let page = page_of(store, base, edit, None)?;
-    if has_session(edit) {
-        edit.remove(NOTICE)?;
-    }
-    send(edit, reply, &page)
-}
+impl Post for Basket {
+    ghost use Rattle.example_servlets.specs.Basket.{taken};
 
-impl HttpServlet for Basket {
-    ghost use Rattle.example_servlets.specs.Basket.{basket};
+    ghost posts = { λ s. taken s.store.articles.now s.store.node };
 
-    ghost work = { λ s. basket s.store.articles.now s.store.node };
-
-    fn serve(
-        &mut self,
-        _alloc: Global,
-        call: &Call<'_>,
-        edit: &mut SessionEdit,
-        reply: &mut Reply,
-    ) -> Result<Next, Refusal> {
-        if is_post(call.method) {
-            return take(self.store, call, edit, reply);
+    fn post(&mut self, web: &mut Exchange<'_>) -> Result<Next, Refusal> {
+        let call = web.call;
+        match sent_of(call.params) {
+            Sent::Asks(post) => change(self.store, web, post),
+            Sent::Wrong { listing, article } => show_again(self.store, web, listing, article),
+            Sent::NotOurs => Ok(refuse(web.alloc)?),
         }
-        show(self.store, call.context_path, edit, reply)
     }
 }

@@ -1,18 +1,19 @@
 //! The catalogue.
 
 ghost use Rattle.std.specs.Prelude.{◌≡◌, IfOk};
+ghost use Rattle.sv_web.specs.Exchange.{Completes};
 ghost use Rattle.example_cart.specs.Pages.{wrong_of};
 ghost use Rattle.example_servlets.specs.Basket as spec;
+ghost use Rattle.example_servlets.specs.Catalogue.{shown};
 
 use crate::kept::{CART, seen};
-use crate::sent::send;
 use crate::store::Store;
-use crate::visits::{count, frame_of};
-use example_cart::{Page, Wrong, catalogue_page, read_cart};
-use std::alloc::{AllocError, Global};
-use sv_servlet::{Call, Next, Reply};
+use crate::visits::{begin, frame_of};
+use example_cart::{Wrong, catalogue_page, read_cart};
+use std::alloc::AllocError;
+use sv_servlet::Next;
 use sv_session::SessionEdit;
-use sv_web::{HttpServlet, Refusal, has_session};
+use sv_web::{Exchange, Get, Page, Refusal, send_page};
 
 /// Shows the catalogue, with a form for each article, in a session that is made where there is none.
 #[derive(Clone, Copy)]
@@ -35,23 +36,22 @@ pub fn offers_of<'a>(
     catalogue_page(store.alloc, frame, store.articles, &cart, wrong)
 }
 
-impl HttpServlet for Catalogue {
+/// Shows it, in a session as it is.
+fn show(store: Store, web: &mut Exchange<'_>) -> Result<Next, Refusal>
+    ensures { Completes (shown store.articles.now web.old.call.now.context_path store.node) web.old web.new result }
+{
+    let call = web.call;
+    let page = offers_of(store, call.context_path, web.edit, None)?;
+    send_page(web, &page)
+}
+
+impl Get for Catalogue {
     ghost use Rattle.example_servlets.specs.Catalogue.{catalogue};
 
-    ghost work = { λ s. catalogue s.store.articles.now s.store.node };
+    ghost gets = { λ s. catalogue s.store.articles.now s.store.node };
 
-    fn serve(
-        &mut self,
-        _alloc: Global,
-        call: &Call<'_>,
-        edit: &mut SessionEdit,
-        reply: &mut Reply,
-    ) -> Result<Next, Refusal> {
-        if !has_session(edit) {
-            edit.create()?;
-            count(edit, self.store.node)?;
-        }
-        let page = offers_of(self.store, call.context_path, edit, None)?;
-        send(edit, reply, &page)
+    fn get(&mut self, web: &mut Exchange<'_>) -> Result<Next, Refusal> {
+        begin(web, self.store.node)?;
+        show(self.store, web)
     }
 }

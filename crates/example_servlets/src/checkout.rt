@@ -1,23 +1,21 @@
 //! Ordering.
 
 ghost use Rattle.std.specs.Prelude.{◌≡◌, ◌<◌, IfOk};
-ghost use Rattle.sv_servlet.specs.Servlet.{lent};
-ghost use Rattle.sv_web.specs.Refusal.{Does};
+ghost use Rattle.sv_web.specs.Exchange.{Completes};
 ghost use Rattle.example_servlets.specs.Checkout as spec;
 
 use crate::basket::refuse;
 use crate::kept::{CART, NOTICE, ORDER, seen};
-use crate::sent::send;
 use crate::store::Store;
 use crate::told::order_form;
 use crate::visits::frame_of;
 use example_cart::{
-    Cart, Notice, Order, Page, is_ordered, kept_order, order_page, read_cart, read_order,
+    Cart, Notice, Order, is_ordered, kept_order, order_page, read_cart, read_order,
 };
-use std::alloc::{AllocError, Global};
-use sv_servlet::{Call, Next, Reply};
+use std::alloc::AllocError;
+use sv_servlet::Next;
 use sv_session::SessionEdit;
-use sv_web::{HttpServlet, Refusal, is_post, send_redirect};
+use sv_web::{Exchange, Get, Page, Post, Refusal, send_page, send_redirect};
 
 /// Orders what is in the cart, where a POST has the number of the next order's form, empties the cart, and sends the browser on to
 /// the page of the last order.
@@ -39,91 +37,71 @@ fn page_of<'a>(store: Store, base: &'a str, edit: &'a SessionEdit) -> Result<Pag
 
 /// Keeps a cart as the order of the next number, empties the cart, and sends the browser on to the order.
 #[tactic(auto, unfolding(crate::specs::Checkout::placed))]
-fn place(
-    store: Store,
-    edit: &mut SessionEdit,
-    reply: &mut Reply,
-    last: u16,
-    cart: Cart,
-) -> Result<Next, Refusal>
+fn place(web: &mut Exchange<'_>, last: u16, cart: Cart) -> Result<Next, Refusal>
     requires { last < 65535 }
-    ensures { Does (spec.placed last cart) (lent edit.old reply.old) (lent edit.new reply.new) result }
+    ensures { Completes (spec.placed last cart) web.old web.new result }
 {
     let order = Order {
         number: last + 1,
         cart,
     };
-    let order = kept_order(store.alloc, &order)?;
-    let empty = Cart::new(store.alloc)?;
-    edit.set(ORDER, Some(order.as_slice()))?;
-    edit.set(CART, Some(empty.as_slice()))?;
-    send_redirect(reply, "checkout")?;
+    let order = kept_order(web.alloc, &order)?;
+    let empty = Cart::new(web.alloc)?;
+    web.edit.set(ORDER, Some(order.as_slice()))?;
+    web.edit.set(CART, Some(empty.as_slice()))?;
+    send_redirect(web.reply, "checkout")?;
     Ok(Next::Done)
 }
 
 /// Leaves a cart that a form doesn't order. Where there is something in it, the page of the cart is to say so.
 #[tactic(auto, unfolding(crate::specs::Checkout::left))]
-fn leave(edit: &mut SessionEdit, reply: &mut Reply, cart: &Cart) -> Result<Next, Refusal>
-    ensures { Does (spec.left cart.now) (lent edit.old reply.old) (lent edit.new reply.new) result }
+fn leave(web: &mut Exchange<'_>, cart: &Cart) -> Result<Next, Refusal>
+    ensures { Completes (spec.left cart.now) web.old web.new result }
 {
     if cart.is_empty() {
-        send_redirect(reply, "checkout")?;
+        send_redirect(web.reply, "checkout")?;
         return Ok(Next::Done);
     }
-    edit.set(NOTICE, Some(&Notice::not_ordered().kept()))?;
-    send_redirect(reply, "cart")?;
+    web.edit.set(NOTICE, Some(&Notice::not_ordered().kept()))?;
+    send_redirect(web.reply, "cart")?;
     Ok(Next::Done)
 }
 
 /// Orders what is in the cart, where the form is that of the next order and there is something in the cart.
 #[tactic(auto, unfolding(crate::specs::Checkout::ordered))]
-fn order(
-    store: Store,
-    edit: &mut SessionEdit,
-    reply: &mut Reply,
-    form: u16,
-) -> Result<Next, Refusal>
-    ensures { Does (spec.ordered form) (lent edit.old reply.old) (lent edit.new reply.new) result }
+fn order(web: &mut Exchange<'_>, form: u16) -> Result<Next, Refusal>
+    ensures { Completes (spec.ordered form) web.old web.new result }
 {
-    let cart = read_cart(store.alloc, seen(edit, CART))?;
-    let order = read_order(store.alloc, seen(edit, ORDER))?;
+    let cart = read_cart(web.alloc, seen(web.edit, CART))?;
+    let order = read_order(web.alloc, seen(web.edit, ORDER))?;
     if !is_ordered(&order, &cart, form) {
-        return leave(edit, reply, &cart);
+        return leave(web, &cart);
     }
-    place(store, edit, reply, order.number, cart)
+    place(web, order.number, cart)
 }
 
-/// Answers the form.
-fn take(
-    store: Store,
-    form: Option<u16>,
-    edit: &mut SessionEdit,
-    reply: &mut Reply,
-) -> Result<Next, Refusal>
-    ensures { Does (spec.taken_as form) (lent edit.old reply.old) (lent edit.new reply.new) result }
-{
-    match form {
-        Some(form) => order(store, edit, reply, form),
-        None => Ok(refuse(store)?),
+impl Get for Checkout {
+    ghost use Rattle.example_servlets.specs.Checkout.{shown};
+
+    ghost gets = { λ s. shown s.store.articles.now s.store.node };
+
+    fn get(&mut self, web: &mut Exchange<'_>) -> Result<Next, Refusal> {
+        let call = web.call;
+        let page = page_of(self.store, call.context_path, web.edit)?;
+        send_page(web, &page)
     }
 }
 
-impl HttpServlet for Checkout {
-    ghost use Rattle.example_servlets.specs.Checkout.{checkout};
+impl Post for Checkout {
+    ghost use Rattle.example_servlets.specs.Checkout.{taken};
 
-    ghost work = { λ s. checkout s.store.articles.now s.store.node };
+    ghost posts = { λ _. taken };
 
-    fn serve(
-        &mut self,
-        _alloc: Global,
-        call: &Call<'_>,
-        edit: &mut SessionEdit,
-        reply: &mut Reply,
-    ) -> Result<Next, Refusal> {
-        if is_post(call.method) {
-            return take(self.store, order_form(call.params), edit, reply);
+    fn post(&mut self, web: &mut Exchange<'_>) -> Result<Next, Refusal> {
+        let call = web.call;
+        match order_form(call.params) {
+            Some(form) => order(web, form),
+            None => Ok(refuse(web.alloc)?),
         }
-        let page = page_of(self.store, call.context_path, edit)?;
-        send(edit, reply, &page)
     }
 }

@@ -1,20 +1,21 @@
 //! The page of an error.
 
 ghost use Rattle.std.specs.Prelude.{◌≡◌, IfOk};
+ghost use Rattle.sv_web.specs.Exchange.{Completes};
 ghost use Rattle.example_servlets.specs.Error as spec;
 ghost use Rattle.example_servlets.specs.Error.{message_of, title_of};
 
 use crate::kept::{CART, seen};
-use crate::sent::send;
 use crate::store::Store;
 use crate::visits::frame_of;
-use example_cart::{Page, error_page, read_cart};
+use example_cart::{error_page, read_cart};
 use std::alloc::{AllocError, Global};
-use sv_servlet::{Call, Next, Reply};
+use sv_servlet::{Call, Next, Reply, RequestAttributes};
 use sv_session::SessionEdit;
-use sv_web::{HttpServlet, Refusal};
+use sv_web::{Exchange, HttpServlet, Page, Refusal, send_page};
 
-/// Shows what a status means, and what is said of it, in the look of the shop (Jakarta Servlet 6.0, section 10.9.1).
+/// Shows what a status means, and what is said of it, in the look of the shop (Jakarta Servlet 6.0, section 10.9.1). It is shown by
+/// whatever method the faulty request asked.
 #[derive(Clone, Copy)]
 pub struct ErrorPage {
     pub store: Store,
@@ -28,7 +29,7 @@ fn title_of(code: &str) -> &'static str
         "400" => "The shop can't take that",
         "403" => "That form was not sent from here",
         "404" => "There is no such page",
-        "405" => "That page takes a form alone",
+        "405" => "That page can't be asked so",
         _ => "Something went wrong",
     }
 }
@@ -66,6 +67,33 @@ fn page_of<'a>(
     )
 }
 
+/// The status of the error.
+fn code_of(attributes: &RequestAttributes) -> &str
+    ensures { result.now ≡ spec.code_of attributes.now }
+{
+    let code = attributes.get("jakarta.servlet.error.status_code");
+    code.unwrap_or("500")
+}
+
+/// What is said of it.
+fn said_of(attributes: &RequestAttributes) -> &str
+    ensures { result.now ≡ spec.said_of attributes.now }
+{
+    let message = attributes.get("jakarta.servlet.error.message");
+    message.unwrap_or("")
+}
+
+/// Shows what is known of the error.
+fn show(store: Store, web: &mut Exchange<'_>) -> Result<Next, Refusal>
+    ensures { Completes (spec.error store.node web.old.call.now) web.old web.new result }
+{
+    let call = web.call;
+    let code = code_of(call.attributes);
+    let message = said_of(call.attributes);
+    let page = page_of(store, call.context_path, web.edit, code, message)?;
+    send_page(web, &page)
+}
+
 impl HttpServlet for ErrorPage {
     ghost use Rattle.example_servlets.specs.Error.{error};
 
@@ -73,15 +101,17 @@ impl HttpServlet for ErrorPage {
 
     fn serve(
         &mut self,
-        _alloc: Global,
+        alloc: Global,
         call: &Call<'_>,
         edit: &mut SessionEdit,
         reply: &mut Reply,
     ) -> Result<Next, Refusal> {
-        let code = call.attributes.get("jakarta.servlet.error.status_code");
-        let message = call.attributes.get("jakarta.servlet.error.message");
-        let (code, message) = (code.unwrap_or("500"), message.unwrap_or(""));
-        let page = page_of(self.store, call.context_path, edit, code, message)?;
-        send(edit, reply, &page)
+        let mut web = Exchange {
+            alloc,
+            call,
+            edit,
+            reply,
+        };
+        show(self.store, &mut web)
     }
 }

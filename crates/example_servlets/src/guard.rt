@@ -1,7 +1,6 @@
 //! A filter that guards the pages.
 
-ghost use Rattle.std.specs.Prelude.{◌≡◌, IfOk, option_copied};
-ghost use Rattle.std.specs.List.{find};
+ghost use Rattle.std.specs.Prelude.{◌≡◌, IfOk};
 ghost use Rattle.sv_servlet.specs.Servlet.{lent};
 ghost use Rattle.sv_servlet.specs.Reply.{Answers, field_result};
 ghost use Rattle.sv_web.specs.Refusal.{DoesAfter, DoesBefore};
@@ -12,7 +11,7 @@ use std::alloc::{AllocError, Global};
 use sv_model::{Field, Text};
 use sv_servlet::{Before, Call, Reply, ReplyFault};
 use sv_session::SessionEdit;
-use sv_web::{HttpFilter, Refusal, has_session, is_post, set_header};
+use sv_web::{HttpFilter, Refusal, field, has_session, is_post, set_header};
 
 /// Sets the fields by which a browser guards its user, and refuses a form that a page of another site has sent.
 ///
@@ -31,23 +30,6 @@ pub struct Guard {
 const POLICY: &str =
     "default-src 'none'; style-src 'self'; img-src 'self'; form-action 'self'; base-uri 'self'; frame-ancestors 'none'";
 
-/// The first field of a name.
-fn first<'a>(fields: &'a [Field], name: &str) -> Option<&'a Field>
-    ensures { option_copied result ≡ find (spec.has_name name.now) fields.now }
-{
-    fields.iter().find(|field| field.name.as_str() == name)
-}
-
-/// The value of the first field of a name.
-fn value<'a>(fields: &'a [Field], name: &str) -> Option<&'a [u8]>
-    ensures { option_copied result ≡ spec.value fields.now name.now }
-{
-    match first(fields, name) {
-        Some(field) => Some(field.value.as_bytes()),
-        None => None,
-    }
-}
-
 /// The origin begins with a scheme, and goes on as a host.
 fn is_at(origin: &[u8], scheme: &str, host: &[u8]) -> bool
     ensures { result ≡ spec.is_at origin.now scheme.now host.now }
@@ -62,7 +44,7 @@ fn is_at(origin: &[u8], scheme: &str, host: &[u8]) -> bool
 fn is_elsewhere(fields: &[Field], origin: &[u8]) -> bool
     ensures { result ≡ spec.is_elsewhere fields.now origin.now }
 {
-    match value(fields, "host") {
+    match field(fields, "host") {
         Some(host) => !(is_at(origin, "http://", host) || is_at(origin, "https://", host)),
         None => true,
     }
@@ -72,10 +54,10 @@ fn is_elsewhere(fields: &[Field], origin: &[u8]) -> bool
 fn is_foreign(fields: &[Field]) -> bool
     ensures { result ≡ spec.is_foreign fields.now }
 {
-    if let Some(site) = value(fields, "sec-fetch-site") {
+    if let Some(site) = field(fields, "sec-fetch-site") {
         return !(site == "same-origin".as_bytes() || site == "none".as_bytes());
     }
-    match value(fields, "origin") {
+    match field(fields, "origin") {
         Some(origin) => is_elsewhere(fields, origin),
         None => false,
     }

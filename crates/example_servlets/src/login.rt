@@ -1,72 +1,62 @@
 //! Logging in.
 
-ghost use Rattle.std.specs.Prelude.{◌≡◌};
-ghost use Rattle.sv_servlet.specs.Servlet.{lent};
-ghost use Rattle.sv_web.specs.Refusal.{Does};
+ghost use Rattle.sv_web.specs.Exchange.{Completes, CompletesPart};
 ghost use Rattle.example_servlets.specs.Login as spec;
 
 use crate::kept::NAME;
 use crate::told::name_of;
-use std::alloc::Global;
-use sv_model::Param;
-use sv_servlet::{Call, Next, Reply};
-use sv_session::SessionEdit;
-use sv_web::{HttpServlet, Refusal, has_session, is_post, send_error, send_redirect, set_text};
+use sv_servlet::Next;
+use sv_web::{Exchange, Post, Refusal, has_session, send_error, send_redirect, set_text};
 
 /// Takes the name of whoever logs in, and sends the browser on to the cart. The session that there is goes on under another id,
 /// so that an id that somebody else knew before is worth nothing.
 #[derive(Clone, Copy)]
 pub struct Login;
 
+/// Has the session go on under another id, or makes one.
+fn enter(web: &mut Exchange<'_>) -> Result<(), Refusal>
+    ensures { CompletesPart spec.entered web.old web.new result }
+{
+    if has_session(web.edit) {
+        web.edit.change_id()?;
+        return Ok(());
+    }
+    web.edit.create()?;
+    Ok(())
+}
+
 /// Keeps the name, and sends the browser on.
 #[tactic(auto, unfolding(crate::specs::Login::named))]
-fn keep_name(edit: &mut SessionEdit, reply: &mut Reply, name: &str) -> Result<Next, Refusal>
-    ensures { Does (spec.named name.now) (lent edit.old reply.old) (lent edit.new reply.new) result }
+fn keep_name(web: &mut Exchange<'_>, name: &str) -> Result<Next, Refusal>
+    ensures { Completes (spec.named name.now) web.old web.new result }
 {
-    set_text(edit, NAME, name)?;
-    send_redirect(reply, "cart")?;
+    set_text(web.edit, NAME, name)?;
+    send_redirect(web.reply, "cart")?;
     Ok(Next::Done)
 }
 
-/// Answers the form.
-fn take(
-    alloc: Global,
-    params: &[Param],
-    edit: &mut SessionEdit,
-    reply: &mut Reply,
-) -> Result<Next, Refusal>
-    ensures { Does (spec.taken params.now) (lent edit.old reply.old) (lent edit.new reply.new) result }
+/// Answers the form of a name.
+fn take(web: &mut Exchange<'_>, name: &str) -> Result<Next, Refusal>
+    ensures { Completes (spec.entered (spec.named name.now)) web.old web.new result }
 {
-    let Some(name) = name_of(params) else {
-        return Ok(send_error(
-            alloc,
-            400,
-            "A name has 1 to 64 letters, and not blanks alone. Please log in above.",
-        )?);
-    };
-    if has_session(edit) {
-        edit.change_id()?;
-    } else {
-        edit.create()?;
-    }
-    keep_name(edit, reply, name)
+    enter(web)?;
+    keep_name(web, name)
 }
 
-impl HttpServlet for Login {
-    ghost use Rattle.example_servlets.specs.Login.{login};
+impl Post for Login {
+    ghost use Rattle.example_servlets.specs.Login.{posted};
 
-    ghost work = { λ _. login };
+    ghost posts = { λ _. posted };
 
-    fn serve(
-        &mut self,
-        alloc: Global,
-        call: &Call<'_>,
-        edit: &mut SessionEdit,
-        reply: &mut Reply,
-    ) -> Result<Next, Refusal> {
-        if is_post(call.method) {
-            return take(alloc, call.params, edit, reply);
+    fn post(&mut self, web: &mut Exchange<'_>) -> Result<Next, Refusal> {
+        let call = web.call;
+        match name_of(call.params) {
+            Some(name) => take(web, name),
+            None => Ok(send_error(
+                web.alloc,
+                400,
+                "A name has 1 to 64 letters, and not blanks alone. Please log in above.",
+            )?),
         }
-        Ok(send_error(alloc, 405, "Please log in above.")?)
     }
 }

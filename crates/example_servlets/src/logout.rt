@@ -1,19 +1,17 @@
 //! Logging out.
 
 ghost use Rattle.std.specs.Prelude.{◌≡◌, IfOk};
-ghost use Rattle.sv_servlet.specs.Servlet.{lent};
-ghost use Rattle.sv_web.specs.Refusal.{Does};
+ghost use Rattle.sv_web.specs.Exchange.{Completes, CompletesPart};
 ghost use Rattle.example_servlets.specs.Logout as spec;
 
 use crate::kept::{CART, seen};
-use crate::sent::send;
 use crate::store::Store;
 use crate::visits::frame_of;
-use example_cart::{Page, goodbye_page, read_cart};
-use std::alloc::{AllocError, Global};
-use sv_servlet::{Call, Next, Reply};
+use example_cart::{goodbye_page, read_cart};
+use std::alloc::AllocError;
+use sv_servlet::Next;
 use sv_session::SessionEdit;
-use sv_web::{HttpServlet, Refusal, has_session, is_post, send_redirect};
+use sv_web::{Exchange, Get, Page, Post, Refusal, has_session, send_page, send_redirect};
 
 /// Ends the session by a POST, with its cart and all else that it has, and sends the browser on to the page that says so.
 #[derive(Clone, Copy)]
@@ -31,33 +29,43 @@ fn page_of<'a>(store: Store, base: &'a str, edit: &'a SessionEdit) -> Result<Pag
     goodbye_page(store.alloc, frame)
 }
 
-/// Ends the session, if there is one, and sends the browser on.
-fn leave(edit: &mut SessionEdit, reply: &mut Reply) -> Result<Next, Refusal>
-    ensures { Does spec.ended (lent edit.old reply.old) (lent edit.new reply.new) result }
+/// Ends the session, if there is one.
+fn leave(web: &mut Exchange<'_>) -> Result<(), Refusal>
+    ensures { CompletesPart spec.left web.old web.new result }
 {
-    if has_session(edit) {
-        edit.invalidate()?;
+    if has_session(web.edit) {
+        web.edit.invalidate()?;
     }
-    send_redirect(reply, "logout")?;
+    Ok(())
+}
+
+/// Sends the browser on.
+fn send_on(web: &mut Exchange<'_>) -> Result<Next, Refusal>
+    ensures { Completes spec.sent_away web.old web.new result }
+{
+    send_redirect(web.reply, "logout")?;
     Ok(Next::Done)
 }
 
-impl HttpServlet for Logout {
-    ghost use Rattle.example_servlets.specs.Logout.{logout};
+impl Get for Logout {
+    ghost use Rattle.example_servlets.specs.Logout.{shown};
 
-    ghost work = { λ s. logout s.store.node };
+    ghost gets = { λ s. shown s.store.node };
 
-    fn serve(
-        &mut self,
-        _alloc: Global,
-        call: &Call<'_>,
-        edit: &mut SessionEdit,
-        reply: &mut Reply,
-    ) -> Result<Next, Refusal> {
-        if is_post(call.method) {
-            return leave(edit, reply);
-        }
-        let page = page_of(self.store, call.context_path, edit)?;
-        send(edit, reply, &page)
+    fn get(&mut self, web: &mut Exchange<'_>) -> Result<Next, Refusal> {
+        let call = web.call;
+        let page = page_of(self.store, call.context_path, web.edit)?;
+        send_page(web, &page)
+    }
+}
+
+impl Post for Logout {
+    ghost use Rattle.example_servlets.specs.Logout.{ended};
+
+    ghost posts = { λ _. ended };
+
+    fn post(&mut self, web: &mut Exchange<'_>) -> Result<Next, Refusal> {
+        leave(web)?;
+        send_on(web)
     }
 }

@@ -4,10 +4,8 @@ ghost use Rattle.std.specs.Prelude.{◌≡◌, IsTrue};
 ghost use Rattle.http_header.specs.FieldValue.{is_visible_text};
 ghost use Rattle.example_servlets.specs.Still as spec;
 
-use std::alloc::Global;
-use sv_servlet::{Call, Next, Reply};
-use sv_session::SessionEdit;
-use sv_web::{HttpServlet, Refusal, set_header};
+use sv_servlet::Next;
+use sv_web::{Exchange, Get, Refusal, set_header};
 
 /// What a text is.
 #[derive(Clone, Copy)]
@@ -34,20 +32,14 @@ fn media_type(kind: Kind) -> &'static str
     }
 }
 
-impl HttpServlet for Still {
+impl Get for Still {
     ghost use Rattle.example_servlets.specs.Still.{still};
 
-    ghost work = { λ s. still s.kind s.text.now };
+    ghost gets = { λ s. still s.kind s.text.now };
 
-    fn serve(
-        &mut self,
-        _alloc: Global,
-        _call: &Call<'_>,
-        _edit: &mut SessionEdit,
-        reply: &mut Reply,
-    ) -> Result<Next, Refusal> {
-        set_header(reply, "content-type", media_type(self.kind))?;
-        reply.write(self.text.as_bytes())?;
+    fn get(&mut self, web: &mut Exchange<'_>) -> Result<Next, Refusal> {
+        set_header(web.reply, "content-type", media_type(self.kind))?;
+        web.reply.write(self.text.as_bytes())?;
         Ok(Next::Done)
     }
 }

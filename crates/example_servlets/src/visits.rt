@@ -2,6 +2,7 @@
 
 ghost use Rattle.std.specs.Prelude.{◌≡◌, codes};
 ghost use Rattle.sv_session.specs.Calls.{Answers, value_result};
+ghost use Rattle.sv_web.specs.Exchange.{CompletesPart};
 ghost use Rattle.example_cart.specs.Kept.{cart_in};
 ghost use Rattle.example_cart.specs.Pages.{around_of};
 ghost use Rattle.example_servlets.specs.Kept as kept;
@@ -11,6 +12,7 @@ ghost use Rattle.example_servlets.specs.Visits.{around, one_more};
 use crate::kept::{NAME, VISIT, seen, session_number};
 use example_cart::{Cart, Frame, Mark, Visit, kept_visit, read_visit};
 use sv_session::{SessionEdit, SessionFault};
+use sv_web::{Exchange, Refusal, has_session};
 
 /// The visit of a session, as a node sees it.
 fn visit_of(edit: &SessionEdit, node: u8) -> Visit
@@ -26,6 +28,19 @@ pub fn count(edit: &mut SessionEdit, node: u8) -> Result<(), SessionFault>
 {
     let visit = visit_of(edit, node).arrived(node);
     edit.set(VISIT, Some(&kept_visit(visit)))
+}
+
+/// Makes a session if there is none, and counts its first page.
+#[tactic(auto, unfolding(crate::specs::Visits::begun))]
+pub fn begin(web: &mut Exchange<'_>, node: u8) -> Result<(), Refusal>
+    ensures { CompletesPart (spec.begun node) web.old web.new result }
+{
+    if has_session(web.edit) {
+        return Ok(());
+    }
+    web.edit.create()?;
+    count(web.edit, node)?;
+    Ok(())
 }
 
 /// What stands round a page, in a session as it is with its cart.

@@ -13,6 +13,7 @@ use example_servlets::{
 };
 use std::process::ExitCode;
 use sv_launch::{Application, launch, number_of};
+use sv_web::Methods;
 
 /// What is sent as it stands.
 const LOOK: Still = Still {
@@ -33,16 +34,17 @@ fn main(rt: HostRuntime) -> ExitCode {
         articles: &ARTICLES,
         node,
     };
+    let (basket, checkout, logout) = (Basket { store }, Checkout { store }, Logout { store });
     let shop = Application::new(alloc)
         .filter("guard", Guard { node })
         .listener("orders", Orders::new())
-        .servlet("catalogue", Catalogue { store })
-        .servlet("cart", Basket { store })
-        .servlet("login", Login)
-        .servlet("logout", Logout { store })
-        .servlet("checkout", Checkout { store })
-        .servlet("style", LOOK)
-        .servlet("icon", MARK)
+        .servlet("catalogue", Methods::new().get(Catalogue { store }))
+        .servlet("cart", Methods::new().get(basket).post(basket))
+        .servlet("login", Methods::new().post(Login))
+        .servlet("logout", Methods::new().get(logout).post(logout))
+        .servlet("checkout", Methods::new().get(checkout).post(checkout))
+        .servlet("style", Methods::new().get(LOOK))
+        .servlet("icon", Methods::new().get(MARK))
         .servlet("error", ErrorPage { store });
     launch(&rt, "example_shop", &shop)
 }

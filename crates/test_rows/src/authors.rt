@@ -1,10 +1,18 @@
-//! What authors of servlets share. Its rows have words with blanks between them; the last word may have blanks of its own. What
+//! What authors of servlets share. Most of its rows have words with blanks between them; the last word may have blanks of its own. What
 //! is expected is worked by hand from the standards and the documents.
 
+mod asked;
 mod attributes;
+mod checked;
+mod closed;
+mod deeds;
 mod echo;
+mod methods;
 mod pages;
+mod parts;
+mod pieces;
 mod requests;
+mod said;
 mod served;
 mod status;
 
@@ -19,7 +27,21 @@ fn of_session(alloc: Global, kind: &str, words: &str) -> Result<String, RowFault
         "number" => attributes::number(alloc, words),
         "status" => served::status(alloc, words),
         "echo" => served::echo(alloc, words),
+        "closed" => served::closed(alloc, words),
         _ => Err(RowFault::Kind),
+    }
+}
+
+fn of_exchange(alloc: Global, kind: &str, parts: &str) -> Result<String, RowFault> {
+    match kind {
+        "methods" => methods::methods(alloc, parts),
+        "json-put" => methods::json_put(alloc, parts),
+        "page-of" => deeds::page(alloc, parts),
+        "send-to" => deeds::to(alloc, parts),
+        "json" => deeds::json_back(alloc, parts),
+        "json-error" => deeds::json_error(alloc, parts),
+        "part" => parts::part(alloc, parts),
+        _ => of_session(alloc, kind, parts),
     }
 }
 
@@ -29,7 +51,8 @@ fn of_page(alloc: Global, kind: &str, words: &str) -> Result<String, RowFault> {
         "written" => pages::written(alloc, words),
         "error" => pages::error(alloc, words),
         "head" => pages::head(alloc, words),
-        _ => of_session(alloc, kind, words),
+        "own-path" => pages::own_path(alloc, words),
+        _ => of_exchange(alloc, kind, words),
     }
 }
 

@@ -4,7 +4,7 @@
 //! part that it is named for. A line that begins with `#` is a heading, and printed as it stands. In a part, `\r`, `\n`,
 //! `\t`, `\0`, `\\` and `\x` with two hexadecimal digits stand for a byte, and so they do in what is printed. Of `sessions`,
 //! `servlets` and `dispatches` only the value of a reply's field is read so, and only bodies and a session's values are printed so;
-//! of `authors` nothing is. What the file `stdout` expects is taken from the standards or reasoned out, and never from the program.
+//! of `authors` only bodies are read and printed so. What the file `stdout` expects is taken from the standards or reasoned out, and never from the program.
 //!
 //! Each module says what the parts of its kinds are:
 //!
@@ -22,7 +22,8 @@
 //! - `dispatches`, whose servlet and filter do as a row of a table says, with a proved meaning: `chain`, `included`, `filtered`,
 //!   `nested`, `looped`, `page` and `shown`;
 //! - `authors`, what they share: `u8`, `u16`, `u64`, `post`, `parameter`, `parameter-or`, `escaped`, `written`, `error`, `head`,
-//!   `value`, `has-session`, `text`, `number`, `status` and `echo`.
+//!   `own-path`, `value`, `has-session`, `text`, `number`, `status`, `echo` and `closed`;
+//! - `authors`, whole answers: `methods`, `json-put`, `page-of`, `send-to`, `json`, `json-error` and `part`.
 #![tactic(auto)]
 
 mod answer;

@@ -1,16 +1,18 @@
 //! Pages, and what is sent in place of one.
 //!
 //! `escaped` has a text; `written` has a text that is written escaped after so many bytes; `error` has a status and a text; `head` has
-//! `held` or `free` for the reply, and what is set.
+//! `held` or `free` for the reply, and what is set; `own-path` has a path that a client may be sent on to, or not.
 
+use crate::authors::requests::answered;
 use crate::fault::RowFault;
 use crate::row::first_word;
 use std::alloc::{AllocError, Global};
 use sv_model::Field;
 use sv_servlet::{Next, Replied, Reply};
+use sv_web::laws::shown_as_text;
 use sv_web::{
-    escape, read_u16, read_u64, send_error, send_redirect, set_header, set_html, set_plain_text,
-    write_escaped,
+    escape, is_own_path, read_u16, read_u64, send_error, send_redirect, set_header, set_html,
+    set_plain_text, write_escaped,
 };
 
 /// More bytes than a body takes.
@@ -24,7 +26,12 @@ fn line(alloc: Global, name: &str, value: &[u8]) -> Result<String, RowFault> {
     }
 }
 
+pub fn own_path(alloc: Global, word: &str) -> Result<String, RowFault> {
+    answered(alloc, is_own_path(word))
+}
+
 pub fn escaped(alloc: Global, words: &str) -> Result<String, RowFault> {
+    shown_as_text();
     let bytes = escape(alloc, words.as_bytes())?;
     match str::from_utf8(&bytes) {
         Ok(text) => Ok(String::from_str(alloc, text)?),
@@ -94,13 +101,14 @@ fn push_field(alloc: Global, text: &mut String, field: &Field) -> Result<(), Row
     Ok(())
 }
 
-/// The status and the fields of a reply.
-fn shown(alloc: Global, replied: &Replied) -> Result<String, RowFault> {
-    let mut text = format!(in alloc; "{}", replied.status.as_u16())?;
+/// Adds the status and the fields of a reply.
+pub fn push_fields(alloc: Global, text: &mut String, replied: &Replied) -> Result<(), RowFault> {
+    let status = format!(in alloc; "{}", replied.status.as_u16())?;
+    text.push_str(&status)?;
     for field in replied.fields.as_slice() {
-        push_field(alloc, &mut text, field)?;
+        push_field(alloc, text, field)?;
     }
-    Ok(text)
+    Ok(())
 }
 
 /// Sets what the word says.
@@ -121,5 +129,7 @@ pub fn head(alloc: Global, words: &str) -> Result<String, RowFault> {
     let mut reply = Reply::new(alloc);
     reply.hold(hold == "held");
     set(&mut reply, word)?;
-    shown(alloc, &reply.finish())
+    let mut text = String::new(alloc);
+    push_fields(alloc, &mut text, &reply.finish())?;
+    Ok(text)
 }

@@ -1,9 +1,11 @@
-//! A servlet and a filter of work, called as a dispatch does.
+//! A servlet and filters of work, called as a dispatch does.
 //!
 //! `status` has the status that the servlet sets; `echo` has how many bytes stand in the reply's body, and the text that the filter
-//! writes before a servlet, and after it where it passed.
+//! writes before a servlet, and after it where it passed; `closed` has how many bytes stand there before the filter answers.
 
+use crate::authors::asked::Asked;
 use crate::authors::attributes::edit_of;
+use crate::authors::closed::Closed;
 use crate::authors::echo::Echo;
 use crate::authors::pages::{next_text, reply_of};
 use crate::authors::status::Status;
@@ -15,23 +17,6 @@ use sv_servlet::{Answers, Before, Call, Next, Reply, RequestAttributes, Surround
 use sv_session::SessionEdit;
 use sv_web::{Web, read_u16, read_u64};
 
-/// A call with a body.
-fn call<'a>(method: &'a Method, body: &'a [u8], attributes: &'a RequestAttributes) -> Call<'a> {
-    Call {
-        method,
-        request_uri: "/shop/a",
-        context_path: "/shop",
-        servlet_path: "/a",
-        path_info: None,
-        query: None,
-        params: &[],
-        fields: &[],
-        body,
-        attributes,
-        resume: 0,
-    }
-}
-
 /// What is to follow where the servlet has set a status.
 fn followed(
     alloc: Global,
@@ -41,7 +26,8 @@ fn followed(
 ) -> Result<Next, AllocError> {
     let attributes = RequestAttributes::new(alloc);
     let method = Method::GET;
-    Web::new(alloc, Status { code }).answer(&call(&method, b"", &attributes), edit, reply)
+    let call = Asked::by(&method).call(&attributes);
+    Web::new(alloc, Status { code }).answer(&call, edit, reply)
 }
 
 fn status_text(alloc: Global, code: u16, reply: &mut Reply) -> Result<String, RowFault> {
@@ -88,12 +74,34 @@ fn echo_text(alloc: Global, body: &[u8], reply: &mut Reply) -> Result<String, Ro
     let mut edit = edit_of(alloc, "none")?;
     let attributes = RequestAttributes::new(alloc);
     let method = Method::POST;
-    passed(alloc, &call(&method, body, &attributes), &mut edit, reply)
+    let asked = Asked {
+        body,
+        ..Asked::by(&method)
+    };
+    passed(alloc, &asked.call(&attributes), &mut edit, reply)
 }
 
 pub fn echo(alloc: Global, words: &str) -> Result<String, RowFault> {
     let (count, text) = first_word(words);
     let mut reply = reply_of(alloc, read_u64(count).unwrap_or(0))?;
     let said = echo_text(alloc, text.as_bytes(), &mut reply)?;
+    Ok(format!(in alloc; "{said}, {} bytes", reply.finish().body.len())?)
+}
+
+/// What the filter says that answers in a servlet's place.
+fn closed_text(alloc: Global, reply: &mut Reply) -> Result<String, RowFault> {
+    let mut edit = edit_of(alloc, "none")?;
+    let attributes = RequestAttributes::new(alloc);
+    let method = Method::GET;
+    let call = Asked::by(&method).call(&attributes);
+    match Web::new(alloc, Closed).before(&call, &mut edit, reply)? {
+        Before::Stop => Ok(String::from_str(alloc, "stopped")?),
+        before => refused(alloc, before),
+    }
+}
+
+pub fn closed(alloc: Global, word: &str) -> Result<String, RowFault> {
+    let mut reply = reply_of(alloc, read_u64(word).unwrap_or(0))?;
+    let said = closed_text(alloc, &mut reply)?;
     Ok(format!(in alloc; "{said}, {} bytes", reply.finish().body.len())?)
 }

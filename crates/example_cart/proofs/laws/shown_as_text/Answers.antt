@@ -1,8 +1,0 @@
-use Rattle.example_cart.proofs.HtmlLemmas.{harmless, reads}
-use Rattle.example_cart.proofs.laws.shown_as_text.Goals as goal
-
-pub returns-clause-read : goal.returns-clause-read
-returns-clause-read c = reads
-
-pub returns-clause-harmless : goal.returns-clause-harmless
-returns-clause-harmless c = harmless

@@ -1,8 +1,0 @@
-use Rattle.std.proofs.Common.{◌≡◌, ◌++◌, take}
-use Rattle.std.specs.List.{flat_map}
-use Rattle.example_cart.specs.Html.{piece_html}
-use Rattle.example_cart.proofs.page.Page.write.Given as goal
-
--- the pieces so far
-abbrev pub invariant-loop-piece : goal.invariant-loop-piece
-invariant-loop-piece l = l.self-inside.bytes.items ≡ l.fn.self ++ flat_map piece_html (take l.piece-index l.pieces)

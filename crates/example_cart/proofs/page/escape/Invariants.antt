@@ -1,8 +1,0 @@
-use Rattle.std.proofs.Common.{◌≡◌, ◌++◌, take}
-use Rattle.std.specs.List.{flat_map}
-use Rattle.example_cart.specs.Html.{escaped_byte}
-use Rattle.example_cart.proofs.page.escape.Given as goal
-
--- the references of the bytes so far
-abbrev pub invariant-loop-byte : goal.invariant-loop-byte
-invariant-loop-byte l = l.bytes.items ≡ l.fn.bytes.items ++ flat_map escaped_byte (take l.byte-index l.text)
