@@ -216,21 +216,36 @@ fn serve_keyed(
     serve_twice(alloc, refusals, shop, &request, session)
 }
 
-pub fn serve_once(alloc: Global, refusals: &mut Refusals) -> Shown {
-    let mut shop = started(alloc, refusals, REMEMBERING)?;
-    let session = given::session(alloc)?;
-    let outcome = serve_keyed(alloc, refusals, &mut shop, &session)?;
+/// Serves it twice: the second time it is answered from memory.
+fn serve_both(
+    alloc: Global,
+    refusals: &mut Refusals,
+    shop: &mut Shop,
+    session: &Session,
+) -> Result<Outcome, Unshown>
+    requires { ⟦<Shop as Engine>⟧.valid shop.old }
+{
+    let outcome = serve_keyed(alloc, refusals, shop, session)?;
     let session = kept(alloc, &outcome)?;
-    done(kept_text(alloc, &outcome, &session))
+    serve_keyed(alloc, refusals, shop, &session)
 }
 
-/// The request comes again, and is answered from memory.
-pub fn serve_recalled(alloc: Global, refusals: &mut Refusals) -> Shown {
-    let mut shop = started(alloc, refusals, REMEMBERING)?;
+/// What an answer says, and how much its session holds.
+fn told(alloc: Global, outcome: &Outcome) -> Shown {
+    let session = kept(alloc, outcome)?;
+    done(kept_text(alloc, outcome, &session))
+}
+
+pub fn serve_once(alloc: Global, refusals: &mut Refusals) -> Shown {
     let session = given::session(alloc)?;
+    let mut shop = started(alloc, refusals, REMEMBERING)?;
     let outcome = serve_keyed(alloc, refusals, &mut shop, &session)?;
-    let session = kept(alloc, &outcome)?;
-    let outcome = serve_keyed(alloc, refusals, &mut shop, &session)?;
-    let session = kept(alloc, &outcome)?;
-    done(kept_text(alloc, &outcome, &session))
+    told(alloc, &outcome)
+}
+
+pub fn serve_recalled(alloc: Global, refusals: &mut Refusals) -> Shown {
+    let session = given::session(alloc)?;
+    let mut shop = started(alloc, refusals, REMEMBERING)?;
+    let outcome = serve_both(alloc, refusals, &mut shop, &session)?;
+    told(alloc, &outcome)
 }
