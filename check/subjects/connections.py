@@ -222,6 +222,28 @@ def a_kept_connection_that_says_nothing():
     cluster.end()
 
 
+def a_kept_connection_that_rests():
+    """Its requests are answered however they come once it has rested, and it is closed soon after its client has said that it sends no more:
+    the poll tells each of these once."""
+    cluster = Cluster(1)
+    cluster.start(0, "--keep-alive")
+    for what, last in (("rests", b""), ("has asked once more", HELLO)):
+        with Kept(cluster.connect(0)) as client:
+            client.stream.sendall(HELLO)
+            expect("an answer before it", client.answer(), (200, "Hello\n", None))
+            client.stream.sendall(HELLO * 3)
+            expect("three at once", [client.answer() for _ in range(3)], [(200, "Hello\n", None)] * 3)
+            begun = time.monotonic()
+            client.stream.sendall(last)
+            client.stream.shutdown(socket.SHUT_WR)
+            if last:
+                expect("the last answer", client.answer(), (200, "Hello\n", None))
+            expect(f"what is heard at the end of a client that {what}", client.reader.read(), b"")
+            took = time.monotonic() - begun
+        expect(f"that it was closed before it had been silent for too long, after {took:.1f}", took < 25, True)
+    cluster.end()
+
+
 CHECKS = (
     callers_that_do_not_go_on,
     clients_that_hold_up_nobody,
@@ -229,6 +251,7 @@ CHECKS = (
     connections_that_are_kept,
     short_answers_that_nobody_takes,
     a_kept_connection_that_waits,
+    a_kept_connection_that_rests,
     one_that_drips_without_end,
     a_kept_connection_that_says_nothing,
 )
