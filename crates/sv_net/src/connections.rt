@@ -98,6 +98,8 @@ impl Connections {
         ensures naming { naming_of self.new ≡ naming }
         ensures persistence { persistence_of self.new ≡ persistence_of self.old }
         ensures places { places_of self.new ≡ places_of self.old }
+        ensures count { count_of self.new ≡ count_of self.old }
+        ensures greets { self.new.greets ≡ self.old.greets }
     {
         self.naming = naming;
     }
