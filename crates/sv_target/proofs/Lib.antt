@@ -1,9 +1,9 @@
 pub mod ByteLemmas
 mod CookieLemmas
 pub mod CookieStringLemmas
+mod DigitLemmas
 pub mod NamedLemmas
 mod OriginLemmas
 mod PathLemmas
 mod SegmentLemmas
 pub mod SessionCookieLemmas
-mod SpellingLemmas

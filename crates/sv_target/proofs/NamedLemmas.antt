@@ -1,57 +1,36 @@
 -- The session that is read is one that can be named, and what was read is its cookie.
-use Rattle.std.proofs.Common.{◌≡◌, ℕ, suc, ◌<◌, ◌^◌, Bool, true, false, cond, Option, Some, None, Result, Ok, Err, List, [], ◌∷◌, ◌++◌, length, take, drop, slice_index, refl, sym, ap, ◌∙◌, arith}
-use Rattle.std.specs.Prelude.{Any, IfSome, bytes_eq, codes, slice_get}
-use Rattle.std.specs.Char.{is_ascii_uppercase}
-use Rattle.std.specs.List.{cons_option, filter_map, list_any}
+use Rattle.std.proofs.Common.{◌≡◌, ℕ, suc, ◌<◌, ◌^◌, ◌==◌, Bool, true, false, cond, Option, Some, None, List, [], ◌∷◌, ◌++◌, length, take, drop, slice_index, refl, sym, ap, ◌∙◌, arith}
+use Rattle.std.specs.Prelude.{Any, IfSome, bytes_eq, slice_get}
+use Rattle.std.specs.List.{cons_option, filter_map}
 use Rattle.std.specs.Option.{option_and_then}
-use Rattle.std.specs.Result.{result_ok}
 use Rattle.std.specs.Int.{w64, from_be_bytes}
 use Rattle.std.proofs.lemmas.Bool.{and_parts, eqb-true}
 use Rattle.std.proofs.lemmas.Bool.Decides.{nat_tests}
 use Rattle.std.proofs.lemmas.List.{length-drop, length-take, take-append-drop, take_all}
 use Rattle.std.proofs.lemmas.Nat.{be_bytes_8}
 use Rattle.std.proofs.lemmas.Slice.Eq.{bytes_eq-Decides}
-use Rattle.std.proofs.lemmas.Option.{cond_some, option_and_then_some, same_Some}
-use Rattle.hex.specs.Hex.{IsBytes, decode_sized, encode_lower}
-use Rattle.hex.specs.declared.error.FromHexError.{FromHexError}
-use Rattle.hex.proofs.HexLemmas.{decode_of-even, decode_of-ok, decode_sized-ok, decode_sized-twice}
+use Rattle.std.proofs.lemmas.Option.{cond_some, option_and_then_some}
+use Rattle.hex.specs.Hex.{IsBytes, encode_lower}
 use Rattle.sv_model.specs.declared.key.Key.{Key}
 use Rattle.sv_model.specs.declared.key.Secret.{Secret}
 use Rattle.sv_model.specs.declared.request.Cookie.{Cookie}
 use Rattle.sv_target.proofs.ByteLemmas.{All-from_bytes, IsBytes-drop, IsBytes-take}
-use Rattle.sv_target.proofs.SpellingLemmas.{encode_lower-decode_pairs}
-use Rattle.sv_target.specs.SessionCookie.{IsCookieOf, IsNameable, cookie_text, names_session, key_of, session_of_cookie, session_of_bytes, secret_of, session_bytes, session_cookie, spelled_bytes}
+use Rattle.sv_target.proofs.DigitLemmas.{Spells, Spells-bytes_of}
+use Rattle.sv_target.specs.Digits.{bytes_of, spelled_bytes}
+use Rattle.sv_target.specs.SessionCookie.{IsCookieOf, IsNameable, cookie_text, names_session, key_of, session_of_cookie, session_of_bytes, secret_of, session_bytes, session_cookie}
 
--- what a value spells
-record Spells (value bytes : List ℕ) : Type 0 where
-  text : encode_lower bytes ≡ value
-  len : length bytes ≡ 26
-  fit : IsBytes bytes
+if_true : {Y : Type 0} (b : Bool) (o : Option Y) (y : Y) → cond b o None ≡ Some y → (b ≡ true) × (o ≡ Some y)
+if_true true o y some = (refl, some)
+if_true false o y some = cc some
 
-Spells-decoded : (value bytes : List ℕ) → list_any is_ascii_uppercase value ≡ false → decode_sized value 26 ≡ Ok bytes → Spells value bytes
-Spells-decoded value bytes lower decoded =
-    let len = decode_sized-ok value 26 bytes decoded in
-    let whole = sym (decode_sized-twice value 26 len) ∙ decoded in
-    let parts = decode_of-ok value bytes whole in
-    record {
-      text = encode_lower-decode_pairs 0 value bytes (sym (decode_of-even value parts.0) ∙ whole) lower;
-      len = omega (arith, parts.2);
-      fit = parts.3;
-    }
-
-unless : {Y : Type 0} (b : Bool) (o : Option Y) (y : Y) → cond b None o ≡ Some y → (b ≡ false) × (o ≡ Some y)
-unless false o y some = (refl, some)
-unless true o y some = cc some
-
-ok_of : {Y : Type 0} (r : Result Y FromHexError) (y : Y) → result_ok r ≡ Some y → r ≡ Ok y
-ok_of (Ok x) y some = ap Ok (same_Some x y some)
-ok_of (Err e) y some = cc some
-
-Spells-spelled_bytes : (value bytes : List ℕ) → spelled_bytes value ≡ Some bytes → Spells value bytes
+-- what a value spells is 26 bytes
+Spells-spelled_bytes : (value bytes : List ℕ) → spelled_bytes value ≡ Some bytes → Spells value bytes × (length bytes ≡ 26)
 unfolding spelled_bytes
 Spells-spelled_bytes value bytes spelled =
-    let parts = unless (list_any is_ascii_uppercase value) (result_ok (decode_sized value 26)) bytes spelled in
-    Spells-decoded value bytes parts.0 (ok_of (decode_sized value 26) bytes parts.1)
+    let parts = if_true (length value == 52) (bytes_of value) bytes spelled in
+    let spells = Spells-bytes_of value bytes parts.1 in
+    let digits = eqb-true (length value) 52 parts.0 in
+    (spells, omega (arith, digits, spells.len))
 
 -- 26 bytes are those of the session that they name
 session_bytes-of : (bytes : List ℕ) → length bytes ≡ 26 → IsBytes bytes → session_bytes (slice_index bytes 0) (key_of bytes) (secret_of bytes) ≡ bytes
@@ -102,28 +81,25 @@ Names-session_of_bytes context bytes key secret named =
       secret_is = ap (λ (p : Key × Secret). p.1) parts.1;
     }
 
-nameable_of : (context : ℕ) (value bytes : List ℕ) (key : Key) (secret : Secret) → Spells value bytes → Names context bytes key secret
+nameable_of : (context : ℕ) (value bytes : List ℕ) (key : Key) (secret : Secret) → Spells value bytes → length bytes ≡ 26 → Names context bytes key secret
     → IsNameable context key secret × (value ≡ cookie_text context key secret)
 unfolding cookie_text
-nameable_of context value bytes key secret spells names =
+nameable_of context value bytes key secret spells len names =
     rw (← names.context_is, ← names.key_is, ← names.secret_is) (
-      IsNameable-of bytes spells.len spells.fit names.home names.serial,
-      sym (ap encode_lower (session_bytes-of bytes spells.len spells.fit) ∙ spells.text),
+      IsNameable-of bytes len spells.fit names.home names.serial,
+      sym (ap encode_lower (session_bytes-of bytes len spells.fit) ∙ spells.text_is),
     )
 
-only_if : {Y : Type 0} (b : Bool) (o : Option Y) (y : Y) → cond b o None ≡ Some y → (b ≡ true) × (o ≡ Some y)
-only_if true o y some = (refl, some)
-only_if false o y some = cc some
-
-pub IsCookieOf-session_of_cookie : (context : ℕ) (cookie : Cookie) (key : Key) (secret : Secret) → session_of_cookie context cookie ≡ Some (key, secret)
-    → IsNameable context key secret × IsCookieOf context key secret cookie
+pub IsCookieOf-session_of_cookie : (name : List ℕ) (context : ℕ) (cookie : Cookie) (key : Key) (secret : Secret) → session_of_cookie name context cookie ≡ Some (key, secret)
+    → IsNameable context key secret × IsCookieOf name context key secret cookie
 unfolding session_of_cookie
-IsCookieOf-session_of_cookie context cookie key secret named =
-    let parts = only_if (bytes_eq cookie.name (codes "JSESSIONID")) (option_and_then (session_of_bytes context) (spelled_bytes cookie.value)) (key, secret) named in
+IsCookieOf-session_of_cookie name context cookie key secret named =
+    let parts = if_true (bytes_eq cookie.name name) (option_and_then (session_of_bytes context) (spelled_bytes cookie.value)) (key, secret) named in
     option_and_then_some (session_of_bytes context) (spelled_bytes cookie.value) (key, secret) parts.1
     (λ bytes spelled by_bytes.
-    let its = nameable_of context cookie.value bytes key secret (Spells-spelled_bytes cookie.value bytes spelled) (Names-session_of_bytes context bytes key secret by_bytes) in
-    (its.0, ((bytes_eq-Decides cookie.name (codes "JSESSIONID")).0 parts.0, its.1)))
+    let spells = Spells-spelled_bytes cookie.value bytes spelled in
+    let its = nameable_of context cookie.value bytes key secret spells.0 spells.1 (Names-session_of_bytes context bytes key secret by_bytes) in
+    (its.0, ((bytes_eq-Decides cookie.name name).0 parts.0, its.1)))
 
 -- the first that is named is named by one of the list
 Any-by_first : {X Y : Type 0} (names : X → Option Y) (x : X) (xs : List X) (y : Y) (o : Option Y) → names x ≡ o
@@ -136,20 +112,20 @@ Any-first : {X Y : Type 0} (names : X → Option Y) (xs : List X) (y : Y) → sl
 Any-first names [] y first = cc first
 Any-first names (x ∷ xs) y first = Any-by_first names x xs y (names x) refl first (Any-first names xs y)
 
-pub IsCookieOf-session_cookie : (context : ℕ) (key : Key) (secret : Secret) (cookies : List Cookie) → session_cookie cookies context ≡ Some (key, secret)
-    → IsNameable context key secret × Any (IsCookieOf context key secret) cookies
+pub IsCookieOf-session_cookie : (name : List ℕ) (context : ℕ) (key : Key) (secret : Secret) (cookies : List Cookie) → session_cookie name cookies context ≡ Some (key, secret)
+    → IsNameable context key secret × Any (IsCookieOf name context key secret) cookies
 unfolding session_cookie
-IsCookieOf-session_cookie context key secret cookies read =
-    let some = Any-first (session_of_cookie context) cookies (key, secret) read in
-    let its = IsCookieOf-session_of_cookie context some.1 key secret some.4 in
+IsCookieOf-session_cookie name context key secret cookies read =
+    let some = Any-first (session_of_cookie name context) cookies (key, secret) read in
+    let its = IsCookieOf-session_of_cookie name context some.1 key secret some.4 in
     (its.0, (some.0, some.1, some.2, some.3, its.1))
 
 -- a key that is read is one that a node can make
-IfSome-read : (cookies : List Cookie) (context : ℕ) (o : Option (Key × Secret)) → session_cookie cookies context ≡ o → IfSome o (λ n. (n.0.home < 8) × (0 < n.0.serial))
-IfSome-read cookies context None read = tt
-IfSome-read cookies context (Some n) read =
-    let its = IsCookieOf-session_cookie context n.0 n.1 cookies read in
+IfSome-read : (name : List ℕ) (cookies : List Cookie) (context : ℕ) (o : Option (Key × Secret)) → session_cookie name cookies context ≡ o → IfSome o (λ n. (n.0.home < 8) × (0 < n.0.serial))
+IfSome-read name cookies context None read = tt
+IfSome-read name cookies context (Some n) read =
+    let its = IsCookieOf-session_cookie name context n.0 n.1 cookies read in
     (its.0.home, its.0.serial)
 
-pub IfSome-session_cookie : (cookies : List Cookie) (context : ℕ) → IfSome (session_cookie cookies context) (λ n. (n.0.home < 8) × (0 < n.0.serial))
-IfSome-session_cookie cookies context = IfSome-read cookies context (session_cookie cookies context) refl
+pub IfSome-session_cookie : (name : List ℕ) (cookies : List Cookie) (context : ℕ) → IfSome (session_cookie name cookies context) (λ n. (n.0.home < 8) × (0 < n.0.serial))
+IfSome-session_cookie name cookies context = IfSome-read name cookies context (session_cookie name cookies context) refl

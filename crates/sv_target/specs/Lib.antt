@@ -1,5 +1,6 @@
 pub mod Cookies
 pub mod CookieString
+pub mod Digits
 pub mod Params
 pub mod Path
 pub mod Segment

@@ -1,18 +1,13 @@
 //! The cookie that names a session (Jakarta Servlet 6.0, section 7.1.1).
 
 ghost use Rattle.std.specs.Prelude.{◌≡◌};
-ghost use Rattle.std.specs.Char.{is_ascii_uppercase};
-ghost use Rattle.std.specs.List.{list_any};
 ghost use Rattle.sv_target.specs.SessionCookie as spec;
 
-use hex::FromHex;
+use crate::digits::{BYTES, spelled_bytes};
 use sv_model::{Cookie, Key, NODE_LIMIT, Secret};
 
-/// The name of the cookie.
+/// The name of the cookie where nobody chooses another.
 pub const SESSION_COOKIE: &str = "JSESSIONID";
-
-/// The bytes that its value spells, two digits each.
-const BYTES: usize = 26;
 
 /// The value of a session's cookie: in digits of `0-9a-f` the context's number (2), the home (2), the serial (16) and
 /// the secret (32).
@@ -36,16 +31,16 @@ fn session_bytes(context: u8, key: Key, secret: Secret) -> [u8; BYTES]
     bytes
 }
 
-/// The session of a context that a request's cookies name, with the secret that has to be the session's own. Takes no
-/// memory.
+/// The session of a context that a request's cookies of this name name, with the secret that has to be the session's own. Takes
+/// no memory.
 ///
-/// It is that of the first cookie which names one: a `JSESSIONID` of another form or of another context is passed over.
-/// Whether there is such a session isn't asked here.
-pub fn session_cookie(cookies: &[Cookie], context: u8) -> Option<(Key, Secret)>
-    ensures { result ≡ spec.session_cookie cookies.now context }
+/// It is that of the first cookie which names one: a cookie of another form or of another context is passed over. Whether
+/// there is such a session isn't asked here.
+pub fn session_cookie(name: &[u8], cookies: &[Cookie], context: u8) -> Option<(Key, Secret)>
+    ensures { result ≡ spec.session_cookie name.now cookies.now context }
 {
     for cookie in cookies {
-        if let Some(named) = session_of_cookie(cookie, context) {
+        if let Some(named) = session_of_cookie(name, cookie, context) {
             return Some(named);
         }
     }
@@ -53,30 +48,14 @@ pub fn session_cookie(cookies: &[Cookie], context: u8) -> Option<(Key, Secret)>
 }
 
 #[tactic(auto, unfolding(crate::specs::SessionCookie::session_of_cookie))]
-fn session_of_cookie(cookie: &Cookie, context: u8) -> Option<(Key, Secret)>
-    ensures { result ≡ spec.session_of_cookie context cookie.now }
+fn session_of_cookie(name: &[u8], cookie: &Cookie, context: u8) -> Option<(Key, Secret)>
+    ensures { result ≡ spec.session_of_cookie name.now context cookie.now }
 {
-    if cookie.name.as_slice() != SESSION_COOKIE.as_bytes() {
+    if cookie.name.as_slice() != name {
         return None;
     }
     let bytes = spelled_bytes(cookie.value.as_slice())?;
     session_of_bytes(bytes, context)
-}
-
-fn has_uppercase(value: &[u8]) -> bool
-    ensures { result ≡ list_any is_ascii_uppercase value.now }
-{
-    value.iter().any(|byte| byte.is_ascii_uppercase())
-}
-
-#[tactic(auto, unfolding(crate::specs::SessionCookie::spelled_bytes))]
-fn spelled_bytes(value: &[u8]) -> Option<[u8; BYTES]>
-    ensures { result ≡ spec.spelled_bytes value.now }
-{
-    if has_uppercase(value) {
-        return None;
-    }
-    <[u8; BYTES]>::from_hex(value).ok()
 }
 
 #[tactic(auto, unfolding(crate::specs::SessionCookie::session_of_bytes))]

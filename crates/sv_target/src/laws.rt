@@ -18,18 +18,18 @@ pub fn sent_is_read()
 /// The cookie of a session is read back as that session, also among other cookies, where none before it names a session
 /// of the context.
 pub fn written_is_read()
-    ensures { (context : ℕ) (key : Key) (secret : Secret)
+    ensures { (name : List ℕ) (context : ℕ) (key : Key) (secret : Secret)
         (before after : List Cookie) (cookie : Cookie)
-        → IsNameable context key secret → IsCookieOf context key secret cookie
-        → session_cookie before context ≡ None
-        → session_cookie (before ++ cookie ∷ after) context ≡ Some (key, secret) }
+        → IsNameable context key secret → IsCookieOf name context key secret cookie
+        → session_cookie name before context ≡ None
+        → session_cookie name (before ++ cookie ∷ after) context ≡ Some (key, secret) }
 {}
 
 /// A session that is read can be named, and its own cookie is among those that were read: so it has one text.
 pub fn read_is_written()
-    ensures { (context : ℕ) (key : Key) (secret : Secret) (cookies : List Cookie)
-        → session_cookie cookies context ≡ Some (key, secret)
-        → IsNameable context key secret × Any (IsCookieOf context key secret) cookies }
+    ensures { (name : List ℕ) (context : ℕ) (key : Key) (secret : Secret) (cookies : List Cookie)
+        → session_cookie name cookies context ≡ Some (key, secret)
+        → IsNameable context key secret × Any (IsCookieOf name context key secret) cookies }
 {}
 
 /// A text is one target, or none; and one that begins with `/` is read within a context as the target of a request is.

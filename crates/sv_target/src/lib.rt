@@ -10,6 +10,7 @@
 #![tactic(auto)]
 
 mod cookie_fields;
+mod digits;
 mod fault;
 mod jsessionid;
 pub mod laws;

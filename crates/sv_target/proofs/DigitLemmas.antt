@@ -1,0 +1,164 @@
+-- What digits spell is what is spelled in them.
+use Rattle.std.proofs.Common.{◌≡◌, ℕ, zero, suc, ◌+◌, ◌*◌, ◌/◌, ◌%◌, ◌<◌, ◌≤◌, ◌==◌, Bool, true, ◌&&◌, cond, Option, Some, None, List, [], ◌∷◌, ◌++◌, length, take, drop, slice_index, slice_set, refl, sym, ap, ◌∙◌, inl, inr, arith, ltb}
+use Rattle.std.specs.Option.{option_and_then}
+use Rattle.std.proofs.lemmas.Bool.{and_parts, cases_lt, eqb-true}
+use Rattle.std.proofs.lemmas.Bool.Decides.{nat_tests}
+use Rattle.std.proofs.lemmas.List.{append_assoc, append-nil, drop_all, take_all, take_more_set}
+use Rattle.std.proofs.lemmas.Option.{option_and_then_some, same_Some}
+use Rattle.hex.specs.Hex.{IsBytes, encode_lower, encode_with, lower_digits}
+use Rattle.hex.proofs.Pairs.{drop-pair}
+use Rattle.sv_target.proofs.ByteLemmas.{IsBytes-cons}
+use Rattle.sv_target.specs.Digits.{byte_of, bytes_of, digit_value}
+
+-- ---- the digits of values
+
+-- a test of the numbers below n, which computes
+all_below : ℕ → (ℕ → Bool) → Bool
+all_below zero test = true
+all_below (suc n) test = test n && all_below n test
+
+below_all : (n : ℕ) (test : ℕ → Bool) (k : ℕ) → all_below n test ≡ true → k < n → test k ≡ true
+unfolding all_below
+below_all zero test k all below = absurd (omega arith)
+below_all (suc n) test k all below =
+    let parts = and_parts (test n) (all_below n test) all in
+    elim (cases_lt k n) [
+      | inl less ↦ below_all n test k parts.1 less
+      | inr top ↦ let same : k ≡ n = omega arith in rw same parts.0
+    ]
+
+-- the digit of a value
+lower_digits_at : (v : ℕ) → v < 16 → slice_index lower_digits v ≡ cond (ltb v 10) (v + 48) (v + 87)
+unfolding all_below
+lower_digits_at v below = eqb-true _ _ (below_all 16 (λ v. slice_index lower_digits v == cond (ltb v 10) (v + 48) (v + 87)) v refl below)
+
+digit_value-of_digit : (v : ℕ) → v < 16 → digit_value (cond (ltb v 10) (v + 48) (v + 87)) ≡ Some v
+digit_value-of_digit v below = grind (arith, nat_tests)
+
+-- the value of the digit of a value
+digit_value-lower_digits : (v : ℕ) → v < 16 → digit_value (slice_index lower_digits v) ≡ Some v
+digit_value-lower_digits v below = rw (lower_digits_at v below) (digit_value-of_digit v below)
+
+digit_of_value : (c v : ℕ) → digit_value c ≡ Some v → (v < 16) × (cond (ltb v 10) (v + 48) (v + 87) ≡ c)
+digit_of_value c v value = (grind arith, grind (arith, nat_tests))
+
+-- a digit is that of its value, which is below 16
+lower_digits-digit_value : (c v : ℕ) → digit_value c ≡ Some v → (v < 16) × (slice_index lower_digits v ≡ c)
+lower_digits-digit_value c v value =
+    let is = digit_of_value c v value in
+    (is.0, lower_digits_at v is.0 ∙ is.1)
+
+-- ---- what is spelled is read back
+
+byte_of-digits : (b : ℕ) → b < 256 → byte_of (slice_index lower_digits (b / 16)) (slice_index lower_digits (b % 16)) ≡ Some b
+byte_of-digits b fits =
+    let high = digit_value-lower_digits (b / 16) (omega arith) in
+    let low = digit_value-lower_digits (b % 16) (omega arith) in
+    let same : b / 16 * 16 + b % 16 ≡ b = omega arith in
+    rw (high, low) (ap Some same)
+
+pub bytes_of-encode_lower : (bytes : List ℕ) → IsBytes bytes → bytes_of (encode_lower bytes) ≡ Some bytes
+unfolding bytes_of encode_with
+bytes_of-encode_lower [] fit = refl
+bytes_of-encode_lower (b ∷ bytes) fit = rw (byte_of-digits b (fit 0), bytes_of-encode_lower bytes (λ i. fit (suc i))) refl
+
+-- ---- what is read is what was spelled
+
+-- the bytes that a text spells
+pub record Spells (text bytes : List ℕ) : Type 0 where
+  pub text_is : encode_lower bytes ≡ text
+  pub len : length text ≡ 2 * length bytes
+  pub fit : IsBytes bytes
+
+-- the digits of the byte of two
+record AreDigits (high low byte : ℕ) : Type 0 where
+  fits : byte < 256
+  high_is : slice_index lower_digits (byte / 16) ≡ high
+  low_is : slice_index lower_digits (byte % 16) ≡ low
+
+AreDigits-values : (high low h l : ℕ) → digit_value high ≡ Some h → digit_value low ≡ Some l → AreDigits high low (h * 16 + l)
+AreDigits-values high low h l is_h is_l =
+    let of_high = lower_digits-digit_value high h is_h in
+    let of_low = lower_digits-digit_value low l is_l in
+    let first : (h * 16 + l) / 16 ≡ h = omega (arith, of_high.0, of_low.0) in
+    let second : (h * 16 + l) % 16 ≡ l = omega (arith, of_high.0, of_low.0) in
+    record { fits = omega (arith, of_high.0, of_low.0); high_is = rw first of_high.1; low_is = rw second of_low.1 }
+
+AreDigits-byte_of : (high low byte : ℕ) → byte_of high low ≡ Some byte → AreDigits high low byte
+AreDigits-byte_of high low byte is =
+    option_and_then_some (λ h. option_and_then (λ l. Some (h * 16 + l)) (digit_value low)) (digit_value high) byte is
+    (λ h is_h inner. option_and_then_some (λ l. Some (h * 16 + l)) (digit_value low) byte inner
+    (λ l is_l whole. rw (← same_Some (h * 16 + l) byte whole) (AreDigits-values high low h l is_h is_l)))
+
+Spells-pair : (high low byte : ℕ) (rest others : List ℕ) → AreDigits high low byte → Spells rest others → Spells (high ∷ low ∷ rest) (byte ∷ others)
+unfolding encode_with
+Spells-pair high low byte rest others digits spells = record {
+  text_is = rw (digits.high_is, digits.low_is, spells.text_is) refl;
+  len = omega (arith, spells.len);
+  fit = IsBytes-cons byte others digits.fits spells.fit;
+}
+
+pub Spells-bytes_of : (text bytes : List ℕ) → bytes_of text ≡ Some bytes → Spells text bytes
+unfolding bytes_of encode_with
+Spells-bytes_of [] bytes is = rw (← same_Some [] bytes is) (record { text_is = refl; len = refl; fit = λ i. omega arith })
+Spells-bytes_of (digit ∷ []) bytes is = cc is
+Spells-bytes_of (high ∷ low ∷ rest) bytes is =
+    option_and_then_some (λ byte. option_and_then (λ others. Some (byte ∷ others)) (bytes_of rest)) (byte_of high low) bytes is
+    (λ byte is_byte inner. option_and_then_some (λ others. Some (byte ∷ others)) (bytes_of rest) bytes inner
+    (λ others are_others whole.
+    let pair = AreDigits-byte_of high low byte is_byte in
+    rw (← same_Some (byte ∷ others) bytes whole) (Spells-pair high low byte rest others pair (Spells-bytes_of rest others are_others))))
+
+-- ---- the loop that reads
+
+-- the bytes before those that the rest spells
+abbrev pub prepend : List ℕ → Option (List ℕ) → Option (List ℕ)
+prepend front rest = option_and_then (λ bytes. Some (front ++ bytes)) rest
+
+prepend-nil : (rest : Option (List ℕ)) → rest ≡ prepend [] rest
+prepend-nil None = refl
+prepend-nil (Some bytes) = refl
+
+-- nothing has been read yet
+pub bytes_of-none_read : (text out : List ℕ) → bytes_of text ≡ prepend (take 0 out) (bytes_of (drop (2 * 0) text))
+bytes_of-none_read text out = prepend-nil (bytes_of text)
+
+prepend-byte : (front : List ℕ) (byte : ℕ) (rest : Option (List ℕ))
+    → prepend front (option_and_then (λ bytes. Some (byte ∷ bytes)) rest) ≡ prepend (front ++ byte ∷ []) rest
+prepend-byte front byte None = refl
+prepend-byte front byte (Some bytes) = ap Some (sym (append_assoc front (byte ∷ []) bytes))
+
+bytes_of-byte : (high low byte : ℕ) (rest : List ℕ) → byte_of high low ≡ Some byte
+    → bytes_of (high ∷ low ∷ rest) ≡ option_and_then (λ bytes. Some (byte ∷ bytes)) (bytes_of rest)
+unfolding bytes_of
+bytes_of-byte high low byte rest is = rw is refl
+
+bytes_of-no_byte : (high low : ℕ) (rest : List ℕ) → byte_of high low ≡ None → bytes_of (high ∷ low ∷ rest) ≡ None
+unfolding bytes_of
+bytes_of-no_byte high low rest is = rw is refl
+
+-- a byte more has been read
+pub bytes_of-read : (text out : List ℕ) (i byte : ℕ) → 2 * i + 1 < length text → i < length out
+    → byte_of (slice_index text (2 * i)) (slice_index text (2 * i + 1)) ≡ Some byte
+    → bytes_of text ≡ prepend (take i out) (bytes_of (drop (2 * i) text))
+    → bytes_of text ≡ prepend (take (i + 1) (slice_set out i byte)) (bytes_of (drop (2 * (i + 1)) text))
+bytes_of-read text out i byte fits room is so_far =
+    let rest = drop (2 * (i + 1)) text in
+    let here = ap bytes_of (drop-pair text i fits) ∙ bytes_of-byte _ _ byte rest is in
+    so_far ∙ ap (prepend (take i out)) here ∙ prepend-byte (take i out) byte (bytes_of rest)
+    ∙ ap (λ front. prepend front (bytes_of rest)) (sym (take_more_set out i byte room))
+
+-- two bytes are no digits
+pub bytes_of-refused : (text out : List ℕ) (i : ℕ) → 2 * i + 1 < length text
+    → byte_of (slice_index text (2 * i)) (slice_index text (2 * i + 1)) ≡ None
+    → bytes_of text ≡ prepend (take i out) (bytes_of (drop (2 * i) text)) → bytes_of text ≡ None
+bytes_of-refused text out i fits is so_far =
+    so_far ∙ ap (prepend (take i out)) (ap bytes_of (drop-pair text i fits) ∙ bytes_of-no_byte _ _ _ is)
+
+-- all has been read
+pub bytes_of-all_read : (text out : List ℕ) (i : ℕ) → length out ≤ i → length text ≤ 2 * i
+    → bytes_of text ≡ prepend (take i out) (bytes_of (drop (2 * i) text)) → bytes_of text ≡ Some out
+unfolding bytes_of
+bytes_of-all_read text out i last fits so_far =
+    so_far ∙ ap (prepend (take i out)) (ap bytes_of (drop_all (2 * i) text fits))
+    ∙ ap Some (append-nil (take i out) ∙ take_all i out last)
