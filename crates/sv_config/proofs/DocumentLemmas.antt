@@ -1,16 +1,13 @@
 -- The items of a viewed array as a list, and tests of lists that are mapped.
 use Rattle.std.proofs.Common.{◌≡◌, ◌∙◌, List, [], ◌∷◌, map, length, refl, ap}
-use Rattle.std.specs.Prelude.{◌&&◌, ◌||◌, Bool, not, bytes_eq, string_bytes, String}
-use Rattle.std.specs.Map.{keys_of}
+use Rattle.std.specs.Prelude.{◌&&◌, ◌||◌, Bool, String}
 use Rattle.std.specs.declared.alloc.Global.{Global}
 use Rattle.std.specs.List.{list_all, list_any}
 use Rattle.toml.specs.Data.{Data}
 use Rattle.toml.specs.View.{view, items_view, members_view}
 use Rattle.toml.specs.declared.value.Value.{Value}
-use Rattle.sv_config.specs.Document.{items_list}
-use Rattle.sv_config.specs.Rules.{rule_of}
-use Rattle.sv_config.specs.Unknown.{has_unlisted, is_listed}
-use Rattle.sv_config.specs.declared.rules.FieldRule.{FieldRule}
+use Rattle.std.specs.Prelude.{suc}
+use Rattle.sv_config.specs.Document.{items_list, size}
 use Rattle.sv_config.specs.Kinds.{is_text, is_integer, is_table}
 
 pub items_list_view : (vs : List Value) → items_list (items_view vs) ≡ map view vs
@@ -43,10 +40,6 @@ all_integers vs = all_items is_integer vs
 pub all_tables : (vs : List Value) → list_all is_table (items_list (items_view vs)) ≡ list_all (λ v. is_table (view v)) vs
 all_tables vs = all_items is_table vs
 
--- a test of each key, on the entries of a map and on the members
-pub unlisted_view : (rules : List FieldRule) (es : List (String Global × Value))
-    → list_any (λ key. not (list_any (λ rule. bytes_eq rule.key.now (string_bytes key)) rules)) (keys_of es) ≡ has_unlisted (map rule_of rules) (members_view es)
-unlisted_view rules [] = refl
-unlisted_view rules (e ∷ es) =
-    ap (λ b. not b || list_any (λ key. not (list_any (λ rule. bytes_eq rule.key.now (string_bytes key)) rules)) (keys_of es)) (list_any_map (λ rule. bytes_eq rule.key (string_bytes e.0)) rule_of rules)
-    ∙ ap (λ b. not (is_listed (map rule_of rules) (string_bytes e.0)) || b) (unlisted_view rules es)
+pub size_view : (es : List (String Global × Value)) → size (members_view es) ≡ length es
+size_view [] = refl
+size_view (e ∷ es) = ap suc (size_view es)

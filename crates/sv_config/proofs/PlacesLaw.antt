@@ -12,27 +12,30 @@ use Rattle.sv_mapping.specs.Path.{Text}
 use Rattle.sv_mapping.specs.Dispatcher.{dispatcher_of}
 use Rattle.sv_mapping.specs.Pattern.{is_pattern}
 use Rattle.sv_config.proofs.DocumentLemmas.{list_any_map}
-use Rattle.sv_config.specs.Document.{items_list, text_at, texts_at, integer_at, integer_column, table_at, values_at, tables_at, column, is_empty_at, patterns_of}
+use Rattle.sv_config.specs.Cookie.{fits_context, is_root, is_same_site}
+use Rattle.sv_config.specs.Document.{items_list, size, has, any_member, text_at, texts_at, integer_at, integer_column, table_at, values_at, tables_at, column, is_empty_at, patterns_of, all_patterns}
 use Rattle.sv_config.specs.Fault.{has_fault}
+use Rattle.sv_config.specs.Keys.{is_odd, has_odd_key}
 use Rattle.sv_config.specs.Kinds.{misfits, is_mistyped, is_text, is_integer, is_table}
-use Rattle.sv_config.specs.Limits.{is_exceeding, exceeds_in_cluster, exceeds_in_context, has_over, is_outside, is_outside_at, has_too_many_patterns, has_no_port, has_bad_length}
+use Rattle.sv_config.specs.Limits.{is_exceeding, exceeds_in_cluster, exceeds_in_context, has_over, is_outside, is_outside_at, has_too_many_patterns, has_too_many_settings, has_no_port, has_bad_length}
 use Rattle.sv_config.specs.Missing.{lacks, lacks_contents, is_missing}
-use Rattle.sv_config.specs.Place.{Spot, nothing, words, number, shown_in, kind_of, numbered, children, placed_as, placed_once, placed_in, placed_cluster, placed_tables, table_where, field_where, count_where, members_from, members_where, is_some_place}
-use Rattle.sv_config.specs.Places.{PlacedTable, is_unfit, lacking_in, missing_places, mistyped_members, mistyped_field, mistyped_places, misshaped_at, unlisted_among, is_among, stranger_at, undeclared_at, unknown_in, unknown_places, misspelled_at, misspelled_in, repeated_in, repeated_in_context, repeated_behind, repeated, repeated_texts, inner_place, text_item, text_items, integer_item, integer_items, texts_from, integers_from, port_items, patterns_in, pattern_items, default_page, default_pages, counted, too_many_at, too_many_patterns, exceeding_in_cluster, exceeding_in_context, exceeding_in, places_in, places_of, number_of}
+use Rattle.sv_config.specs.Place.{Spot, nothing, words, number, shown_in, kind_of, numbered, children, placed_as, placed_single, placed_arrays, placed_singles, placed_in, placed_cluster, placed_tables, table_where, field_where, count_where, members_from, members_where, keys_where, is_some_place}
+use Rattle.sv_config.specs.Places.{PlacedTable, is_unfit, lacking_in, missing_places, mistyped_members, mistyped_field, mistyped_places, misshaped_at, is_among, stranger_at, undeclared_at, unknown_in, unknown_places, misspelled_at, stray_cookie, misspelled_file, misspelled_in, repeated_in, repeated_in_context, repeated_behind, repeated, repeated_texts, inner_place, text_item, text_items, integer_item, integer_items, texts_from, integers_from, port_items, patterns_in, servlet_patterns, pattern_items, default_page, default_pages, counted, too_many_at, too_many_patterns, exceeding_in_cluster, exceeding_in_context, exceeding_in, places_in, places_of, number_of}
 use Rattle.sv_config.specs.Repeats.{is_repeating, has_both, has_repeat, is_default_page, repeats_default, repeats_in_context, repeats_page, repeats_pattern, repeats_port, repeats_status, repeats_text}
-use Rattle.sv_config.specs.Rules.{Rule, rules_of}
-use Rattle.sv_config.specs.Spelling.{is_misspelled, fails_at, is_context_path, is_name, is_page_path}
-use Rattle.sv_config.specs.Tables.{tables_as, once_tables, context_tables, cluster_tables, tables_of}
-use Rattle.sv_config.specs.Unknown.{is_listed, has_unlisted, has_undeclared_at, names_unknown, has_unknown}
+use Rattle.sv_config.specs.Rules.{Rule, rules_of, has_free_keys}
+use Rattle.sv_config.specs.Spelling.{is_misspelled, fails_at, is_context_path, is_name, is_page_path, is_token, is_file_pattern, is_file_path, is_cache_control, has_stray_cookie}
+use Rattle.sv_config.specs.Tables.{tables_as, table_as, array_tables, single_tables, context_tables, cluster_tables, tables_of}
+use Rattle.sv_config.specs.Unknown.{has_undeclared_at, names_unknown, has_unknown}
 use Rattle.sv_config.specs.declared.fault.ConfigFault.{ConfigFault}
 use Rattle.sv_config.specs.declared.fault.ConfigFault.TheVariants.{NotToml, MissingField, WrongKind, UnknownName, BadPattern, Duplicate, LimitExceeded, Memory}
+use Rattle.sv_config.specs.declared.keys.OddKey.TheVariants.{NotListed, NoText as NoTextAt, BadSetting}
 use Rattle.sv_config.specs.declared.members.Unfit.TheVariants.{NoPattern, NoDispatcher, NoPort, NoText, NoInteger, NoTable}
 use Rattle.sv_config.specs.declared.place.TablePlace.{TablePlace}
-use Rattle.sv_config.specs.declared.place.TablePlace.TheVariants.{OfNodes, Within, OfOnce}
+use Rattle.sv_config.specs.declared.place.TablePlace.TheVariants.{OfNodes, Within, Single}
 use Rattle.sv_config.specs.declared.rules.FieldKind.{FieldKind}
 use Rattle.sv_config.specs.declared.rules.FieldKind.TheVariants.{Text as TextKind, Integer, Boolean, Texts, Integers, Table, Tables}
 use Rattle.sv_config.specs.declared.rules.TableKind.{TableKind}
-use Rattle.sv_config.specs.declared.rules.TableKind.TheVariants.{Top, Cluster, Context, Servlet, Filter, Mapping, Listener, Page, Once}
+use Rattle.sv_config.specs.declared.rules.TableKind.TheVariants.{Top, Cluster, Context, Servlet, Filter, Mapping, Listener, Page, File, Once, Cookie, Settings}
 
 -- ---- tests
 
@@ -115,6 +118,16 @@ some_members test place key n (d ∷ ds) =
 some_members_at : (test : Data → Bool) (p : PlacedTable) (key : Text) → is_some_place (members_where test p key) ≡ list_any test (values_at key p.1)
 some_members_at test p key = some_members test p.0 key 0 (values_at key p.1)
 
+some_keys : (test : Text → Data → Bool) (place : TablePlace) (t : Members) → is_some_place (keys_where test place t) ≡ any_member test t
+some_keys test place no_members = refl
+some_keys test place (member key d t) =
+    some_if (test key d) (record { table = place; key = key; index = None; shown = nothing }) (keys_where test place t)
+    ∙ ap (λ b. test key d || b) (some_keys test place t)
+
+some_when : (holds : Bool) (spots : List Spot) (b : Bool) → is_some_place spots ≡ b → is_some_place (cond holds spots []) ≡ (holds && b)
+some_when true spots b same = same
+some_when false spots b same = refl
+
 -- ---- MissingField
 
 some_lacking : (kind : TableKind) (p : PlacedTable) → is_some_place (lacking_in kind p) ≡ lacks_contents kind p.1
@@ -126,7 +139,10 @@ some_lacking Filter p = refl
 some_lacking Mapping p = some_field (lacks_contents Mapping p.1) p (codes "pattern")
 some_lacking Listener p = refl
 some_lacking Page p = refl
+some_lacking File p = some_field (lacks_contents File p.1) p (codes "file")
 some_lacking Once p = refl
+some_lacking Cookie p = some_field (lacks_contents Cookie p.1) p (codes "secure")
+some_lacking Settings p = refl
 
 some_missing : (p : PlacedTable) → is_some_place (missing_places p) ≡ is_missing (kind_of p.0) p.1
 unfolding is_missing
@@ -172,19 +188,13 @@ some_mistyped_field p rule =
 
 some_mistyped : (p : PlacedTable) → is_some_place (mistyped_places p) ≡ is_mistyped (kind_of p.0) p.1
 unfolding is_mistyped
-some_mistyped p = some_flat (mistyped_field p) (misfits p.1) (some_mistyped_field p) (rules_of (kind_of p.0))
+some_mistyped p =
+    some_both (flat_map (mistyped_field p) (rules_of (kind_of p.0))) (cond (has_free_keys (kind_of p.0)) (keys_where (is_odd NoTextAt) p.0 p.1) [])
+    (list_any (misfits p.1) (rules_of (kind_of p.0))) (has_free_keys (kind_of p.0) && has_odd_key NoTextAt p.1)
+    (some_flat (mistyped_field p) (misfits p.1) (some_mistyped_field p) (rules_of (kind_of p.0)))
+    (some_when (has_free_keys (kind_of p.0)) (keys_where (is_odd NoTextAt) p.0 p.1) (has_odd_key NoTextAt p.1) (some_keys (is_odd NoTextAt) p.0 p.1))
 
 -- ---- UnknownName
-
-some_unlisted_if : (listed : Bool) (spot : Spot) (rest : List Spot) → is_some_place (cond listed [] (spot ∷ []) ++ rest) ≡ (not listed || is_some_place rest)
-some_unlisted_if true spot rest = refl
-some_unlisted_if false spot rest = refl
-
-some_unlisted : (rules : List Rule) (place : TablePlace) (t : Members) → is_some_place (unlisted_among rules place t) ≡ has_unlisted rules t
-some_unlisted rules place no_members = refl
-some_unlisted rules place (member key d t) =
-    some_unlisted_if (is_listed rules key) (record { table = place; key = key; index = None; shown = nothing }) (unlisted_among rules place t)
-    ∙ ap (λ b. not (is_listed rules key) || b) (some_unlisted rules place t)
 
 -- a test of tables by their places
 any_child_more : (q : Members → Bool) (n : ℕ) (o : Option Members) (cs : List (ℕ × Members)) (ts : List Members)
@@ -216,24 +226,55 @@ some_unknown_in Mapping p =
     some_members_at (is_unfit NoDispatcher) p (codes "dispatch") ∙ any_some as_str (λ word. is_none (dispatcher_of word)) (values_at (codes "dispatch") p.1)
 some_unknown_in Listener p = refl
 some_unknown_in Page p = refl
+some_unknown_in File p = refl
 some_unknown_in Once p = refl
+some_unknown_in Cookie p = some_field (fails_at is_same_site (codes "same-site") p.1) p (codes "same-site")
+some_unknown_in Settings p = refl
 
 some_unknown : (p : PlacedTable) → is_some_place (unknown_places p) ≡ has_unknown (kind_of p.0) p.1
 unfolding has_unknown
 some_unknown p =
-    some_both (unlisted_among (rules_of (kind_of p.0)) p.0 p.1) (unknown_in (kind_of p.0) p) (has_unlisted (rules_of (kind_of p.0)) p.1) (names_unknown (kind_of p.0) p.1)
-    (some_unlisted (rules_of (kind_of p.0)) p.0 p.1) (some_unknown_in (kind_of p.0) p)
+    some_both (keys_where (is_odd (NotListed (kind_of p.0))) p.0 p.1) (unknown_in (kind_of p.0) p) (has_odd_key (NotListed (kind_of p.0)) p.1) (names_unknown (kind_of p.0) p.1)
+    (some_keys (is_odd (NotListed (kind_of p.0))) p.0 p.1) (some_unknown_in (kind_of p.0) p)
 
 -- ---- BadPattern
 
 some_misspelled_at : (test : Text → Bool) (p : PlacedTable) (key : Text) → is_some_place (misspelled_at test p key) ≡ fails_at test key p.1
 some_misspelled_at test p key = some_field (fails_at test key p.1) p key
 
+some_stray_of : (place : TablePlace) (root : Bool) (found : Option Members)
+    → is_some_place (option_map_or (λ cookie. misspelled_at (fits_context root) (place, cookie) (codes "name")) found [])
+    ≡ option_map_or (fails_at (fits_context root) (codes "name")) found false
+some_stray_of place root None = refl
+some_stray_of place root (Some cookie) = some_misspelled_at (fits_context root) (place, cookie) (codes "name")
+
+some_stray : (p : PlacedTable) → is_some_place (stray_cookie p) ≡ has_stray_cookie p.1
+some_stray p = some_stray_of (Single (number_of p.0) Cookie) (is_root p.1) (table_at (codes "cookie") p.1)
+
+or_file : (a b c d : Bool) → (((a || b) || c) || d) ≡ (a || ((b || c) || d))
+or_file true b c d = refl
+or_file false b c d = refl
+
+some_misspelled_file : (p : PlacedTable) → is_some_place (misspelled_file p) ≡ is_misspelled File p.1
+unfolding misspelled_file is_misspelled
+some_misspelled_file p =
+    let fits : Text → Bool = is_file_pattern (has (codes "folder") p.1) in
+    some_both _ (misspelled_at is_cache_control p (codes "cache")) _ (fails_at is_cache_control (codes "cache") p.1)
+    (some_both _ (misspelled_at is_file_path p (codes "folder")) _ (fails_at is_file_path (codes "folder") p.1)
+    (some_both (misspelled_at fits p (codes "path")) (misspelled_at is_file_path p (codes "file")) (fails_at fits (codes "path") p.1) (fails_at is_file_path (codes "file") p.1)
+    (some_misspelled_at fits p (codes "path"))
+    (some_misspelled_at is_file_path p (codes "file")))
+    (some_misspelled_at is_file_path p (codes "folder")))
+    (some_misspelled_at is_cache_control p (codes "cache"))
+    ∙ or_file (fails_at fits (codes "path") p.1) (fails_at is_file_path (codes "file") p.1) (fails_at is_file_path (codes "folder") p.1) (fails_at is_cache_control (codes "cache") p.1)
+
 some_misspelled : (kind : TableKind) (p : PlacedTable) → is_some_place (misspelled_in kind p) ≡ is_misspelled kind p.1
 unfolding is_misspelled
 some_misspelled Top p = refl
 some_misspelled Cluster p = refl
-some_misspelled Context p = some_misspelled_at is_context_path p (codes "path")
+some_misspelled Context p =
+    some_both (misspelled_at is_context_path p (codes "path")) (stray_cookie p) (fails_at is_context_path (codes "path") p.1) (has_stray_cookie p.1)
+    (some_misspelled_at is_context_path p (codes "path")) (some_stray p)
 some_misspelled Servlet p =
     some_both (misspelled_at is_name p (codes "name")) (members_where (is_unfit NoPattern) p (codes "patterns"))
     (fails_at is_name (codes "name") p.1) (list_any (λ pattern. not (is_pattern pattern)) (filter_map as_str (values_at (codes "patterns") p.1)))
@@ -243,7 +284,10 @@ some_misspelled Filter p = some_misspelled_at is_name p (codes "name")
 some_misspelled Mapping p = some_misspelled_at is_pattern p (codes "pattern")
 some_misspelled Listener p = some_misspelled_at is_name p (codes "name")
 some_misspelled Page p = some_misspelled_at is_page_path p (codes "path")
+some_misspelled File p = some_misspelled_file p
 some_misspelled Once p = refl
+some_misspelled Cookie p = some_misspelled_at is_token p (codes "name")
+some_misspelled Settings p = refl
 
 -- ---- Duplicate
 
@@ -339,10 +383,14 @@ said_integers_from place key n (d ∷ ds) =
     said_first (λ z. record { table = place; key = key; index = Some n; shown = number z }) (as_integer d) (integers_from place key (n + 1) ds) (filter_map as_integer ds)
     (said_integers_from place key (n + 1) ds)
 
-said_patterns : (p : PlacedTable) → map (λ i. i.0) (pattern_items p) ≡ patterns_of (tables_at (codes "servlet") p.1)
-said_patterns p =
+said_servlets : (p : PlacedTable) → map (λ i. i.0) (servlet_patterns p) ≡ patterns_of (tables_at (codes "servlet") p.1)
+said_servlets p =
     said (patterns_in p.0) (texts_at (codes "patterns"))
     (λ c. said_texts_from (inner_place p.0 Servlet c.0) (codes "patterns") 0 (values_at (codes "patterns") c.1)) 0 (values_at (codes "servlet") p.1)
+
+said_patterns : (p : PlacedTable) → map (λ i. i.0) (pattern_items p) ≡ all_patterns p.1
+said_patterns p =
+    map_both (λ (i : Text × Spot). i.0) (servlet_patterns p) (text_items File (codes "file") (codes "path") p) _ _ (said_servlets p) (said_texts File (codes "file") (codes "path") p)
 
 -- ---- error pages for all else
 
@@ -422,13 +470,16 @@ some_repeated Filter p = refl
 some_repeated Mapping p = some_field (has_both (codes "pattern") (codes "servlet") p.1) p (codes "servlet")
 some_repeated Listener p = refl
 some_repeated Page p = some_field (has_both (codes "status") (codes "fault") p.1) p (codes "fault")
+some_repeated File p = some_field (has_both (codes "file") (codes "folder") p.1) p (codes "folder")
 some_repeated Once p = refl
+some_repeated Cookie p = refl
+some_repeated Settings p = refl
 
 -- ---- LimitExceeded
 
-or_seven : (a b c d e f g : Bool) → ((((((a || b) || c) || d) || e) || f) || g) ≡ (a || (((((b || c) || d) || e) || f) || g))
-or_seven true b c d e f g = refl
-or_seven false b c d e f g = refl
+or_eight : (a b c d e f g h : Bool) → (((((((a || b) || c) || d) || e) || f) || g) || h) ≡ (a || ((((((b || c) || d) || e) || f) || g) || h))
+or_eight true b c d e f g h = refl
+or_eight false b c d e f g h = refl
 
 some_counted : (holds : Bool) (p : PlacedTable) (key : Text) → is_some_place (counted holds p key) ≡ holds
 some_counted holds p key = some_count holds p key (length (values_at key p.1))
@@ -471,14 +522,16 @@ some_in_context p =
     let bad_interval : Bool = is_outside_at (negsuc 2147483647) (pos 2147483647) (codes "interval") t in
     let bad_patterns : Bool = has_too_many_patterns t in
     some_both _ (too_many_patterns p) _ bad_patterns
+    (some_then _ _ 64 p (codes "file")
     (some_then _ _ 32 p (codes "error-page")
     (some_then _ _ 16 p (codes "listener")
     (some_then _ _ 64 p (codes "filter-mapping")
     (some_then _ _ 32 p (codes "filter")
     (some_then _ _ 64 p (codes "servlet")
-    (some_field bad_interval p (codes "interval")))))))
-    (some_count bad_patterns p (codes "patterns") (length (patterns_of (tables_at (codes "servlet") t))))
-    ∙ or_seven bad_interval (has_over 64 (codes "servlet") t) (has_over 32 (codes "filter") t) (has_over 64 (codes "filter-mapping") t) (has_over 16 (codes "listener") t) (has_over 32 (codes "error-page") t) bad_patterns
+    (some_field bad_interval p (codes "interval"))))))))
+    (some_count bad_patterns p (codes "patterns") (length (all_patterns t)))
+    ∙ or_eight bad_interval (has_over 64 (codes "servlet") t) (has_over 32 (codes "filter") t) (has_over 64 (codes "filter-mapping") t) (has_over 16 (codes "listener") t) (has_over 32 (codes "error-page") t)
+    (has_over 64 (codes "file") t) bad_patterns
 
 some_exceeding : (kind : TableKind) (p : PlacedTable) → is_some_place (exceeding_in kind p) ≡ is_exceeding kind p.1
 unfolding is_exceeding
@@ -490,6 +543,11 @@ some_exceeding Filter p = some_field (has_bad_length (codes "name") p.1) p (code
 some_exceeding Mapping p = refl
 some_exceeding Listener p = some_field (has_bad_length (codes "name") p.1) p (codes "name")
 some_exceeding Page p = some_field (is_outside_at (pos 400) (pos 599) (codes "status") p.1) p (codes "status")
+some_exceeding File p = refl
+some_exceeding Cookie p = some_field (has_bad_length (codes "name") p.1) p (codes "name")
+some_exceeding Settings p =
+    some_both (count_where (has_too_many_settings p.1) p [] (size p.1)) (keys_where (is_odd BadSetting) p.0 p.1) (has_too_many_settings p.1) (has_odd_key BadSetting p.1)
+    (some_count (has_too_many_settings p.1) p [] (size p.1)) (some_keys (is_odd BadSetting) p.0 p.1)
 some_exceeding Once p =
     let bad_answers : Bool = is_outside_at (pos 1) (pos 16) (codes "answers") p.1 in
     let bad_parameter : Bool = has_bad_length (codes "parameter") p.1 in
@@ -529,22 +587,23 @@ array_unplaced context kind n (d ∷ ds) = array_more context kind n (as_table d
 array_at : (context : ℕ) (kind : TableKind) (key : Text) (t : Members) → map unplaced (placed_as context kind (children key t)) ≡ tables_as kind key t
 array_at context kind key t = array_unplaced context kind 0 (values_at key t)
 
-once_unplaced : (n : ℕ) (found : Option Members) → map unplaced (option_map_or (λ o. (OfOnce n, o) ∷ []) found []) ≡ option_map_or (λ o. (Once, o) ∷ []) found []
-once_unplaced n None = refl
-once_unplaced n (Some o) = refl
+single_unplaced : (n : ℕ) (kind : TableKind) (found : Option Members)
+    → map unplaced (option_map_or (λ s. (Single n kind, s) ∷ []) found []) ≡ option_map_or (λ s. (kind, s) ∷ []) found []
+single_unplaced n kind None = refl
+single_unplaced n kind (Some s) = refl
 
-context_unplaced : (c : ℕ × Members) → map unplaced (placed_in c) ≡ context_tables c.1
-unfolding placed_in context_tables
-context_unplaced c =
+arrays_unplaced : (c : ℕ × Members) → map unplaced (placed_arrays c) ≡ array_tables c.1
+unfolding placed_arrays array_tables
+arrays_unplaced c =
     let n = c.0 in
     let t = c.1 in
+    let files : List PlacedTable = placed_as n File (children (codes "file") t) in
     let pages : List PlacedTable = placed_as n Page (children (codes "error-page") t) in
     let listeners : List PlacedTable = placed_as n Listener (children (codes "listener") t) in
     let mappings : List PlacedTable = placed_as n Mapping (children (codes "filter-mapping") t) in
     let filters : List PlacedTable = placed_as n Filter (children (codes "filter") t) in
     let servlets : List PlacedTable = placed_as n Servlet (children (codes "servlet") t) in
-    ap (λ rest. (Context, t) ∷ rest)
-    (map_both unplaced (servlets ++ filters ++ mappings ++ listeners ++ pages) (placed_once c) _ (once_tables t)
+    map_both unplaced (servlets ++ filters ++ mappings ++ listeners ++ pages) files _ (tables_as File (codes "file") t)
     (map_both unplaced (servlets ++ filters ++ mappings ++ listeners) pages _ (tables_as Page (codes "error-page") t)
     (map_both unplaced (servlets ++ filters ++ mappings) listeners _ (tables_as Listener (codes "listener") t)
     (map_both unplaced (servlets ++ filters) mappings _ (tables_as Mapping (codes "filter-mapping") t)
@@ -553,7 +612,23 @@ context_unplaced c =
     (array_at n Mapping (codes "filter-mapping") t))
     (array_at n Listener (codes "listener") t))
     (array_at n Page (codes "error-page") t))
-    (once_unplaced n (table_at (codes "once") t)))
+    (array_at n File (codes "file") t)
+
+singles_unplaced : (c : ℕ × Members) → map unplaced (placed_singles c) ≡ single_tables c.1
+unfolding placed_singles single_tables
+singles_unplaced c =
+    let once : List PlacedTable = placed_single Once (codes "once") c in
+    let cookie : List PlacedTable = placed_single Cookie (codes "cookie") c in
+    map_both unplaced (once ++ cookie) (placed_single Settings (codes "settings") c) _ (table_as Settings (codes "settings") c.1)
+    (map_both unplaced once cookie (table_as Once (codes "once") c.1) (table_as Cookie (codes "cookie") c.1)
+    (single_unplaced c.0 Once (table_at (codes "once") c.1)) (single_unplaced c.0 Cookie (table_at (codes "cookie") c.1)))
+    (single_unplaced c.0 Settings (table_at (codes "settings") c.1))
+
+context_unplaced : (c : ℕ × Members) → map unplaced (placed_in c) ≡ context_tables c.1
+unfolding placed_in context_tables
+context_unplaced c =
+    ap (λ rest. (Context, c.1) ∷ rest)
+    (map_both unplaced (placed_arrays c) (placed_singles c) (array_tables c.1) (single_tables c.1) (arrays_unplaced c) (singles_unplaced c))
 
 contexts_more : (n : ℕ) (found : Option Members) (cs : List (ℕ × Members)) (ts : List Members)
     → map unplaced (flat_map placed_in cs) ≡ flat_map context_tables ts

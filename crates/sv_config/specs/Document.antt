@@ -1,8 +1,8 @@
 -- What stands in a table of a document (TOML 1.1). A member of another kind than the one asked for is not looked at.
-use Rattle.std.specs.Prelude.{ℤ, Bool, false, ◌==◌, List, [], ◌∷◌, length, Option, option_and_then, is_some, unwrap_or, codes}
+use Rattle.std.specs.Prelude.{ℕ, suc, ℤ, Bool, false, ◌||◌, ◌==◌, List, [], ◌∷◌, ◌++◌, length, Option, option_and_then, is_some, unwrap_or, codes}
 use Rattle.std.specs.Option.{option_map_or}
 use Rattle.std.specs.List.{filter_map, flat_map}
-use Rattle.toml.specs.Data.{Data, Items, no_items, item, Members, get_member, as_str, as_integer, as_bool, as_array, as_table}
+use Rattle.toml.specs.Data.{Data, Items, no_items, item, Members, no_members, member, get_member, as_str, as_integer, as_bool, as_array, as_table}
 use Rattle.sv_mapping.specs.Path.{Text}
 
 -- the items of an array as a list
@@ -56,6 +56,20 @@ column array key t = filter_map (text_at key) (tables_at array t)
 abbrev pub integer_column : Text → Text → Members → List ℤ
 integer_column array key t = filter_map (integer_at key) (tables_at array t)
 
--- the patterns of a context's servlets
+-- how many members a table has
+abbrev pub size : Members → ℕ
+size no_members = 0
+size (member key d t) = suc (size t)
+
+-- the test holds of some member of a table
+abbrev pub any_member : (Text → Data → Bool) → Members → Bool
+any_member test no_members = false
+any_member test (member key d t) = test key d || any_member test t
+
+-- the patterns of servlets
 abbrev pub patterns_of : List Members → List Text
 patterns_of = flat_map (texts_at (codes "patterns"))
+
+-- the patterns of a context: those of its servlets, and the paths of its files
+abbrev pub all_patterns : Members → List Text
+all_patterns t = patterns_of (tables_at (codes "servlet") t) ++ column (codes "file") (codes "path") t

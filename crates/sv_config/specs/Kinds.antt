@@ -1,10 +1,12 @@
--- WrongKind: a field that is there, or an array's member, has another kind.
-use Rattle.std.specs.Prelude.{Bool, false, not, is_some}
+-- WrongKind: a field that is there, or an array's member, has another kind; a setting is no text.
+use Rattle.std.specs.Prelude.{Bool, false, ◌&&◌, ◌||◌, not, is_some}
 use Rattle.std.specs.Option.{option_map_or}
 use Rattle.std.specs.List.{list_any, list_all}
 use Rattle.toml.specs.Data.{Data, Members, get_member, as_str, as_integer, as_bool, as_array, as_table}
 use Rattle.sv_config.specs.Document.{items_list}
-use Rattle.sv_config.specs.Rules.{Rule, rules_of}
+use Rattle.sv_config.specs.Keys.{has_odd_key}
+use Rattle.sv_config.specs.Rules.{Rule, rules_of, has_free_keys}
+use Rattle.sv_config.specs.declared.keys.OddKey.TheVariants.{NoText}
 use Rattle.sv_config.specs.declared.rules.FieldKind.{FieldKind}
 use Rattle.sv_config.specs.declared.rules.FieldKind.TheVariants.{Text, Integer, Boolean, Texts, Integers, Table, Tables}
 use Rattle.sv_config.specs.declared.rules.TableKind.{TableKind}
@@ -39,4 +41,4 @@ abbrev pub misfits : Members → Rule → Bool
 misfits t rule = option_map_or (λ d. not (has_kind rule.kind d)) (get_member rule.key t) false
 
 unfoldable pub is_mistyped : TableKind → Members → Bool
-is_mistyped kind t = list_any (misfits t) (rules_of kind)
+is_mistyped kind t = list_any (misfits t) (rules_of kind) || (has_free_keys kind && has_odd_key NoText t)

@@ -1,7 +1,9 @@
 pub mod Document
 pub mod Rules
 pub mod Tables
+pub mod Cookie
 pub mod Missing
+pub mod Keys
 pub mod Kinds
 pub mod Unknown
 pub mod Spelling

@@ -5,15 +5,15 @@ use Rattle.std.specs.Option.{option_map_or}
 use Rattle.std.specs.List.{flat_map}
 use Rattle.std.specs.BTreeMap.{BTreeMap}
 use Rattle.std.specs.Borrow.{Bor}
-use Rattle.toml.specs.Data.{Data, string, integer, Members, get_member, as_table}
+use Rattle.toml.specs.Data.{Data, string, integer, Members, no_members, member, get_member, as_table}
 use Rattle.toml.specs.View.{table_view}
 use Rattle.toml.specs.declared.value.Value.{Value}
 use Rattle.sv_mapping.specs.Path.{Text}
 use Rattle.sv_config.specs.Document.{table_at, values_at}
 use Rattle.sv_config.specs.declared.rules.TableKind.{TableKind}
-use Rattle.sv_config.specs.declared.rules.TableKind.TheVariants.{Top, Cluster, Context, Servlet, Filter, Mapping, Listener, Page, Once}
+use Rattle.sv_config.specs.declared.rules.TableKind.TheVariants.{Top, Cluster, Context, Servlet, Filter, Mapping, Listener, Page, File, Once, Cookie, Settings}
 use Rattle.sv_config.specs.declared.place.TablePlace.{TablePlace}
-use Rattle.sv_config.specs.declared.place.TablePlace.TheVariants.{Document, OfNodes, OfContext, Within, OfOnce}
+use Rattle.sv_config.specs.declared.place.TablePlace.TheVariants.{Document, OfNodes, OfContext, Within, Single}
 use Rattle.sv_config.specs.declared.place.Found.{Found}
 use Rattle.sv_config.specs.declared.place.Found.TheVariants.{Nothing, Words, Number, Count}
 use Rattle.sv_config.specs.declared.place.Place.{Place}
@@ -47,7 +47,7 @@ kind_of Document = Top
 kind_of OfNodes = Cluster
 kind_of (OfContext context) = Context
 kind_of (Within context kind index) = kind
-kind_of (OfOnce context) = Once
+kind_of (Single context kind) = kind
 
 -- ---- tables with their places
 
@@ -62,19 +62,26 @@ children key t = numbered 0 (values_at key t)
 abbrev pub placed_as : ℕ → TableKind → List (ℕ × Members) → List (TablePlace × Members)
 placed_as context kind tables = map (λ c. (Within context kind c.0, c.1)) tables
 
--- what a context of a number remembers of requests
-abbrev pub placed_once : ℕ × Members → List (TablePlace × Members)
-placed_once c = option_map_or (λ o. (OfOnce c.0, o) ∷ []) (table_at (codes "once") c.1) []
+-- the table at a key of a context of a number
+abbrev pub placed_single : TableKind → Text → ℕ × Members → List (TablePlace × Members)
+placed_single kind key c = option_map_or (λ s. (Single c.0 kind, s) ∷ []) (table_at key c.1) []
 
--- a context, by its number, and the tables in it
-unfoldable pub placed_in : ℕ × Members → List (TablePlace × Members)
-placed_in c =
-    (OfContext c.0, c.1) ∷ [] ++ placed_as c.0 Servlet (children (codes "servlet") c.1)
+-- the tables of the arrays of a context of a number, and those of which it has one at most
+unfoldable pub placed_arrays : ℕ × Members → List (TablePlace × Members)
+placed_arrays c =
+    placed_as c.0 Servlet (children (codes "servlet") c.1)
     ++ placed_as c.0 Filter (children (codes "filter") c.1)
     ++ placed_as c.0 Mapping (children (codes "filter-mapping") c.1)
     ++ placed_as c.0 Listener (children (codes "listener") c.1)
     ++ placed_as c.0 Page (children (codes "error-page") c.1)
-    ++ placed_once c
+    ++ placed_as c.0 File (children (codes "file") c.1)
+
+unfoldable pub placed_singles : ℕ × Members → List (TablePlace × Members)
+placed_singles c = placed_single Once (codes "once") c ++ placed_single Cookie (codes "cookie") c ++ placed_single Settings (codes "settings") c
+
+-- a context, by its number, and the tables in it
+unfoldable pub placed_in : ℕ × Members → List (TablePlace × Members)
+placed_in c = (OfContext c.0, c.1) ∷ [] ++ placed_arrays c ++ placed_singles c
 
 abbrev pub placed_cluster : Members → List (TablePlace × Members)
 placed_cluster t = option_map_or (λ c. (OfNodes, c) ∷ []) (table_at (codes "cluster") t) []
@@ -106,6 +113,12 @@ members_from test place key n (d ∷ ds) =
 
 abbrev pub members_where : (Data → Bool) → TablePlace × Members → Text → List Spot
 members_where test p key = members_from test p.0 key 0 (values_at key p.1)
+
+-- the keys of a table at which the test holds
+abbrev pub keys_where : (Text → Data → Bool) → TablePlace → Members → List Spot
+keys_where test place no_members = []
+keys_where test place (member key d t) =
+    (if test key d then record { table = place; key = key; index = None; shown = nothing } ∷ [] else []) ++ keys_where test place t
 
 -- there is some place
 abbrev pub is_some_place : List Spot → Bool

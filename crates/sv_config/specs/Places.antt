@@ -4,28 +4,30 @@ use Rattle.std.specs.Prelude.{[], ◌∷◌, length, codes, bytes_eq, is_none, O
 use Rattle.std.specs.Option.{option_map_or}
 use Rattle.std.specs.List.{flat_map, list_any}
 use Rattle.std.specs.Ordering.{int_eq}
-use Rattle.toml.specs.Data.{Data, Members, no_members, member, get_member, as_str, as_integer, as_array}
+use Rattle.toml.specs.Data.{Data, Members, get_member, as_str, as_integer, as_array}
 use Rattle.sv_mapping.specs.Path.{Text}
 use Rattle.sv_mapping.specs.Pattern.{is_pattern}
 use Rattle.sv_mapping.specs.Dispatcher.{dispatcher_of}
-use Rattle.sv_config.specs.Document.{is_empty_at, text_at, integer_at, values_at, tables_at, column, patterns_of}
-use Rattle.sv_config.specs.Rules.{Rule, rules_of}
+use Rattle.sv_config.specs.Document.{has, size, is_empty_at, text_at, integer_at, table_at, values_at, column, all_patterns}
+use Rattle.sv_config.specs.Cookie.{fits_context, is_root, is_same_site}
+use Rattle.sv_config.specs.Keys.{is_odd}
+use Rattle.sv_config.specs.Rules.{Rule, rules_of, has_free_keys}
 use Rattle.sv_config.specs.Missing.{lacks, lacks_contents}
 use Rattle.sv_config.specs.Kinds.{is_text, is_integer, is_boolean, is_table}
-use Rattle.sv_config.specs.Unknown.{is_listed}
-use Rattle.sv_config.specs.Spelling.{fails_at, is_context_path, is_name, is_page_path}
+use Rattle.sv_config.specs.Spelling.{fails_at, is_context_path, is_name, is_page_path, is_token, is_file_pattern, is_file_path, is_cache_control}
 use Rattle.sv_config.specs.Repeats.{has_both, is_default_page}
-use Rattle.sv_config.specs.Limits.{has_over, is_outside, is_outside_at, has_bad_length, has_too_many_patterns}
+use Rattle.sv_config.specs.Limits.{has_over, is_outside, is_outside_at, has_bad_length, has_too_many_patterns, has_too_many_settings}
 use Rattle.sv_config.specs.Fault.{fault_of}
-use Rattle.sv_config.specs.Place.{Spot, children, placed_tables, kind_of, table_where, field_where, count_where, members_where, nothing, words, number}
+use Rattle.sv_config.specs.Place.{Spot, children, placed_tables, kind_of, table_where, field_where, count_where, members_where, keys_where, words, number}
 use Rattle.sv_config.specs.declared.fault.ConfigFault.{ConfigFault}
 use Rattle.sv_config.specs.declared.fault.ConfigFault.TheVariants.{NotToml, MissingField, WrongKind, UnknownName, BadPattern, Duplicate, LimitExceeded, Memory}
 use Rattle.sv_config.specs.declared.rules.FieldKind.{FieldKind}
 use Rattle.sv_config.specs.declared.rules.FieldKind.TheVariants.{Text as TextKind, Integer, Boolean, Texts, Integers, Table, Tables}
 use Rattle.sv_config.specs.declared.rules.TableKind.{TableKind}
-use Rattle.sv_config.specs.declared.rules.TableKind.TheVariants.{Top, Cluster, Context, Servlet, Filter, Mapping, Listener, Page, Once}
+use Rattle.sv_config.specs.declared.rules.TableKind.TheVariants.{Top, Cluster, Context, Servlet, Filter, Mapping, Listener, Page, File, Once, Cookie, Settings}
 use Rattle.sv_config.specs.declared.place.TablePlace.{TablePlace}
-use Rattle.sv_config.specs.declared.place.TablePlace.TheVariants.{Document, OfNodes, OfContext, Within, OfOnce}
+use Rattle.sv_config.specs.declared.place.TablePlace.TheVariants.{Document, OfNodes, OfContext, Within, Single}
+use Rattle.sv_config.specs.declared.keys.OddKey.TheVariants.{NotListed, NoText as NoTextAt, BadSetting}
 use Rattle.sv_config.specs.declared.members.Unfit.{Unfit}
 use Rattle.sv_config.specs.declared.members.Unfit.TheVariants.{NoPattern, NoDispatcher, NoPort, NoText, NoInteger, NoTable}
 
@@ -47,12 +49,14 @@ is_unfit NoTable d = not (is_table d)
 abbrev pub lacking_in : TableKind → PlacedTable → List Spot
 lacking_in Top p = field_where (lacks_contents Top p.1) p (codes "context")
 lacking_in Mapping p = field_where (lacks_contents Mapping p.1) p (codes "pattern")
+lacking_in File p = field_where (lacks_contents File p.1) p (codes "file")
+lacking_in Cookie p = field_where (lacks_contents Cookie p.1) p (codes "secure")
 lacking_in _ p = []
 
 abbrev pub missing_places : PlacedTable → List Spot
 missing_places p = flat_map (λ rule. field_where (lacks p.1 rule) p rule.key) (rules_of (kind_of p.0)) ++ lacking_in (kind_of p.0) p
 
--- ---- WrongKind: each field of another kind, and of an array each member of another kind
+-- ---- WrongKind: each field of another kind, of an array each member of another kind, and each setting that is no text
 
 -- neither the kind nor, for an array, an array
 abbrev pub has_other_shape : FieldKind → Data → Bool
@@ -80,16 +84,11 @@ abbrev pub mistyped_field : PlacedTable → Rule → List Spot
 mistyped_field p rule = field_where (misshaped_at rule.kind rule.key p.1) p rule.key ++ mistyped_members rule.kind p rule.key
 
 abbrev pub mistyped_places : PlacedTable → List Spot
-mistyped_places p = flat_map (mistyped_field p) (rules_of (kind_of p.0))
+mistyped_places p =
+    flat_map (mistyped_field p) (rules_of (kind_of p.0)) ++ (if has_free_keys (kind_of p.0) then keys_where (is_odd NoTextAt) p.0 p.1 else [])
 
 -- ---- UnknownName: each key that is not listed; each word that is no dispatcher's; each filter and servlet of a filter
--- mapping that the context does not declare
-
-abbrev pub unlisted_among : List Rule → TablePlace → Members → List Spot
-unlisted_among rules place no_members = []
-unlisted_among rules place (member key d t) =
-    (if is_listed rules key then [] else record { table = place; key = key; index = None; shown = nothing } ∷ [])
-    ++ unlisted_among rules place t
+-- mapping that the context does not declare; a `same-site` of another word
 
 abbrev pub is_among : List Text → Text → Bool
 is_among names text = list_any (λ name. bytes_eq name text) names
@@ -100,7 +99,7 @@ number_of Document = 0
 number_of OfNodes = 0
 number_of (OfContext context) = context
 number_of (Within context kind index) = context
-number_of (OfOnce context) = context
+number_of (Single context kind) = context
 
 -- a filter mapping of a context names at a key what is none of the names
 abbrev pub stranger_at : ℕ → Text → List Text → ℕ × Members → List Spot
@@ -112,23 +111,37 @@ undeclared_at key p = flat_map (stranger_at (number_of p.0) key (column key (cod
 abbrev pub unknown_in : TableKind → PlacedTable → List Spot
 unknown_in Context p = undeclared_at (codes "filter") p ++ undeclared_at (codes "servlet") p
 unknown_in Mapping p = members_where (is_unfit NoDispatcher) p (codes "dispatch")
+unknown_in Cookie p = field_where (fails_at is_same_site (codes "same-site") p.1) p (codes "same-site")
 unknown_in _ p = []
 
 abbrev pub unknown_places : PlacedTable → List Spot
-unknown_places p = unlisted_among (rules_of (kind_of p.0)) p.0 p.1 ++ unknown_in (kind_of p.0) p
+unknown_places p = keys_where (is_odd (NotListed (kind_of p.0))) p.0 p.1 ++ unknown_in (kind_of p.0) p
 
 -- ---- BadPattern: each text that is badly spelled
 
 abbrev pub misspelled_at : (Text → Bool) → PlacedTable → Text → List Spot
 misspelled_at test p key = field_where (fails_at test key p.1) p key
 
+-- the cookie of a context that is not at the root, as the cookie's name wants
+abbrev pub stray_cookie : PlacedTable → List Spot
+stray_cookie p =
+    option_map_or (λ cookie. misspelled_at (fits_context (is_root p.1)) (Single (number_of p.0) Cookie, cookie) (codes "name"))
+    (table_at (codes "cookie") p.1) []
+
+unfoldable pub misspelled_file : PlacedTable → List Spot
+misspelled_file p =
+    misspelled_at (is_file_pattern (has (codes "folder") p.1)) p (codes "path") ++ misspelled_at is_file_path p (codes "file")
+    ++ misspelled_at is_file_path p (codes "folder") ++ misspelled_at is_cache_control p (codes "cache")
+
 abbrev pub misspelled_in : TableKind → PlacedTable → List Spot
-misspelled_in Context p = misspelled_at is_context_path p (codes "path")
+misspelled_in Context p = misspelled_at is_context_path p (codes "path") ++ stray_cookie p
 misspelled_in Servlet p = misspelled_at is_name p (codes "name") ++ members_where (is_unfit NoPattern) p (codes "patterns")
 misspelled_in Filter p = misspelled_at is_name p (codes "name")
 misspelled_in Mapping p = misspelled_at is_pattern p (codes "pattern")
 misspelled_in Listener p = misspelled_at is_name p (codes "name")
 misspelled_in Page p = misspelled_at is_page_path p (codes "path")
+misspelled_in File p = misspelled_file p
+misspelled_in Cookie p = misspelled_at is_token p (codes "name")
 misspelled_in _ p = []
 
 -- ---- Duplicate: each item that is equal to one before it, and the second of two fields of which one is allowed
@@ -181,8 +194,11 @@ port_items p = integers_from p.0 (codes "ports") 0 (values_at (codes "ports") p.
 abbrev pub patterns_in : TablePlace → ℕ × Members → List (Text × Spot)
 patterns_in place c = texts_from (inner_place place Servlet c.0) (codes "patterns") 0 (values_at (codes "patterns") c.1)
 
+abbrev pub servlet_patterns : PlacedTable → List (Text × Spot)
+servlet_patterns p = flat_map (patterns_in p.0) (children (codes "servlet") p.1)
+
 abbrev pub pattern_items : PlacedTable → List (Text × Spot)
-pattern_items p = flat_map (patterns_in p.0) (children (codes "servlet") p.1)
+pattern_items p = servlet_patterns p ++ text_items File (codes "file") (codes "path") p
 
 -- the error pages that are for all else
 abbrev pub default_page : TablePlace → ℕ × Members → List Spot
@@ -206,6 +222,7 @@ repeated_in Top p = repeated_texts Context (codes "context") (codes "path") p
 repeated_in Cluster p = repeated int_eq (port_items p)
 repeated_in Context p = repeated_in_context p
 repeated_in Mapping p = field_where (has_both (codes "pattern") (codes "servlet") p.1) p (codes "servlet")
+repeated_in File p = field_where (has_both (codes "file") (codes "folder") p.1) p (codes "folder")
 repeated_in Page p = field_where (has_both (codes "status") (codes "fault") p.1) p (codes "fault")
 repeated_in _ p = []
 
@@ -218,7 +235,7 @@ abbrev pub too_many_at : ℕ → PlacedTable → Text → List Spot
 too_many_at limit p key = counted (has_over limit key p.1) p key
 
 abbrev pub too_many_patterns : PlacedTable → List Spot
-too_many_patterns p = count_where (has_too_many_patterns p.1) p (codes "patterns") (length (patterns_of (tables_at (codes "servlet") p.1)))
+too_many_patterns p = count_where (has_too_many_patterns p.1) p (codes "patterns") (length (all_patterns p.1))
 
 unfoldable pub exceeding_in_cluster : PlacedTable → List Spot
 exceeding_in_cluster p =
@@ -231,7 +248,8 @@ unfoldable pub exceeding_in_context : PlacedTable → List Spot
 exceeding_in_context p =
     field_where (is_outside_at (negsuc 2147483647) (pos 2147483647) (codes "interval") p.1) p (codes "interval")
     ++ too_many_at 64 p (codes "servlet") ++ too_many_at 32 p (codes "filter") ++ too_many_at 64 p (codes "filter-mapping")
-    ++ too_many_at 16 p (codes "listener") ++ too_many_at 32 p (codes "error-page") ++ too_many_patterns p
+    ++ too_many_at 16 p (codes "listener") ++ too_many_at 32 p (codes "error-page")
+    ++ too_many_at 64 p (codes "file") ++ too_many_patterns p
 
 abbrev pub exceeding_in : TableKind → PlacedTable → List Spot
 exceeding_in Top p = too_many_at 16 p (codes "context")
@@ -240,11 +258,14 @@ exceeding_in Context p = exceeding_in_context p
 exceeding_in Servlet p = field_where (has_bad_length (codes "name") p.1) p (codes "name")
 exceeding_in Filter p = field_where (has_bad_length (codes "name") p.1) p (codes "name")
 exceeding_in Mapping p = []
+exceeding_in File p = []
 exceeding_in Listener p = field_where (has_bad_length (codes "name") p.1) p (codes "name")
 exceeding_in Page p = field_where (is_outside_at (pos 400) (pos 599) (codes "status") p.1) p (codes "status")
 exceeding_in Once p =
     field_where (is_outside_at (pos 1) (pos 16) (codes "answers") p.1) p (codes "answers")
     ++ field_where (has_bad_length (codes "parameter") p.1) p (codes "parameter")
+exceeding_in Cookie p = field_where (has_bad_length (codes "name") p.1) p (codes "name")
+exceeding_in Settings p = count_where (has_too_many_settings p.1) p [] (size p.1) ++ keys_where (is_odd BadSetting) p.0 p.1
 
 -- ---- all places
 

@@ -1,13 +1,13 @@
--- Duplicate: a context path; in one context a servlet, filter or listener name, a servlet pattern, or what an error
--- page is for; a port; both of two fields of which one is allowed.
+-- Duplicate: a context path; in one context a servlet, filter or listener name, a pattern of a servlet or the path of a
+-- file, or what an error page is for; a port; both of two fields of which one is allowed.
 use Rattle.std.specs.Prelude.{Bool, false, ◌&&◌, ◌||◌, not, nat_lt, List, [], ◌∷◌, length, filter, codes, bytes_eq}
 use Rattle.std.specs.List.{list_any}
 use Rattle.std.specs.Ordering.{int_eq}
 use Rattle.toml.specs.Data.{Members}
 use Rattle.sv_mapping.specs.Path.{Text}
-use Rattle.sv_config.specs.Document.{has, tables_at, integers_at, column, integer_column, patterns_of}
+use Rattle.sv_config.specs.Document.{has, tables_at, integers_at, column, integer_column, all_patterns}
 use Rattle.sv_config.specs.declared.rules.TableKind.{TableKind}
-use Rattle.sv_config.specs.declared.rules.TableKind.TheVariants.{Top, Cluster, Context, Servlet, Filter, Mapping, Listener, Page, Once}
+use Rattle.sv_config.specs.declared.rules.TableKind.TheVariants.{Top, Cluster, Context, Servlet, Filter, Mapping, Listener, Page, File, Once, Cookie, Settings}
 
 -- some item is equal to one behind it
 abbrev pub has_repeat : {A : Type 0} → (A → A → Bool) → List A → Bool
@@ -36,7 +36,7 @@ abbrev pub repeats_port : Members → Bool
 repeats_port t = has_repeat int_eq (integers_at (codes "ports") t)
 
 abbrev pub repeats_pattern : Members → Bool
-repeats_pattern t = has_repeat bytes_eq (patterns_of (tables_at (codes "servlet") t))
+repeats_pattern t = has_repeat bytes_eq (all_patterns t)
 
 abbrev pub has_both : Text → Text → Members → Bool
 has_both one other t = has one t && has other t
@@ -58,4 +58,7 @@ is_repeating Filter t = false
 is_repeating Mapping t = has_both (codes "pattern") (codes "servlet") t
 is_repeating Listener t = false
 is_repeating Page t = has_both (codes "status") (codes "fault") t
+is_repeating File t = has_both (codes "file") (codes "folder") t
 is_repeating Once t = false
+is_repeating Cookie t = false
+is_repeating Settings t = false

@@ -5,7 +5,7 @@ use Rattle.sv_config.specs.declared.rules.FieldKind.{FieldKind}
 use Rattle.sv_config.specs.declared.rules.FieldKind.TheVariants.{Text as TextKind, Integer, Boolean, Texts, Integers, Table, Tables}
 use Rattle.sv_config.specs.declared.rules.FieldRule.{FieldRule}
 use Rattle.sv_config.specs.declared.rules.TableKind.{TableKind}
-use Rattle.sv_config.specs.declared.rules.TableKind.TheVariants.{Top, Cluster, Context, Servlet, Filter, Mapping, Listener, Page, Once}
+use Rattle.sv_config.specs.declared.rules.TableKind.TheVariants.{Top, Cluster, Context, Servlet, Filter, Mapping, Listener, Page, File, Once, Cookie, Settings}
 
 -- a field that a table may have, its kind, and whether it must be there
 pub record Rule : Type 0 where
@@ -28,7 +28,8 @@ rules_of Cluster =
 rules_of Context =
     needed (codes "path") TextKind ∷ optional (codes "interval") Integer ∷ optional (codes "servlet") Tables
     ∷ optional (codes "filter") Tables ∷ optional (codes "filter-mapping") Tables ∷ optional (codes "listener") Tables
-    ∷ optional (codes "error-page") Tables ∷ optional (codes "once") Table ∷ []
+    ∷ optional (codes "error-page") Tables ∷ optional (codes "file") Tables ∷ optional (codes "once") Table
+    ∷ optional (codes "cookie") Table ∷ optional (codes "settings") Table ∷ []
 rules_of Servlet = needed (codes "name") TextKind ∷ needed (codes "patterns") Texts ∷ []
 rules_of Filter = needed (codes "name") TextKind ∷ []
 rules_of Mapping =
@@ -36,7 +37,17 @@ rules_of Mapping =
     ∷ optional (codes "dispatch") Texts ∷ []
 rules_of Listener = needed (codes "name") TextKind ∷ []
 rules_of Page = needed (codes "path") TextKind ∷ optional (codes "status") Integer ∷ optional (codes "fault") TextKind ∷ []
+rules_of File =
+    needed (codes "path") TextKind ∷ optional (codes "file") TextKind ∷ optional (codes "folder") TextKind
+    ∷ optional (codes "cache") TextKind ∷ []
 rules_of Once = needed (codes "answers") Integer ∷ optional (codes "parameter") TextKind ∷ []
+rules_of Cookie = optional (codes "name") TextKind ∷ optional (codes "secure") Boolean ∷ optional (codes "same-site") TextKind ∷ []
+rules_of Settings = []
+
+-- tables of the kind have whatever keys their author likes, each with a text
+abbrev pub has_free_keys : TableKind → Bool
+has_free_keys Settings = true
+has_free_keys _ = false
 
 -- a rule of the code
 abbrev pub rule_of : FieldRule → Rule

@@ -1,14 +1,17 @@
--- BadPattern: a pattern that cannot be read as one; a context path, a name or the path of an error page that is badly
--- spelled.
-use Rattle.std.specs.Prelude.{ℕ, Bool, false, ◌&&◌, ◌||◌, not, nat_le, nat_eq, ◌==◌, List, length, drop, codes, bytes_eq}
+-- BadPattern: a pattern that cannot be read as one; a context path, a name, the path of an error page or of a file, or a
+-- value of Cache-Control that is badly spelled; the name of a cookie that its context cannot have.
+use Rattle.std.specs.Prelude.{ℕ, Bool, true, false, ◌&&◌, ◌||◌, not, nat_le, nat_eq, ◌==◌, List, length, drop, codes, bytes_eq, if◌then◌else◌}
 use Rattle.std.specs.Option.{option_map_or}
-use Rattle.std.specs.List.{list_any, list_all, starts_with, slice_split}
+use Rattle.std.specs.List.{list_any, list_all, starts_with, ends_with, slice_split}
 use Rattle.toml.specs.Data.{Members}
 use Rattle.sv_mapping.specs.Path.{Text}
-use Rattle.sv_mapping.specs.Pattern.{is_pattern}
-use Rattle.sv_config.specs.Document.{text_at, texts_at}
+use Rattle.sv_mapping.specs.Pattern.{is_pattern, form_of}
+use Rattle.sv_mapping.specs.declared.pattern.PatternForm.{PatternForm}
+use Rattle.sv_mapping.specs.declared.pattern.PatternForm.TheVariants.{Exact, ContextRoot, Prefix, Extension, Default}
+use Rattle.sv_config.specs.Cookie.{fits_context, is_root}
+use Rattle.sv_config.specs.Document.{has, text_at, texts_at, table_at}
 use Rattle.sv_config.specs.declared.rules.TableKind.{TableKind}
-use Rattle.sv_config.specs.declared.rules.TableKind.TheVariants.{Top, Cluster, Context, Servlet, Filter, Mapping, Listener, Page, Once}
+use Rattle.sv_config.specs.declared.rules.TableKind.TheVariants.{Top, Cluster, Context, Servlet, Filter, Mapping, Listener, Page, File, Once, Cookie, Settings}
 
 -- an ASCII letter or digit
 abbrev pub is_alphanumeric : ℕ → Bool
@@ -40,6 +43,54 @@ is_context_path text =
 abbrev pub is_page_path : Text → Bool
 is_page_path text = starts_with nat_eq text (codes "/") && nat_le (length text) 256
 
+-- RFC 9110, section 5.6.2: a character of a token
+abbrev pub is_token_char : ℕ → Bool
+is_token_char c = is_alphanumeric c || list_any (λ mark. mark == c) (codes "!#$%&'*+-.^_`|~")
+
+-- RFC 6265, section 4.1.1: the name of a cookie is a token
+abbrev pub is_token : Text → Bool
+is_token text = list_all is_token_char text
+
+-- a segment that does not begin with a dot
+abbrev pub is_file_segment : Text → Bool
+is_file_segment text = is_segment text && not (starts_with nat_eq text (codes "."))
+
+-- at most 256 bytes: segments that do not begin with a dot, with `/` between them
+unfoldable pub is_file_path : Text → Bool
+is_file_path text = nat_le (length text) 256 && list_all is_file_segment (slice_split (λ c. c == 47) text)
+
+-- it ends in `/*` and begins with `/`
+abbrev pub is_prefix_form : PatternForm → Bool
+is_prefix_form Prefix = true
+is_prefix_form Exact = false
+is_prefix_form ContextRoot = false
+is_prefix_form Extension = false
+is_prefix_form Default = false
+
+-- nothing, or it begins with `/` or `*.`, as no name does
+abbrev pub is_path_pattern : Text → Bool
+is_path_pattern text = length text == 0 || (starts_with nat_eq text (codes "/") || starts_with nat_eq text (codes "*."))
+
+abbrev pub has_file_form : Bool → Text → Bool
+has_file_form for_folder text = if for_folder then is_prefix_form (form_of text) else is_path_pattern text
+
+-- a pattern that a path can match; for a folder one of all that is below a path
+abbrev pub is_file_pattern : Bool → Text → Bool
+is_file_pattern for_folder text = is_pattern text && has_file_form for_folder text
+
+-- RFC 9110, section 5.5: visible characters of ASCII, and spaces that stand neither first nor last; 1 to 256 bytes
+abbrev pub is_field_char : ℕ → Bool
+is_field_char c = nat_le 32 c && nat_le c 126
+
+abbrev pub has_outer_space : Text → Bool
+has_outer_space text = starts_with nat_eq text (codes " ") || ends_with nat_eq text (codes " ")
+
+abbrev pub has_field_length : Text → Bool
+has_field_length text = not (length text == 0) && nat_le (length text) 256
+
+abbrev pub is_cache_control : Text → Bool
+is_cache_control text = has_field_length text && (list_all is_field_char text && not (has_outer_space text))
+
 -- the text at a key is there and does not pass
 abbrev pub fails_at : (Text → Bool) → Text → Members → Bool
 fails_at test key t = option_map_or (λ text. not (test text)) (text_at key t) false
@@ -50,13 +101,30 @@ has_bad_pattern patterns = list_any (λ pattern. not (is_pattern pattern)) patte
 abbrev pub is_misspelled_servlet : Members → Bool
 is_misspelled_servlet t = fails_at is_name (codes "name") t || has_bad_pattern (texts_at (codes "patterns") t)
 
+-- the name of its cookie is for a context at the root, and it is not there
+abbrev pub has_stray_cookie : Members → Bool
+has_stray_cookie t = option_map_or (fails_at (fits_context (is_root t)) (codes "name")) (table_at (codes "cookie") t) false
+
+abbrev pub is_misspelled_context : Members → Bool
+is_misspelled_context t = fails_at is_context_path (codes "path") t || has_stray_cookie t
+
+abbrev pub has_bad_source : Members → Bool
+has_bad_source t = fails_at is_file_path (codes "file") t || fails_at is_file_path (codes "folder") t
+
+abbrev pub is_misspelled_file : Members → Bool
+is_misspelled_file t =
+    fails_at (is_file_pattern (has (codes "folder") t)) (codes "path") t || (has_bad_source t || fails_at is_cache_control (codes "cache") t)
+
 unfoldable pub is_misspelled : TableKind → Members → Bool
 is_misspelled Top t = false
 is_misspelled Cluster t = false
-is_misspelled Context t = fails_at is_context_path (codes "path") t
+is_misspelled Context t = is_misspelled_context t
 is_misspelled Servlet t = is_misspelled_servlet t
 is_misspelled Filter t = fails_at is_name (codes "name") t
 is_misspelled Mapping t = fails_at is_pattern (codes "pattern") t
 is_misspelled Listener t = fails_at is_name (codes "name") t
 is_misspelled Page t = fails_at is_page_path (codes "path") t
+is_misspelled File t = is_misspelled_file t
 is_misspelled Once t = false
+is_misspelled Cookie t = fails_at is_token (codes "name") t
+is_misspelled Settings t = false

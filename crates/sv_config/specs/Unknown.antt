@@ -1,23 +1,17 @@
 -- UnknownName: a key that is not listed; a filter mapping whose filter or servlet is not declared in its context; a
--- dispatcher other than REQUEST, FORWARD, INCLUDE and ERROR.
+-- dispatcher other than REQUEST, FORWARD, INCLUDE and ERROR; a `same-site` other than Strict, Lax and None.
 use Rattle.std.specs.Prelude.{Bool, false, ◌||◌, not, List, codes, bytes_eq, is_none}
 use Rattle.std.specs.List.{list_any}
-use Rattle.toml.specs.Data.{Members, no_members, member}
+use Rattle.toml.specs.Data.{Members}
 use Rattle.sv_mapping.specs.Path.{Text}
 use Rattle.sv_mapping.specs.Dispatcher.{dispatcher_of}
+use Rattle.sv_config.specs.Cookie.{is_same_site}
 use Rattle.sv_config.specs.Document.{texts_at, column}
-use Rattle.sv_config.specs.Rules.{Rule, rules_of}
+use Rattle.sv_config.specs.Keys.{has_odd_key}
+use Rattle.sv_config.specs.Spelling.{fails_at}
+use Rattle.sv_config.specs.declared.keys.OddKey.TheVariants.{NotListed}
 use Rattle.sv_config.specs.declared.rules.TableKind.{TableKind}
-use Rattle.sv_config.specs.declared.rules.TableKind.TheVariants.{Top, Cluster, Context, Servlet, Filter, Mapping, Listener, Page, Once}
-
--- a rule has the key
-abbrev pub is_listed : List Rule → Text → Bool
-is_listed rules key = list_any (λ rule. bytes_eq rule.key key) rules
-
--- some key of the table is no rule's
-abbrev pub has_unlisted : List Rule → Members → Bool
-has_unlisted rules no_members = false
-has_unlisted rules (member key d t) = not (is_listed rules key) || has_unlisted rules t
+use Rattle.sv_config.specs.declared.rules.TableKind.TheVariants.{Top, Cluster, Context, Servlet, Filter, Mapping, Listener, Page, File, Once, Cookie, Settings}
 
 -- some of the texts is not among the names
 abbrev pub has_stranger : List Text → List Text → Bool
@@ -45,7 +39,10 @@ names_unknown Filter t = false
 names_unknown Mapping t = has_stray_dispatcher (texts_at (codes "dispatch") t)
 names_unknown Listener t = false
 names_unknown Page t = false
+names_unknown File t = false
 names_unknown Once t = false
+names_unknown Cookie t = fails_at is_same_site (codes "same-site") t
+names_unknown Settings t = false
 
 unfoldable pub has_unknown : TableKind → Members → Bool
-has_unknown kind t = has_unlisted (rules_of kind) t || names_unknown kind t
+has_unknown kind t = has_odd_key (NotListed kind) t || names_unknown kind t

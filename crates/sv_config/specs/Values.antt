@@ -1,11 +1,11 @@
 -- What a document says: its deployment, with the defaults filled in. Total: where a document has a fault, something
 -- stands for what is not there, and no deployment is made of it.
-use Rattle.std.specs.Prelude.{ℕ, ◌+◌, ℤ, pos, negsuc, Bool, false, ◌&&◌, not, List, [], ◌∷◌, map}
+use Rattle.std.specs.Prelude.{ℕ, ◌+◌, ℤ, pos, negsuc, Bool, false, ◌&&◌, not, List, [], ◌∷◌, ◌++◌, map, length}
 use Rattle.std.specs.Prelude.{filter, fold, codes, bytes_eq, string_bytes, Option, Some, None, option_map, unwrap_or, is_none, option_and_then, if◌then◌else◌}
 use Rattle.std.specs.Option.{option_map_or}
 use Rattle.std.specs.List.{position_or_len}
 use Rattle.std.specs.FinMap as finite
-use Rattle.toml.specs.Data.{Members, no_members}
+use Rattle.toml.specs.Data.{Data, Members, no_members, member, as_str}
 use Rattle.sv_mapping.specs.Path.{Text}
 use Rattle.sv_mapping.specs.Pattern.{is_pattern}
 use Rattle.sv_mapping.specs.Dispatcher.{dispatchers_of}
@@ -14,8 +14,11 @@ use Rattle.sv_mapping.specs.declared.filter.FilterMapping.{FilterMapping}
 use Rattle.sv_mapping.specs.declared.dispatcher.Dispatchers.{Dispatchers}
 use Rattle.sv_mapping.specs.declared.filter.FilterTarget.{FilterTarget}
 use Rattle.sv_mapping.specs.declared.filter.FilterTarget.TheVariants.{Pattern, Servlet}
+use Rattle.sv_config.specs.Cookie.{is_secure, same_site_of}
 use Rattle.sv_config.specs.Document.{text_at, text_or_empty, integer_at, boolean_at, table_at, tables_at, texts_at, integers_at, column}
 use Rattle.sv_config.specs.Limits.{is_outside}
+use Rattle.sv_config.specs.declared.cookie.CookieConfig.{CookieConfig}
+use Rattle.sv_config.specs.declared.cookie.SameSite.{SameSite}
 use Rattle.sv_config.specs.declared.deployment.Cluster.{Cluster}
 use Rattle.sv_config.specs.declared.deployment.Context.{Context}
 use Rattle.sv_config.specs.declared.deployment.Deployment.{Deployment}
@@ -23,6 +26,10 @@ use Rattle.sv_config.specs.declared.deployment.ErrorPage.{ErrorPage}
 use Rattle.sv_config.specs.declared.deployment.Once.{Once}
 use Rattle.sv_config.specs.declared.deployment.PageFor.{PageFor}
 use Rattle.sv_config.specs.declared.deployment.PageFor.TheVariants.{Status, Fault, Default}
+use Rattle.sv_config.specs.declared.files.FileMapping.{FileMapping}
+use Rattle.sv_config.specs.declared.files.FileSource.{FileSource}
+use Rattle.sv_config.specs.declared.files.FileSource.TheVariants.{File, Folder}
+use Rattle.sv_config.specs.declared.settings.Setting.{Setting}
 
 -- ---- a deployment as plain data
 
@@ -48,6 +55,26 @@ pub record OnceData : Type 0 where
   pub answers : ℤ
   pub parameter : Option Text
 
+-- the session cookie of a context
+pub record CookieData : Type 0 where
+  pub name : Option Text
+  pub secure : Bool
+  pub same_site : Option SameSite
+
+-- what of the descriptor's folder a file mapping serves
+pub data Source : Type 0 where
+  of_file : Text → Source
+  of_folder : Text → Source
+
+pub record FileData : Type 0 where
+  pub path : Text
+  pub source : Source
+  pub cache : Option Text
+
+pub record SettingData : Type 0 where
+  pub name : Text
+  pub value : Text
+
 pub record ContextData : Type 0 where
   pub path : Text
   pub interval : ℤ
@@ -58,6 +85,9 @@ pub record ContextData : Type 0 where
   pub listeners : List Text
   pub error_pages : List PageData
   pub once : Option OnceData
+  pub cookie : CookieData
+  pub settings : List SettingData
+  pub files : List FileData
 
 pub record DeploymentData : Type 0 where
   pub cluster : ClusterData
@@ -114,8 +144,16 @@ abbrev pub mapped_from : ℕ → List Members → Table → Table
 mapped_from place [] table = table
 mapped_from place (s ∷ ss) table = mapped_from (place + 1) ss (fold (with_pattern place) table (texts_at (codes "patterns") s))
 
+-- the paths of files, each mapped to a place of its own
+abbrev pub with_files : ℕ → List Members → Table → Table
+with_files place [] table = table
+with_files place (f ∷ fs) table = with_files (place + 1) fs (with_pattern place table (text_or_empty (codes "path") f))
+
+-- the servlets that serve files stand behind those that are declared
 unfoldable pub mappings_of : Members → Table
-mappings_of t = mapped_from 0 (tables_at (codes "servlet") t) finite.empty
+mappings_of t =
+    let servlets = tables_at (codes "servlet") t in
+    with_files (length servlets) (tables_at (codes "file") t) (mapped_from 0 servlets finite.empty)
 
 -- a text as a pattern, where it is one
 abbrev pub pattern_of : Text → Option Text
@@ -168,6 +206,43 @@ once_of_table o = record { answers = answers_of o; parameter = text_at (codes "p
 abbrev pub once_of : Members → Option OnceData
 once_of t = option_map once_of_table (table_at (codes "once") t)
 
+abbrev pub cookie_of_table : Members → CookieData
+cookie_of_table c = record {
+  name = text_at (codes "name") c;
+  secure = is_secure c;
+  same_site = option_and_then same_site_of (text_at (codes "same-site") c);
+}
+
+unfoldable pub cookie_of : Members → CookieData
+cookie_of t = cookie_of_table (unwrap_or (table_at (codes "cookie") t) no_members)
+
+-- a member of a table, where it is a text
+abbrev pub setting_in : Text → Data → List SettingData
+setting_in name d = option_map_or (λ value. record { name = name; value = value } ∷ []) (as_str d) []
+
+abbrev pub settings_in : Members → List SettingData
+settings_in no_members = []
+settings_in (member name d t) = setting_in name d ++ settings_in t
+
+unfoldable pub settings_of : Members → List SettingData
+settings_of t = settings_in (unwrap_or (table_at (codes "settings") t) no_members)
+
+-- a file mapping serves its file, or else what is in its folder
+abbrev pub source_by : Option Text → Members → Source
+source_by None f = of_folder (text_or_empty (codes "folder") f)
+source_by (Some file) f = of_file file
+
+unfoldable pub file_of : Members → FileData
+file_of f = record {
+  path = text_or_empty (codes "path") f;
+  source = source_by (text_at (codes "file") f) f;
+  cache = text_at (codes "cache") f;
+}
+
+-- the names of servlets: those that are declared, and the path of each file
+abbrev pub servlet_names : Members → List Text
+servlet_names t = column (codes "servlet") (codes "name") t ++ column (codes "file") (codes "path") t
+
 unfoldable pub context_of : Members → ContextData
 context_of t =
     let servlets = column (codes "servlet") (codes "name") t in
@@ -175,13 +250,16 @@ context_of t =
     record {
       path = text_or_empty (codes "path") t;
       interval = interval_of t;
-      servlets = servlets;
+      servlets = servlet_names t;
       mappings = mappings_of t;
       filters = filters;
       filter_mappings = map (filter_mapping_of filters servlets) (tables_at (codes "filter-mapping") t);
       listeners = column (codes "listener") (codes "name") t;
       error_pages = map page_of (tables_at (codes "error-page") t);
       once = once_of t;
+      cookie = cookie_of t;
+      settings = settings_of t;
+      files = map file_of (tables_at (codes "file") t);
     }
 
 unfoldable pub deployment_of : Members → DeploymentData
@@ -207,6 +285,19 @@ page_data p = record { path = string_bytes p.path; choice = choice_data p.choice
 abbrev pub once_data : Once → OnceData
 once_data o = record { answers = pos o.answers; parameter = option_map string_bytes o.parameter }
 
+abbrev pub cookie_data : CookieConfig → CookieData
+cookie_data c = record { name = option_map string_bytes c.name; secure = c.secure; same_site = c.same_site }
+
+abbrev pub setting_data : Setting → SettingData
+setting_data s = record { name = string_bytes s.name; value = string_bytes s.value }
+
+abbrev pub source_data : FileSource → Source
+source_data (File path) = of_file (string_bytes path)
+source_data (Folder path) = of_folder (string_bytes path)
+
+abbrev pub file_data : FileMapping → FileData
+file_data f = record { path = string_bytes f.path; source = source_data f.source; cache = option_map string_bytes f.cache }
+
 abbrev pub context_data : Context → ContextData
 context_data c = record {
   path = string_bytes c.path;
@@ -218,6 +309,9 @@ context_data c = record {
   listeners = map string_bytes c.listeners.items;
   error_pages = map page_data c.error_pages.items;
   once = option_map once_data c.once;
+  cookie = cookie_data c.cookie;
+  settings = map setting_data c.settings.items;
+  files = map file_data c.files.items;
 }
 
 unfoldable pub deployment_data : Deployment → DeploymentData

@@ -3,12 +3,12 @@
 ghost use Rattle.std.specs.Prelude.{◌≡◌, IfOk, pos, map, option_map, string_bytes, unwrap_or, codes};
 ghost use Rattle.toml.specs.Data.{no_members};
 ghost use Rattle.toml.specs.View.{table_view};
-ghost use Rattle.sv_config.specs.Document.{table_at, text_at};
+ghost use Rattle.sv_config.specs.Document.{table_at};
 ghost use Rattle.sv_config.specs.Values as spec;
 
 use crate::columns::integers_at;
 use crate::deployment::Cluster;
-use crate::document::{boolean_at, integer_at, table_at, text_at};
+use crate::document::{boolean_at, integer_at, owned_text_at, table_at};
 use crate::limits::{MAX_KEYS, is_outside};
 use std::alloc::{AllocError, Global};
 use toml::Table;
@@ -51,7 +51,7 @@ fn cluster_of(alloc: Global, table: &Table) -> Result<Cluster, AllocError>
     Ok(Cluster {
         ports: ports_of(alloc, table)?,
         deadline: deadline_of(table),
-        secrets: secrets_of(alloc, table)?,
+        secrets: owned_text_at(alloc, table, "secrets")?,
         keys: keys_of(table),
         forget: forget_of(table),
     })
@@ -102,14 +102,5 @@ fn forget_of(table: &Table) -> bool
     match boolean_at(table, "forget") {
         Some(forgets) => forgets,
         None => false,
-    }
-}
-
-fn secrets_of(alloc: Global, table: &Table) -> Result<Option<String>, AllocError>
-    ensures { IfOk result (λ secrets. option_map string_bytes secrets ≡ text_at (codes "secrets") (table_view table.now)) }
-{
-    match text_at(table, "secrets") {
-        Some(path) => Ok(Some(String::from_str(alloc, path)?)),
-        None => Ok(None),
     }
 }

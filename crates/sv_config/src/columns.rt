@@ -64,16 +64,24 @@ fn add_texts<'a>(texts: &mut Vec<&'a str>, table: &'a Table, key: &str) -> Resul
 }
 
 /// The patterns of these servlets.
-pub(crate) fn patterns_of<'a>(
-    alloc: Global,
-    servlets: &[&'a Table],
-) -> Result<Vec<&'a str>, AllocError>
+fn patterns_of<'a>(alloc: Global, servlets: &[&'a Table]) -> Result<Vec<&'a str>, AllocError>
     ensures { IfOk result (λ texts. map (λ s. s.now) texts.items ≡ spec.patterns_of (map (λ t. table_view t.now) servlets.now)) }
 {
     let mut patterns = Vec::new(alloc);
     for servlet in servlets {
         add_texts(&mut patterns, servlet, "patterns")?;
     }
+    Ok(patterns)
+}
+
+/// The patterns of a context's servlets, and the paths of its files.
+pub(crate) fn all_patterns(alloc: Global, context: &Table) -> Result<Vec<&str>, AllocError>
+    ensures { IfOk result (λ texts. map (λ s. s.now) texts.items ≡ spec.all_patterns (table_view context.now)) }
+{
+    let servlets = tables_at(alloc, context, "servlet")?;
+    let mut patterns = patterns_of(alloc, &servlets)?;
+    let paths = column(alloc, context, "file", "path")?;
+    patterns.extend_from_slice(&paths)?;
     Ok(patterns)
 }
 

@@ -1,16 +1,19 @@
 //! The contexts that a descriptor declares.
 
-ghost use Rattle.std.specs.Prelude.{◌≡◌, IfOk, map, codes, string_bytes};
+ghost use Rattle.std.specs.Prelude.{◌≡◌, ◌++◌, IfOk, OnOk, map, codes, string_bytes};
 ghost use Rattle.toml.specs.View.{table_view};
 ghost use Rattle.sv_config.specs.Document.{tables_at, column};
 ghost use Rattle.sv_config.specs.Values as spec;
 
 use crate::columns::{column, tables_at};
+use crate::cookie::read_cookie;
 use crate::deployment::Context;
 use crate::document::{integer_at, text_or_empty};
+use crate::files::{FileMapping, read_files};
 use crate::limits::is_outside;
 use crate::mappings::{read_filter_mappings, read_mappings};
 use crate::once::read_pages_and_once;
+use crate::settings::{Setting, read_settings};
 use std::alloc::{AllocError, Global};
 use toml::Table;
 
@@ -58,8 +61,9 @@ fn context_with(
     requires listeners { map (λ name. name.now) listeners.now ≡ column (codes "listener") (codes "name") (table_view table.now) }
     ensures { IfOk result (λ context. spec.context_data context ≡ spec.context_of (table_view table.now)) }
 {
-    let (servlet_names, filter_names) = owned_both(alloc, servlets, filters)?;
+    let (servlet_names, filter_names) = owned_names(alloc, table, servlets, filters)?;
     let (error_pages, once) = read_pages_and_once(alloc, table)?;
+    let (settings, files) = read_settings_and_files(alloc, table)?;
     Ok(Context {
         path: String::from_str(alloc, text_or_empty(table, "path"))?,
         interval: interval_of(table),
@@ -69,22 +73,55 @@ fn context_with(
         listeners: owned(alloc, listeners)?,
         error_pages,
         once,
+        cookie: read_cookie(alloc, table)?,
+        settings,
+        files,
         mappings: read_mappings(alloc, table)?,
     })
 }
 
-/// Two lists of texts as strings of their own.
-fn owned_both(
+/// The settings of a context, and its file mappings.
+fn read_settings_and_files(
     alloc: Global,
-    some: &[&str],
-    others: &[&str],
-) -> Result<(Vec<String>, Vec<String>), AllocError>
-    ensures some { IfOk result (λ both. map string_bytes both.0.items ≡ map (λ text. text.now) some.now) }
-    ensures others { IfOk result (λ both. map string_bytes both.1.items ≡ map (λ text. text.now) others.now) }
+    context: &Table,
+) -> Result<(Vec<Setting>, Vec<FileMapping>), AllocError>
+    ensures settings { IfOk result (λ both. map spec.setting_data both.0.items ≡ spec.settings_of (table_view context.now)) }
+    ensures files { IfOk result (λ both. map spec.file_data both.1.items ≡ map spec.file_of (tables_at (codes "file") (table_view context.now))) }
 {
-    let some = owned(alloc, some)?;
-    let others = owned(alloc, others)?;
-    Ok((some, others))
+    let settings = read_settings(alloc, context)?;
+    let files = read_files(alloc, context)?;
+    Ok((settings, files))
+}
+
+/// The names of a context's servlets: those that it declares, and for each file mapping its path.
+fn servlet_names(
+    alloc: Global,
+    context: &Table,
+    declared: &[&str],
+) -> Result<Vec<String>, AllocError>
+    requires { map (λ name. name.now) declared.now ≡ column (codes "servlet") (codes "name") (table_view context.now) }
+    ensures { IfOk result (λ names. map string_bytes names.items ≡ spec.servlet_names (table_view context.now)) }
+{
+    let paths = column(alloc, context, "file", "path")?;
+    let mut names = owned(alloc, declared)?;
+    add_owned(alloc, &mut names, &paths)?;
+    Ok(names)
+}
+
+/// The names of a context's servlets, and of its filters.
+fn owned_names(
+    alloc: Global,
+    context: &Table,
+    servlets: &[&str],
+    filters: &[&str],
+) -> Result<(Vec<String>, Vec<String>), AllocError>
+    requires { map (λ name. name.now) servlets.now ≡ column (codes "servlet") (codes "name") (table_view context.now) }
+    ensures servlets { IfOk result (λ both. map string_bytes both.0.items ≡ spec.servlet_names (table_view context.now)) }
+    ensures filters { IfOk result (λ both. map string_bytes both.1.items ≡ map (λ name. name.now) filters.now) }
+{
+    let servlets = servlet_names(alloc, context, servlets)?;
+    let filters = owned(alloc, filters)?;
+    Ok((servlets, filters))
 }
 
 /// The texts as strings of their own.
@@ -92,10 +129,17 @@ fn owned(alloc: Global, texts: &[&str]) -> Result<Vec<String>, AllocError>
     ensures { IfOk result (λ strings. map string_bytes strings.items ≡ map (λ text. text.now) texts.now) }
 {
     let mut strings = Vec::new(alloc);
+    add_owned(alloc, &mut strings, texts)?;
+    Ok(strings)
+}
+
+fn add_owned(alloc: Global, strings: &mut Vec<String>, texts: &[&str]) -> Result<(), AllocError>
+    ensures { OnOk result (map string_bytes strings.new.items ≡ map string_bytes strings.old.items ++ map (λ text. text.now) texts.now) }
+{
     for text in texts {
         strings.push(String::from_str(alloc, text)?)?;
     }
-    Ok(strings)
+    Ok(())
 }
 
 fn interval_of(table: &Table) -> i32

@@ -1,5 +1,8 @@
 //! A deployment: what a descriptor says.
 
+use crate::cookie::CookieConfig;
+use crate::files::FileMapping;
+use crate::settings::Setting;
 use sv_mapping::{FilterMapping, Mappings};
 
 /// The web applications that each node serves, and the nodes.
@@ -34,7 +37,7 @@ pub struct Context {
     pub path: String,
     /// For how many seconds an idle session is kept; 0 or less for ever.
     pub interval: i32,
-    /// The names of its servlets, in order.
+    /// The names of its servlets, in order: those that it declares, and behind them, for each of `files`, its path.
     pub servlets: Vec<String>,
     /// The patterns of its servlets, each with the place of its servlet in `servlets`.
     pub mappings: Mappings,
@@ -48,6 +51,12 @@ pub struct Context {
     pub error_pages: Vec<ErrorPage>,
     /// What its sessions remember, so that a request that is sent again counts once; none where they remember nothing.
     pub once: Option<Once>,
+    /// Its session cookie.
+    pub cookie: CookieConfig,
+    /// The texts that its servlets and filters are given, in the order of their names.
+    pub settings: Vec<Setting>,
+    /// The files that it serves, in order; the servlet that serves one has the path as its name.
+    pub files: Vec<FileMapping>,
 }
 
 /// What sessions remember of the requests that have a key, so that one that is sent again is answered as it was before.

@@ -1,10 +1,11 @@
 //! What stands in a table of a document.
 
-ghost use Rattle.std.specs.Prelude.{◌≡◌, map, option_map};
+ghost use Rattle.std.specs.Prelude.{◌≡◌, IfOk, map, option_map, string_bytes};
 ghost use Rattle.toml.specs.Data.{get_member};
 ghost use Rattle.toml.specs.View.{table_view, view};
 ghost use Rattle.sv_config.specs.Document as spec;
 
+use std::alloc::{AllocError, Global};
 use toml::{Table, Value};
 
 /// The value at a key.
@@ -28,6 +29,20 @@ pub(crate) fn text_at<'a>(table: &'a Table, key: &str) -> Option<&'a str>
     match member(table, key) {
         Some(value) => value.as_str(),
         None => None,
+    }
+}
+
+/// A copy of the text at a key.
+pub(crate) fn owned_text_at(
+    alloc: Global,
+    table: &Table,
+    key: &str,
+) -> Result<Option<String>, AllocError>
+    ensures { IfOk result (λ text. option_map string_bytes text ≡ spec.text_at key.now (table_view table.now)) }
+{
+    match text_at(table, key) {
+        Some(text) => Ok(Some(String::from_str(alloc, text)?)),
+        None => Ok(None),
     }
 }
 

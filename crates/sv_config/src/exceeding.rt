@@ -4,16 +4,19 @@ ghost use Rattle.std.specs.Prelude.{◌≡◌, ◌++◌, map, OnOk, codes};
 ghost use Rattle.sv_config.specs.Place.{kind_of, spot, placed};
 ghost use Rattle.sv_config.specs.Places as spec;
 
-use crate::columns::{patterns_of, tables_at};
+use crate::columns::all_patterns;
 use crate::document::{is_empty_at, values_at};
+use crate::keys::{OddKey, add_odd_keys};
 use crate::limits::{
-    MAX_ANSWERS, MAX_CONTEXTS, MAX_ERROR_PAGES, MAX_FILTER_MAPPINGS, MAX_FILTERS, MAX_KEYS,
-    MAX_LISTENERS, MAX_NODES, MAX_SERVLETS, has_bad_length, has_over, is_outside_at,
+    MAX_ANSWERS, MAX_CONTEXTS, MAX_ERROR_PAGES, MAX_FILE_MAPPINGS, MAX_FILTER_MAPPINGS,
+    MAX_FILTERS, MAX_KEYS, MAX_LISTENERS, MAX_NODES, MAX_SERVLETS, has_bad_length, has_over,
+    is_outside_at,
 };
 use crate::members::{Unfit, add_count, add_field, add_members};
 use crate::place::{Place, kind_of};
 use crate::placed::Placed;
 use crate::rules::TableKind;
+use crate::settings::{count_settings, has_too_many_settings};
 use std::alloc::{AllocError, Global};
 use sv_mapping::MAX_PATTERNS;
 
@@ -29,10 +32,10 @@ pub(crate) fn add_exceeding<'a>(
         TableKind::Top => add_too_many(places, at, "context", MAX_CONTEXTS),
         TableKind::Cluster => add_in_cluster(places, at),
         TableKind::Context => add_in_context(alloc, places, at),
-        TableKind::Servlet | TableKind::Filter | TableKind::Listener => {
+        TableKind::Servlet | TableKind::Filter | TableKind::Listener | TableKind::Cookie => {
             add_field(places, has_bad_length(at.table, "name"), at, "name")
         }
-        TableKind::Mapping => Ok(()),
+        TableKind::Mapping | TableKind::File => Ok(()),
         TableKind::Page => add_field(
             places,
             is_outside_at(at.table, "status", 400, 599),
@@ -40,7 +43,16 @@ pub(crate) fn add_exceeding<'a>(
             "status",
         ),
         TableKind::Once => add_in_once(places, at),
+        TableKind::Settings => add_in_settings(places, at),
     }
+}
+
+fn add_in_settings<'a>(places: &mut Vec<Place<'a>>, at: Placed<'a>) -> Result<(), AllocError>
+    ensures { OnOk result (map spot places.new.items ≡ map spot places.old.items ++ spec.exceeding_in TableKind.Settings (placed at.entry)) }
+{
+    let is_over = has_too_many_settings(at.table);
+    add_count(places, is_over, at, "", count_settings(at.table))?;
+    add_odd_keys(places, OddKey::BadSetting, at)
 }
 
 fn add_in_once<'a>(places: &mut Vec<Place<'a>>, at: Placed<'a>) -> Result<(), AllocError>
@@ -96,6 +108,7 @@ fn add_in_context<'a>(
     add_too_many(places, at, "filter-mapping", MAX_FILTER_MAPPINGS)?;
     add_too_many(places, at, "listener", MAX_LISTENERS)?;
     add_too_many(places, at, "error-page", MAX_ERROR_PAGES)?;
+    add_too_many(places, at, "file", MAX_FILE_MAPPINGS)?;
     add_too_many_patterns(alloc, places, at)
 }
 
@@ -124,7 +137,7 @@ fn add_counted<'a>(
     add_count(places, holds, at, key, count)
 }
 
-/// Adds the patterns of a context's servlets, where they are too many.
+/// Adds the patterns of a context, where they are too many.
 fn add_too_many_patterns<'a>(
     alloc: Global,
     places: &mut Vec<Place<'a>>,
@@ -132,8 +145,7 @@ fn add_too_many_patterns<'a>(
 ) -> Result<(), AllocError>
     ensures { OnOk result (map spot places.new.items ≡ map spot places.old.items ++ spec.too_many_patterns (placed at.entry)) }
 {
-    let servlets = tables_at(alloc, at.table, "servlet")?;
-    let patterns = patterns_of(alloc, &servlets)?;
+    let patterns = all_patterns(alloc, at.table)?;
     add_count(
         places,
         patterns.len() > MAX_PATTERNS,

@@ -14,8 +14,8 @@ impl Place<'_> {
             ConfigFault::WrongKind => wrong_kind(self),
             ConfigFault::UnknownName => unknown(kind, self.key),
             ConfigFault::BadPattern => spelled(kind, self.key),
-            ConfigFault::Duplicate => repeated(self.key),
-            ConfigFault::LimitExceeded => limit(self),
+            ConfigFault::Duplicate => repeated(kind, self.key),
+            ConfigFault::LimitExceeded => limit(kind, self),
             ConfigFault::Memory => "more memory",
         }
     }
@@ -29,6 +29,10 @@ fn missing(kind: TableKind, key: &str) -> &'static str {
         "patterns" => "an array of patterns, such as [\"/shop/*\"]; it may be empty",
         "filter" => "the name of a filter of this context",
         "answers" => "how many answers a session remembers: 1 to 16",
+        "file" => "either file or folder: what is served",
+        "secure" => {
+            "true: browsers drop a cookie with same-site None, or with a name like __Secure-ID or __Host-ID, that isn't"
+        }
         _ => "either pattern or servlet: for which paths, or for which servlet",
     }
 }
@@ -37,6 +41,7 @@ fn missing(kind: TableKind, key: &str) -> &'static str {
 fn path_of(kind: TableKind) -> &'static str {
     match kind {
         TableKind::Page => "a path of at most 256 bytes that begins with /",
+        TableKind::File => "a pattern, such as /style.css; for a folder one such as /static/*",
         _ => {
             "\"\" for the root, or / and a segment of letters, digits and -._~, once or more; no segment is . or .."
         }
@@ -47,13 +52,18 @@ fn wrong_kind(place: &Place<'_>) -> &'static str {
     if place.index.is_some() {
         return member_kind(place.key);
     }
+    if kind_of(place.table) == TableKind::Settings {
+        return "a text, in quotes";
+    }
     match place.key {
         "deadline" | "interval" | "status" | "keys" | "answers" => "an integer",
-        "forget" => "true or false",
+        "forget" | "secure" => "true or false",
         "ports" => "an array of integers",
         "patterns" | "dispatch" => "an array of texts",
         "cluster" => "a table",
         "once" => "a table, such as { answers = 4 }",
+        "cookie" => "a table, such as { secure = true }",
+        "settings" => "a table of texts",
         _ => text_or_tables(place),
     }
 }
@@ -83,13 +93,17 @@ fn unknown(kind: TableKind, key: &str) -> &'static str {
         TableKind::Top => "one of context and cluster",
         TableKind::Cluster => "one of ports, deadline, secrets, keys and forget",
         TableKind::Context => {
-            "one of path, interval, servlet, filter, filter-mapping, listener, error-page and once"
+            "one of path, interval, servlet, filter, filter-mapping, listener, error-page, file, once, cookie and settings"
         }
         TableKind::Servlet => "one of name and patterns",
         TableKind::Filter | TableKind::Listener => "name and nothing else",
         TableKind::Mapping => unknown_in_mapping(key),
         TableKind::Page => "one of path, status and fault",
+        TableKind::File => "one of path, file, folder and cache",
         TableKind::Once => "one of answers and parameter",
+        TableKind::Cookie if key == "same-site" => "one of Strict, Lax and None",
+        TableKind::Cookie => "one of name, secure and same-site",
+        TableKind::Settings => "any name",
     }
 }
 
@@ -105,14 +119,23 @@ fn unknown_in_mapping(key: &str) -> &'static str {
 fn spelled(kind: TableKind, key: &str) -> &'static str {
     match key {
         "path" => path_of(kind),
+        "name" if kind == TableKind::Cookie => {
+            "a token, as JSESSIONID; one like __Host-ID in the context at the root alone"
+        }
         "name" => "letters, digits, - and _ alone",
+        "file" | "folder" => {
+            "a path below the descriptor's folder: segments of letters, digits and -._~ of which none begins with a dot"
+        }
+        "cache" => "a value of Cache-Control, such as max-age=3600",
         _ => "a pattern of at most 256 bytes without control characters",
     }
 }
 
-fn repeated(key: &str) -> &'static str {
+fn repeated(kind: TableKind, key: &str) -> &'static str {
     match key {
+        "path" if kind == TableKind::File => "a pattern that nothing in this context has before",
         "path" => "a path that no context before has",
+        "folder" => "either file or folder",
         "ports" => "a port that no node before has",
         "name" => "a name that none before it has in this context",
         "patterns" => "a pattern that no servlet of this context has before",
@@ -123,7 +146,10 @@ fn repeated(key: &str) -> &'static str {
     }
 }
 
-fn limit(place: &Place<'_>) -> &'static str {
+fn limit(kind: TableKind, place: &Place<'_>) -> &'static str {
+    if kind == TableKind::Settings {
+        return "at most 64 settings, with names of 1 to 128 bytes and texts of at most 8192";
+    }
     match place.key {
         "context" => "at most 16 contexts",
         "ports" if place.index.is_some() => "a port from 1 to 65535",
@@ -141,7 +167,7 @@ fn limit(place: &Place<'_>) -> &'static str {
 /// How many of a context may be.
 fn count_limit(key: &str) -> &'static str {
     match key {
-        "servlet" | "filter-mapping" => "at most 64",
+        "servlet" | "filter-mapping" | "file" => "at most 64",
         "filter" | "error-page" => "at most 32",
         "listener" => "at most 16",
         _ => "at most 256 patterns in all",

@@ -129,12 +129,24 @@ pub(crate) fn port_items<'a>(
     Ok(items)
 }
 
-/// The patterns of a context's servlets.
+/// The patterns of a context's servlets, and the paths of its files.
 pub(crate) fn pattern_items<'a>(
     alloc: Global,
     at: Placed<'a>,
 ) -> Result<Vec<(&'a str, Place<'a>)>, AllocError>
     ensures { IfOk result (λ items. map (λ i. (i.0.now, spot i.1)) items.items ≡ spec.pattern_items (placed at.entry)) }
+{
+    let mut items = servlet_patterns(alloc, at)?;
+    let paths = text_items(alloc, at, TableKind::File, "file", "path")?;
+    items.extend_from_slice(&paths)?;
+    Ok(items)
+}
+
+fn servlet_patterns<'a>(
+    alloc: Global,
+    at: Placed<'a>,
+) -> Result<Vec<(&'a str, Place<'a>)>, AllocError>
+    ensures { IfOk result (λ items. map (λ i. (i.0.now, spot i.1)) items.items ≡ spec.servlet_patterns (placed at.entry)) }
 {
     let servlets = children(alloc, at.table, "servlet")?;
     patterns_of(alloc, at.place, &servlets)

@@ -4,16 +4,23 @@ ghost use Rattle.std.specs.Prelude.{◌≡◌};
 ghost use Rattle.std.specs.List.{list_any, list_all};
 ghost use Rattle.toml.specs.View.{table_view, view};
 ghost use Rattle.sv_config.specs.Kinds as spec;
-ghost use Rattle.sv_config.specs.Rules.{rule_of};
+ghost use Rattle.sv_config.specs.Rules.{rule_of, rules_of};
 
 use crate::document::member;
-use crate::rules::{FieldKind, FieldRule, TableKind, rules};
+use crate::keys::{OddKey, has_odd_key};
+use crate::rules::{FieldKind, FieldRule, TableKind, has_free_keys, rules};
 use toml::{Table, Value};
 
 /// Whether a table of a kind has a field of another kind than it must be.
 #[tactic(auto, unfolding(crate::specs::Kinds::is_mistyped))]
 pub(crate) fn is_mistyped(kind: TableKind, table: &Table) -> bool
     ensures { result ≡ spec.is_mistyped kind (table_view table.now) }
+{
+    misfits_field(kind, table) || (has_free_keys(kind) && has_odd_key(table, OddKey::NoText))
+}
+
+fn misfits_field(kind: TableKind, table: &Table) -> bool
+    ensures { result ≡ list_any (spec.misfits (table_view table.now)) (rules_of kind) }
 {
     misfits_some(table, rules(kind))
 }

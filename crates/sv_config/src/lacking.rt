@@ -45,6 +45,8 @@ fn add_contents<'a>(places: &mut Vec<Place<'a>>, at: Placed<'a>) -> Result<(), A
     match kind {
         TableKind::Top => add_field(places, lacks_contents(kind, at.table), at, "context"),
         TableKind::Mapping => add_field(places, lacks_contents(kind, at.table), at, "pattern"),
+        TableKind::File => add_field(places, lacks_contents(kind, at.table), at, "file"),
+        TableKind::Cookie => add_field(places, lacks_contents(kind, at.table), at, "secure"),
         _ => Ok(()),
     }
 }

@@ -4,9 +4,11 @@ ghost use Rattle.std.specs.Prelude.{◌≡◌, IfOk, ◌<◌, codes};
 ghost use Rattle.toml.specs.View.{table_view};
 ghost use Rattle.sv_config.specs.Limits as spec;
 
-use crate::columns::{integers_at, patterns_of, tables_at};
+use crate::columns::{all_patterns, integers_at};
 use crate::document::{integer_at, is_empty_at, text_at, values_at};
+use crate::keys::{OddKey, has_odd_key};
 use crate::rules::TableKind;
+use crate::settings::has_too_many_settings;
 use std::alloc::{AllocError, Global};
 use sv_mapping::MAX_PATTERNS;
 use toml::Table;
@@ -27,6 +29,8 @@ pub(crate) const MAX_LISTENERS: usize = 16;
 
 pub(crate) const MAX_ERROR_PAGES: usize = 32;
 
+pub(crate) const MAX_FILE_MAPPINGS: usize = 64;
+
 pub(crate) const MAX_ANSWERS: i64 = 16;
 
 pub(crate) const MAX_NAME_BYTES: usize = 64;
@@ -44,12 +48,15 @@ pub(crate) fn is_exceeding(
         TableKind::Top => Ok(has_over(table, "context", MAX_CONTEXTS)),
         TableKind::Cluster => exceeds_in_cluster(alloc, table),
         TableKind::Context => exceeds_in_context(alloc, table),
-        TableKind::Servlet | TableKind::Filter | TableKind::Listener => {
+        TableKind::Servlet | TableKind::Filter | TableKind::Listener | TableKind::Cookie => {
             Ok(has_bad_length(table, "name"))
         }
-        TableKind::Mapping => Ok(false),
+        TableKind::Mapping | TableKind::File => Ok(false),
         TableKind::Page => Ok(is_outside_at(table, "status", 400, 599)),
         TableKind::Once => Ok(exceeds_in_once(table)),
+        TableKind::Settings => {
+            Ok(has_too_many_settings(table) || has_odd_key(table, OddKey::BadSetting))
+        }
     }
 }
 
@@ -95,13 +102,13 @@ fn has_too_many(context: &Table) -> bool
         || has_over(context, "filter-mapping", MAX_FILTER_MAPPINGS)
         || has_over(context, "listener", MAX_LISTENERS)
         || has_over(context, "error-page", MAX_ERROR_PAGES)
+        || has_over(context, "file", MAX_FILE_MAPPINGS)
 }
 
 fn has_too_many_patterns(alloc: Global, context: &Table) -> Result<bool, AllocError>
     ensures { IfOk result (λ b. b ≡ spec.has_too_many_patterns (table_view context.now)) }
 {
-    let servlets = tables_at(alloc, context, "servlet")?;
-    let patterns = patterns_of(alloc, &servlets)?;
+    let patterns = all_patterns(alloc, context)?;
     Ok(patterns.len() > MAX_PATTERNS)
 }
 

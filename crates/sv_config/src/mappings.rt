@@ -1,6 +1,6 @@
 //! The mappings of a context: of its servlets and of its filters.
 
-ghost use Rattle.std.specs.Prelude.{◌≡◌, IfOk, OnOk, map, fold, codes};
+ghost use Rattle.std.specs.Prelude.{◌≡◌, ◌<◌, ◌^◌, IfOk, OnOk, map, fold, codes};
 ghost use Rattle.std.specs.FinMap as finite;
 ghost use Rattle.toml.specs.View.{table_view};
 ghost use Rattle.sv_config.specs.Document.{tables_at, texts_at};
@@ -12,14 +12,32 @@ use std::alloc::{AllocError, Global};
 use sv_mapping::{Dispatchers, FilterMapping, FilterTarget, MappingFault, Mappings, Pattern};
 use toml::Table;
 
-/// The patterns of a context's servlets, each with the place of its servlet.
+/// The patterns of a context, each with the place of its servlet; those that serve files stand behind those that are declared.
 #[tactic(auto, unfolding(crate::specs::Values::mappings_of))]
 pub(crate) fn read_mappings(alloc: Global, context: &Table) -> Result<Mappings, AllocError>
     ensures { IfOk result (λ mappings. mappings ≡ spec.mappings_of (table_view context.now)) }
 {
     let servlets = tables_at(alloc, context, "servlet")?;
-    let mappings = mappings_of(alloc, &servlets)?;
+    let files = tables_at(alloc, context, "file")?;
+    let mut mappings = mappings_of(alloc, &servlets)?;
+    add_files(alloc, &mut mappings, &files, servlets.len())?;
     Ok(mappings)
+}
+
+/// Maps the path of each file mapping to a servlet of its own, from the place on.
+fn add_files(
+    alloc: Global,
+    mappings: &mut Mappings,
+    files: &[&Table],
+    first: usize,
+) -> Result<(), AllocError>
+    requires { first < 2 ^ 63 }
+    ensures { OnOk result (mappings.new ≡ spec.with_files first (map (λ t. table_view t.now) files.now) mappings.old) }
+{
+    for (number, file) in files.iter().enumerate() {
+        add_pattern(alloc, mappings, text_or_empty(file, "path"), first + number)?;
+    }
+    Ok(())
 }
 
 fn mappings_of(alloc: Global, servlets: &[&Table]) -> Result<Mappings, AllocError>

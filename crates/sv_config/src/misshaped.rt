@@ -8,21 +8,27 @@ ghost use Rattle.sv_config.specs.Places as spec;
 ghost use Rattle.sv_config.specs.Rules.{rule_of};
 
 use crate::document::member;
+use crate::keys::{OddKey, add_odd_keys};
 use crate::members::{Unfit, add_field, add_members};
 use crate::place::{Place, kind_of};
 use crate::placed::Placed;
-use crate::rules::{FieldKind, FieldRule, rules};
+use crate::rules::{FieldKind, FieldRule, has_free_keys, rules};
 use std::alloc::AllocError;
 use toml::{Table, Value};
 
-/// Adds each field of another kind, and of an array each member of another kind.
+/// Adds each field of another kind, of an array each member of another kind, and each setting that is no text.
 pub(crate) fn add_mistyped<'a>(
     places: &mut Vec<Place<'a>>,
     at: Placed<'a>,
 ) -> Result<(), AllocError>
     ensures { OnOk result (map spot places.new.items ≡ map spot places.old.items ++ spec.mistyped_places (placed at.entry)) }
 {
-    add_misfits(places, at, rules(kind_of(at.place)))
+    let kind = kind_of(at.place);
+    add_misfits(places, at, rules(kind))?;
+    if has_free_keys(kind) {
+        add_odd_keys(places, OddKey::NoText, at)?;
+    }
+    Ok(())
 }
 
 fn add_misfits<'a>(

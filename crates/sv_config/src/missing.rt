@@ -6,6 +6,7 @@ ghost use Rattle.toml.specs.View.{table_view};
 ghost use Rattle.sv_config.specs.Missing as spec;
 ghost use Rattle.sv_config.specs.Rules.{rule_of, rules_of};
 
+use crate::cookie::lacks_secure;
 use crate::document::{has, is_empty_at};
 use crate::rules::{FieldRule, TableKind, rules};
 use toml::Table;
@@ -30,6 +31,8 @@ pub(crate) fn lacks_contents(kind: TableKind, table: &Table) -> bool
     match kind {
         TableKind::Top => is_empty_at(table, "context"),
         TableKind::Mapping => !has(table, "pattern") && !has(table, "servlet"),
+        TableKind::File => !has(table, "file") && !has(table, "folder"),
+        TableKind::Cookie => lacks_secure(table),
         _ => false,
     }
 }

@@ -1,12 +1,12 @@
 //! What the sessions of a context remember of requests that may be sent again.
 
-ghost use Rattle.std.specs.Prelude.{◌≡◌, IfOk, map, codes, option_map, pos, string_bytes};
+ghost use Rattle.std.specs.Prelude.{◌≡◌, IfOk, map, codes, option_map, pos};
 ghost use Rattle.toml.specs.View.{table_view};
-ghost use Rattle.sv_config.specs.Document.{tables_at, text_at as spec_text_at};
+ghost use Rattle.sv_config.specs.Document.{tables_at};
 ghost use Rattle.sv_config.specs.Values as spec;
 
 use crate::deployment::{ErrorPage, Once};
-use crate::document::{integer_at, table_at, text_at};
+use crate::document::{integer_at, owned_text_at, table_at};
 use crate::limits::is_outside;
 use crate::pages::read_pages;
 use std::alloc::{AllocError, Global};
@@ -47,15 +47,5 @@ fn answers_of(once: &Table) -> u8
             answers as u8
         },
         None => 1,
-    }
-}
-
-/// A copy of the text at a key.
-fn owned_text_at(alloc: Global, table: &Table, key: &str) -> Result<Option<String>, AllocError>
-    ensures { IfOk result (λ text. option_map string_bytes text ≡ spec_text_at key.now (table_view table.now)) }
-{
-    match text_at(table, key) {
-        Some(text) => Ok(Some(String::from_str(alloc, text)?)),
-        None => Ok(None),
     }
 }

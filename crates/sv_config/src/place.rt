@@ -21,8 +21,11 @@ pub enum TablePlace {
         kind: TableKind,
         index: usize,
     },
-    /// `once` of the context of this number.
-    OfOnce(usize),
+    /// A table of a context of which it has one at most: `once`, `cookie` or `settings`.
+    Single {
+        context: usize,
+        kind: TableKind,
+    },
 }
 
 /// What stands at a place.
@@ -55,20 +58,23 @@ pub(crate) fn kind_of(place: TablePlace) -> TableKind
         TablePlace::Document => TableKind::Top,
         TablePlace::OfNodes => TableKind::Cluster,
         TablePlace::OfContext(_) => TableKind::Context,
-        TablePlace::Within { kind, .. } => kind,
-        TablePlace::OfOnce(_) => TableKind::Once,
+        TablePlace::Within { kind, .. } | TablePlace::Single { kind, .. } => kind,
     }
 }
 
-/// The array of a context that tables of a kind stand in.
-fn array_of(kind: TableKind) -> &'static str {
+/// The key of a context at which tables of a kind stand.
+fn key_of(kind: TableKind) -> &'static str {
     match kind {
-        TableKind::Top | TableKind::Cluster | TableKind::Context | TableKind::Once => "",
+        TableKind::Top | TableKind::Cluster | TableKind::Context => "",
         TableKind::Servlet => "servlet",
         TableKind::Filter => "filter",
         TableKind::Mapping => "filter-mapping",
         TableKind::Listener => "listener",
         TableKind::Page => "error-page",
+        TableKind::File => "file",
+        TableKind::Once => "once",
+        TableKind::Cookie => "cookie",
+        TableKind::Settings => "settings",
     }
 }
 
@@ -82,8 +88,10 @@ impl fmt::Display for TablePlace {
                 context,
                 kind,
                 index,
-            } => write!(f, "context[{context}].{}[{index}]", array_of(*kind)),
-            TablePlace::OfOnce(context) => write!(f, "context[{context}].once"),
+            } => write!(f, "context[{context}].{}[{index}]", key_of(*kind)),
+            TablePlace::Single { context, kind } => {
+                write!(f, "context[{context}].{}", key_of(*kind))
+            }
         }
     }
 }

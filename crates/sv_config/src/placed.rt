@@ -92,6 +92,20 @@ fn add_context<'a>(
         place: TablePlace::OfContext(number),
         table: context,
     })?;
+    add_arrays(alloc, tables, number, context)?;
+    add_singles(tables, number, context)?;
+    Ok(())
+}
+
+/// Adds the tables of a context's arrays.
+fn add_arrays<'a>(
+    alloc: Global,
+    tables: &mut Vec<Placed<'a>>,
+    number: usize,
+    context: &'a Table,
+) -> Result<(), AllocError>
+    ensures { OnOk result (map spec.placed tables.new.items ≡ map spec.placed tables.old.items ++ spec.placed_arrays (number, table_view context.now)) }
+{
     add_array(
         alloc,
         tables,
@@ -125,21 +139,38 @@ fn add_context<'a>(
         TableKind::Page,
         "error-page",
     )?;
-    add_once(tables, number, context)?;
+    add_array(alloc, tables, number, context, TableKind::File, "file")?;
     Ok(())
 }
 
-/// Adds what a context of a number remembers of requests.
-fn add_once<'a>(
+/// Adds the tables of which a context has one at most.
+fn add_singles<'a>(
     tables: &mut Vec<Placed<'a>>,
     number: usize,
     context: &'a Table,
 ) -> Result<(), AllocError>
-    ensures { OnOk result (map spec.placed tables.new.items ≡ map spec.placed tables.old.items ++ spec.placed_once (number, table_view context.now)) }
+    ensures { OnOk result (map spec.placed tables.new.items ≡ map spec.placed tables.old.items ++ spec.placed_singles (number, table_view context.now)) }
 {
-    if let Some(table) = table_at(context, "once") {
+    add_single(tables, number, context, TableKind::Once, "once")?;
+    add_single(tables, number, context, TableKind::Cookie, "cookie")?;
+    add_single(tables, number, context, TableKind::Settings, "settings")?;
+    Ok(())
+}
+
+/// Adds the table at a key of a context, as a table of a kind.
+fn add_single<'a>(
+    tables: &mut Vec<Placed<'a>>,
+    context: usize,
+    table: &'a Table,
+    kind: TableKind,
+    key: &str,
+) -> Result<(), AllocError>
+    ensures { OnOk result (map spec.placed tables.new.items ≡ map spec.placed tables.old.items
+        ++ spec.placed_single kind key.now (context, table_view table.now)) }
+{
+    if let Some(table) = table_at(table, key) {
         tables.push(Placed {
-            place: TablePlace::OfOnce(number),
+            place: TablePlace::Single { context, kind },
             table,
         })?;
     }

@@ -27,7 +27,12 @@ pub(crate) fn add_repeated<'a>(
         TableKind::Top => add_texts(alloc, places, at, TableKind::Context, "context", "path"),
         TableKind::Cluster => add_ports(alloc, places, at),
         TableKind::Context => add_in_context(alloc, places, at),
-        TableKind::Servlet | TableKind::Filter | TableKind::Listener | TableKind::Once => Ok(()),
+        TableKind::Servlet
+        | TableKind::Filter
+        | TableKind::Listener
+        | TableKind::Once
+        | TableKind::Cookie
+        | TableKind::Settings => Ok(()),
         TableKind::Mapping => {
             let has_two = has_both(at.table, "pattern", "servlet");
             add_field(places, has_two, at, "servlet")
@@ -35,6 +40,10 @@ pub(crate) fn add_repeated<'a>(
         TableKind::Page => {
             let has_two = has_both(at.table, "status", "fault");
             add_field(places, has_two, at, "fault")
+        }
+        TableKind::File => {
+            let has_two = has_both(at.table, "file", "folder");
+            add_field(places, has_two, at, "folder")
         }
     }
 }

@@ -2,10 +2,10 @@
 
 ghost use Rattle.std.specs.Prelude.{◌≡◌, ◌<◌, length, filter, IfOk, map};
 ghost use Rattle.toml.specs.View.{table_view};
-ghost use Rattle.sv_config.specs.Document.{tables_at, patterns_of};
+ghost use Rattle.sv_config.specs.Document.{tables_at};
 ghost use Rattle.sv_config.specs.Repeats as spec;
 
-use crate::columns::{column, integers_at, integers_of, patterns_of, tables_at};
+use crate::columns::{all_patterns, column, integers_at, integers_of, tables_at};
 use crate::document::has;
 use crate::lists::{has_repeated_integer, has_repeated_text};
 use crate::rules::TableKind;
@@ -25,9 +25,15 @@ pub(crate) fn is_repeating(
         TableKind::Top => repeats_text(alloc, table, "context", "path"),
         TableKind::Cluster => repeats_port(alloc, table),
         TableKind::Context => repeats_in_context(alloc, table),
-        TableKind::Servlet | TableKind::Filter | TableKind::Listener | TableKind::Once => Ok(false),
+        TableKind::Servlet
+        | TableKind::Filter
+        | TableKind::Listener
+        | TableKind::Once
+        | TableKind::Cookie
+        | TableKind::Settings => Ok(false),
         TableKind::Mapping => Ok(has_both(table, "pattern", "servlet")),
         TableKind::Page => Ok(has_both(table, "status", "fault")),
+        TableKind::File => Ok(has_both(table, "file", "folder")),
     }
 }
 
@@ -68,8 +74,7 @@ fn repeats_text(alloc: Global, table: &Table, array: &str, key: &str) -> Result<
 fn repeats_pattern(alloc: Global, context: &Table) -> Result<bool, AllocError>
     ensures { IfOk result (λ b. b ≡ spec.repeats_pattern (table_view context.now)) }
 {
-    let servlets = tables_at(alloc, context, "servlet")?;
-    let patterns = patterns_of(alloc, &servlets)?;
+    let patterns = all_patterns(alloc, context)?;
     has_repeated_text(alloc, &patterns)
 }
 

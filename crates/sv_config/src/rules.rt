@@ -1,7 +1,7 @@
 //! The tables of a descriptor, and the fields that each kind of table may have.
 
 ghost use Rattle.std.specs.Prelude.{◌≡◌, map};
-ghost use Rattle.sv_config.specs.Rules.{rule_of, rules_of};
+ghost use Rattle.sv_config.specs.Rules.{rule_of, rules_of, has_free_keys as spec_has_free_keys};
 
 /// A kind of table.
 #[derive(Clone, Copy, Debug, PartialEq, Eq)]
@@ -14,7 +14,10 @@ pub enum TableKind {
     Mapping,
     Listener,
     Page,
+    File,
     Once,
+    Cookie,
+    Settings,
 }
 
 /// What a field holds; the plural is an array.
@@ -78,7 +81,7 @@ const CLUSTER: [FieldRule; 5] = [
     },
 ];
 
-const CONTEXT: [FieldRule; 8] = [
+const CONTEXT: [FieldRule; 11] = [
     FieldRule {
         key: "path",
         kind: FieldKind::Text,
@@ -115,7 +118,22 @@ const CONTEXT: [FieldRule; 8] = [
         required: false,
     },
     FieldRule {
+        key: "file",
+        kind: FieldKind::Tables,
+        required: false,
+    },
+    FieldRule {
         key: "once",
+        kind: FieldKind::Table,
+        required: false,
+    },
+    FieldRule {
+        key: "cookie",
+        kind: FieldKind::Table,
+        required: false,
+    },
+    FieldRule {
+        key: "settings",
         kind: FieldKind::Table,
         required: false,
     },
@@ -181,6 +199,29 @@ const PAGE: [FieldRule; 3] = [
     },
 ];
 
+const FILE: [FieldRule; 4] = [
+    FieldRule {
+        key: "path",
+        kind: FieldKind::Text,
+        required: true,
+    },
+    FieldRule {
+        key: "file",
+        kind: FieldKind::Text,
+        required: false,
+    },
+    FieldRule {
+        key: "folder",
+        kind: FieldKind::Text,
+        required: false,
+    },
+    FieldRule {
+        key: "cache",
+        kind: FieldKind::Text,
+        required: false,
+    },
+];
+
 const ONCE: [FieldRule; 2] = [
     FieldRule {
         key: "answers",
@@ -189,6 +230,24 @@ const ONCE: [FieldRule; 2] = [
     },
     FieldRule {
         key: "parameter",
+        kind: FieldKind::Text,
+        required: false,
+    },
+];
+
+const COOKIE: [FieldRule; 3] = [
+    FieldRule {
+        key: "name",
+        kind: FieldKind::Text,
+        required: false,
+    },
+    FieldRule {
+        key: "secure",
+        kind: FieldKind::Boolean,
+        required: false,
+    },
+    FieldRule {
+        key: "same-site",
         kind: FieldKind::Text,
         required: false,
     },
@@ -207,6 +266,16 @@ pub(crate) fn rules(kind: TableKind) -> &'static [FieldRule]
         TableKind::Filter | TableKind::Listener => &NAMED,
         TableKind::Mapping => &MAPPING,
         TableKind::Page => &PAGE,
+        TableKind::File => &FILE,
         TableKind::Once => &ONCE,
+        TableKind::Cookie => &COOKIE,
+        TableKind::Settings => &[],
     }
+}
+
+/// Whether tables of a kind have whatever keys their author likes, each with a text.
+pub(crate) fn has_free_keys(kind: TableKind) -> bool
+    ensures { result ≡ spec_has_free_keys kind }
+{
+    kind == TableKind::Settings
 }

@@ -58,23 +58,51 @@ fn add_context<'a>(
     ensures { OnOk result (map seen tables.new.items ≡ map seen tables.old.items ++ spec.context_tables (table_view context.now)) }
 {
     tables.push((TableKind::Context, context))?;
+    add_arrays(tables, context)?;
+    add_singles(tables, context)?;
+    Ok(())
+}
+
+/// Adds the tables of a context's arrays.
+fn add_arrays<'a>(
+    tables: &mut Vec<(TableKind, &'a Table)>,
+    context: &'a Table,
+) -> Result<(), AllocError>
+    ensures { OnOk result (map seen tables.new.items ≡ map seen tables.old.items ++ spec.array_tables (table_view context.now)) }
+{
     add_tables(tables, context, "servlet", TableKind::Servlet)?;
     add_tables(tables, context, "filter", TableKind::Filter)?;
     add_tables(tables, context, "filter-mapping", TableKind::Mapping)?;
     add_tables(tables, context, "listener", TableKind::Listener)?;
     add_tables(tables, context, "error-page", TableKind::Page)?;
-    add_once(tables, context)?;
+    add_tables(tables, context, "file", TableKind::File)?;
     Ok(())
 }
 
-fn add_once<'a>(
+/// Adds the tables of which a context has one at most.
+fn add_singles<'a>(
     tables: &mut Vec<(TableKind, &'a Table)>,
     context: &'a Table,
 ) -> Result<(), AllocError>
-    ensures { OnOk result (map seen tables.new.items ≡ map seen tables.old.items ++ spec.once_tables (table_view context.now)) }
+    ensures { OnOk result (map seen tables.new.items ≡ map seen tables.old.items ++ spec.single_tables (table_view context.now)) }
 {
-    if let Some(once) = table_at(context, "once") {
-        tables.push((TableKind::Once, once))?;
+    add_table(tables, context, "once", TableKind::Once)?;
+    add_table(tables, context, "cookie", TableKind::Cookie)?;
+    add_table(tables, context, "settings", TableKind::Settings)?;
+    Ok(())
+}
+
+/// Adds the table at a key, as a table of a kind.
+fn add_table<'a>(
+    tables: &mut Vec<(TableKind, &'a Table)>,
+    table: &'a Table,
+    key: &str,
+    kind: TableKind,
+) -> Result<(), AllocError>
+    ensures { OnOk result (map seen tables.new.items ≡ map seen tables.old.items ++ spec.table_as kind key.now (table_view table.now)) }
+{
+    if let Some(inner) = table_at(table, key) {
+        tables.push((kind, inner))?;
     }
     Ok(())
 }

@@ -9,18 +9,17 @@ ghost use Rattle.toml.specs.View.{table_view};
 ghost use Rattle.sv_config.specs.Document.{column};
 ghost use Rattle.sv_config.specs.Place.{kind_of, spot, placed, child, field_where};
 ghost use Rattle.sv_config.specs.Places as spec;
-ghost use Rattle.sv_config.specs.Rules.{rule_of, rules_of};
 ghost use Rattle.sv_config.specs.Spelling.{fails_at};
-ghost use Rattle.sv_config.specs.Unknown as spec_of_names;
 
 use crate::columns::column;
+use crate::cookie::has_bad_same_site;
 use crate::document::text_at;
+use crate::keys::{OddKey, add_odd_keys};
 use crate::lists::names_of;
 use crate::members::{Unfit, add_field, add_members};
-use crate::place::{Found, Place, TablePlace, kind_of};
+use crate::place::{Place, TablePlace, kind_of};
 use crate::placed::{Placed, children};
-use crate::rules::{FieldRule, TableKind, rules};
-use crate::unknown::is_listed;
+use crate::rules::TableKind;
 use std::alloc::{AllocError, Global};
 use std::collections::BTreeSet;
 use toml::Table;
@@ -33,36 +32,8 @@ pub(crate) fn add_unknown<'a>(
 ) -> Result<(), AllocError>
     ensures { OnOk result (map spot places.new.items ≡ map spot places.old.items ++ spec.unknown_places (placed at.entry)) }
 {
-    add_unlisted(places, at, rules(kind_of(at.place)))?;
+    add_odd_keys(places, OddKey::NotListed(kind_of(at.place)), at)?;
     add_unknown_names(alloc, places, at)
-}
-
-fn add_unlisted<'a>(
-    places: &mut Vec<Place<'a>>,
-    at: Placed<'a>,
-    rules: &[FieldRule],
-) -> Result<(), AllocError>
-    ensures { OnOk result (map spot places.new.items ≡ map spot places.old.items
-        ++ spec.unlisted_among (map rule_of rules.now) at.entry.place (placed at.entry).1) }
-{
-    for (key, _) in at.table.iter() {
-        if !is_known(rules, key) {
-            places.push(Place {
-                table: at.place,
-                key: key.as_str(),
-                index: None,
-                found: Found::Nothing,
-            })?;
-        }
-    }
-    Ok(())
-}
-
-/// Whether a rule has the key.
-fn is_known(rules: &[FieldRule], key: &str) -> bool
-    ensures { result ≡ spec_of_names.is_listed (map rule_of rules.now) key.now }
-{
-    is_listed(rules, key)
 }
 
 fn add_unknown_names<'a>(
@@ -78,6 +49,7 @@ fn add_unknown_names<'a>(
             add_undeclared(alloc, places, at, "servlet")
         }
         TableKind::Mapping => add_members(places, Unfit::NoDispatcher, at, "dispatch"),
+        TableKind::Cookie => add_field(places, has_bad_same_site(at.table), at, "same-site"),
         _ => Ok(()),
     }
 }
@@ -88,8 +60,8 @@ pub(crate) fn number_of(place: TablePlace) -> usize
 {
     match place {
         TablePlace::Document | TablePlace::OfNodes => 0,
-        TablePlace::OfContext(context) | TablePlace::OfOnce(context) => context,
-        TablePlace::Within { context, .. } => context,
+        TablePlace::OfContext(context) => context,
+        TablePlace::Within { context, .. } | TablePlace::Single { context, .. } => context,
     }
 }
 

@@ -1,16 +1,15 @@
 //! Names that nothing declares.
 
-ghost use Rattle.std.specs.Prelude.{◌≡◌, IfOk, not, map, bytes_eq, string_bytes, codes};
+ghost use Rattle.std.specs.Prelude.{◌≡◌, IfOk, map, codes};
 ghost use Rattle.sv_config.specs.Document.{texts_at};
-ghost use Rattle.std.specs.BTreeMap.{keys};
-ghost use Rattle.std.specs.List.{list_any};
 ghost use Rattle.toml.specs.View.{table_view};
-ghost use Rattle.sv_config.specs.Rules.{rules_of};
 ghost use Rattle.sv_config.specs.Unknown as spec;
 
 use crate::columns::{column, texts_at};
+use crate::cookie::has_bad_same_site;
+use crate::keys::{OddKey, has_odd_key};
 use crate::lists::has_stranger_among;
-use crate::rules::{FieldRule, TableKind, rules};
+use crate::rules::TableKind;
 use std::alloc::{AllocError, Global};
 use sv_mapping::Dispatcher;
 use toml::Table;
@@ -20,29 +19,10 @@ use toml::Table;
 pub(crate) fn has_unknown(alloc: Global, kind: TableKind, table: &Table) -> Result<bool, AllocError>
     ensures { IfOk result (λ b. b ≡ spec.has_unknown kind (table_view table.now)) }
 {
-    if has_unlisted_key(kind, table) {
+    if has_odd_key(table, OddKey::NotListed(kind)) {
         return Ok(true);
     }
     names_unknown(alloc, kind, table)
-}
-
-fn has_unlisted_key(kind: TableKind, table: &Table) -> bool
-    ensures { result ≡ spec.has_unlisted (rules_of kind) (table_view table.now) }
-{
-    has_unlisted(table, rules(kind))
-}
-
-/// Whether some key of the table is no rule's.
-fn has_unlisted(table: &Table, rules: &[FieldRule]) -> bool
-    ensures { result ≡ list_any (λ key. not (list_any (λ rule. bytes_eq rule.key.now (string_bytes key)) rules.now)) (keys table.now) }
-{
-    table.keys().any(|key| !is_listed(rules, key))
-}
-
-pub(crate) fn is_listed(rules: &[FieldRule], key: &str) -> bool
-    ensures { result ≡ list_any (λ rule. bytes_eq rule.key.now key.now) rules.now }
-{
-    rules.iter().any(|rule| rule.key == key)
 }
 
 fn names_unknown(alloc: Global, kind: TableKind, table: &Table) -> Result<bool, AllocError>
@@ -51,6 +31,7 @@ fn names_unknown(alloc: Global, kind: TableKind, table: &Table) -> Result<bool, 
     match kind {
         TableKind::Context => has_undeclared(alloc, table),
         TableKind::Mapping => has_stray_dispatcher(alloc, table),
+        TableKind::Cookie => Ok(has_bad_same_site(table)),
         _ => Ok(false),
     }
 }

@@ -1,5 +1,5 @@
 -- The cookie of a session can be the value of a field.
-use Rattle.std.proofs.Common.{◌≡◌, ℕ, ◌<◌, true, List, [], ◌∷◌, ◌++◌, refl, arith}
+use Rattle.std.proofs.Common.{◌≡◌, ℕ, ◌<◌, Bool, true, false, Option, Some, None, List, [], ◌∷◌, ◌++◌, refl, arith}
 use Rattle.std.specs.Prelude.{codes}
 use Rattle.std.specs.Int.{bytes_high_first}
 use Rattle.std.proofs.lemmas.Bool.Decides.{nat_tests}
@@ -14,7 +14,10 @@ use Rattle.sv_model.specs.declared.key.Key.{Key}
 use Rattle.sv_model.specs.declared.key.Secret.{Secret}
 use Rattle.sv_target.proofs.ByteLemmas.{IsBytes-cons, IsBytes-bytes_high_first}
 use Rattle.sv_target.specs.SessionCookie.{cookie_text, session_bytes}
-use Rattle.sv_container.specs.SetCookie.{cookie_path, cookie_value, is_sendable}
+use Rattle.sv_config.specs.declared.cookie.SameSite.{SameSite}
+use Rattle.sv_config.specs.declared.cookie.SameSite.TheVariants.{Strict, Lax, None as AnySite}
+use Rattle.sv_container.specs.SetCookie.{cookie_path, cookie_value, is_sendable, same_site_text, secure_text}
+use Rattle.sv_container.specs.declared.set_cookie.SessionCookie.{SessionCookie}
 
 digit_fits : (c : ℕ) → is_hex_digit c ≡ true → is_value_byte c ≡ true
 digit_fits c digit = grind (arith, nat_tests)
@@ -39,19 +42,34 @@ path_fits [] sendable = AllPass-from_test is_value_byte (codes "/") refl
 path_fits (c ∷ cs) sendable =
     All-weaker (λ c. is_printed c ≡ true) (λ c. is_value_byte c ≡ true) printed_fits (c ∷ cs) (AllPass-from_test is_printed (c ∷ cs) sendable)
 
+name_fits : (name : List ℕ) → is_sendable name ≡ true → IsFieldValue name
+name_fits name sendable =
+    All-weaker (λ c. is_printed c ≡ true) (λ c. is_value_byte c ≡ true) printed_fits name (AllPass-from_test is_printed name sendable)
+
+secure_fits : (secure : Bool) → IsFieldValue (secure_text secure)
+secure_fits true = AllPass-from_test is_value_byte (secure_text true) refl
+secure_fits false = AllPass-from_test is_value_byte (secure_text false) refl
+
+same_site_fits : (same_site : Option SameSite) → IsFieldValue (same_site_text same_site)
+same_site_fits None = AllPass-from_test is_value_byte (same_site_text None) refl
+same_site_fits (Some Strict) = AllPass-from_test is_value_byte (same_site_text (Some Strict)) refl
+same_site_fits (Some Lax) = AllPass-from_test is_value_byte (same_site_text (Some Lax)) refl
+same_site_fits (Some AnySite) = AllPass-from_test is_value_byte (same_site_text (Some AnySite)) refl
+
 -- whatever session it names, and whichever context
-pub cookie_fits : (context : ℕ) (path : List ℕ) (named : Key × Secret) → context < 256 → is_sendable path ≡ true → named.0.home < 256 → IsBytes named.1.0
-    → IsFieldValue (cookie_value context path named)
-cookie_fits context path named number sendable home secret =
+pub cookie_fits : (cookie : SessionCookie) (context : ℕ) (path : List ℕ) (named : Key × Secret) → context < 256 → is_sendable cookie.name ≡ true → is_sendable path ≡ true
+    → named.0.home < 256 → IsBytes named.1.0 → IsFieldValue (cookie_value cookie context path named)
+cookie_fits cookie context path named number name sendable home secret =
     let fits : ℕ → Type 0 = λ c. is_value_byte c ≡ true in
-    let front = codes "JSESSIONID=" in
+    let is = codes "=" in
     let text = cookie_text context named.0 named.1 in
+    let first = (cookie.name ++ is) ++ text in
     let middle = codes "; Path=" in
     let back = codes "; HttpOnly" in
-    All-append fits (((front ++ text) ++ middle) ++ cookie_path path) back
-    (All-append fits ((front ++ text) ++ middle) (cookie_path path)
-    (All-append fits (front ++ text) middle
-    (All-append fits front text (AllPass-from_test is_value_byte front refl) (text_fits context named (IsBytes-session context named number home secret)))
-    (AllPass-from_test is_value_byte middle refl))
-    (path_fits path sendable))
-    (AllPass-from_test is_value_byte back refl)
+    let first_fits =
+    All-append fits (cookie.name ++ is) text (All-append fits cookie.name is (name_fits cookie.name name) (AllPass-from_test is_value_byte is refl))
+    (text_fits context named (IsBytes-session context named number home secret)) in
+    let to_path = All-append fits (first ++ middle) (cookie_path path) (All-append fits first middle first_fits (AllPass-from_test is_value_byte middle refl)) (path_fits path sendable) in
+    let to_back = All-append fits ((first ++ middle) ++ cookie_path path) back to_path (AllPass-from_test is_value_byte back refl) in
+    let to_secure = All-append fits (((first ++ middle) ++ cookie_path path) ++ back) (secure_text cookie.secure) to_back (secure_fits cookie.secure) in
+    All-append fits ((((first ++ middle) ++ cookie_path path) ++ back) ++ secure_text cookie.secure) (same_site_text cookie.same_site) to_secure (same_site_fits cookie.same_site)

@@ -55,13 +55,13 @@ pub image_there : {X Y : Type 0} (f : X → Y) (xs : List X) (i : ℕ) (x : X) �
 image_there f xs i x h e = slice_get-map f xs i ∙ (rw (slice_get-get_or xs i x h, ← e) refl)
 
 pub named_is : (d : Deployed) (r : Request) (place : ℕ) (a : App) → place_for d r.path ≡ Some place → slice_get d.apps place ≡ Some a
-    → named_by d r ≡ session_cookie r.cookies a.number
+    → named_by d r ≡ session_cookie a.cookie.name r.cookies a.number
 named_is d r place a h is = rw (h, is) refl
 
 pub served_is : (d : Deployed) (r : Request) (place : ℕ) (a : App) (handed : Option (Key × Session)) (now : ℕ) (fresh : Key × Secret)
     → place_for d r.path ≡ Some place → slice_get d.apps place ≡ Some a
     → served d r handed now fresh ≡ served_in a r (path_in_context (context_at d.paths place) r.path)
-    (admission a.once a.number r (session_cookie r.cookies a.number) handed now) now fresh
+    (admission a.once a.number r (session_cookie a.cookie.name r.cookies a.number) handed now) now fresh
 served_is d r place a handed now fresh h is = rw (h, is) refl
 
 pub sound_at : (apps : List App) (place : ℕ) (a : App) → All IsSoundApp apps → slice_get apps place ≡ Some a → IsSoundApp a
@@ -127,10 +127,10 @@ module _ {S F L : Type 0} (serves : S → Serves) (servlet_phase : S → Phase) 
   -- what the cookies name is what the container names
   pub named_one : (r : Request) (path : List ℕ) (place : ℕ) (a : Application S F) (cookies : List Cookie)
       → Some place ≡ place_for D path → path ≡ r.path → a ≡ get_or c.applications.items place a → cookies ≡ r.cookies
-      → session_cookie cookies a.number ≡ named_by D r
+      → session_cookie a.cookie.name cookies a.number ≡ named_by D r
   named_one r path place a cookies h is e same =
       let at_path : place_for D r.path ≡ Some place = sym (h ∙ ap (place_for D) is) in
-      ap (λ ks. session_cookie ks a.number) same ∙ sym (named_is D r place (A a) at_path (there_is path place a h e))
+      ap (λ ks. session_cookie a.cookie.name ks a.number) same ∙ sym (named_is D r place (A a) at_path (there_is path place a h e))
 
   -- what the application at a place answers is what the container answers
   pub served_one : (r : Request) (handed : Option (Key × Session)) (now : ℕ) (fresh : Key × Secret) (path whole context inner : List ℕ) (place : ℕ) (a : Application S F) (o : Outcome)

@@ -137,24 +137,27 @@ second_of : (a b : Bool) → a && b ≡ true → b ≡ true
 second_of true b h = h
 second_of false b h = absurd cc
 
-pub record Serving (number : ℕ) (path : List ℕ) (are_ready : Bool) (count : ℕ) (chains : List FilterMapping) : Type 0 where
+pub record Serving (number : ℕ) (path name : List ℕ) (are_ready : Bool) (count : ℕ) (chains : List FilterMapping) : Type 0 where
   pub numbered : number < 16
   pub sendable : is_sendable path ≡ true
+  pub nameable : is_sendable name ≡ true
   pub ready : are_ready ≡ true
   pub named : list_all (names_filter count) chains ≡ true
 
 below : (m n : ℕ) → nat_lt m n ≡ true → m < n
 below m n h = grind (arith, nat_tests)
 
-pub serving_of : (number : ℕ) (path : List ℕ) (are_ready : Bool) (count : ℕ) (chains : List FilterMapping) → can_serve number path are_ready count chains ≡ true
-    → Serving number path are_ready count chains
+pub serving_of : (number : ℕ) (path name : List ℕ) (are_ready : Bool) (count : ℕ) (chains : List FilterMapping) → can_serve number path name are_ready count chains ≡ true
+    → Serving number path name are_ready count chains
 unfolding can_serve
-serving_of number path are_ready count chains h =
+serving_of number path name are_ready count chains h =
     let more = second_of (nat_lt number 16) _ h in
-    let rest = second_of (is_sendable path) _ more in
+    let names = second_of (is_sendable path) _ more in
+    let rest = second_of (is_sendable name) _ names in
     record {
       numbered = below number 16 (first_of (nat_lt number 16) _ h);
       sendable = first_of (is_sendable path) _ more;
+      nameable = first_of (is_sendable name) _ names;
       ready = first_of are_ready _ rest;
       named = second_of are_ready _ rest;
     }
@@ -179,15 +182,15 @@ named_ready {M} rs chains launched marks named k d h =
             let e : get_or rs at r ≡ r = get_or_from_slice_get rs at r r is in
             ready_row r (subst IsLaunched e (launched at r within)) (subst (λ (o : Row M). o.is_ready ≡ true) e (AllPass-from_list_all (λ r. r.is_ready) rs marks at r within))
 
-module _ {O M : Type 0} (meaning : O → M) (phase : O → Phase) (hs : List (Hosted O)) (number : ℕ) (path : List ℕ) (chains : List FilterMapping) where
+module _ {O M : Type 0} (meaning : O → M) (phase : O → Phase) (hs : List (Hosted O)) (number : ℕ) (path name : List ℕ) (chains : List FilterMapping) where
   -- the marks of the objects are those of their rows
-  pub able_by_rows : can_serve number path (list_all (λ h. h.is_ready) hs) (length hs) chains
-      ≡ can_serve number path (list_all (λ r. r.is_ready) (rows meaning phase hs)) (length (rows meaning phase hs)) chains
+  pub able_by_rows : can_serve number path name (list_all (λ h. h.is_ready) hs) (length hs) chains
+      ≡ can_serve number path name (list_all (λ r. r.is_ready) (rows meaning phase hs)) (length (rows meaning phase hs)) chains
   able_by_rows = rw (same_marks meaning phase hs, same_length meaning phase hs) refl
 
-  pub filters_serving : All IsLaunched (rows meaning phase hs) → can_serve number path (list_all (λ h. h.is_ready) hs) (length hs) chains ≡ true
+  pub filters_serving : All IsLaunched (rows meaning phase hs) → can_serve number path name (list_all (λ h. h.is_ready) hs) (length hs) chains ≡ true
       → All (λ m. IsReadyAt (rows meaning phase hs) m.filter) chains
   filters_serving launched able =
-      let s = serving_of number path (list_all (λ h. h.is_ready) hs) (length hs) chains able in
+      let s = serving_of number path name (list_all (λ h. h.is_ready) hs) (length hs) chains able in
       named_ready (rows meaning phase hs) chains launched (same_marks meaning phase hs ∙ s.ready)
       (subst (λ (n : ℕ). list_all (names_filter n) chains ≡ true) (sym (same_length meaning phase hs)) s.named)

@@ -499,4 +499,4 @@ is_joined d r place a key s now fresh there app_is named alive =
     let path = path_in_context (context_at d.paths place) r.path in
     served_is d r place a (Some (key, s)) now fresh there app_is
     ∙ ap (λ (j : Admission). served_in a r path j now fresh)
-    (joins (turned_away a.once a.number r (session_cookie r.cookies a.number) key s now) key s now (is_turned_away a.number (session_cookie r.cookies a.number) s) (is_expired s now) named alive)
+    (joins (turned_away a.once a.number r (session_cookie a.cookie.name r.cookies a.number) key s now) key s now (is_turned_away a.number (session_cookie a.cookie.name r.cookies a.number) s) (is_expired s now) named alive)

@@ -83,7 +83,7 @@ module _ (d : Deployed) (place : ℕ) (a : App) (key : Key) (there : slice_get d
   q = record { request = r; path = path_in_context (context_at d.paths place) r.path; now = now; fresh = fresh }
 
   abbrev Joins : Session → Type 0
-  Joins s = (place_for d r.path ≡ Some place) × ((is_turned_away a.number (session_cookie r.cookies a.number) s ≡ false) × (is_expired s now ≡ false))
+  Joins s = (place_for d r.path ≡ Some place) × ((is_turned_away a.number (session_cookie a.cookie.name r.cookies a.number) s ≡ false) × (is_expired s now ≡ false))
 
   -- what comes of a request that is handed the session
   served_it : (named : Key × Secret) (s : Session) → key ≡ named.0 → store.map key ≡ Some s → Joins s

@@ -6,6 +6,7 @@ use Rattle.sv_mapping.specs.declared.filter.FilterMapping.{FilterMapping}
 use Rattle.sv_servlet.specs.Filter.{Filters}
 use Rattle.sv_servlet.specs.Servlet.{Serves}
 use Rattle.sv_servlet.specs.declared.servlet.Phase.{Phase}
+use Rattle.sv_servlet.specs.declared.setting.Setting.{Setting}
 use Rattle.sv_servlet.specs.declared.servlet.Phase.TheVariants.{Ready, Failed}
 use Rattle.sv_dispatch.specs.Dispatching.{Table}
 use Rattle.sv_dispatch.specs.Keeping.{TableKeeps}
@@ -15,17 +16,22 @@ use Rattle.sv_dispatch.specs.declared.page.ErrorPage.{ErrorPage}
 use Rattle.sv_once.specs.declared.choice.Choice.{Choice}
 use Rattle.sv_container.specs.SetCookie.{is_sendable}
 use Rattle.sv_container.specs.declared.application.Application.{Application}
+use Rattle.sv_container.specs.declared.set_cookie.SessionCookie.{SessionCookie}
 
 pub record App : Type 0 where
   -- the number of its context in sessions, their cookies and events
   pub number : ℕ
   -- the context path
   pub path : List ℕ
+  -- the cookie that names its sessions
+  pub cookie : SessionCookie
   -- the seconds after which a session that is made expires
   pub interval : ℤ
   pub is_in_service : Bool
   -- what its sessions remember of requests that may be sent again
   pub once : Option Choice
+  -- the initialization parameters of its context
+  pub settings : List Setting
   -- its objects, and what leads to them
   pub table : Table
 
@@ -34,9 +40,11 @@ abbrev pub app_of : {S F : Type 0} → (S → Serves) → (S → Phase) → (F �
 app_of serves servlet_phase filtering filter_phase a = record {
   number = a.number;
   path = a.path;
+  cookie = a.cookie;
   interval = a.interval;
   is_in_service = a.is_in_service;
   once = a.once;
+  settings = a.settings;
   table = table_of serves servlet_phase filtering filter_phase a.stage;
 }
 
@@ -58,19 +66,20 @@ IsLaunched r = r.phase ≡ phase_of_mark r.is_ready
 abbrev pub names_filter : ℕ → FilterMapping → Bool
 names_filter count m = nat_lt m.filter count
 
--- Requests can be served: a session can have the context's number, the path can stand in a cookie, no filter has failed,
--- and each mapping names one.
-unfoldable pub can_serve : ℕ → List ℕ → Bool → ℕ → List FilterMapping → Bool
-can_serve number path are_ready count chains =
-    nat_lt number 16 && (is_sendable path && (are_ready && list_all (names_filter count) chains))
+-- Requests can be served: a session can have the context's number, the path and the name can stand in a cookie, no filter has
+-- failed, and each mapping names one.
+unfoldable pub can_serve : ℕ → List ℕ → List ℕ → Bool → ℕ → List FilterMapping → Bool
+can_serve number path name are_ready count chains =
+    nat_lt number 16 && (is_sendable path && (is_sendable name && (are_ready && list_all (names_filter count) chains)))
 
 -- whether an application is in service
 abbrev pub is_able : App → Bool
-is_able a = can_serve a.number a.path (list_all (λ r. r.is_ready) a.table.filters) (length a.table.filters) a.table.chains
+is_able a = can_serve a.number a.path a.cookie.name (list_all (λ r. r.is_ready) a.table.filters) (length a.table.filters) a.table.chains
 
 pub record IsServing (a : App) : Type 0 where
   pub number : a.number < 16
   pub path : IsTrue (is_sendable a.path)
+  pub name : IsTrue (is_sendable a.cookie.name)
   pub filters : All (λ m. IsReadyAt a.table.filters m.filter) a.table.chains
 
 -- all objects have been initialised, each goes on with what it is lent, and what is in service can serve
@@ -93,8 +102,10 @@ identity_of r = record { name = r.name; meaning = r.meaning }
 pub record Plan : Type 0 where
   pub number : ℕ
   pub path : List ℕ
+  pub cookie : SessionCookie
   pub interval : ℤ
   pub once : Option Choice
+  pub settings : List Setting
   pub servlets : List (Identity Serves)
   pub filters : List (Identity Filters)
   pub patterns : mappings.Table
@@ -105,8 +116,10 @@ abbrev pub plan_of : App → Plan
 plan_of a = record {
   number = a.number;
   path = a.path;
+  cookie = a.cookie;
   interval = a.interval;
   once = a.once;
+  settings = a.settings;
   servlets = map identity_of a.table.servlets;
   filters = map identity_of a.table.filters;
   patterns = a.table.patterns;

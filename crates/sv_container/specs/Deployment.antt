@@ -1,8 +1,10 @@
 -- What a deployment declares, and what is made of it.
-use Rattle.std.specs.Prelude.{◌≡◌, ℕ, ◌+◌, ◌<◌, ◌≤◌, slice_index_or, ℤ, List, [], ◌∷◌, ◌++◌, map, length, take, drop, string_bytes, min, Option, option_map}
+use Rattle.std.specs.Prelude.{◌≡◌, ℕ, ◌+◌, ◌<◌, ◌≤◌, slice_index_or, ℤ, List, [], ◌∷◌, ◌++◌, map, length, take, drop, string_bytes, min, Option, Some, None, option_map}
 use Rattle.std.specs.List.Sorted.{IsPermutation}
 use Rattle.std.specs.Vec.{vec_capacity}
 use Rattle.sv_config.specs.declared.deployment.Context.{Context}
+use Rattle.sv_config.specs.declared.cookie.CookieConfig.{CookieConfig}
+use Rattle.sv_config.specs.declared.settings.Setting.{Setting as DeclaredSetting}
 use Rattle.sv_config.specs.declared.deployment.ErrorPage.{ErrorPage as DeclaredPage}
 use Rattle.sv_config.specs.declared.deployment.Once.{Once}
 use Rattle.sv_config.specs.declared.deployment.PageFor.{PageFor as DeclaredFor}
@@ -13,15 +15,18 @@ use Rattle.sv_model.specs.declared.event.Told.{Told}
 use Rattle.sv_once.specs.declared.choice.Choice.{Choice}
 use Rattle.sv_servlet.specs.Filter.{Filters}
 use Rattle.sv_servlet.specs.Servlet.{Serves}
+use Rattle.sv_servlet.specs.declared.setting.Setting.{Setting}
 use Rattle.sv_dispatch.specs.declared.page.ErrorPage.{ErrorPage}
 use Rattle.sv_dispatch.specs.declared.page.PageFor.{PageFor}
 use Rattle.sv_dispatch.specs.declared.page.PageFor.TheVariants.{Status, Fault, Default}
+use Rattle.sv_target.specs.SessionCookie.{default_name}
 use Rattle.sv_container.specs.Application.{App, Identity, Plan, plan_of}
 use Rattle.sv_container.specs.Listening.{Ear, ears_of}
 use Rattle.sv_container.specs.declared.application.Application.{Application}
 use Rattle.sv_container.specs.declared.arrange.Kind.{Kind}
 use Rattle.sv_container.specs.declared.arrange.Kind.TheVariants.{Servlet, Filter, Listener}
 use Rattle.sv_container.specs.declared.named.Named.{Named}
+use Rattle.sv_container.specs.declared.set_cookie.SessionCookie.{SessionCookie}
 
 -- ---- names
 
@@ -77,6 +82,18 @@ page_of p = record { page_for = page_for p.choice; path = string_bytes p.path }
 abbrev pub choice_of : Once → Choice
 choice_of o = record { answers = o.answers; parameter = option_map string_bytes o.parameter }
 
+-- what its servlets and filters are given
+unfoldable pub setting_of : DeclaredSetting → Setting
+setting_of s = record { name = string_bytes s.name; value = string_bytes s.value }
+
+-- the cookie of its sessions
+abbrev pub cookie_name : Option (List ℕ) → List ℕ
+cookie_name None = default_name
+cookie_name (Some name) = name
+
+abbrev pub cookie_of : CookieConfig → SessionCookie
+cookie_of c = record { name = cookie_name (option_map string_bytes c.name); secure = c.secure; same_site = c.same_site }
+
 -- the context path
 unfoldable pub path_of : Context → List ℕ
 path_of c = string_bytes c.path
@@ -84,8 +101,10 @@ path_of c = string_bytes c.path
 pub record Frame : Type 0 where
   pub number : ℕ
   pub path : List ℕ
+  pub cookie : SessionCookie
   pub interval : ℤ
   pub once : Option Choice
+  pub settings : List Setting
   pub patterns : mappings.Table
   pub chains : List FilterMapping
   pub pages : List ErrorPage
@@ -98,8 +117,10 @@ abbrev pub frame_of_context : ℕ → Context → Frame
 frame_of_context number c = record {
   number = min number 255;
   path = string_bytes c.path;
+  cookie = cookie_of c.cookie;
   interval = c.interval;
   once = option_map choice_of c.once;
+  settings = map setting_of c.settings.items;
   patterns = c.mappings;
   chains = c.filter_mappings.items;
   pages = map page_of c.error_pages.items;
@@ -116,8 +137,10 @@ abbrev pub frame_of : {S F : Type 0} → Application S F → Frame
 frame_of a = record {
   number = a.number;
   path = a.path;
+  cookie = a.cookie;
   interval = a.interval;
   once = a.once;
+  settings = a.settings;
   patterns = a.stage.patterns;
   chains = a.stage.chains.items;
   pages = a.stage.pages.items;
@@ -136,8 +159,10 @@ abbrev pub plan_with : Frame → List (Identity Serves) → List (Identity Filte
 plan_with f servlets filters = record {
   number = f.number;
   path = f.path;
+  cookie = f.cookie;
   interval = f.interval;
   once = f.once;
+  settings = f.settings;
   servlets = servlets;
   filters = filters;
   patterns = f.patterns;

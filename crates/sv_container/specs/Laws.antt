@@ -409,7 +409,7 @@ within_by : (d : Deployed) → IsSound d → (place : ℕ) (found : Option App) 
 within_by d sound place None is serving r path handed now fresh within = (tt, tt)
 within_by d sound place (Some a) is serving r path handed now fresh within =
     let s : IsSoundApp a = sound_there d sound place a is in
-    let named = session_cookie r.cookies a.number in
+    let named = session_cookie a.cookie.name r.cookies a.number in
     within_in a s (s.serving serving).number r path (admission a.once a.number r named handed now) now fresh (admitted_within a.once a.number r named handed now within)
 
 abbrev WithinAt : Deployed → Request → Option (Key × Session) → ℕ → Key × Secret → Option ℕ → Type 0
@@ -430,7 +430,7 @@ keeps_limits d sound r handed now fresh within = within_at d sound r handed now 
 
 named_by_app : (found : Option App) (r : Request) → IfSome (named_in found r) (λ n. (n.0.home < 8) × (0 < n.0.serial))
 named_by_app None r = tt
-named_by_app (Some a) r = IfSome-session_cookie r.cookies a.number
+named_by_app (Some a) r = IfSome-session_cookie a.cookie.name r.cookies a.number
 
 named_by_place : (d : Deployed) (r : Request) (place : Option ℕ) → IfSome (named_at d r place) (λ n. (n.0.home < 8) × (0 < n.0.serial))
 named_by_place d r None = tt

@@ -131,7 +131,7 @@ LeavesWhatCounts =
 abbrev pub IsJoined : Type 0
 IsJoined =
     (d : Deployed) (r : Request) (place : ℕ) (a : App) (key : Key) (s : Session) (now : ℕ) (fresh : Key × Secret) → place_for d r.path ≡ Some place
-    → slice_get d.apps place ≡ Some a → is_turned_away a.number (session_cookie r.cookies a.number) s ≡ false → is_expired s now ≡ false
+    → slice_get d.apps place ≡ Some a → is_turned_away a.number (session_cookie a.cookie.name r.cookies a.number) s ≡ false → is_expired s now ≡ false
     → served d r (Some (key, s)) now fresh
     ≡ outcome_at a key s (record { request = r; path = path_in_context (context_at d.paths place) r.path; now = now; fresh = fresh })
 
@@ -166,7 +166,7 @@ asks_in d place key (c ∷ cs) = with_ask (ask_by d place key c) (asks_in d plac
 abbrev pub IsJoinedAt : Deployed → ℕ → App → Key → Store → Commit → Type 0
 IsJoinedAt d place a key store (Served token r now handed fresh) =
     handed ≡ true → is_for key ((container_meaning d).names r) ≡ true → (s : Session) → store.map key ≡ Some s
-    → (place_for d r.path ≡ Some place) × ((is_turned_away a.number (session_cookie r.cookies a.number) s ≡ false) × (is_expired s now ≡ false))
+    → (place_for d r.path ≡ Some place) × ((is_turned_away a.number (session_cookie a.cookie.name r.cookies a.number) s ≡ false) × (is_expired s now ≡ false))
 IsJoinedAt d place a key store (Expired k now) = same_key key k ≡ false
 
 abbrev pub AreJoined : Deployed → ℕ → App → Key → Store → List Commit → Type 0

@@ -1,6 +1,6 @@
 -- The container function: what comes of a request to the applications of a deployment (Jakarta Servlet 6.0, chapters
 -- "Servlet Context", "Mapping Requests to Servlets" and "Sessions").
-use Rattle.std.specs.Prelude.{ℕ, Bool, true, false, ◌&&◌, Option, Some, None, option_map, is_some, List, [], ◌∷◌, ◌++◌, slice_get, option_and_then, if◌then◌else◌, map, string_bytes, All}
+use Rattle.std.specs.Prelude.{◌≡◌, ℕ, Bool, true, false, ◌&&◌, Option, Some, None, option_map, is_some, List, [], ◌∷◌, ◌++◌, slice_get, option_and_then, if◌then◌else◌, map, string_bytes, All}
 use Rattle.sv_model.specs.declared.key.Key.{Key}
 use Rattle.sv_model.specs.declared.key.Secret.{Secret}
 use Rattle.sv_model.specs.declared.request.Request.{Request}
@@ -36,6 +36,8 @@ use Rattle.sv_dispatch.specs.declared.request.Ended.TheVariants.{Normal, ErrorPa
 use Rattle.sv_container.specs.declared.admission.Admission.{Admission}
 use Rattle.sv_container.specs.declared.admission.Arrival.{Arrival}
 use Rattle.sv_container.specs.declared.container.Container.{Container}
+use Rattle.sv_container.specs.declared.recall.Recall.{Recall}
+use Rattle.sv_container.specs.declared.recall.Recall.TheVariants.{Known, New}
 use Rattle.sv_container.specs.declared.recall.Refusal.TheVariants.{Full}
 use Rattle.sv_container.specs.Admission.{admission, expired_of, held_of, is_away, joined_of, renamed_of, secret_of}
 use Rattle.sv_container.specs.Application.{App, IsSoundApp, apps_of}
@@ -74,7 +76,7 @@ place_for d path = option_and_then (λ place. in_service place (slice_get d.apps
 
 abbrev pub named_in : Option App → Request → Option (Key × Secret)
 named_in None r = None
-named_in (Some a) r = session_cookie r.cookies a.number
+named_in (Some a) r = session_cookie a.cookie.name r.cookies a.number
 
 abbrev pub named_at : Deployed → Request → Option ℕ → Option (Key × Secret)
 named_at d r None = None
@@ -99,7 +101,9 @@ asked a r path =
       query = r.query;
       params = r.params;
       fields = r.fields;
+      cookies = r.cookies;
       body = r.body;
+      settings = a.settings;
       attributes = [];
       resume = 0;
     }
@@ -147,6 +151,14 @@ abbrev pub memory_if : Bool → Option (Key × Session) → List ℕ
 memory_if true held = held_memory held
 memory_if false held = []
 
+-- what is recalled of a request that came with a session: how it was answered before; or that it is new, the session with which its
+-- dispatch begins, and what that remembers
+abbrev pub Recalls : Option Choice → Request → Admission → Admission → Recall → Type 0
+Recalls once r joined bare (Known response) = (recalled once r (held_of joined) ≡ Some response) × (bare ≡ joined)
+Recalls once r joined bare (New memory) =
+    ((recalled once r (held_of joined) ≡ None) × (memory ≡ memory_if (is_some once) (held_of joined)))
+    × ((held_of bare ≡ bared (is_some once) (held_of joined)) × (expired_of bare ≡ expired_of joined))
+
 -- a request whose session was turned away, and which is to change nothing, leaves no new session in its place
 abbrev pub without_birth : ℕ → Key → Edited → Birth → Edited
 without_birth context key e Absent = e
@@ -193,7 +205,7 @@ remembering a r joined key w =
 -- what comes of a request that was served, by its answer and what its edit leaves
 abbrev pub plain_parts : App → Option Key → Option Key → Key × Secret → Response → Edited → Outcome
 plain_parts a joined expired fresh response e =
-    outcome_of a.number expired (with_cookie a.number a.path (announced joined fresh e.fate e.birth e.id_changed) response) e.fate e.birth e.events
+    outcome_of a.number expired (with_cookie a.cookie a.number a.path (announced joined fresh e.fate e.birth e.id_changed) response) e.fate e.birth e.events
 
 -- the same, of a session with what became of it
 abbrev pub outcome_by : App → Admission → Key × Secret → Response → Edited → Outcome
@@ -202,7 +214,7 @@ outcome_by a joined fresh response e = plain_parts a (joined_of joined) (expired
 -- a request that is answered and not served
 abbrev pub unserved : App → Admission → Response → Outcome
 unserved a joined response =
-    unserved_of a.number (expired_of joined) (with_cookie a.number a.path (renamed_of joined) response) (fate_of (held_of joined))
+    unserved_of a.number (expired_of joined) (with_cookie a.cookie a.number a.path (renamed_of joined) response) (fate_of (held_of joined))
 
 -- the same, by what is known of its session, with what its sessions are to remember
 abbrev pub served_parts : App → Request → Arrival → Option Key → List ℕ → Key × Secret → Response → Edited → Option Outcome
@@ -222,6 +234,12 @@ abbrev pub or_full : App → Request → Admission → Option Outcome → Outcom
 or_full a r joined None = unserved a joined (refused Full r)
 or_full a r joined (Some outcome) = outcome
 
+-- the same, by what is known of its session, the session with which its dispatch begins, and what that remembers
+abbrev pub served_apart : App → Request → List ℕ → Arrival → Admission → List ℕ → Admission → ℕ → Key × Secret → Outcome
+served_apart a r path arrival bare memory joined now fresh =
+    let w = answered_by a r path (begun (held_of bare) a.number a.interval now fresh) in
+    or_full a r joined (served_parts a r arrival (expired_of bare) memory fresh w.response (edited_of w.edit))
+
 abbrev pub served_unless : App → Request → List ℕ → Admission → ℕ → Key × Secret → Option Response → Outcome
 served_unless a r path joined now fresh None = or_full a r joined (served_new a r path joined now fresh)
 served_unless a r path joined now fresh (Some response) = unserved a joined response
@@ -234,7 +252,7 @@ served_in a r path joined now fresh = served_unless a r path joined now fresh (r
 abbrev pub served_by : Option App → Request → List ℕ → Option (Key × Session) → ℕ → Key × Secret → Outcome
 served_by None r path handed now fresh = served_outside r
 served_by (Some a) r path handed now fresh =
-    served_in a r path (admission a.once a.number r (session_cookie r.cookies a.number) handed now) now fresh
+    served_in a r path (admission a.once a.number r (session_cookie a.cookie.name r.cookies a.number) handed now) now fresh
 
 abbrev pub served_at : Deployed → Request → Option (Key × Session) → ℕ → Key × Secret → Option ℕ → Outcome
 served_at d r handed now fresh None = served_outside r

@@ -1,14 +1,15 @@
 //! What becomes of the session that is handed in with a request, before a servlet is asked (Jakarta Servlet 6.0, chapter
 //! "Sessions").
 
-ghost use Rattle.std.specs.Prelude.{◌≡◌, IfOk, option_copied, option_map};
+ghost use Rattle.std.specs.Prelude.{◌≡◌, IfOk, option_copied, option_map, true};
 ghost use Rattle.sv_session.specs.Expiry.{joined};
 ghost use Rattle.sv_container.specs.Admission.{admission, arrival_of, expired_of, held_of, is_away, is_turned_away, joined_of, renamed_of, secret_of, turned_away};
+ghost use Rattle.sv_container.specs.Serving.{bared, memory_if};
 
 use crate::recall::is_returning;
 use std::alloc::{AllocError, Global};
-use sv_model::{Key, Request, Secret, Session};
-use sv_once::Choice;
+use sv_model::{Key, Request, Secret, Sequence, Session};
+use sv_once::{Choice, take_memory};
 use sv_session::{expired, join_request};
 
 /// What becomes of the session that is handed in with a request.
@@ -68,6 +69,27 @@ impl Admission {
             Admission::Joined(key, session) | Admission::Returned(key, session) => {
                 Some((*key, session))
             }
+        }
+    }
+
+    /// The same without what the session that is held remembers, and that.
+    pub fn into_bare(self, alloc: Global) -> (Admission, Sequence<u8>)
+        ensures memory { result.1 ≡ memory_if true (held_of self) }
+        ensures held { held_of result.0 ≡ bared true (held_of self) }
+        ensures expired { expired_of result.0 ≡ expired_of self }
+    {
+        match self {
+            Admission::Joined(key, session) => {
+                let mut session = session;
+                let memory = take_memory(alloc, &mut session);
+                (Admission::Joined(key, session), memory)
+            }
+            Admission::Returned(key, session) => {
+                let mut session = session;
+                let memory = take_memory(alloc, &mut session);
+                (Admission::Returned(key, session), memory)
+            }
+            other => (other, Sequence::new(alloc)),
         }
     }
 

@@ -1,12 +1,12 @@
 //! What an application answers to a request: the dispatch, and the response that comes of it.
 
-ghost use Rattle.std.specs.Prelude.{◌≡◌, IfOk, IsTrue, Some, false, is_some, option_map, true};
+ghost use Rattle.std.specs.Prelude.{◌≡◌, IfOk, IsTrue, None, Some, false, option_map, true};
 ghost use Rattle.sv_dispatch.specs.Pages.{ran, served as served_by_table};
 ghost use Rattle.sv_dispatch.specs.Place.{place_of};
 ghost use Rattle.sv_dispatch.specs.Stages.{lent_of};
 ghost use Rattle.sv_container.specs.Application.{IsSoundApp, app_of};
 ghost use Rattle.sv_container.specs.Recalling.{refused as refused_page};
-ghost use Rattle.sv_container.specs.Serving.{answered, answered_by, asked, plain_parts, replied, served_by, served_in, served_new, served_parts, unserved};
+ghost use Rattle.sv_container.specs.Serving.{Recalls, answered, answered_by, asked, plain_parts, remembering_with, replied, served_apart, served_by, served_in, unserved};
 ghost use Rattle.sv_container.specs.SetCookie.{is_sendable};
 ghost use Rattle.sv_container.specs.declared.recall.Refusal.TheVariants.{Full};
 ghost use Rattle.sv_session.specs.Edit.{begun, fate_of};
@@ -16,8 +16,8 @@ ghost use Rattle.sv_target.specs.SessionCookie.{session_cookie};
 use crate::admission::{Admission, Arrival, admit};
 use crate::application::{Application, idle_edit, idle_reply};
 use crate::outcome::{outcome_of, unserved_of};
-use crate::recall::{Refusal, recalled, refused};
-use crate::remember::{bared, remembering};
+use crate::recall::{Recall, Refusal, recall_chosen, refused};
+use crate::remember::remember_chosen;
 use crate::set_cookie::{announced, with_cookie};
 use std::alloc::{AllocError, Global};
 use std::mem;
@@ -105,7 +105,9 @@ impl<S: Servlet, F: Filter> Application<S, F> {
             query: request.query.as_ref().map(|query| query.as_str()),
             params: request.params.as_slice(),
             fields: request.fields.as_slice(),
+            cookies: request.cookies.as_slice(),
             body: request.body.as_slice(),
+            settings: self.settings.as_slice(),
             attributes: &attributes,
             resume: 0,
         };
@@ -162,104 +164,94 @@ impl<S: Servlet, F: Filter> Application<S, F> {
         response: Response,
         edited: Edited,
     ) -> Result<Outcome, AllocError>
-        requires { IsTrue (is_sendable self.now.path) }
+        requires path { IsTrue (is_sendable self.now.path) }
+        requires name { IsTrue (is_sendable self.now.cookie.name) }
         ensures { IfOk result (λ o. o ≡ plain_parts (app_of S.serves S.servlet_phase F.filtering F.filter_phase self.now) joined expired fresh response edited) }
     {
         let announced = announced(joined, fresh, &edited);
-        let response = with_cookie(alloc, self.number, self.path.as_str(), announced, response)?;
+        let response = with_cookie(
+            alloc,
+            &self.cookie,
+            self.number,
+            self.path.as_str(),
+            announced,
+            response,
+        )?;
         outcome_of(alloc, self.number, expired, response, edited)
     }
 
-    /// What comes of a request that was served, with what its edit leaves and its sessions are to remember; nothing where they have no
-    /// room for that.
-    fn outcome(
+    /// What an edit leaves, with what its sessions are to remember, where they remember anything; false where they have no room for that.
+    #[inline(always)]
+    fn remember(
         &self,
         alloc: Global,
         request: &Request,
-        arrival: Arrival,
-        expired: Option<Key>,
+        arrival: &Arrival,
         memory: Sequence<u8>,
-        fresh: (Key, Secret),
-        response: Response,
-        edited: Edited,
-    ) -> Result<Option<Outcome>, AllocError>
-        requires { IsTrue (is_sendable self.now.path) }
-        ensures { IfOk result (λ o. o ≡ served_parts (app_of S.serves S.servlet_phase F.filtering F.filter_phase self.now) request.now arrival expired
-            memory fresh response edited) }
+        key: Key,
+        response: &Response,
+        edited: &mut Edited,
+    ) -> Result<bool, AllocError>
+        ensures kept { IfOk result (λ kept. kept ≡ true → remembering_with self.now.once self.now.number request.now arrival.now.is_away
+            arrival.now.secret memory key response.now edited.old ≡ Some edited.new) }
+        ensures full { IfOk result (λ kept. kept ≡ false → remembering_with self.now.once self.now.number request.now arrival.now.is_away
+            arrival.now.secret memory key response.now edited.old ≡ None) }
     {
-        let kept = remembering(
-            alloc,
-            self.once.as_ref(),
-            self.number,
-            request,
-            arrival.is_away,
-            &arrival.secret,
-            memory,
-            fresh.0,
-            &response,
-            edited,
-        )?;
-        let Some(edited) = kept else {
-            return Ok(None);
-        };
-        let outcome = self.plain_outcome(alloc, arrival.joined, expired, fresh, response, edited)?;
-        Ok(Some(outcome))
+        match self.once.as_ref() {
+            Some(choice) => remember_chosen(
+                alloc,
+                choice,
+                self.number,
+                request,
+                arrival,
+                memory,
+                key,
+                response,
+                edited,
+            ),
+            None => Ok(true),
+        }
     }
 
-    /// Serves a request for a path within the context, with what became of the session that was handed in; nothing comes of it where
-    /// its session has no room for what it is to remember.
+    /// Serves a request for a path within the context, with the session that is held, apart from what that remembers.
+    #[inline(always)]
     fn serve_new(
         &mut self,
         alloc: Global,
         request: &Request,
         path: &str,
+        handed: Option<(Key, &Session)>,
+        arrival: Arrival,
         admission: Admission,
-        now: u64,
-        fresh: (Key, Secret),
-    ) -> Result<Option<Outcome>, AllocError>
-        requires sound { IsSoundApp (app_of S.serves S.servlet_phase F.filtering F.filter_phase self.old) }
-        requires serving { self.old.is_in_service ≡ true }
-        ensures same { app_of S.serves S.servlet_phase F.filtering F.filter_phase self.new
-            ≡ app_of S.serves S.servlet_phase F.filtering F.filter_phase self.old }
-        ensures outcome { IfOk result (λ o. o ≡ served_new (app_of S.serves S.servlet_phase F.filtering F.filter_phase self.old) request.now path.now admission
-            now fresh) }
-    {
-        let arrival = admission.arrival();
-        let (expired, held) = admission.into_parts();
-        let (held, memory) = bared(alloc, self.once.is_some(), held);
-        let edit = self.begin(alloc, held, now, fresh);
-        let (response, edit) = self.answer(alloc, request, path, edit)?;
-        let edited = edit.finish();
-        self.outcome(
-            alloc, request, arrival, expired, memory, fresh, response, edited,
-        )
-    }
-
-    /// The same where sessions remember nothing.
-    #[inline(always)]
-    fn serve_plain(
-        &mut self,
-        alloc: Global,
-        request: &Request,
-        path: &str,
-        admission: Admission,
+        memory: Sequence<u8>,
         now: u64,
         fresh: (Key, Secret),
     ) -> Result<Outcome, AllocError>
         requires sound { IsSoundApp (app_of S.serves S.servlet_phase F.filtering F.filter_phase self.old) }
         requires serving { self.old.is_in_service ≡ true }
-        requires plain { is_some self.old.once ≡ false }
         ensures same { app_of S.serves S.servlet_phase F.filtering F.filter_phase self.new
             ≡ app_of S.serves S.servlet_phase F.filtering F.filter_phase self.old }
-        ensures outcome { IfOk result (λ o. o ≡ served_in (app_of S.serves S.servlet_phase F.filtering F.filter_phase self.old) request.now path.now admission
-            now fresh) }
+        ensures outcome { IfOk result (λ o. o ≡ served_apart (app_of S.serves S.servlet_phase F.filtering F.filter_phase self.old) request.now path.now
+            arrival admission memory (spec.admission self.old.once self.old.number request.now (session_cookie self.old.cookie.name request.now.cookies self.old.number)
+            (option_map (λ s. (s.0, s.1.now)) handed.entry) now) now fresh) }
     {
-        let joined = admission.joined();
         let (expired, held) = admission.into_parts();
         let edit = self.begin(alloc, held, now, fresh);
         let (response, edit) = self.answer(alloc, request, path, edit)?;
-        let edited = edit.finish();
-        self.plain_outcome(alloc, joined, expired, fresh, response, edited)
+        let mut edited = edit.finish();
+        if self.remember(
+            alloc,
+            request,
+            &arrival,
+            memory,
+            fresh.0,
+            &response,
+            &mut edited,
+        )? {
+            self.plain_outcome(alloc, arrival.joined, expired, fresh, response, edited)
+        } else {
+            self.unserved_full(alloc, request, handed, now)
+        }
     }
 
     /// What comes of a request that is answered and not served.
@@ -275,7 +267,14 @@ impl<S: Servlet, F: Filter> Application<S, F> {
     {
         let renamed = admission.renamed();
         let (expired, held) = admission.into_parts();
-        let response = with_cookie(alloc, self.number, self.path.as_str(), renamed, response)?;
+        let response = with_cookie(
+            alloc,
+            &self.cookie,
+            self.number,
+            self.path.as_str(),
+            renamed,
+            response,
+        )?;
         unserved_of(alloc, self.number, expired, response, fate_of(held))
     }
 
@@ -288,10 +287,14 @@ impl<S: Servlet, F: Filter> Application<S, F> {
         handed: Option<(Key, &Session)>,
         now: u64,
     ) -> Result<Admission, AllocError>
-        ensures { IfOk result (λ a. a ≡ spec.admission self.now.once self.now.number request.now (session_cookie request.now.cookies self.now.number)
+        ensures { IfOk result (λ a. a ≡ spec.admission self.now.once self.now.number request.now (session_cookie self.now.cookie.name request.now.cookies self.now.number)
             (option_map (λ s. (s.0, s.1.now)) handed.entry) now) }
     {
-        let named = session_cookie(request.cookies.as_slice(), self.number);
+        let named = session_cookie(
+            self.cookie.name_bytes(),
+            request.cookies.as_slice(),
+            self.number,
+        );
         admit(
             alloc,
             self.once.as_ref(),
@@ -314,7 +317,7 @@ impl<S: Servlet, F: Filter> Application<S, F> {
         requires sound { IsSoundApp (app_of S.serves S.servlet_phase F.filtering F.filter_phase self.now) }
         requires serving { self.now.is_in_service ≡ true }
         ensures { IfOk result (λ o. o ≡ unserved (app_of S.serves S.servlet_phase F.filtering F.filter_phase self.now)
-            (spec.admission self.now.once self.now.number request.now (session_cookie request.now.cookies self.now.number)
+            (spec.admission self.now.once self.now.number request.now (session_cookie self.now.cookie.name request.now.cookies self.now.number)
             (option_map (λ s. (s.0, s.1.now)) handed.entry) now) (refused_page Full request.now)) }
     {
         let admission = self.admit(alloc, request, handed, now)?;
@@ -322,11 +325,27 @@ impl<S: Servlet, F: Filter> Application<S, F> {
         self.unserved(alloc, admission, page)
     }
 
-    /// Serves a request where sessions remember what was answered: one that its session remembers is answered from its memory.
-    // Apart, so that a request of a context without memory has no room cleared for what is made here.
-    #[inline(never)]
-    #[tactic(auto, unfolding(crate::specs::Serving::served_in))]
-    fn serve_once(
+    /// What the session that is held remembers of the request, where sessions remember anything; else that nothing is.
+    #[inline(always)]
+    #[tactic(auto, unfolding(crate::specs::Recalling::recalled))]
+    fn recall(
+        &self,
+        alloc: Global,
+        request: &Request,
+        admission: &mut Admission,
+    ) -> Result<Recall, AllocError>
+        ensures { IfOk result (λ r. Recalls self.now.once request.now admission.old admission.new r) }
+    {
+        match self.once.as_ref() {
+            Some(choice) => recall_chosen(alloc, choice, request, admission),
+            None => Ok(Recall::New(Sequence::new(alloc))),
+        }
+    }
+
+    /// Serves a request for a path within the context, with what became of the session that was handed in.
+    #[inline(always)]
+    #[tactic(auto, unfolding(crate::specs::Serving::served_in, crate::specs::Serving::served_new))]
+    fn serve_admitted(
         &mut self,
         alloc: Global,
         request: &Request,
@@ -338,20 +357,20 @@ impl<S: Servlet, F: Filter> Application<S, F> {
     ) -> Result<Outcome, AllocError>
         requires sound { IsSoundApp (app_of S.serves S.servlet_phase F.filtering F.filter_phase self.old) }
         requires serving { self.old.is_in_service ≡ true }
-        requires admitted { admission ≡ spec.admission self.old.once self.old.number request.now (session_cookie request.now.cookies self.old.number)
+        requires admitted { admission ≡ spec.admission self.old.once self.old.number request.now (session_cookie self.old.cookie.name request.now.cookies self.old.number)
             (option_map (λ s. (s.0, s.1.now)) handed) now }
         ensures same { app_of S.serves S.servlet_phase F.filtering F.filter_phase self.new
             ≡ app_of S.serves S.servlet_phase F.filtering F.filter_phase self.old }
         ensures outcome { IfOk result (λ o. o ≡ served_in (app_of S.serves S.servlet_phase F.filtering F.filter_phase self.old) request.now path.now admission
             now fresh) }
     {
-        let recalled = recalled(alloc, self.once.as_ref(), request, admission.held())?;
-        if let Some(response) = recalled {
-            return self.unserved(alloc, admission, response);
-        }
-        match self.serve_new(alloc, request, path, admission, now, fresh)? {
-            Some(outcome) => Ok(outcome),
-            None => self.unserved_full(alloc, request, handed, now),
+        let mut admission = admission;
+        let arrival = admission.arrival();
+        match self.recall(alloc, request, &mut admission)? {
+            Recall::Known(response) => self.unserved(alloc, admission, response),
+            Recall::New(memory) => self.serve_new(
+                alloc, request, path, handed, arrival, admission, memory, now, fresh,
+            ),
         }
     }
 
@@ -374,9 +393,6 @@ impl<S: Servlet, F: Filter> Application<S, F> {
             (option_map (λ s. (s.0, s.1.now)) handed.entry) now fresh) }
     {
         let admission = self.admit(alloc, request, handed, now)?;
-        if self.once.is_none() {
-            return self.serve_plain(alloc, request, path, admission, now, fresh);
-        }
-        self.serve_once(alloc, request, path, handed, admission, now, fresh)
+        self.serve_admitted(alloc, request, path, handed, admission, now, fresh)
     }
 }

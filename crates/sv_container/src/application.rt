@@ -5,12 +5,13 @@ ghost use Rattle.std.specs.List.{list_all};
 ghost use Rattle.sv_container.specs.Application.{can_serve, names_filter};
 ghost use Rattle.sv_container.specs.SetCookie.{is_sendable};
 
+use crate::set_cookie::SessionCookie;
 use std::alloc::Global;
 use sv_dispatch::{Hosted, Stage};
 use sv_mapping::FilterMapping;
-use sv_model::{Key, Secret, Text};
+use sv_model::{Key, Secret, Sequence, Text};
 use sv_once::Choice;
-use sv_servlet::Reply;
+use sv_servlet::{Reply, Setting};
 use sv_session::SessionEdit;
 
 /// A web application.
@@ -20,12 +21,16 @@ pub struct Application<S, F> {
     pub number: u8,
     /// The context path, empty for the context at the root.
     pub path: Text,
+    /// The cookie that names its sessions.
+    pub cookie: SessionCookie,
     /// The seconds after which a session that is made expires; 0 and less never.
     pub interval: i32,
     /// Its requests are served; those of an application out of service are for nobody.
     pub is_in_service: bool,
     /// What its sessions remember of requests that may be sent again; none where they remember nothing.
     pub once: Option<Choice>,
+    /// The initialization parameters of its context.
+    pub settings: Sequence<Setting>,
     /// Its objects with what leads to them. Between requests the edit and the reply are nobody's.
     pub stage: Stage<S, F>,
 }
@@ -74,12 +79,13 @@ impl<S, F> Application<S, F> {
     /// Its requests can be served.
     #[tactic(auto, unfolding(crate::specs::Application::can_serve))]
     pub fn can_serve(&self) -> bool
-        ensures { result ≡ can_serve self.now.number self.now.path (list_all (λ h.
+        ensures { result ≡ can_serve self.now.number self.now.path self.now.cookie.name (list_all (λ h.
             h.is_ready) self.now.stage.filters.items) (length self.now.stage.filters.items) self.now.stage.chains.items }
     {
         self.number < 16
             && (is_sendable(self.path.as_str())
-                && (are_ready(self.stage.filters.as_slice())
-                    && name_filters(self.stage.chains.as_slice(), self.stage.filters.len())))
+                && (is_sendable(self.cookie.name.as_str())
+                    && (are_ready(self.stage.filters.as_slice())
+                        && name_filters(self.stage.chains.as_slice(), self.stage.filters.len()))))
     }
 }

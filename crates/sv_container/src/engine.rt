@@ -49,7 +49,12 @@ impl<S: Servlet, F: Filter, L: Listener> Engine for Container<S, F, L> {
 
     fn names(&self, request: &Request) -> Option<(Key, Secret)> {
         let place = self.place_of(request.path.as_str())?;
-        session_cookie(request.cookies.as_slice(), self.applications[place].number)
+        let application = &self.applications[place];
+        session_cookie(
+            application.cookie.name_bytes(),
+            request.cookies.as_slice(),
+            application.number,
+        )
     }
 
     fn serve(

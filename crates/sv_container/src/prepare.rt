@@ -1,15 +1,18 @@
 //! Applications before their objects are put into them: all that takes memory.
 
-ghost use Rattle.std.specs.Prelude.{◌≡◌, [], IfOk, All, length, map, min, option_map, string_bytes};
+ghost use Rattle.std.specs.Prelude.{◌≡◌, [], IfOk, All, length, map, min, option_copied, option_map, string_bytes};
 ghost use Rattle.std.specs.Vec.{vec_capacity};
 ghost use Rattle.sv_container.specs.Deployment as spec;
 
 use crate::application::{Application, idle_edit, idle_reply};
+use crate::set_cookie::SessionCookie;
 use std::alloc::{AllocError, Global};
-use sv_config::{Context, Once};
+use sv_config::{Context, CookieConfig, Once};
 use sv_dispatch::{ErrorPage, Hosted, PageFor, Stage};
-use sv_model::Text;
+use sv_model::{Sequence, Text};
 use sv_once::Choice;
+use sv_servlet::Setting;
+use sv_target::SESSION_COOKIE;
 
 /// The applications of a deployment, with the context path of each by its number.
 #[derive(Drop)]
@@ -71,14 +74,74 @@ fn choice_of(once: Option<Once>) -> Option<Choice>
     })
 }
 
-/// The path of a context, and its error pages.
-fn shown_by(alloc: Global, context: &Context) -> Result<(Text, Vec<ErrorPage>), AllocError>
-    ensures path { IfOk result (λ r. r.0 ≡ string_bytes context.now.path) }
-    ensures pages { IfOk result (λ r. r.1.items ≡ map spec.page_of context.now.error_pages.items) }
+/// The name of the cookie of a context's sessions.
+fn cookie_name(alloc: Global, name: Option<&str>) -> Result<Text, AllocError>
+    ensures { IfOk result (λ t. t ≡ spec.cookie_name (option_copied name.entry)) }
+{
+    match name {
+        Some(name) => Text::from_str(alloc, name),
+        None => Text::from_str(alloc, SESSION_COOKIE),
+    }
+}
+
+/// The cookie of a context's sessions.
+fn cookie_of(alloc: Global, cookie: &CookieConfig) -> Result<SessionCookie, AllocError>
+    ensures { IfOk result (λ c. c ≡ spec.cookie_of cookie.now) }
+{
+    let name = cookie.name.as_ref().map(|name| name.as_str());
+    Ok(SessionCookie {
+        name: cookie_name(alloc, name)?,
+        secure: cookie.secure,
+        same_site: cookie.same_site,
+    })
+}
+
+#[tactic(auto, unfolding(crate::specs::Deployment::setting_of))]
+fn setting_of(alloc: Global, setting: &sv_config::Setting) -> Result<Setting, AllocError>
+    ensures { IfOk result (λ copy. copy ≡ spec.setting_of setting.now) }
+{
+    Ok(Setting {
+        name: Text::from_str(alloc, setting.name.as_str())?,
+        value: Text::from_str(alloc, setting.value.as_str())?,
+    })
+}
+
+/// What the descriptor gives the servlets and filters of a context.
+fn settings_of(alloc: Global, settings: &[sv_config::Setting]) -> Result<Vec<Setting>, AllocError>
+    ensures { IfOk result (λ copies. copies.items ≡ map spec.setting_of settings.now) }
+{
+    let mut copies = Vec::new(alloc);
+    for setting in settings {
+        copies.push(setting_of(alloc, setting)?)?;
+    }
+    Ok(copies)
+}
+
+/// What a context says in texts.
+#[derive(Drop)]
+struct Texts {
+    path: Text,
+    cookie: SessionCookie,
+    settings: Vec<Setting>,
+    pages: Vec<ErrorPage>,
+}
+
+fn texts_of(alloc: Global, context: &Context) -> Result<Texts, AllocError>
+    ensures path { IfOk result (λ t. t.path ≡ string_bytes context.now.path) }
+    ensures cookie { IfOk result (λ t. t.cookie ≡ spec.cookie_of context.now.cookie) }
+    ensures settings { IfOk result (λ t. t.settings.items ≡ map spec.setting_of context.now.settings.items) }
+    ensures pages { IfOk result (λ t. t.pages.items ≡ map spec.page_of context.now.error_pages.items) }
 {
     let path = Text::from_str(alloc, context.path.as_str())?;
+    let cookie = cookie_of(alloc, &context.cookie)?;
+    let settings = settings_of(alloc, context.settings.as_slice())?;
     let pages = pages_of(alloc, context.error_pages.as_slice())?;
-    Ok((path, pages))
+    Ok(Texts {
+        path,
+        cookie,
+        settings,
+        pages,
+    })
 }
 
 /// Room for the servlets and the filters of a context.
@@ -105,8 +168,14 @@ fn prepare_one<S: Drop, F: Drop>(
     ensures frame { IfOk result (λ a. spec.frame_of a ≡ spec.frame_of_context place context) }
     ensures empty { IfOk result (spec.IsEmpty) }
 {
-    let (path, pages) = shown_by(alloc, &context)?;
+    let texts = texts_of(alloc, &context)?;
     let (servlets, filters) = room_for(alloc, &context)?;
+    let Texts {
+        path,
+        cookie,
+        settings,
+        pages,
+    } = texts;
     let Context {
         path: _,
         interval,
@@ -117,13 +186,18 @@ fn prepare_one<S: Drop, F: Drop>(
         listeners: _,
         error_pages: _,
         once,
+        cookie: _,
+        settings: _,
+        files: _,
     } = context;
     Ok(Application {
         number: number_of(place),
         path,
+        cookie,
         interval,
         is_in_service: false,
         once: choice_of(once),
+        settings: Sequence::from_vec(settings),
         stage: Stage {
             servlets,
             filters,

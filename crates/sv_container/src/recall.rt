@@ -1,14 +1,17 @@
 //! What is answered from a session's memory to a request that is sent again (the IETF's draft "The Idempotency-Key HTTP Header
 //! Field").
 
-ghost use Rattle.std.specs.Prelude.{◌≡◌, IfOk, Some, option_copied, option_map};
+ghost use Rattle.std.specs.Prelude.{◌≡◌, IfOk, Some, option_map};
 ghost use Rattle.std.specs.Str.{bytes_eq};
 ghost use Rattle.sv_once.specs.Answer.{answer_in};
 ghost use Rattle.sv_once.specs.Asked.{mark_of as asked_mark};
 ghost use Rattle.sv_container.specs.Recalling as spec;
+ghost use Rattle.sv_container.specs.Serving.{Recalls};
 
+use crate::admission::Admission;
 use http::StatusCode;
 use std::alloc::{AllocError, Global};
+use std::mem;
 use sv_model::{Key, Request, Response, Secret, Sequence, Session, is_head, plain_page};
 use sv_once::{Choice, Entry, Memory, is_key, mark_of, memory_of, response_in};
 
@@ -119,21 +122,46 @@ fn recalled_key(
 
 /// What is answered to a request that is not served, with the session that is held.
 #[tactic(auto, unfolding(crate::specs::Recalling::recalled))]
-pub fn recalled(
+fn recalled(
     alloc: Global,
-    choice: Option<&Choice>,
+    choice: &Choice,
     request: &Request,
     held: Option<(Key, &Session)>,
 ) -> Result<Option<Response>, AllocError>
-    ensures { IfOk result (λ r. r ≡ spec.recalled (option_copied choice.entry) request.now (option_map (λ h. (h.0, h.1.now)) held.entry)) }
+    ensures { IfOk result (λ r. r ≡ spec.recalled (Some choice.now) request.now (option_map (λ h. (h.0, h.1.now)) held.entry)) }
 {
-    let Some(choice) = choice else {
-        return Ok(None);
-    };
-    let Some(key) = choice.key_of(request) else {
-        return Ok(None);
-    };
-    recalled_key(alloc, request, held_memory(held), key)
+    match choice.key_of(request) {
+        Some(key) => recalled_key(alloc, request, held_memory(held), key),
+        None => Ok(None),
+    }
+}
+
+/// What a session remembers of a request.
+#[derive(Drop)]
+pub enum Recall {
+    /// It was answered before, and is answered so again.
+    Known(Response),
+    /// It wasn't; with all that the session remembers, which is taken out of it while the request is served.
+    New(Sequence<u8>),
+}
+
+/// What the session that is held remembers of the request.
+// Apart, so that a request of a context whose sessions remember nothing has no room cleared for what is made here.
+#[inline(never)]
+pub fn recall_chosen(
+    alloc: Global,
+    choice: &Choice,
+    request: &Request,
+    admission: &mut Admission,
+) -> Result<Recall, AllocError>
+    ensures { IfOk result (λ r. Recalls (Some choice.now) request.now admission.old admission.new r) }
+{
+    if let Some(response) = recalled(alloc, choice, request, admission.held())? {
+        return Ok(Recall::Known(response));
+    }
+    let (bare, memory) = mem::replace(admission, Admission::Without).into_bare(alloc);
+    *admission = bare;
+    Ok(Recall::New(memory))
 }
 
 /// What the session that is held remembers.

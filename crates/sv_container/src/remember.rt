@@ -1,36 +1,17 @@
 //! What a session remembers after a request that was served.
 
-ghost use Rattle.std.specs.Prelude.{◌≡◌, ◌≤◌, [], IfOk, length, option_copied};
+ghost use Rattle.std.specs.Prelude.{◌≡◌, ◌≤◌, [], IfOk, None, Some, false, length, true};
 ghost use Rattle.sv_once.specs.Entries.{IsSmall};
 ghost use Rattle.sv_container.specs.Recalling as spec;
 ghost use Rattle.sv_container.specs.Serving as serving;
 
+use crate::admission::Arrival;
 use crate::outcome::told;
 use std::alloc::{AllocError, Global};
+use std::mem;
 use sv_model::{Birth, Event, Fate, Key, Request, Response, Secret, Sequence, Session};
-use sv_once::{
-    Choice, Entry, Memory, is_key, is_safe, kept_answer, mark_of, take_memory, with_memory,
-};
+use sv_once::{Choice, Entry, Memory, is_key, is_safe, kept_answer, mark_of, with_memory};
 use sv_session::Edited;
-
-/// The session with which a dispatch begins, and what it remembers: that is taken away where `is_chosen`.
-pub fn bared(
-    alloc: Global,
-    is_chosen: bool,
-    held: Option<(Key, Session)>,
-) -> (Option<(Key, Session)>, Sequence<u8>)
-    ensures held { result.0 ≡ serving.bared is_chosen held }
-    ensures memory { result.1 ≡ serving.memory_if is_chosen held }
-{
-    match held {
-        Some((key, session)) if is_chosen => {
-            let mut session = session;
-            let memory = take_memory(alloc, &mut session);
-            (Some((key, session)), memory)
-        }
-        held => (held, Sequence::new(alloc)),
-    }
-}
 
 /// A new session that takes no turned-away one's place has ended where `ends`.
 fn settled_birth(context: u8, key: Key, ends: bool, edited: Edited) -> Result<Edited, AllocError>
@@ -196,25 +177,64 @@ fn edited_with(
 
 /// What an edit leaves, as it is kept: with what its sessions are to remember, and without a session that was made in the place of
 /// one that was turned away by a request that is to change nothing. None where there is no room.
-pub fn remembering(
+fn remembering(
     alloc: Global,
-    choice: Option<&Choice>,
+    choice: &Choice,
     context: u8,
     request: &Request,
-    is_away: bool,
-    secret: &Option<Secret>,
+    arrival: &Arrival,
     memory: Sequence<u8>,
     key: Key,
     response: &Response,
     edited: Edited,
 ) -> Result<Option<Edited>, AllocError>
-    ensures { IfOk result (λ e. e ≡ serving.remembering_with (option_copied choice.entry) context request.now is_away secret.now memory key response.now edited) }
+    ensures { IfOk result (λ e. e ≡ serving.remembering_with (Some choice.now) context request.now arrival.now.is_away arrival.now.secret memory key
+        response.now edited) }
 {
-    let Some(choice) = choice else {
-        return Ok(Some(edited));
-    };
-    let ends = is_away && is_safe(request.method.as_str());
+    let ends = arrival.is_away && is_safe(request.method.as_str());
     let edited = settled_birth(context, key, ends, edited)?;
-    let old = old_secret(edited.id_changed, secret);
+    let old = old_secret(edited.id_changed, &arrival.secret);
     edited_with(alloc, choice, request, old, response, memory, edited)
+}
+
+/// The same in place; false where there is no room.
+// Apart, so that a request of a context whose sessions remember nothing has no room cleared for what is made here.
+#[inline(never)]
+pub fn remember_chosen(
+    alloc: Global,
+    choice: &Choice,
+    context: u8,
+    request: &Request,
+    arrival: &Arrival,
+    memory: Sequence<u8>,
+    key: Key,
+    response: &Response,
+    edited: &mut Edited,
+) -> Result<bool, AllocError>
+    ensures kept { IfOk result (λ kept. kept ≡ true → serving.remembering_with (Some choice.now) context request.now arrival.now.is_away
+        arrival.now.secret memory key response.now edited.old ≡ Some edited.new) }
+    ensures full { IfOk result (λ kept. kept ≡ false → serving.remembering_with (Some choice.now) context request.now arrival.now.is_away
+        arrival.now.secret memory key response.now edited.old ≡ None) }
+{
+    let plain = mem::replace(edited, nothing(alloc));
+    let kept = remembering(
+        alloc, choice, context, request, arrival, memory, key, response, plain,
+    )?;
+    match kept {
+        Some(kept) => {
+            *edited = kept;
+            Ok(true)
+        }
+        None => Ok(false),
+    }
+}
+
+/// What an edit leaves that did nothing.
+fn nothing(alloc: Global) -> Edited {
+    Edited {
+        fate: Fate::Untouched,
+        birth: Birth::Absent,
+        id_changed: false,
+        events: Sequence::new(alloc),
+    }
 }

@@ -10,16 +10,16 @@ use Rattle.sv_config.specs.Values.{ContextData}
 use Rattle.sv_launch.specs.Objects.{Lookup, looked_up, lookups, is_missing}
 
 -- a name that stands for nothing
-pub found : {K N : Type 0} (named : List ℕ → Option K) (context : ℕ) (view : N → List ℕ) (names : List N) (i : ℕ) (d : N) → i < length names → named (view (get_or names i d)) ≡ None
+pub found : {K N : Type 0} (named : ℕ → List ℕ → Option K) (context : ℕ) (view : N → List ℕ) (names : List N) (i : ℕ) (d : N) → i < length names → named context (view (get_or names i d)) ≡ None
     → list_any is_missing (looked_up named context (map view names)) ≡ true
 found named context view [] i d h none = elim h [ ]
 found named context view (n ∷ ns) zero d h none = rw none refl
 found named context view (n ∷ ns) (suc i) d h none =
     let below : i < length ns = omega (arith, h) in
     let more = found named context view ns i d below none in
-    rw (more, or-true (is_none (named (view n)))) refl
+    rw (more, or-true (is_none (named context (view n)))) refl
 
-module _ {K C : Type 0} (named : List ℕ → Option K) (names : ContextData → List (List ℕ)) (view : C → ContextData) (cs : List C) where
+module _ {K C : Type 0} (named : ℕ → List ℕ → Option K) (names : ContextData → List (List ℕ)) (view : C → ContextData) (cs : List C) where
   -- the next context's names come first
   stepped : (i : ℕ) (d : C) → i < length cs
       → lookups named names i (map view (drop i cs)) ≡ looked_up named i (names (view (get_or cs i d))) ++ lookups named names (i + 1) (map view (drop (i + 1) cs))

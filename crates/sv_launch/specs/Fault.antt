@@ -6,7 +6,7 @@ use Rattle.sv_container.specs.declared.named.StartFault.{StartFault}
 use Rattle.sv_container.specs.declared.named.StartFault.TheVariants as start
 use Rattle.sv_launch.specs.declared.fault.Fault.{Fault}
 use Rattle.sv_launch.specs.declared.fault.Fault.TheVariants.{Arguments, Unreadable, NotToml, MissingField, WrongKind, UnknownName, BadPattern, Duplicate}
-use Rattle.sv_launch.specs.declared.fault.Fault.TheVariants.{LimitExceeded, MissingObject, ExtraObject, Ports, SameFile, Device, NoJournal, Locked, OlderCopy, Untold, Unannounced, Damaged, Full, JournalMemory}
+use Rattle.sv_launch.specs.declared.fault.Fault.TheVariants.{LimitExceeded, MissingObject, NotServed, ExtraObject, Ports, SameFile, Device, NoJournal, Locked, OlderCopy, Untold, Unannounced, Damaged, Full, JournalMemory}
 use Rattle.sv_launch.specs.declared.fault.Fault.TheVariants.{Secrets, Socket, Log, Metrics, Input, Output, Memory}
 use Rattle.sv_host.specs.declared.fault.HostFault.{HostFault}
 use Rattle.sv_host.specs.declared.fault.HostFault.TheVariants as host
@@ -73,6 +73,7 @@ status_of BadPattern = 3
 status_of Duplicate = 3
 status_of LimitExceeded = 3
 status_of MissingObject = 3
+status_of NotServed = 3
 status_of ExtraObject = 3
 status_of Ports = 3
 status_of Untold = 3

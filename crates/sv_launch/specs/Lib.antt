@@ -4,3 +4,4 @@ pub mod Fault
 pub mod Objects
 pub mod OneOf
 pub mod Files
+pub mod Served

@@ -20,15 +20,15 @@ pub record Lookup (M : Type 0) : Type 0 where
   pub name : List ℕ
   pub meaning : Option M
 
-abbrev pub lookup : {M : Type 0} → (List ℕ → Option M) → ℕ → List ℕ → Lookup M
-lookup named context name = record { context = context; name = name; meaning = named name }
+abbrev pub lookup : {M : Type 0} → (ℕ → List ℕ → Option M) → ℕ → List ℕ → Lookup M
+lookup named context name = record { context = context; name = name; meaning = named context name }
 
 -- the names of one context
-abbrev pub looked_up : {M : Type 0} → (List ℕ → Option M) → ℕ → List (List ℕ) → List (Lookup M)
+abbrev pub looked_up : {M : Type 0} → (ℕ → List ℕ → Option M) → ℕ → List (List ℕ) → List (Lookup M)
 looked_up named context names = map (lookup named context) names
 
 -- the names of contexts, numbered from `number` on
-unfoldable pub lookups : {M : Type 0} → (List ℕ → Option M) → (ContextData → List (List ℕ)) → ℕ → List ContextData → List (Lookup M)
+unfoldable pub lookups : {M : Type 0} → (ℕ → List ℕ → Option M) → (ContextData → List (List ℕ)) → ℕ → List ContextData → List (Lookup M)
 lookups named names number [] = []
 lookups named names number (c ∷ cs) = looked_up named number (names c) ++ lookups named names (number + 1) cs
 

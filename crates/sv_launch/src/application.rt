@@ -5,15 +5,16 @@ ghost use Rattle.sv_container.specs.Life.{AreNamedNew};
 ghost use Rattle.sv_web.specs.Work.{serving, surrounding};
 
 use crate::fault::Fault;
-use crate::kind::{FiltersOf, ListenersOf, ServletsOf};
+use crate::kind::{FilesOr, FiltersOf, ListenersOf, ServletsOf};
 use crate::objects::objects_of;
 use crate::purpose::Purpose;
+use crate::served::ServedFiles;
 use crate::table::{Empty, FilterTable, ListenerTable, ServletTable, With};
 use std::alloc::Global;
 use sv_config::{Context, Deployment};
 use sv_container::{Container, Named};
 use sv_model::Engine;
-use sv_servlet::{Answers, Listener, Surrounds};
+use sv_servlet::{Answers, Listener, Servlet, Surrounds};
 use sv_web::{HttpFilter, HttpServlet, Web};
 
 /// What a program of nodes serves by.
@@ -21,11 +22,12 @@ pub trait Applications {
     /// The descriptor that the program has built in, where it has one.
     fn built_in(&self) -> Option<&str>;
 
-    /// Starts the applications of a deployment for a purpose, and serves by them to the end.
+    /// Starts the applications of a deployment, with the files that it serves, for a purpose, and serves by them to the end.
     fn start<P: Purpose>(
         &self,
         alloc: Global,
         deployment: Deployment,
+        files: &[ServedFiles],
         purpose: P,
     ) -> Result<(), Fault>;
 }
@@ -194,35 +196,44 @@ struct Objects<S, F, L> {
 }
 
 impl<'a, S: ServletTable, F: FilterTable, L: ListenerTable> Application<'a, S, F, L> {
-    /// The objects that contexts declare, in order.
-    fn objects(
+    /// The objects that contexts declare, in order, and those that serve their files.
+    fn objects<'f>(
         &self,
         alloc: Global,
         contexts: &[Context],
-    ) -> Result<Objects<S::Servlet, F::Filter, L::Listener>, Fault>
-        ensures servlets { IfOk result (λ objects. AreNamedNew S.Servlet.servlet_phase objects.servlets.items) }
+        files: &'f [ServedFiles],
+    ) -> Result<Objects<FilesOr<'f, S::Servlet>, F::Filter, L::Listener>, Fault>
+        ensures servlets { IfOk result (λ objects. AreNamedNew ⟦<FilesOr<'f, S::Servlet> as Servlet>⟧.servlet_phase objects.servlets.items) }
         ensures filters { IfOk result (λ objects. AreNamedNew F.Filter.filter_phase objects.filters.items) }
     {
         Ok(Objects {
-            servlets: objects_of(alloc, &ServletsOf(self.servlets), contexts)?,
+            servlets: objects_of(
+                alloc,
+                &ServletsOf {
+                    table: self.servlets,
+                    files,
+                },
+                contexts,
+            )?,
             filters: objects_of(alloc, &FiltersOf(self.filters), contexts)?,
             listeners: objects_of(alloc, &ListenersOf(self.listeners), contexts)?,
         })
     }
 
     /// The container of a deployment, with the objects that it declares.
-    fn container(
+    fn container<'f>(
         &self,
         alloc: Global,
         deployment: Deployment,
-    ) -> Result<Container<S::Servlet, F::Filter, L::Listener>, Fault>
-        ensures { IfOk result (λ container. ⟦<Container<S::Servlet, F::Filter, L::Listener> as Engine>⟧.valid container) }
+        files: &'f [ServedFiles],
+    ) -> Result<Container<FilesOr<'f, S::Servlet>, F::Filter, L::Listener>, Fault>
+        ensures { IfOk result (λ container. ⟦<Container<FilesOr<'f, S::Servlet>, F::Filter, L::Listener> as Engine>⟧.valid container) }
     {
         let Objects {
             servlets,
             filters,
             listeners,
-        } = self.objects(alloc, deployment.contexts.as_slice())?;
+        } = self.objects(alloc, deployment.contexts.as_slice(), files)?;
         match Container::start(alloc, deployment, servlets, filters, listeners) {
             Ok(container) => Ok(container),
             Err(not_started) => Err(not_started.fault.into()),
@@ -240,9 +251,10 @@ impl<'a, S: ServletTable, F: FilterTable, L: ListenerTable> Applications
         &self,
         alloc: Global,
         deployment: Deployment,
+        files: &[ServedFiles],
         purpose: P,
     ) -> Result<(), Fault> {
-        let container = self.container(alloc, deployment)?;
+        let container = self.container(alloc, deployment, files)?;
         purpose.serve(alloc, container)
     }
 }

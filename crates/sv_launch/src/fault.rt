@@ -37,6 +37,8 @@ pub enum Fault {
     LimitExceeded,
     /// Status 3: the descriptor names an object that the program hasn't got.
     MissingObject,
+    /// Status 3: a file that the descriptor has a context serve can't be, as a line says that names it.
+    NotServed,
     /// Status 3: an object was made that the descriptor doesn't name.
     ExtraObject,
     /// Status 3: the descriptor gives no ports to the nodes of a cluster.
@@ -91,6 +93,7 @@ impl Fault {
             Fault::Duplicate => "Duplicate",
             Fault::LimitExceeded => "LimitExceeded",
             Fault::MissingObject => "MissingObject",
+            Fault::NotServed => "NotServed",
             Fault::ExtraObject => "ExtraObject",
             Fault::Ports => "Ports",
             Fault::SameFile(_) => "SameFile",

@@ -49,7 +49,7 @@ fn add_objects<K: Kind>(
         × IsTrue (list_any is_missing (looked_up (K.named kind.now) context (map string_bytes names.now)))) }
 {
     for name in names {
-        let Some(object) = kind.object(alloc, name.as_str())? else {
+        let Some(object) = kind.object(alloc, context, name.as_str())? else {
             return Err(Fault::MissingObject);
         };
         let name = String::from_str(alloc, name.as_str())?;

@@ -6,6 +6,8 @@ use crate::failure::log_failure;
 use crate::fault::Fault;
 use crate::files::refuse_shared;
 use crate::purpose::{Running, Stream};
+use crate::reading::{ReadFault, read_served};
+use crate::served::ServedFiles;
 use crate::sums::summed;
 use crate::words::{Greetings, NodeWords, Words, read_words};
 use std::io::ErrorKind;
@@ -29,6 +31,22 @@ pub fn words_of(rt: &HostRuntime) -> Result<Vec<String>, Fault> {
     Ok(words)
 }
 
+/// The files that the contexts of a descriptor at a path serve. Of those that can't be served the first is a line on standard error.
+fn files_of(
+    rt: &HostRuntime,
+    config: &str,
+    deployment: &Deployment,
+) -> Result<Vec<ServedFiles>, Fault> {
+    match read_served(rt, config, deployment.contexts.as_slice()) {
+        Ok(files) => Ok(files),
+        Err(ReadFault::Memory) => Err(Fault::Memory),
+        Err(ReadFault::NotServed(file)) => {
+            let _ = eprintln!(rt; "{file}");
+            Err(Fault::NotServed)
+        }
+    }
+}
+
 /// Serves standard input to its end by the descriptor at a path, all of it at `now` in whole seconds since 1970.
 fn serve_input<A: Applications>(
     applications: &A,
@@ -37,11 +55,13 @@ fn serve_input<A: Applications>(
     now: u64,
 ) -> Result<(), Fault> {
     let deployment = read_config(rt, applications.built_in(), config)?;
+    let files = files_of(rt, config, &deployment)?;
     let mut reader = rt.reader();
     let mut writer = io::writer(rt);
     applications.start(
         rt.alloc(),
         deployment,
+        files.as_slice(),
         Stream {
             now,
             reader: &mut reader,
@@ -54,12 +74,13 @@ fn serve_input<A: Applications>(
 fn place_of(
     machine: &HostRuntime,
     deployment: &Deployment,
+    files: &[ServedFiles],
     node: &NodeWords<'_>,
 ) -> Result<Place, Fault> {
     let place = Place::new(machine.alloc(), &deployment.cluster, node.number)?;
     let place = place.naming(node.options.naming);
     Ok(match node.options.greetings {
-        Greetings::On => place.greeting(summed(&deployment.contexts)),
+        Greetings::On => place.greeting(summed(&deployment.contexts, files)),
         Greetings::Off => place,
     })
 }
@@ -73,14 +94,15 @@ fn serve_in_cluster<A: Applications>(
     refuse_shared(machine, node, None)?;
     let deployment = read_config(machine, applications.built_in(), node.config)?;
     refuse_shared(machine, node, deployment.cluster.secrets.as_deref())?;
-    let place = place_of(machine, &deployment, node)?;
+    let files = files_of(machine, node.config, &deployment)?;
+    let place = place_of(machine, &deployment, files.as_slice(), node)?;
     let running = Running {
         machine,
         place,
         persistence: node.options.persistence,
         paths: node.paths(),
     };
-    applications.start(machine.alloc(), deployment, running)
+    applications.start(machine.alloc(), deployment, files.as_slice(), running)
 }
 
 /// The same; why it ends otherwise than by a command is the last line of its log, where it has one.

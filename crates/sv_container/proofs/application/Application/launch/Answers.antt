@@ -13,11 +13,12 @@ returns-clause-sound g c = record {
     filters = all_keep g.F.Filter.filtering g.F.Filter.filter_phase FilterKeeps _ _ c.init_filters.ensures;
   };
   serving = λ h.
-      let s = serving_of _ _ _ _ _ (sym c.can_serve-self.ensures ∙ h) in
+      let s = serving_of _ _ _ _ _ _ (sym c.can_serve-self.ensures ∙ h) in
       record {
         number = s.numbered;
         path = s.sendable;
-        filters = filters_serving g.F.Filter.filtering g.F.Filter.filter_phase _ _ _ _ (all_launched g.F.Filter.filtering g.F.Filter.filter_phase FilterKeeps _ _ c.init_filters.ensures) (sym c.can_serve-self.ensures ∙ h);
+        name = s.nameable;
+        filters = filters_serving g.F.Filter.filtering g.F.Filter.filter_phase _ _ _ _ _ (all_launched g.F.Filter.filtering g.F.Filter.filter_phase FilterKeeps _ _ c.init_filters.ensures) (sym c.can_serve-self.ensures ∙ h);
       };
 }
 
@@ -28,4 +29,4 @@ returns-clause-plan g c = rw (
 ) refl
 
 pub returns-clause-service : goal.returns-clause-service
-returns-clause-service g c = c.can_serve-self.ensures ∙ able_by_rows g.F.Filter.filtering g.F.Filter.filter_phase _ _ _ _
+returns-clause-service g c = c.can_serve-self.ensures ∙ able_by_rows g.F.Filter.filtering g.F.Filter.filter_phase _ _ _ _ _

@@ -1,18 +1,40 @@
+use Rattle.std.proofs.Common.{◌∙◌, ap, None, Some, option_map}
 use Rattle.std.proofs.lemmas.Result.{IfOk-weaker}
+use Rattle.sv_target.specs.SessionCookie.{session_cookie}
+use Rattle.sv_container.specs.Admission.{admission}
 use Rattle.sv_container.specs.Application.{App, app_of}
-use Rattle.sv_container.proofs.ServeLemmas.{edited_is_of, served_by_parts}
+use Rattle.sv_container.specs.Recalling.{refused}
+use Rattle.sv_container.specs.Serving.{unserved}
+use Rattle.sv_container.specs.declared.admission.Admission.{Admission}
+use Rattle.sv_container.specs.declared.recall.Refusal.TheVariants.{Full}
+use Rattle.sv_container.proofs.ServeLemmas.{edited_is_of, served_apart_by}
 use Rattle.sv_container.proofs.application.Application.serve_new.Goals as goal
 
-pub returns-clause-outcome : goal.returns-clause-outcome
-returns-clause-outcome g c =
+pub returns-then-branch-clause-outcome : goal.returns-then-branch-clause-outcome
+returns-then-branch-clause-outcome g c =
     let before : App = app_of g.S.Servlet.serves g.S.Servlet.servlet_phase g.F.Filter.filtering g.F.Filter.filter_phase c.args.self.now in
     let behind : App = app_of g.S.Servlet.serves g.S.Servlet.servlet_phase g.F.Filter.filtering g.F.Filter.filter_phase c.answer.new.self in
     let edited = edited_is_of c.finish-edited.result c.in_ok-response.edit c.finish-edited.ensures.fate c.finish-edited.ensures.birth
     c.finish-edited.ensures.id_changed c.finish-edited.ensures.events in
-    IfOk-weaker c.outcome.result _ _
-    (λ o is. served_by_parts before behind c.args.request.now c.args.path.now c.args.admission c.args.now c.args.fresh c.arrival-arrival.result
-    c.into_parts-expired.result.0 c.into_parts-expired.result.1 c.bared-held.result.0 c.is_some.result c.bared-held.result.1 c.begin-edit.result
-    c.in_ok-response.edit c.in_ok-response.response c.finish-edited.result o c.answer.ensures.same c.arrival-arrival.ensures
-    c.into_parts-expired.ensures.expired c.into_parts-expired.ensures.held c.is_some.ensures c.bared-held.ensures.held c.bared-held.ensures.memory
-    c.begin-edit.ensures c.in_ok-response.ensures.answer edited is)
-    c.outcome.ensures
+    IfOk-weaker c.plain_outcome.result _ _
+    (λ o is. served_apart_by before behind c.args.request.now c.args.path.now c.args.arrival c.args.admission c.args.memory _ c.args.now c.args.fresh
+    c.into_parts-expired.result.0 c.into_parts-expired.result.1 c.begin-edit.result c.in_ok-response.edit c.in_ok-response.response c.finish-edited.result
+    (Some c.remember.new.edited) o c.answer.ensures.same c.into_parts-expired.ensures.expired c.into_parts-expired.ensures.held c.begin-edit.ensures
+    c.in_ok-response.ensures.answer edited (c.in_ok-remember.ensures.kept c.if-branch.true) is)
+    c.plain_outcome.ensures
+
+pub returns-else-branch-clause-outcome : goal.returns-else-branch-clause-outcome
+returns-else-branch-clause-outcome g c =
+    let before : App = app_of g.S.Servlet.serves g.S.Servlet.servlet_phase g.F.Filter.filtering g.F.Filter.filter_phase c.args.self.now in
+    let behind : App = app_of g.S.Servlet.serves g.S.Servlet.servlet_phase g.F.Filter.filtering g.F.Filter.filter_phase c.answer.new.self in
+    let edited = edited_is_of c.finish-edited.result c.in_ok-response.edit c.finish-edited.ensures.fate c.finish-edited.ensures.birth
+    c.finish-edited.ensures.id_changed c.finish-edited.ensures.events in
+    let joined_at : App → Admission =
+    λ a. admission a.once a.number c.args.request.now (session_cookie a.cookie.name c.args.request.now.cookies a.number) (option_map (λ s. (s.0, s.1.now)) c.args.handed) c.args.now in
+    IfOk-weaker c.unserved_full.result _ _
+    (λ o is. served_apart_by before behind c.args.request.now c.args.path.now c.args.arrival c.args.admission c.args.memory (joined_at before) c.args.now c.args.fresh
+    c.into_parts-expired.result.0 c.into_parts-expired.result.1 c.begin-edit.result c.in_ok-response.edit c.in_ok-response.response c.finish-edited.result
+    None o c.answer.ensures.same c.into_parts-expired.ensures.expired c.into_parts-expired.ensures.held c.begin-edit.ensures
+    c.in_ok-response.ensures.answer edited (c.in_ok-remember.ensures.full c.if-branch.false)
+    (is ∙ ap (λ (a : App). unserved behind (joined_at a) (refused Full c.args.request.now)) c.answer.ensures.same))
+    c.unserved_full.ensures

@@ -1,0 +1,8 @@
+use Rattle.std.proofs.Common.{◌≡◌, map, drop}
+use Rattle.std.specs.List.{list_all}
+use Rattle.sv_config.specs.Spelling.{is_file_segment}
+use Rattle.sv_config.proofs.spelling.are_file_segments.Given as goal
+
+abbrev pub invariant-loop-segment : goal.invariant-loop-segment
+invariant-loop-segment l =
+    list_all is_file_segment (map (λ segment. segment.now) l.segments) ≡ list_all is_file_segment (map (λ segment. segment.now) (drop l.segment-index l.segments))
