@@ -1,4 +1,4 @@
-use Rattle.std.proofs.Common.{◌≡◌, ℕ, ◌<◌, ◌≤◌, ◌+◌, suc, List, [], ◌∷◌, ◌++◌, length, get_or, drop, arith, sym, ◌∙◌, ap, refl, add-one, drop-cons, append_assoc, append-nil, ◌≢◌, All, Some, subst}
+use Rattle.std.proofs.Common.{◌≡◌, ℕ, ◌<◌, ◌≤◌, ◌+◌, suc, List, [], ◌∷◌, ◌++◌, length, get_or, drop, arith, sym, ◌∙◌, ap, refl, add-one, drop-cons, append_assoc, append-nil, true, false, All, Some, subst}
 use Rattle.std.proofs.lemmas.List.Elements.{All-pop}
 use Rattle.std.proofs.lemmas.List.{drop_all}
 use Rattle.sv_servlet.specs.Servlet.{Serves, Lent}
@@ -6,42 +6,41 @@ use Rattle.sv_servlet.specs.Filter.{Filters, verdict}
 use Rattle.sv_dispatch.specs.Rows.{Row, IsReadyAt, before_at, after_at}
 use Rattle.sv_servlet.specs.Call.{Asked}
 use Rattle.sv_servlet.specs.declared.filter.Before.{Before}
-use Rattle.sv_servlet.specs.declared.filter.Before.TheVariants.{Pass, Stop, SendError, Fault}
-use Rattle.sv_dispatch.specs.Dispatching.{Table, Begun, begun, befores, afters}
+use Rattle.sv_servlet.specs.declared.filter.Before.TheVariants.{Pass}
+use Rattle.sv_dispatch.specs.Dispatching.{Table, Begun, begun, befores, afters, passes, shown_behind}
+use Rattle.sv_dispatch.specs.Sight.{Sight, call_of}
 
 -- the filters before, and then what follows
 abbrev pub joined : List ℕ → Begun → Begun
-joined ps b = begun (ps ++ b.passed) b.before b.lent
+joined ps b = begun (ps ++ b.passed) b.view b.before b.lent
 
 -- the filter at hand passed
-pub befores_pass : (gs fs : List (Row Filters)) (ks : List ℕ) (i k d : ℕ) (call : Asked) (l m : Lent) (b : Before) (ps qs : List ℕ) (total : Begun) →
-    gs ≡ fs → i < length ks → k ≡ get_or ks i d → b ≡ Pass → verdict m b ≡ before_at gs k call l → qs ≡ ps ++ k ∷ [] →
-    joined ps (befores fs (drop i ks) call l) ≡ total → joined qs (befores fs (drop (i + 1) ks) call m) ≡ total
+pub befores_pass : (gs fs : List (Row Filters)) (ks : List ℕ) (i k d : ℕ) (call : Asked) (s z : Sight) (l m : Lent) (b : Before) (ps qs : List ℕ) (total : Begun) →
+    gs ≡ fs → i < length ks → k ≡ get_or ks i d → passes b ≡ true → call ≡ call_of s 0 → z ≡ shown_behind s b → verdict m b ≡ before_at gs k call l → qs ≡ ps ++ k ∷ [] →
+    joined ps (befores fs (drop i ks) s l) ≡ total → joined qs (befores fs (drop (i + 1) ks) z m) ≡ total
 unfolding befores
-befores_pass gs fs ks i k d call l m b ps qs total g h e p v q t =
-    let v' : verdict m Pass ≡ before_at fs k call l = ap (verdict m) (sym p) ∙ (v ∙ ap (λ (us : List (Row Filters)). before_at us k call l) g) in
-    rw (q, append_assoc, add-one) (rw (drop-cons ks i d h, ← e, ← v') at t)
+befores_pass gs fs ks i k d call s z l m b ps qs total g h e p c w v q t =
+    let v' : verdict m b ≡ before_at fs k (call_of s 0) l = v ∙ ap (λ (us : List (Row Filters)). before_at us k call l) g ∙ ap (λ (x : Asked). before_at fs k x l) c in
+    rw (q, w, append_assoc, add-one) (rw (drop-cons ks i d h, ← e, ← v', p) at t)
 
-stopped : (fs : List (Row Filters)) (ks : List ℕ) (k : ℕ) (call : Asked) (l m : Lent) (b : Before) (ps : List ℕ) (total : Begun) →
-    verdict m b ≡ before_at fs k call l → b ≢ Pass → joined ps (befores fs (k ∷ ks) call l) ≡ total → begun ps b m ≡ total
+stopped : (fs : List (Row Filters)) (ks : List ℕ) (k : ℕ) (s : Sight) (l m : Lent) (b : Before) (ps : List ℕ) (total : Begun) →
+    verdict m b ≡ before_at fs k (call_of s 0) l → passes b ≡ false → joined ps (befores fs (k ∷ ks) s l) ≡ total → begun ps s b m ≡ total
 unfolding befores
-stopped fs ks k call l m Pass ps total v n t = absurd (n refl)
-stopped fs ks k call l m Stop ps total v n t = rw append-nil at (rw (← v) at t)
-stopped fs ks k call l m (SendError code text) ps total v n t = rw append-nil at (rw (← v) at t)
-stopped fs ks k call l m (Fault name) ps total v n t = rw append-nil at (rw (← v) at t)
+stopped fs ks k s l m b ps total v p t = rw append-nil at (rw (← v, p) at t)
 
 -- the filter at hand did not
-pub befores_stop : (gs fs : List (Row Filters)) (ks : List ℕ) (i k d : ℕ) (call : Asked) (l m : Lent) (b : Before) (ps : List ℕ) (total : Begun) →
-    gs ≡ fs → i < length ks → k ≡ get_or ks i d → verdict m b ≡ before_at gs k call l → b ≢ Pass →
-    joined ps (befores fs (drop i ks) call l) ≡ total → begun ps b m ≡ total
-befores_stop gs fs ks i k d call l m b ps total g h e v n t =
-    stopped fs (drop (suc i) ks) k call l m b ps total (v ∙ ap (λ (us : List (Row Filters)). before_at us k call l) g) n (rw (drop-cons ks i d h, ← e) at t)
+pub befores_stop : (gs fs : List (Row Filters)) (ks : List ℕ) (i k d : ℕ) (call : Asked) (s : Sight) (l m : Lent) (b : Before) (ps : List ℕ) (total : Begun) →
+    gs ≡ fs → i < length ks → k ≡ get_or ks i d → passes b ≡ false → call ≡ call_of s 0 → verdict m b ≡ before_at gs k call l →
+    joined ps (befores fs (drop i ks) s l) ≡ total → begun ps s b m ≡ total
+befores_stop gs fs ks i k d call s l m b ps total g h e p c v t =
+    let v' : verdict m b ≡ before_at fs k (call_of s 0) l = v ∙ ap (λ (us : List (Row Filters)). before_at us k call l) g ∙ ap (λ (x : Asked). before_at fs k x l) c in
+    stopped fs (drop (suc i) ks) k s l m b ps total v' p (rw (drop-cons ks i d h, ← e) at t)
 
 -- no filter is left
-pub befores_end : (fs : List (Row Filters)) (ks : List ℕ) (i : ℕ) (call : Asked) (l : Lent) (ps : List ℕ) (total : Begun) →
-    length ks ≤ i → joined ps (befores fs (drop i ks) call l) ≡ total → begun ps Pass l ≡ total
+pub befores_end : (fs : List (Row Filters)) (ks : List ℕ) (i : ℕ) (s : Sight) (l : Lent) (ps : List ℕ) (total : Begun) →
+    length ks ≤ i → joined ps (befores fs (drop i ks) s l) ≡ total → begun ps s Pass l ≡ total
 unfolding befores
-befores_end fs ks i call l ps total h t = rw append-nil at (rw (drop_all i ks h) at t)
+befores_end fs ks i s l ps total h t = rw append-nil at (rw (drop_all i ks h) at t)
 
 -- one more filter at the end
 pub afters_last : (fs : List (Row Filters)) (ks : List ℕ) (k : ℕ) (call : Asked) (l : Lent) → afters fs (ks ++ k ∷ []) call l ≡ afters fs ks call (after_at fs k call l)

@@ -7,13 +7,13 @@ use Rattle.sv_mapping.specs.declared.dispatcher.Dispatcher.TheVariants.{Request,
 use Rattle.sv_session.proofs.EditLemmas.{KeepsEdit-refl}
 use Rattle.sv_servlet.proofs.KeepsLemmas.{KeepsLent-refl, KeepsLent-trans, cleared_keeps}
 use Rattle.sv_servlet.specs.Call.{Asked}
-use Rattle.sv_servlet.specs.Filter.{Filters, FilterKeeps}
+use Rattle.sv_servlet.specs.Filter.{Filters, FilterKeeps, Verdict}
 use Rattle.sv_servlet.specs.Servlet.{KeepsLent, Lent, Serves}
 use Rattle.sv_servlet.specs.declared.filter.Before.{Before}
-use Rattle.sv_servlet.specs.declared.filter.Before.TheVariants.{Pass, Stop, SendError as RefuseBy, Fault as RefuseFor}
+use Rattle.sv_servlet.specs.declared.filter.Before.TheVariants.{Pass, PassWith, Stop, SendError as RefuseBy, Fault as RefuseFor}
 use Rattle.sv_servlet.specs.declared.servlet.Next.{Next}
 use Rattle.sv_servlet.specs.declared.servlet.Next.TheVariants.{Done, Forward, Include, SendError, Fault}
-use Rattle.sv_dispatch.specs.Dispatching.{Begun, Outcome, Table, afters, answered, ask, befores, begun_after, begun_by, chain_of, closed, closed_by, dispatched, emptied, entered, holding, let_go, performed, placed, resumed, resumed_by, serving, visit_at, visit_by, visit_of, visit_to}
+use Rattle.sv_dispatch.specs.Dispatching.{Begun, Outcome, Table, afters, answered, ask, befores, begun, begun_by, chain_of, closed, closed_by, dispatched, emptied, entered, holding, let_go, passes, performed, placed, resumed, resumed_by, serving, showing, shown_behind, visit_at, visit_by, visit_of, visit_to}
 use Rattle.sv_dispatch.specs.Keeping.{ServletKeeps, TableKeeps, dispatch_keeps, includes_by, is_below_include}
 use Rattle.sv_dispatch.specs.Place.{place_of}
 use Rattle.sv_dispatch.specs.Rows.{Row, after_at, after_by, before_at, before_by, labels_of_rows, ready_at, served, served_by}
@@ -46,11 +46,10 @@ after_by_keeps : (found : Option (Row Filters)) (call : Asked) (l : Lent) → If
 after_by_keeps None call l h = KeepsLent-refl l
 after_by_keeps (Some r) call l h = h.after call l
 
-begun_after_keeps : (k : ℕ) (l m : Lent) (rest : Begun) (b : Before) → KeepsLent l m → KeepsLent m rest.lent → KeepsLent l (begun_after k m rest b).lent
-begun_after_keeps k l m rest Pass h more = KeepsLent-trans l m rest.lent h more
-begun_after_keeps k l m rest Stop h more = h
-begun_after_keeps k l m rest (RefuseBy code text) h more = h
-begun_after_keeps k l m rest (RefuseFor name) h more = h
+begun_after_keeps : (k : ℕ) (s : Sight) (l m : Lent) (rest : Begun) (b : Before) (p : Bool) → KeepsLent l m → KeepsLent m rest.lent
+    → KeepsLent l (cond p (begun (k ∷ rest.passed) rest.view rest.before rest.lent) (begun [] s b m)).lent
+begun_after_keeps k s l m rest b true h more = KeepsLent-trans l m rest.lent h more
+begun_after_keeps k s l m rest b false h more = h
 
 closed_by_keeps : (fs : List (Row Filters)) (ps : List ℕ) (call : Asked) (l : Lent) (o : Outcome) (ended : Ending) → KeepsLent l o.lent → KeepsLent o.lent (afters fs ps call o.lent)
     → KeepsLent l (closed_by fs ps call o ended).lent
@@ -75,6 +74,28 @@ resumed_by_keeps again l r o Finished h more = KeepsLent-trans l o.lent (again r
 resumed_by_keeps again l r o (Failed code text) h more = KeepsLent-trans l o.lent (again r o.left o.lent).lent h more
 resumed_by_keeps again l r o (Faulted name) h more = h
 resumed_by_keeps again l r o Abandoned h more = h
+
+-- ---- what a dispatch shows behind its filters
+
+shown_included : (s : Sight) (b : Before) → (shown_behind s b).is_included ≡ s.is_included
+shown_included s Pass = refl
+shown_included s (PassWith name value) = refl
+shown_included s Stop = refl
+shown_included s (RefuseBy code text) = refl
+shown_included s (RefuseFor name) = refl
+
+begun_included : (k : ℕ) (s : Sight) (m : Lent) (rest : Begun) (b : Before) (p : Bool) → rest.view.is_included ≡ s.is_included
+    → (cond p (begun (k ∷ rest.passed) rest.view rest.before rest.lent) (begun [] s b m)).view.is_included ≡ s.is_included
+begun_included k s m rest b true same = same
+begun_included k s m rest b false same = refl
+
+befores_included : (fs : List (Row Filters)) (ks : List ℕ) (s : Sight) (l : Lent) → (befores fs ks s l).view.is_included ≡ s.is_included
+unfolding befores
+befores_included fs [] s l = refl
+befores_included fs (k ∷ ks) s l =
+    let v : Verdict = before_at fs k (call_of s 0) l in
+    begun_included k s v.lent (befores fs ks (shown_behind s v.before) v.lent) v.before (passes v.before)
+    (befores_included fs ks (shown_behind s v.before) v.lent ∙ shown_included s v.before)
 
 -- ---- what a visit shows
 
@@ -126,12 +147,13 @@ module _ (t : Table) (keeps : TableKeeps t) where
   unfolding after_at
   after_keeps k call l = after_by_keeps (slice_get t.filters k) call l (there (λ r. FilterKeeps r.meaning) t.filters k (slice_get t.filters k) refl keeps.filters)
 
-  befores_keep : (ks : List ℕ) (call : Asked) (l : Lent) → KeepsLent l (befores t.filters ks call l).lent
+  befores_keep : (ks : List ℕ) (s : Sight) (l : Lent) → KeepsLent l (befores t.filters ks s l).lent
   unfolding befores
-  befores_keep [] call l = KeepsLent-refl l
-  befores_keep (k ∷ ks) call l =
-      begun_after_keeps k l (before_at t.filters k call l).lent (befores t.filters ks call (before_at t.filters k call l).lent) (before_at t.filters k call l).before
-      (before_keeps k call l) (befores_keep ks call (before_at t.filters k call l).lent)
+  befores_keep [] s l = KeepsLent-refl l
+  befores_keep (k ∷ ks) s l =
+      let v : Verdict = before_at t.filters k (call_of s 0) l in
+      begun_after_keeps k s l v.lent (befores t.filters ks (shown_behind s v.before) v.lent) v.before (passes v.before)
+      (before_keeps k (call_of s 0) l) (befores_keep ks (shown_behind s v.before) v.lent)
 
   afters_keep : (ks : List ℕ) (call : Asked) (l : Lent) → KeepsLent l (afters t.filters ks call l)
   unfolding afters
@@ -174,6 +196,7 @@ module _ (t : Table) (keeps : TableKeeps t) where
 
     begun_by_keeps : (v : Visit) (left : ℕ) (l : Lent) (b : Before) → l.reply.is_held ≡ v.view.is_included → KeepsLent l (begun_by inner t.servlets v left l b).lent
     begun_by_keeps v left l Pass is = placed_keeps v.view left l (ready_at (labels_of_rows t.servlets) v.servlet) is
+    begun_by_keeps v left l (PassWith name value) is = placed_keeps v.view left l (ready_at (labels_of_rows t.servlets) v.servlet) is
     begun_by_keeps v left l Stop is = KeepsLent-refl l
     begun_by_keeps v left l (RefuseBy code text) is = KeepsLent-refl l
     begun_by_keeps v left l (RefuseFor name) is = KeepsLent-refl l
@@ -181,10 +204,12 @@ module _ (t : Table) (keeps : TableKeeps t) where
     performed_keeps : (v : Visit) (left : ℕ) (l : Lent) → l.reply.is_held ≡ v.view.is_included → KeepsLent l (performed t inner v left l).lent
     unfolding performed
     performed_keeps v left l is =
-        let b : Begun = befores t.filters (chain_of t v) (call_of v.view 0) l in
-        let first : KeepsLent l b.lent = befores_keep (chain_of t v) (call_of v.view 0) l in
-        closed_keeps b.passed (call_of v.view 0) l (begun_by inner t.servlets v left b.lent b.before)
-        (KeepsLent-trans l b.lent (begun_by inner t.servlets v left b.lent b.before).lent first (begun_by_keeps v left b.lent b.before (first.reply.hold ∙ is)))
+        let b : Begun = befores t.filters (chain_of t v) v.view l in
+        let o : Outcome = begun_by inner t.servlets (showing b.view v) left b.lent b.before in
+        let first : KeepsLent l b.lent = befores_keep (chain_of t v) v.view l in
+        closed_keeps b.passed (call_of b.view 0) l o
+        (KeepsLent-trans l b.lent o.lent first
+        (begun_by_keeps (showing b.view v) left b.lent b.before (first.reply.hold ∙ is ∙ sym (befores_included t.filters (chain_of t v) v.view l))))
 
     entered_keeps : (a : Ask) (left : ℕ) (l : Lent) (found : Option Visit) → IfSome found (λ v. v.view.is_included ≡ is_below_include a) → l.reply.is_held ≡ is_below_include a
         → KeepsLent l (entered t inner left l found).lent

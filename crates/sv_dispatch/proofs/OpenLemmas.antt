@@ -1,14 +1,14 @@
 -- The filters before a servlet, and the servlet that is found.
-use Rattle.std.proofs.Common.{◌≡◌, ◌≢◌, ℕ, suc, List, [], ◌∷◌, arith, sym, ◌∙◌, ap, refl, Some, None, Option, Result, Ok, Err, IfOk, subst, All}
+use Rattle.std.proofs.Common.{◌≡◌, ◌≢◌, ℕ, suc, Bool, true, false, cond, List, [], ◌∷◌, arith, sym, ◌∙◌, ap, refl, Some, None, Option, Result, Ok, Err, IfOk, subst, All}
 use Rattle.std.proofs.lemmas.List.Elements.{All-cons, All-nil}
 use Rattle.sv_servlet.specs.Call.{Asked}
 use Rattle.sv_servlet.specs.Filter.{Filters}
 use Rattle.sv_servlet.specs.Servlet.{Lent}
 use Rattle.sv_servlet.specs.declared.filter.Before.{Before}
-use Rattle.sv_servlet.specs.declared.filter.Before.TheVariants.{Pass, Stop, SendError, Fault}
-use Rattle.sv_dispatch.specs.Dispatching.{Table, Outcome, outcome, Begun, begun, befores, afters, begun_after, begun_by, chain_of, closed, dispatched, found_or_sent, performed, placed, serving, entered, bad_path, to_serve, visit_of}
+use Rattle.sv_servlet.specs.declared.filter.Before.TheVariants.{Pass, PassWith, Stop, SendError, Fault}
+use Rattle.sv_dispatch.specs.Dispatching.{Table, Outcome, outcome, Begun, begun, befores, afters, begun_by, chain_of, closed, dispatched, found_or_sent, performed, placed, serving, showing, entered, bad_path, to_serve, visit_of}
 use Rattle.sv_dispatch.specs.Rows.{Row, IsReadyAt, labels_of_rows, ready_at}
-use Rattle.sv_dispatch.specs.Sight.{call_of}
+use Rattle.sv_dispatch.specs.Sight.{Sight, call_of}
 use Rattle.sv_dispatch.specs.Stack.{opened, IsOpen}
 use Rattle.sv_dispatch.specs.Stages.{IsSound}
 use Rattle.sv_dispatch.proofs.SoundLemmas.{chain_all, servlet_ready}
@@ -32,14 +32,14 @@ pub closed_seen : (fs : List (Row Filters)) (ps : List ℕ) (seen call : Asked) 
 closed_seen fs ps seen call ended l m k e s = closed_kept fs ps call ended l m k (e ∙ ap (λ (x : Asked). afters fs ps x l) s)
 
 abbrev pub began : Table → Visit → Lent → Begun
-began t v l = befores t.filters (chain_of t v) (call_of v.view 0) l
+began t v l = befores t.filters (chain_of t v) v.view l
 
 -- a dispatch by what its filters gave
-performed_by : (t : Table) (e : ℕ) (v : Visit) (left : ℕ) (l m : Lent) (ps : List ℕ) (b : Before) → begun ps b m ≡ began t v l →
-    closed t.filters ps (call_of v.view 0) (begun_by (dispatched t e) t.servlets v left m b) ≡ performed t (dispatched t e) v left l
+performed_by : (t : Table) (e : ℕ) (v : Visit) (s : Sight) (left : ℕ) (l m : Lent) (ps : List ℕ) (b : Before) → begun ps s b m ≡ began t v l →
+    closed t.filters ps (call_of s 0) (begun_by (dispatched t e) t.servlets (showing s v) left m b) ≡ performed t (dispatched t e) v left l
 unfolding performed
-performed_by t e v left l m ps b h =
-    ap (λ (g : Begun). closed t.filters g.passed (call_of v.view 0) (begun_by (dispatched t e) t.servlets v left g.lent g.before)) h
+performed_by t e v s left l m ps b h =
+    ap (λ (g : Begun). closed t.filters g.passed (call_of g.view 0) (begun_by (dispatched t e) t.servlets (showing g.view v) left g.lent g.before)) h
 
 -- a dispatch from its servlet on, or its end without one
 abbrev continued : Table → ℕ → Visit → ℕ → Lent → Result ℕ Ending → Outcome
@@ -52,27 +52,31 @@ placed_on t e v left m (Some k) = refl
 
 begun_on : (t : Table) (e : ℕ) (v : Visit) (left : ℕ) (m : Lent) (b : Before) → begun_by (dispatched t e) t.servlets v left m b ≡ continued t e v left m (to_serve t.servlets v b)
 begun_on t e v left m Pass = placed_on t e v left m (ready_at (labels_of_rows t.servlets) v.servlet)
+begun_on t e v left m (PassWith name value) = placed_on t e v left m (ready_at (labels_of_rows t.servlets) v.servlet)
 begun_on t e v left m Stop = refl
 begun_on t e v left m (SendError code text) = refl
 begun_on t e v left m (Fault name) = refl
 
 -- what follows the filters
-opens_on : (t u : Table) (e : ℕ) (v : Visit) (left : ℕ) (l m : Lent) (ps : List ℕ) (b : Before) (r : Result ℕ Ending) → begun ps b m ≡ began t v l → u ≡ t → r ≡ to_serve u.servlets v b →
-    closed t.filters ps (call_of v.view 0) (continued t e v left m r) ≡ performed t (dispatched t e) v left l
-opens_on t u e v left l m ps b r h w q =
-    ap (closed t.filters ps (call_of v.view 0)) (ap (continued t e v left m) (q ∙ ap (λ (x : Table). to_serve x.servlets v b) w) ∙ sym (begun_on t e v left m b)) ∙ performed_by t e v left l m ps b h
+opens_on : (t u : Table) (e : ℕ) (v : Visit) (s : Sight) (left : ℕ) (l m : Lent) (ps : List ℕ) (b : Before) (r : Result ℕ Ending) → begun ps s b m ≡ began t v l → u ≡ t
+    → r ≡ to_serve u.servlets (showing s v) b → closed t.filters ps (call_of s 0) (continued t e (showing s v) left m r) ≡ performed t (dispatched t e) v left l
+opens_on t u e v s left l m ps b r h w q =
+    ap (closed t.filters ps (call_of s 0))
+    (ap (continued t e (showing s v) left m) (q ∙ ap (λ (x : Table). to_serve x.servlets (showing s v) b) w) ∙ sym (begun_on t e (showing s v) left m b)) ∙ performed_by t e v s left l m ps b h
 
--- there is a servlet
-pub opens_at : (t u : Table) (e : ℕ) (v : Visit) (left : ℕ) (l m : Lent) (b : Before) (o : Open) → begun o.passed.items b m ≡ began t v l → o.view ≡ v.view → o.resume ≡ 0 → u ≡ t → Ok o.servlet ≡ to_serve u.servlets v b →
-    opened t e o left m ≡ performed t (dispatched t e) v left l
+-- there is a servlet; `n` is the dispatch that shows what its filters have set
+pub opens_at : (t u : Table) (e : ℕ) (v n : Visit) (left : ℕ) (l m : Lent) (b : Before) (o : Open) → begun o.passed.items n.view b m ≡ began t v l → n ≡ showing n.view v
+    → o.view ≡ n.view → o.resume ≡ 0 → u ≡ t → Ok o.servlet ≡ to_serve u.servlets n b → opened t e o left m ≡ performed t (dispatched t e) v left l
 unfolding opened
-opens_at t u e v left l m b o h w r x q = rw (w, r) (opens_on t u e v left l m o.passed.items b (Ok o.servlet) h x q)
+opens_at t u e v n left l m b o h shows w r x q =
+    rw (w, r) (opens_on t u e v n.view left l m o.passed.items b (Ok o.servlet) h x (q ∙ ap (λ (y : Visit). to_serve u.servlets y b) shows))
 
 -- or there is none to be called
-pub opens_not : (t u : Table) (e : ℕ) (v : Visit) (left : ℕ) (l m : Lent) (ps : List ℕ) (b : Before) (ended : Ending) → begun ps b m ≡ began t v l → u ≡ t → Err ended ≡ to_serve u.servlets v b →
-    closed u.filters ps (call_of v.view 0) (outcome ended left m) ≡ performed t (dispatched t e) v left l
-opens_not t u e v left l m ps b ended h w q =
-    ap (λ (x : Table). closed x.filters ps (call_of v.view 0) (outcome ended left m)) w ∙ opens_on t u e v left l m ps b (Err ended) h w q
+pub opens_not : (t u : Table) (e : ℕ) (v n : Visit) (left : ℕ) (l m : Lent) (ps : List ℕ) (b : Before) (ended : Ending) → begun ps n.view b m ≡ began t v l → n ≡ showing n.view v
+    → u ≡ t → Err ended ≡ to_serve u.servlets n b → closed u.filters ps (call_of n.view 0) (outcome ended left m) ≡ performed t (dispatched t e) v left l
+opens_not t u e v n left l m ps b ended h shows w q =
+    ap (λ (x : Table). closed x.filters ps (call_of n.view 0) (outcome ended left m)) w
+    ∙ opens_on t u e v n.view left l m ps b (Err ended) h w (q ∙ ap (λ (y : Visit). to_serve u.servlets y b) shows)
 
 -- the path of a dispatch was read, or refused
 pub enters : (t : Table) (e : ℕ) (a : Ask) (v : Visit) (left : ℕ) (l : Lent) → Some v ≡ visit_of t a → performed t (dispatched t e) v left l ≡ dispatched t (suc e) a left l
@@ -83,23 +87,22 @@ pub enters_not : (t : Table) (e : ℕ) (a : Ask) (name : List ℕ) (left : ℕ) 
 unfolding dispatched
 enters_not t e a name left l h n = ap (λ (x : List ℕ). outcome (Faulted x) left l) n ∙ ap (entered t (dispatched t e) left l) h
 
-passed_after : (P : ℕ → Type 0) (k : ℕ) (m : Lent) (rest : Begun) (b : Before) → P k → All P rest.passed → All P (begun_after k m rest b).passed
-passed_after P k m rest Pass h a = All-cons P k rest.passed h a
-passed_after P k m rest Stop h a = All-nil P
-passed_after P k m rest (SendError code text) h a = All-nil P
-passed_after P k m rest (Fault name) h a = All-nil P
+passed_if : (P : ℕ → Type 0) (k : ℕ) (s : Sight) (m : Lent) (rest : Begun) (b : Before) (p : Bool) → P k → All P rest.passed
+    → All P (cond p (begun (k ∷ rest.passed) rest.view rest.before rest.lent) (begun [] s b m)).passed
+passed_if P k s m rest b true h a = All-cons P k rest.passed h a
+passed_if P k s m rest b false h a = All-nil P
 
 -- what passed was in the chain
-befores_passed : (fs : List (Row Filters)) (P : ℕ → Type 0) (ks : List ℕ) (call : Asked) (l : Lent) → All P ks → All P (befores fs ks call l).passed
+befores_passed : (fs : List (Row Filters)) (P : ℕ → Type 0) (ks : List ℕ) (s : Sight) (l : Lent) → All P ks → All P (befores fs ks s l).passed
 unfolding befores
-befores_passed fs P [] call l a = a
-befores_passed fs P (k ∷ ks) call l a =
-    passed_after P k _ _ _ (a 0 k (omega arith)) (befores_passed fs P ks call _ (λ i d h. a (suc i) d (omega (arith, h))))
+befores_passed fs P [] s l a = a
+befores_passed fs P (k ∷ ks) s l a =
+    passed_if P k s _ _ _ _ (a 0 k (omega arith)) (befores_passed fs P ks _ _ (λ i d h. a (suc i) d (omega (arith, h))))
 
-pub passed_ready : (fs gs : List (Row Filters)) (call : Asked) (ks ps : List ℕ) (l m : Lent) (b : Before) → gs ≡ fs → All (IsReadyAt fs) ks → begun ps b m ≡ befores fs ks call l → All (IsReadyAt gs) ps
-passed_ready fs gs call ks ps l m b e a h =
+pub passed_ready : (fs gs : List (Row Filters)) (s z : Sight) (ks ps : List ℕ) (l m : Lent) (b : Before) → gs ≡ fs → All (IsReadyAt fs) ks → begun ps z b m ≡ befores fs ks s l → All (IsReadyAt gs) ps
+passed_ready fs gs s z ks ps l m b e a h =
     subst (λ (us : List (Row Filters)). All (IsReadyAt us) ps) (sym e)
-    (subst (λ (g : Begun). All (IsReadyAt fs) g.passed) (sym h) (befores_passed fs (IsReadyAt fs) ks call l a))
+    (subst (λ (g : Begun). All (IsReadyAt fs) g.passed) (sym h) (befores_passed fs (IsReadyAt fs) ks s l a))
 
 -- a sound table's chain is ready
 pub chain_ready : (t : Table) (ks : List ℕ) (v : Visit) → IsSound t → ks ≡ chain_of t v → All (IsReadyAt t.filters) ks
@@ -111,6 +114,7 @@ found_ready t v (Some k) s h = servlet_ready t.servlets v.servlet k s.servlets h
 
 to_serve_ready : (t : Table) (v : Visit) (b : Before) → IsSound t → IfOk (to_serve t.servlets v b) (IsReadyAt t.servlets)
 to_serve_ready t v Pass s = found_ready t v (ready_at (labels_of_rows t.servlets) v.servlet) s refl
+to_serve_ready t v (PassWith name value) s = found_ready t v (ready_at (labels_of_rows t.servlets) v.servlet) s refl
 to_serve_ready t v Stop s = tt
 to_serve_ready t v (SendError code text) s = tt
 to_serve_ready t v (Fault name) s = tt

@@ -5,10 +5,10 @@ use Rattle.sv_servlet.specs.Call.{Asked}
 use Rattle.sv_servlet.specs.Filter.{Filters}
 use Rattle.sv_servlet.specs.Servlet.{Serves, Lent}
 use Rattle.sv_servlet.specs.declared.filter.Before.{Before}
-use Rattle.sv_servlet.specs.declared.filter.Before.TheVariants.{Pass, Stop, SendError as RefuseBy, Fault as RefuseFor}
+use Rattle.sv_servlet.specs.declared.filter.Before.TheVariants.{Pass, PassWith, Stop, SendError as RefuseBy, Fault as RefuseFor}
 use Rattle.sv_servlet.specs.declared.servlet.Next.{Next}
 use Rattle.sv_servlet.specs.declared.servlet.Next.TheVariants.{Done, Forward, Include, SendError, Fault}
-use Rattle.sv_dispatch.specs.Dispatching.{Table, Outcome, ask, answered, begun_by, befores, chain_of, closed, closed_by, dispatched, emptied, entered, holding, let_go, performed, placed, resumed, resumed_by, serving, visit_of}
+use Rattle.sv_dispatch.specs.Dispatching.{Table, Outcome, ask, answered, begun_by, befores, chain_of, closed, closed_by, dispatched, emptied, entered, holding, let_go, performed, placed, resumed, resumed_by, serving, showing, visit_of}
 use Rattle.sv_dispatch.specs.Rows.{Row, served, labels_of_rows, ready_at}
 use Rattle.sv_dispatch.specs.Sight.{Sight, call_of}
 use Rattle.sv_dispatch.specs.declared.visit.Ask.{Ask}
@@ -59,6 +59,7 @@ placed_left inner rs s left l (Some k) i = serving_left inner rs i left k s 0 le
 
 begun_left : (inner : Ask → ℕ → Lent → Outcome) (rs : List (Row Serves)) (v : Visit) (left : ℕ) (l : Lent) (b : Before) → Spends inner → (begun_by inner rs v left l b).left ≤ left
 begun_left inner rs v left l Pass i = placed_left inner rs v.view left l (ready_at (labels_of_rows rs) v.servlet) i
+begun_left inner rs v left l (PassWith name value) i = placed_left inner rs v.view left l (ready_at (labels_of_rows rs) v.servlet) i
 begun_left inner rs v left l Stop i = omega arith
 begun_left inner rs v left l (RefuseBy code text) i = omega arith
 begun_left inner rs v left l (RefuseFor name) i = omega arith
@@ -66,10 +67,10 @@ begun_left inner rs v left l (RefuseFor name) i = omega arith
 performed_left : (t : Table) (inner : Ask → ℕ → Lent → Outcome) (v : Visit) (left : ℕ) (l : Lent) → Spends inner → (performed t inner v left l).left ≤ left
 unfolding performed closed
 performed_left t inner v left l i =
-    let b = befores t.filters (chain_of t v) (call_of v.view 0) l in
-    let o = begun_by inner t.servlets v left b.lent b.before in
-    let h : o.left ≤ left = begun_left inner t.servlets v left b.lent b.before i in
-    let q : (closed_by t.filters b.passed (call_of v.view 0) o o.ended).left ≡ o.left = closed_left t.filters b.passed (call_of v.view 0) o o.ended in
+    let b = befores t.filters (chain_of t v) v.view l in
+    let o = begun_by inner t.servlets (showing b.view v) left b.lent b.before in
+    let h : o.left ≤ left = begun_left inner t.servlets (showing b.view v) left b.lent b.before i in
+    let q : (closed_by t.filters b.passed (call_of b.view 0) o o.ended).left ≡ o.left = closed_left t.filters b.passed (call_of b.view 0) o o.ended in
     omega (arith, h, q)
 
 entered_left : (t : Table) (inner : Ask → ℕ → Lent → Outcome) (left : ℕ) (l : Lent) (v : Option Visit) → Spends inner → (entered t inner left l v).left ≤ left

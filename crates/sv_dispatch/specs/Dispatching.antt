@@ -1,6 +1,6 @@
 -- What a dispatch gives: a big step, by recursion on what the servlets answer (Jakarta Servlet 6.0, chapters
 -- "Dispatching Requests" and "Filtering").
-use Rattle.std.specs.Prelude.{ℕ, zero, suc, Bool, true, List, [], ◌∷◌, Option, Some, None, Result, Ok, Err, codes, if◌then◌else◌}
+use Rattle.std.specs.Prelude.{ℕ, zero, suc, Bool, true, false, List, [], ◌∷◌, Option, Some, None, Result, Ok, Err, codes, if◌then◌else◌}
 use Rattle.sv_mapping.specs.Filter.{chain}
 use Rattle.sv_mapping.specs.Mappings as mappings
 use Rattle.sv_mapping.specs.declared.dispatcher.Dispatcher.{Dispatcher}
@@ -11,12 +11,12 @@ use Rattle.sv_servlet.specs.Filter.{Filters}
 use Rattle.sv_servlet.specs.Reply.{cleared, held}
 use Rattle.sv_servlet.specs.Servlet.{Serves, Lent, lent}
 use Rattle.sv_servlet.specs.declared.filter.Before.{Before}
-use Rattle.sv_servlet.specs.declared.filter.Before.TheVariants.{Pass, Stop, SendError as RefuseBy, Fault as RefuseFor}
+use Rattle.sv_servlet.specs.declared.filter.Before.TheVariants.{Pass, PassWith, Stop, SendError as RefuseBy, Fault as RefuseFor}
 use Rattle.sv_servlet.specs.declared.servlet.Next.{Next}
 use Rattle.sv_servlet.specs.declared.servlet.Next.TheVariants.{Done, Forward, Include, SendError, Fault}
 use Rattle.sv_dispatch.specs.Place.{place_of}
 use Rattle.sv_dispatch.specs.Rows.{Row, served, before_at, after_at, labels_of_rows, ready_at}
-use Rattle.sv_dispatch.specs.Sight.{Sight, call_of, forwarded, included}
+use Rattle.sv_dispatch.specs.Sight.{Sight, attributed, call_of, forwarded, included}
 use Rattle.sv_dispatch.specs.Destination.{destination_of}
 use Rattle.sv_dispatch.specs.declared.place.Place.{Place}
 use Rattle.sv_dispatch.specs.declared.visit.Ask.{Ask}
@@ -59,27 +59,41 @@ holding is_held l = lent l.edit (held l.reply is_held)
 
 -- ---- filters
 
--- the filters that passed, the last word, and what they leave
+-- the filters that passed, what the dispatch then shows, the last word, and what they leave
 pub record Begun : Type 0 where
   pub passed : List ℕ
+  pub view : Sight
   pub before : Before
   pub lent : Lent
 
-abbrev pub begun : List ℕ → Before → Lent → Begun
-begun ps b l = record { passed = ps; before = b; lent = l }
+abbrev pub begun : List ℕ → Sight → Before → Lent → Begun
+begun ps s b l = record { passed = ps; view = s; before = b; lent = l }
 
-abbrev pub begun_after : ℕ → Lent → Begun → Before → Begun
-begun_after k l rest Pass = begun (k ∷ rest.passed) rest.before rest.lent
-begun_after k l rest Stop = begun [] Stop l
-begun_after k l rest (RefuseBy code text) = begun [] (RefuseBy code text) l
-begun_after k l rest (RefuseFor name) = begun [] (RefuseFor name) l
+-- what the dispatch shows behind a filter
+abbrev pub shown_behind : Sight → Before → Sight
+shown_behind s Pass = s
+shown_behind s (PassWith name value) = attributed s name value
+shown_behind s Stop = s
+shown_behind s (RefuseBy code text) = s
+shown_behind s (RefuseFor name) = s
+
+-- what stands behind the filter is called
+abbrev pub passes : Before → Bool
+passes Pass = true
+passes (PassWith name value) = true
+passes Stop = false
+passes (RefuseBy code text) = false
+passes (RefuseFor name) = false
+
+abbrev pub begun_after : ℕ → Sight → Lent → Begun → Before → Begun
+begun_after k s l rest b = if passes b then begun (k ∷ rest.passed) rest.view rest.before rest.lent else begun [] s b l
 
 -- `before` along a chain, until one does not pass
-unfoldable pub befores : List (Row Filters) → List ℕ → Asked → Lent → Begun
-befores fs [] call l = begun [] Pass l
-befores fs (k ∷ ks) call l =
-    let v = before_at fs k call l in
-    begun_after k v.lent (befores fs ks call v.lent) v.before
+unfoldable pub befores : List (Row Filters) → List ℕ → Sight → Lent → Begun
+befores fs [] s l = begun [] s Pass l
+befores fs (k ∷ ks) s l =
+    let v = before_at fs k (call_of s 0) l in
+    begun_after k s v.lent (befores fs ks (shown_behind s v.before) v.lent) v.before
 
 -- `after` of the filters that passed, in reverse
 unfoldable pub afters : List (Row Filters) → List ℕ → Asked → Lent → Lent
@@ -141,6 +155,7 @@ placed inner rs s left l (Some k) = serving inner rs left k s 0 left l
 
 abbrev pub begun_by : (Ask → ℕ → Lent → Outcome) → List (Row Serves) → Visit → ℕ → Lent → Before → Outcome
 begun_by inner rs v left l Pass = placed inner rs v.view left l (ready_at (labels_of_rows rs) v.servlet)
+begun_by inner rs v left l (PassWith name value) = placed inner rs v.view left l (ready_at (labels_of_rows rs) v.servlet)
 begun_by inner rs v left l Stop = outcome Finished left l
 begun_by inner rs v left l (RefuseBy code text) = outcome (sent v.view code text) left l
 begun_by inner rs v left l (RefuseFor name) = outcome (Faulted name) left l
@@ -152,6 +167,7 @@ found_or_sent s (Some k) = Ok k
 -- the servlet that is to be called behind the filters, or how the dispatch ends without it
 abbrev pub to_serve : List (Row Serves) → Visit → Before → Result ℕ Ending
 to_serve rs v Pass = found_or_sent v.view (ready_at (labels_of_rows rs) v.servlet)
+to_serve rs v (PassWith name value) = found_or_sent v.view (ready_at (labels_of_rows rs) v.servlet)
 to_serve rs v Stop = Err Finished
 to_serve rs v (RefuseBy code text) = Err (sent v.view code text)
 to_serve rs v (RefuseFor name) = Err (Faulted name)
@@ -161,11 +177,15 @@ to_serve rs v (RefuseFor name) = Err (Faulted name)
 abbrev pub chain_of : Table → Visit → List ℕ
 chain_of t v = chain t.chains v.path v.servlet v.dispatcher
 
+-- the same dispatch, which shows this
+abbrev pub showing : Sight → Visit → Visit
+showing s v = record v { view = s }
+
 -- filters, servlet, filters
 unfoldable pub performed : Table → (Ask → ℕ → Lent → Outcome) → Visit → ℕ → Lent → Outcome
 performed t inner v left l =
-    let b = befores t.filters (chain_of t v) (call_of v.view 0) l in
-    closed t.filters b.passed (call_of v.view 0) (begun_by inner t.servlets v left b.lent b.before)
+    let b = befores t.filters (chain_of t v) v.view l in
+    closed t.filters b.passed (call_of b.view 0) (begun_by inner t.servlets (showing b.view v) left b.lent b.before)
 
 abbrev pub visit : Dispatcher → Sight → List ℕ → Option ℕ → Visit
 visit dispatcher s path servlet = record { dispatcher = dispatcher; view = s; path = path; servlet = servlet }

@@ -1,6 +1,6 @@
 -- What a dispatch shows of the request (Jakarta Servlet 6.0, chapter "Dispatching Requests").
 use Rattle.std.specs.Prelude.{ℕ, Bool, true, false, List, ◌++◌, Option, Some, None, is_some, if◌then◌else◌}
-use Rattle.sv_model.specs.Attributes.{Attribute, value_of}
+use Rattle.sv_model.specs.Attributes.{Attribute, value_of, with_attribute}
 use Rattle.sv_model.specs.declared.request.Param.{Param}
 use Rattle.sv_servlet.specs.Call.{Asked}
 use Rattle.sv_dispatch.specs.Attributes.{attribute_name, with_values, with_error}
@@ -31,7 +31,9 @@ call_of s resume = record {
   query = s.query;
   params = s.params;
   fields = s.request.fields;
+  cookies = s.request.cookies;
   body = s.request.body;
+  settings = s.request.settings;
   attributes = s.attributes;
   resume = resume;
 }
@@ -42,6 +44,10 @@ shown_of r = record { request_uri = r.request_uri; servlet_path = r.servlet_path
 -- the request as it came
 abbrev pub first_sight : Asked → Sight
 first_sight r = record { request = r; shown = shown_of r; query = r.query; params = r.params; attributes = r.attributes; is_included = false }
+
+-- with an attribute more, or with another value of it
+abbrev pub attributed : Sight → List ℕ → List ℕ → Sight
+attributed s name value = record s { attributes = with_attribute s.attributes name value }
 
 -- parameters that stand before others
 abbrev pub joined : List Param → List Param → List Param

@@ -1,48 +1,68 @@
 //! The filters round a servlet.
 
 ghost use Rattle.std.specs.Prelude.{◌≡◌, IfOk, All, OnOk};
-ghost use Rattle.sv_dispatch.specs.Dispatching.{begun, befores, afters, chain_of};
+ghost use Rattle.sv_dispatch.specs.Dispatching.{begun, befores, afters, chain_of, passes, showing, shown_behind};
 ghost use Rattle.sv_dispatch.specs.Rows.{IsReadyAt, labels_of_rows, ready_at};
-ghost use Rattle.sv_dispatch.specs.Sight.{call_of};
 ghost use Rattle.sv_dispatch.specs.Stages.{table_of, lent_of, IsSound};
 
 use crate::calls::{after_at, before_at};
 use crate::hosted::ready_at;
 use crate::stage::Stage;
+use crate::view::View;
 use crate::visit::Visit;
 use std::alloc::{AllocError, Global};
 use sv_mapping::filters_for;
 use sv_servlet::{Before, Call, Filter, Servlet};
 
-/// `before` along a chain, until one does not pass.
-pub fn run_befores<S: Servlet, F: Filter>(
+/// What stands behind the filter is called.
+fn passes(before: &Before) -> bool
+    ensures { result ≡ passes before.now }
+{
+    matches!(before, Before::Pass | Before::PassWith { .. })
+}
+
+/// What the dispatch shows behind a filter.
+fn shown_behind<'a>(alloc: Global, view: View<'a>, before: &Before) -> Result<View<'a>, AllocError>
+    ensures { IfOk result (λ shown. shown ≡ shown_behind view.entry before.now) }
+{
+    let mut view = view;
+    if let Before::PassWith { name, value } = before {
+        view.set_attribute(alloc, name.as_str(), value.as_str())?;
+    }
+    Ok(view)
+}
+
+/// `before` along a chain, until one does not pass; what the dispatch then shows.
+pub fn run_befores<'a, S: Servlet, F: Filter>(
     alloc: Global,
     stage: &mut Stage<S, F>,
-    call: &Call<'_>,
+    view: View<'a>,
     chain: &[usize],
-) -> Result<(Vec<usize>, Before), AllocError>
+) -> Result<(Vec<usize>, View<'a>, Before), AllocError>
     requires { All (IsReadyAt (table_of S.serves S.servlet_phase F.filtering F.filter_phase stage.old).filters) chain.now }
     ensures same { table_of S.serves S.servlet_phase F.filtering F.filter_phase stage.new
         ≡ table_of S.serves S.servlet_phase F.filtering F.filter_phase stage.old }
-    ensures begun { IfOk result (λ r. begun r.0.items r.1 (lent_of stage.new)
-        ≡ befores (table_of S.serves S.servlet_phase F.filtering F.filter_phase stage.old).filters chain.now call.now (lent_of stage.old)) }
+    ensures begun { IfOk result (λ r. begun r.0.items r.1 r.2 (lent_of stage.new)
+        ≡ befores (table_of S.serves S.servlet_phase F.filtering F.filter_phase stage.old).filters chain.now view.entry (lent_of stage.old)) }
 {
     let mut passed = Vec::new(alloc);
+    let mut view = view;
     for place in chain {
         let k = *place;
-        match before_at(
+        let before = before_at(
             &mut stage.filters,
             k,
-            call,
+            &view.call(0),
             &mut stage.edit,
             &mut stage.reply,
-        )? {
-            Before::Pass => {}
-            before => return Ok((passed, before)),
+        )?;
+        if !passes(&before) {
+            return Ok((passed, view, before));
         }
+        view = shown_behind(alloc, view, &before)?;
         passed.push(k)?;
     }
-    Ok((passed, Before::Pass))
+    Ok((passed, view, Before::Pass))
 }
 
 /// `after` of the filters that passed, in reverse.
@@ -69,22 +89,39 @@ pub fn run_afters<S: Servlet, F: Filter>(
     Ok(())
 }
 
-/// `before` of the filters of a dispatch.
-pub fn begin<S: Servlet, F: Filter>(
+/// `before` of the filters of a dispatch, which then shows what they have set.
+pub fn begin<'a, S: Servlet, F: Filter>(
     alloc: Global,
     stage: &mut Stage<S, F>,
-    visit: &Visit<'_>,
-) -> Result<(Vec<usize>, Before), AllocError>
+    visit: Visit<'a>,
+) -> Result<(Vec<usize>, Visit<'a>, Before), AllocError>
     requires { IsSound (table_of S.serves S.servlet_phase F.filtering F.filter_phase stage.old) }
     ensures same { table_of S.serves S.servlet_phase F.filtering F.filter_phase stage.new
         ≡ table_of S.serves S.servlet_phase F.filtering F.filter_phase stage.old }
     ensures ready { IfOk result (λ r. All (IsReadyAt (table_of S.serves S.servlet_phase F.filtering F.filter_phase stage.new).filters) r.0.items) }
-    ensures begun { IfOk result (λ r. begun r.0.items r.1 (lent_of stage.new)
+    ensures visit { IfOk result (λ r. r.1 ≡ showing r.1.view visit.entry) }
+    ensures begun { IfOk result (λ r. begun r.0.items r.1.view r.2 (lent_of stage.new)
         ≡ befores (table_of S.serves S.servlet_phase F.filtering F.filter_phase stage.old).filters
-        (chain_of (table_of S.serves S.servlet_phase F.filtering F.filter_phase stage.old) visit.now) (call_of visit.now.view 0) (lent_of stage.old)) }
+        (chain_of (table_of S.serves S.servlet_phase F.filtering F.filter_phase stage.old) visit.entry) visit.entry.view (lent_of stage.old)) }
 {
-    let chain = chain_of(alloc, stage, visit)?;
-    run_befores(alloc, stage, &visit.view.call(0), chain.as_slice())
+    let chain = chain_of(alloc, stage, &visit)?;
+    let Visit {
+        dispatcher,
+        view,
+        path,
+        servlet,
+    } = visit;
+    let (passed, view, before) = run_befores(alloc, stage, view, chain.as_slice())?;
+    Ok((
+        passed,
+        Visit {
+            dispatcher,
+            view,
+            path,
+            servlet,
+        },
+        before,
+    ))
 }
 
 /// The filters of a dispatch, by their numbers.

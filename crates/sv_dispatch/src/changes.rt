@@ -1,7 +1,7 @@
 //! What a forward, an include and an error put over what a dispatch shows.
 
 ghost use Rattle.std.specs.Prelude.{◌≡◌, IfOk, OnOk, option_map};
-ghost use Rattle.sv_dispatch.specs.Sight.{forwarded, query_over, included, joined, errored, with_params, with_forward_values};
+ghost use Rattle.sv_dispatch.specs.Sight.{attributed, forwarded, query_over, included, joined, errored, with_params, with_forward_values};
 
 use crate::attributes::{Group, Values, set_error, set_values};
 use crate::destination::Destination;
@@ -160,6 +160,21 @@ impl<'a> View<'a> {
         view.attributes = Some(shared(alloc, attributes)?);
         view.is_included = true;
         Ok(view)
+    }
+
+    /// With an attribute more, or with another value of it.
+    pub fn set_attribute(
+        &mut self,
+        alloc: Global,
+        name: &str,
+        value: &str,
+    ) -> Result<(), AllocError>
+        ensures { OnOk result (self.new ≡ attributed self.old name.now value.now) }
+    {
+        let mut attributes = self.attributes().copy()?;
+        attributes.insert(name, value)?;
+        self.attributes = Some(shared(alloc, attributes)?);
+        Ok(())
     }
 
     /// What an error dispatch shows beside a forward.

@@ -83,7 +83,7 @@ fn to_serve<S: Servlet, F: Filter>(
     ensures kept { IfErr result (λ ended. ended ≢ Abandoned) }
 {
     match before {
-        Before::Pass => match servlet_at(stage, visit.servlet) {
+        Before::Pass | Before::PassWith { .. } => match servlet_at(stage, visit.servlet) {
             Some(servlet) => Ok(servlet),
             None => Err(sent(&visit.view, 404, Text::new(alloc))),
         },
@@ -109,7 +109,7 @@ pub fn open<'a, S: Servlet, F: Filter>(
         (lent_of stage.new) ≡ performed (table_of S.serves S.servlet_phase F.filtering F.filter_phase stage.old)
         (dispatched (table_of S.serves S.servlet_phase F.filtering F.filter_phase stage.old) e) visit.entry left (lent_of stage.old)) }
 {
-    let (passed, before) = begin(alloc, stage, &visit)?;
+    let (passed, visit, before) = begin(alloc, stage, visit)?;
     match to_serve(alloc, stage, &visit, before) {
         Ok(servlet) => Ok(Mode::Serve(Open {
             view: visit.view,

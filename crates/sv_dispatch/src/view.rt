@@ -10,8 +10,8 @@ use http::Method;
 use std::alloc::AllocError;
 use std::marker::Model;
 use std::rc::Rc;
-use sv_model::{Field, Param, Sequence, Text};
-use sv_servlet::{Call, RequestAttributes};
+use sv_model::{Cookie, Field, Param, Sequence, Text};
+use sv_servlet::{Call, RequestAttributes, Setting};
 
 /// The paths that a forward puts in the place of the request's.
 #[derive(Drop)]
@@ -132,6 +132,20 @@ impl<'a> View<'a> {
         request.fields
     }
 
+    fn cookies(&self) -> &[Cookie]
+        ensures { result.now ≡ self.now.request.cookies }
+    {
+        let request = self.request;
+        request.cookies
+    }
+
+    fn settings(&self) -> &[Setting]
+        ensures { result.now ≡ self.now.request.settings }
+    {
+        let request = self.request;
+        request.settings
+    }
+
     fn body(&self) -> &[u8]
         ensures { result.now ≡ self.now.request.body }
     {
@@ -227,7 +241,9 @@ impl<'a> View<'a> {
             query: self.query(),
             params: self.params(),
             fields: self.fields(),
+            cookies: self.cookies(),
             body: self.body(),
+            settings: self.settings(),
             attributes: self.attributes(),
             resume,
         }

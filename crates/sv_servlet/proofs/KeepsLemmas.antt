@@ -1,13 +1,13 @@
 -- What the calls of a reply leave of one that is held, for servlets and filters to say that they go on with what they were lent.
 use Rattle.std.proofs.Common.{◌≡◌, ℕ, Bool, true, false, List, Result, Ok, Err, IfOk, cond, refl, sym, ◌∙◌}
-use Rattle.std.specs.Prelude.{◌||◌, ◌+◌, ◌++◌, length, nat_lt}
-use Rattle.sv_model.specs.Field.{with_field}
+use Rattle.std.specs.Prelude.{[], ◌∷◌, ◌||◌, ◌+◌, ◌++◌, length, nat_le, nat_lt}
 use Rattle.sv_model.specs.declared.field.Field.{Field}
 use Rattle.sv_session.proofs.EditLemmas.{KeepsEdit-refl, KeepsEdit-trans}
-use Rattle.sv_servlet.specs.Reply.{cleared, field_result, is_full, is_reserved, new_reply, reset_reply, status_result, write_result}
+use Rattle.sv_servlet.specs.Fields.{with_only}
+use Rattle.sv_servlet.specs.Reply.{addition_result, cleared, field_result, is_full, is_reserved, new_reply, reset_reply, status_result, write_result}
 use Rattle.sv_servlet.specs.ReplyState.{ReplyState}
 use Rattle.sv_servlet.specs.Servlet.{KeepsLent, KeepsReply, Lent}
-use Rattle.sv_servlet.specs.declared.reply.TheConstants.{BODY_LIMIT}
+use Rattle.sv_servlet.specs.declared.reply.TheConstants.{BODY_LIMIT, FIELD_LIMIT}
 use Rattle.sv_servlet.specs.declared.reply.ReplyFault.{ReplyFault}
 use Rattle.sv_servlet.specs.declared.reply.ReplyFault.TheVariants.{BadStatus, Reserved, TooMany, TooLong}
 
@@ -57,10 +57,17 @@ module _ (r : ReplyState) where
 
   pub field_keeps : (f : Field) → IfOk (field_result r f) (KeepsReply r)
   field_keeps f =
-      let set : Result ReplyState ReplyFault = Ok (record r { fields = with_field r.fields f }) in
+      let set : Result ReplyState ReplyFault = Ok (record r { fields = with_only r.fields f }) in
       unless_keeps r.is_held (cond (is_reserved f.name) (Err Reserved) (cond (is_full r.fields f.name) (Err TooMany) set)) refl
       (λ is. either (is_reserved f.name) (Err Reserved) (cond (is_full r.fields f.name) (Err TooMany) set) tt
-      (either (is_full r.fields f.name) (Err TooMany) set tt (free (record r { fields = with_field r.fields f }) is refl)))
+      (either (is_full r.fields f.name) (Err TooMany) set tt (free (record r { fields = with_only r.fields f }) is refl)))
+
+  pub addition_keeps : (f : Field) → IfOk (addition_result r f) (KeepsReply r)
+  addition_keeps f =
+      let added : Result ReplyState ReplyFault = Ok (record r { fields = r.fields ++ f ∷ [] }) in
+      unless_keeps r.is_held (cond (is_reserved f.name) (Err Reserved) (cond (nat_le FIELD_LIMIT (length r.fields)) (Err TooMany) added)) refl
+      (λ is. either (is_reserved f.name) (Err Reserved) (cond (nat_le FIELD_LIMIT (length r.fields)) (Err TooMany) added) tt
+      (either (nat_le FIELD_LIMIT (length r.fields)) (Err TooMany) added tt (free (record r { fields = r.fields ++ f ∷ [] }) is refl)))
 
   pub write_keeps : (text : List ℕ) → IfOk (write_result r text) (KeepsReply r)
   write_keeps text =

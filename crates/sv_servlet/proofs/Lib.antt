@@ -1,3 +1,4 @@
 pub mod ReplyLemmas
 pub mod AttributesLemmas
 pub mod KeepsLemmas
+pub mod FieldsLemmas

@@ -7,7 +7,8 @@ use Rattle.http_header.specs.FieldName.{IsFieldName}
 use Rattle.http_header.specs.FieldValue.{IsFieldValue, plain_value}
 use Rattle.http_header.specs.Token.{lowercase}
 use Rattle.sv_model.specs.declared.field.Field.{Field}
-use Rattle.sv_model.specs.Field.{with_field, place_of_field}
+use Rattle.sv_model.specs.Field.{place_of_field}
+use Rattle.sv_servlet.specs.Fields.{with_only}
 use Rattle.sv_servlet.specs.ReplyState.{ReplyState}
 use Rattle.sv_servlet.specs.declared.reply.TheConstants.{FIELD_LIMIT, BODY_LIMIT}
 use Rattle.sv_servlet.specs.declared.reply.ReplyFault.{ReplyFault}
@@ -49,11 +50,17 @@ status_result r status = unless_held r (if nat_lt status 200 || nat_lt 599 statu
 abbrev pub is_full : List Field → List ℕ → Bool
 is_full fields name = is_none (place_of_field fields name) && nat_le FIELD_LIMIT (length fields)
 
--- a field is set: in the place of the first of its name, or last
+-- a field is set: in the place of the first of its name, of which no other stays, or last
 abbrev pub field_result : ReplyState → Field → Result ReplyState ReplyFault
 field_result r f =
     unless_held r (if is_reserved f.name then Err Reserved else
-    (if is_full r.fields f.name then Err TooMany else Ok (record r { fields = with_field r.fields f })))
+    (if is_full r.fields f.name then Err TooMany else Ok (record r { fields = with_only r.fields f })))
+
+-- a field is added: last, and so behind those of its name (RFC 9110, section 5.3)
+abbrev pub addition_result : ReplyState → Field → Result ReplyState ReplyFault
+addition_result r f =
+    unless_held r (if is_reserved f.name then Err Reserved else
+    (if nat_le FIELD_LIMIT (length r.fields) then Err TooMany else Ok (record r { fields = r.fields ++ f ∷ [] })))
 
 -- the field of a name in any case and a value
 abbrev pub header_field : List ℕ → List ℕ → Field

@@ -1,9 +1,10 @@
 //! What a servlet is asked.
 
 use crate::attributes::RequestAttributes;
+use crate::setting::Setting;
 use http::Method;
 use std::marker::Model;
-use sv_model::{Field, Param};
+use sv_model::{Cookie, Field, Param};
 
 /// A request as one servlet sees it (Jakarta Servlet 6.0, chapter "The Request").
 ///
@@ -23,7 +24,11 @@ pub struct Call<'a> {
     pub params: &'a [Param],
     /// The fields in order, names in lower case.
     pub fields: &'a [Field],
+    /// The pairs of all Cookie fields in order, as they were sent (RFC 6265, section 5.4).
+    pub cookies: &'a [Cookie],
     pub body: &'a [u8],
+    /// The initialization parameters of the context, in the order in which they were given.
+    pub settings: &'a [Setting],
     pub attributes: &'a RequestAttributes,
     /// 0 at first; behind an include the number that the servlet asked to be resumed with.
     pub resume: u16,
@@ -45,7 +50,9 @@ impl<'a> Model for Call<'a> {
           t.now) c.query;
       params = c.params.now;
       fields = c.fields.now;
+      cookies = c.cookies.now;
       body = c.body.now;
+      settings = c.settings.now;
       attributes = c.attributes.now;
       resume = c.resume;
     } };

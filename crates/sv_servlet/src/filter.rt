@@ -18,6 +18,9 @@ use sv_session::SessionEdit;
 pub enum Before {
     /// The next filter, or the servlet, is called.
     Pass,
+    /// The same, and the request has this attribute from then on (Jakarta Servlet 6.0, section 3.3): for what stands behind the filter, for
+    /// the dispatches inside it, and for each `after`.
+    PassWith { name: Text, value: Text },
     /// Nothing behind this filter is called; the reply stands.
     Stop,
     /// The error page of a status is sent, with a text for it.

@@ -8,6 +8,7 @@
 
 mod attributes;
 mod call;
+mod fields;
 mod filter;
 mod filter_box;
 mod generic_filter;
@@ -17,6 +18,7 @@ mod listener_box;
 mod reply;
 mod servlet;
 mod servlet_box;
+mod setting;
 
 pub use attributes::{Entries, RequestAttributes};
 pub use call::Call;
@@ -26,3 +28,4 @@ pub use generic_servlet::{Answers, GenericServlet};
 pub use listener::Listener;
 pub use reply::{BODY_LIMIT, FIELD_LIMIT, Replied, Reply, ReplyFault};
 pub use servlet::{InitFault, Next, Phase, Servlet};
+pub use setting::Setting;

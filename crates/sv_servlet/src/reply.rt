@@ -4,15 +4,16 @@ ghost use Rattle.std.specs.Prelude.{◌≡◌, ◌≢◌, ◌⊎◌, true, Err, 
 ghost use Rattle.http_header.specs.FieldName.{IsFieldName};
 ghost use Rattle.http_header.specs.FieldValue.{IsFieldValue, plain_value};
 ghost use Rattle.http_header.specs.Token.{lowercase};
-ghost use Rattle.sv_servlet.specs.Reply.{fault_name, new_reply, Answers, HeaderAnswers, status_result, field_result};
+ghost use Rattle.sv_servlet.specs.Reply.{fault_name, new_reply, addition_result, Answers, HeaderAnswers, status_result, field_result};
 ghost use Rattle.sv_servlet.specs.Reply.{write_result, reset_reply, cleared, held, is_reserved, is_full};
 ghost use Rattle.sv_servlet.specs.declared.reply.ReplyFault.TheVariants.{Memory};
 
+use crate::fields::{add_last, set_only};
 use http::StatusCode;
 use http_header::{HeaderName, HeaderNameError, HeaderValue, HeaderValueError};
 use std::alloc::{AllocError, Global};
 use std::marker::Model;
-use sv_model::{Field, Sequence, place_of_field, set_field};
+use sv_model::{Field, Sequence, place_of_field};
 use thiserror::Error;
 
 /// The fields of a reply, at most.
@@ -82,7 +83,7 @@ pub struct Replied {
 #[derive(Drop)]
 pub struct Reply {
     status: StatusCode,
-    fields: Sequence<Field>,
+    fields: Vec<Field>,
     body: Sequence<u8>,
     is_held: bool,
     alloc: Global,
@@ -93,11 +94,11 @@ impl Model for Reply {
 
     ghost Value = { ReplyState };
 
-    ghost view = { λ r. record { status = r.status; fields = r.fields; body = r.body; is_held = r.is_held } };
+    ghost view = { λ r. record { status = r.status; fields = r.fields.items; body = r.body; is_held = r.is_held } };
 
     ghost use Rattle.sv_servlet.specs.ReplyState.{IsWithin};
 
-    ghost invariant = { λ r. IsWithin r.fields r.body };
+    ghost invariant = { λ r. IsWithin r.fields.items r.body };
 }
 
 /// The name of a field, in lower case.
@@ -140,10 +141,10 @@ fn is_reserved(name: &HeaderName) -> bool
 }
 
 /// Another field of this name finds no place.
-fn is_full(fields: &Sequence<Field>, name: &HeaderName) -> bool
+fn is_full(fields: &[Field], name: &HeaderName) -> bool
     ensures { result ≡ is_full fields.now name.now }
 {
-    place_of_field(fields.as_slice(), name).is_none() && fields.len() >= FIELD_LIMIT
+    place_of_field(fields, name).is_none() && fields.len() >= FIELD_LIMIT
 }
 
 impl Reply {
@@ -153,7 +154,7 @@ impl Reply {
     {
         Reply {
             status: StatusCode::OK,
-            fields: Sequence::new(alloc),
+            fields: Vec::new(alloc),
             body: Sequence::new(alloc),
             is_held: false,
             alloc,
@@ -192,7 +193,7 @@ impl Reply {
         self.set(Field { name, value })
     }
 
-    /// Sets a field: in the place of the first of its name, or last. Does nothing while held.
+    /// Sets a field: in the place of the first of its name, of which no other stays, or last. Does nothing while held.
     pub fn set(&mut self, field: Field) -> Result<(), ReplyFault>
         ensures answer { Answers self.old (field_result self.old field) result self.new }
         ensures held { self.old.is_held ≡ true → IsOk result }
@@ -203,10 +204,31 @@ impl Reply {
         if is_reserved(&field.name) {
             return Err(ReplyFault::Reserved);
         }
-        if is_full(&self.fields, &field.name) {
+        if is_full(self.fields.as_slice(), &field.name) {
             return Err(ReplyFault::TooMany);
         }
-        set_field(&mut self.fields, field)?;
+        set_only(&mut self.fields, field)?;
+        Ok(())
+    }
+
+    /// Adds a field behind those that there are, also those of its name (`addHeader`). Does nothing while held.
+    ///
+    /// For a field that is defined as a list, and `set-cookie`: of any other one line is sent at most (RFC 9110, section 5.3).
+    /// A reserved name is told before a 65th field.
+    pub fn add(&mut self, field: Field) -> Result<(), ReplyFault>
+        ensures answer { Answers self.old (addition_result self.old field) result self.new }
+        ensures held { self.old.is_held ≡ true → IsOk result }
+    {
+        if self.is_held {
+            return Ok(());
+        }
+        if is_reserved(&field.name) {
+            return Err(ReplyFault::Reserved);
+        }
+        if self.fields.len() >= FIELD_LIMIT {
+            return Err(ReplyFault::TooMany);
+        }
+        add_last(&mut self.fields, field)?;
         Ok(())
     }
 
@@ -227,7 +249,7 @@ impl Reply {
     {
         if !self.is_held {
             self.status = StatusCode::OK;
-            self.fields = Sequence::new(self.alloc);
+            self.fields = Vec::new(self.alloc);
             self.body = Sequence::new(self.alloc);
         }
     }
@@ -261,7 +283,7 @@ impl Reply {
         } = self;
         Replied {
             status,
-            fields,
+            fields: Sequence::from_vec(fields),
             body,
         }
     }

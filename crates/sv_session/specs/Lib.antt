@@ -3,3 +3,4 @@ pub mod Fault
 pub mod Calls
 pub mod Expiry
 pub mod Holding
+pub mod Token

@@ -3,6 +3,7 @@
 mod attributes;
 mod holding;
 mod life;
+mod token;
 
 ghost use Rattle.std.specs.Prelude.{◌≡◌, OnOk, OnErr};
 ghost use Rattle.sv_session.specs.Calls.{tell};

@@ -1,3 +1,4 @@
+pub mod DoneLemmas
 pub mod FoundLemmas
 pub mod HtmlLemmas
 pub mod JsonLemmas

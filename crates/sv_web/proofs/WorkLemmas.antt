@@ -1,5 +1,5 @@
 -- Work goes on with what was lent, whatever it is put together of.
-use Rattle.std.proofs.Common.{◌≡◌, ℕ, List, Option, Some, Result, Ok, Err, sym, subst}
+use Rattle.std.proofs.Common.{◌≡◌, ℕ, Bool, true, false, cond, List, Option, Some, None, Result, Ok, Err, sym, subst}
 use Rattle.std.proofs.lemmas.Result.{IfOk-weaker}
 use Rattle.std.specs.Prelude.{IfOk, IfSome}
 use Rattle.sv_session.specs.Edit.{KeepsEdit}
@@ -10,13 +10,18 @@ use Rattle.sv_servlet.specs.Filter.{FilterKeeps, Verdict, verdict}
 use Rattle.sv_servlet.specs.ReplyState.{ReplyState}
 use Rattle.sv_servlet.specs.Servlet.{Answer, KeepsLent, KeepsReply, Lent, answer, lent}
 use Rattle.sv_servlet.specs.declared.filter.Before.{Before}
+use Rattle.http_header.specs.FieldValue.{FieldValue}
 use Rattle.sv_servlet.specs.Reply.{field_result, status_result}
 use Rattle.sv_servlet.specs.declared.reply.ReplyFault.{ReplyFault}
+use Rattle.sv_servlet.specs.declared.reply.ReplyFault.TheVariants.{BadHeader, Reserved}
 use Rattle.sv_servlet.specs.declared.servlet.Next.{Next}
-use Rattle.sv_servlet.proofs.KeepsLemmas.{KeepsLent-refl, KeepsLent-trans, KeepsReply-refl, KeepsReply-trans, field_keeps, status_keeps, write_keeps}
+use Rattle.sv_servlet.proofs.KeepsLemmas.{KeepsLent-refl, KeepsLent-trans, KeepsReply-refl, KeepsReply-trans, addition_keeps, field_keeps, status_keeps, write_keeps}
+use Rattle.sv_web.specs.Cookies.{added_by, cookie_field, cookie_result, cookie_text, is_cookie, is_session_name}
+use Rattle.sv_web.specs.Header.{visible_value}
 use Rattle.sv_web.specs.Redirect.{location, redirect_result, see_other}
 use Rattle.sv_web.specs.Refusal.{Does, DoesBefore, before_after, next_after}
-use Rattle.sv_web.specs.Work.{EditCall, Create, ChangeId, SetValue, SetInterval, Invalidate, FilterWork, ReplyCall, SetField, SetStatus, Write, Redirect, Work, Ends, Editing, Looking, Replying, answered, done, judged, left, on_edit, on_edit_call, on_reply, only_lent, reply_result, surrounding}
+use Rattle.sv_web.specs.SentCookie.{SentCookie}
+use Rattle.sv_web.specs.Work.{AddField, SetCookie, EditCall, Create, ChangeId, SetValue, SetInterval, Invalidate, FilterWork, ReplyCall, SetField, SetStatus, Write, Redirect, Work, Ends, Editing, Looking, Replying, answered, done, judged, left, on_edit, on_edit_call, on_reply, only_lent, reply_result, surrounding}
 use Rattle.sv_web.specs.declared.refusal.Refusal.{Refusal}
 
 -- what is lent is gone on with where the edit and the reply are
@@ -31,10 +36,27 @@ see_other_keeps r (Err fault) keeps = tt
 redirect_keeps : (r : ReplyState) (to : List ℕ) → IfOk (redirect_result r to) (KeepsReply r)
 redirect_keeps r to = see_other_keeps r (field_result r (location to)) (field_keeps r (location to))
 
+-- a cookie, taken or refused
+either_keeps : (r : ReplyState) (b : Bool) (x y : Result ReplyState ReplyFault) → IfOk x (KeepsReply r) → IfOk y (KeepsReply r) → IfOk (cond b x y) (KeepsReply r)
+either_keeps r true x y hx hy = hx
+either_keeps r false x y hx hy = hy
+
+added_keeps : (r : ReplyState) (value : Option FieldValue) → IfOk (added_by value r) (KeepsReply r)
+added_keeps r None = tt
+added_keeps r (Some value) = addition_keeps r (cookie_field value)
+
+cookie_keeps : (r : ReplyState) (c : SentCookie) → IfOk (cookie_result r c) (KeepsReply r)
+cookie_keeps r c =
+    let added = added_by (visible_value (cookie_text c)) r in
+    either_keeps r (is_cookie c) (cond (is_session_name c.name) (Err Reserved) added) (Err BadHeader)
+    (either_keeps r (is_session_name c.name) (Err Reserved) added tt (added_keeps r (visible_value (cookie_text c)))) tt
+
 -- a call of the reply, taken or refused
 call_keeps : (call : ReplyCall) (r : ReplyState) → IfOk (reply_result call r) (KeepsReply r)
 call_keeps (SetStatus code) r = status_keeps r code
 call_keeps (SetField f) r = field_keeps r f
+call_keeps (AddField f) r = addition_keeps r f
+call_keeps (SetCookie c) r = cookie_keeps r c
 call_keeps (Write text) r = write_keeps r text
 call_keeps (Redirect to) r = redirect_keeps r to
 

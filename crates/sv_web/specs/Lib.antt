@@ -1,4 +1,6 @@
 pub mod Header
+pub mod SentCookie
+pub mod Cookies
 pub mod Redirect
 pub mod Work
 pub mod Refusal
@@ -14,3 +16,7 @@ pub mod Cutting
 pub mod Json
 pub mod Multipart
 pub mod Place
+pub mod Tokens
+pub mod Csrf
+pub mod Tag
+pub mod Files

@@ -1,6 +1,6 @@
 -- Paths of the own context (RFC 3986, section 3.3), and redirects to them.
-use Rattle.std.specs.Prelude.{ℕ, ◌&&◌, ◌||◌, ◌==◌, not, true, Bool, List, [], ◌∷◌, ◌++◌, codes, nat_le, Option, Some, None, if◌then◌else◌}
-use Rattle.http_header.specs.FieldValue.{FieldValue, is_visible_text, plain_value}
+use Rattle.std.specs.Prelude.{ℕ, ◌&&◌, ◌||◌, ◌==◌, not, true, Bool, List, [], ◌∷◌, ◌++◌, codes, nat_le, Option, Some, None}
+use Rattle.http_header.specs.FieldValue.{FieldValue}
 use Rattle.sv_model.specs.declared.field.Field.{Field}
 use Rattle.sv_servlet.specs.Call.{Asked}
 use Rattle.sv_servlet.specs.Reply.{fault_name}
@@ -8,6 +8,7 @@ use Rattle.sv_servlet.specs.declared.reply.ReplyFault.TheVariants.{BadHeader}
 use Rattle.sv_servlet.specs.declared.servlet.Next.{Next}
 use Rattle.sv_servlet.specs.declared.servlet.Next.TheVariants.{Done}
 use Rattle.sv_web.specs.Cutting.{begins_with}
+use Rattle.sv_web.specs.Header.{visible_value}
 use Rattle.sv_web.specs.Refusal.{fault_page}
 use Rattle.sv_web.specs.Steps.{set_field, set_status}
 use Rattle.sv_web.specs.Work.{Ends, Work}
@@ -36,10 +37,6 @@ is_within (c ∷ cs) = fits c cs && is_within cs
 -- a path that leads nowhere but into the context, however a client reads it: it begins with `/`
 abbrev pub is_own_path : List ℕ → Bool
 is_own_path path = begins_with path (codes "/") && is_within path
-
--- a field's value of visible bytes
-unfoldable pub visible_value : List ℕ → Option FieldValue
-visible_value text = if is_visible_text text then Some (plain_value text) else None
 
 -- the field that names an address
 abbrev pub location : FieldValue → Field

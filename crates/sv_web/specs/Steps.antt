@@ -11,7 +11,8 @@ use Rattle.sv_servlet.specs.declared.filter.Before.{Before}
 use Rattle.sv_servlet.specs.declared.servlet.Next.{Next}
 use Rattle.sv_web.specs.Header.{header, html_type}
 use Rattle.sv_web.specs.Refusal.{fault_page, fault_sent}
-use Rattle.sv_web.specs.Work.{EditCall, Create, ChangeId, Invalidate, SetValue, ReplyCall, SetField, SetStatus}
+use Rattle.sv_web.specs.SentCookie.{SentCookie}
+use Rattle.sv_web.specs.Work.{EditCall, Create, ChangeId, Invalidate, SetValue, ReplyCall, AddField, SetCookie, SetField, SetStatus}
 use Rattle.sv_web.specs.Work.{Write, Redirect, Work, Ends, Editing, Looking, Replying}
 
 -- a call of the reply, and what follows it; where it is refused, the error page of the fault
@@ -33,6 +34,12 @@ write text more = replying (Write text) more
 
 abbrev pub set_header : List ℕ → List ℕ → Work Next → Work Next
 set_header name value more = set_field (header name value) more
+
+abbrev pub add_header : List ℕ → List ℕ → Work Next → Work Next
+add_header name value more = replying (AddField (header name value)) more
+
+abbrev pub set_cookie : SentCookie → Work Next → Work Next
+set_cookie cookie more = replying (SetCookie cookie) more
 
 -- the body is plain text
 abbrev pub plain_text : Work Next → Work Next
@@ -72,6 +79,10 @@ shown more (Err fault) = Ends (fault_page (session_fault_name fault))
 -- what is done with an attribute's value; where no session is held, the error page of that fault
 abbrev pub get_attribute : List ℕ → (Option (List ℕ) → Work Next) → Work Next
 get_attribute name more = Looking (λ e. shown more (get_result e name))
+
+-- what is done with the time of the request, in seconds
+abbrev pub get_now : (ℕ → Work Next) → Work Next
+get_now more = Looking (λ e. more e.now)
 
 -- ---- filters
 

@@ -7,18 +7,22 @@ use Rattle.sv_session.specs.Edit.{Edit}
 use Rattle.sv_session.specs.declared.fault.SessionFault.{SessionFault}
 use Rattle.sv_servlet.specs.Call.{Asked}
 use Rattle.sv_servlet.specs.Filter.{Filters, Verdict, verdict}
-use Rattle.sv_servlet.specs.Reply.{field_result, status_result, write_result}
+use Rattle.sv_servlet.specs.Reply.{addition_result, field_result, status_result, write_result}
 use Rattle.sv_servlet.specs.ReplyState.{ReplyState}
 use Rattle.sv_servlet.specs.Servlet.{Answer, Lent, Serves, answer, lent}
 use Rattle.sv_servlet.specs.declared.filter.Before.{Before}
 use Rattle.sv_servlet.specs.declared.reply.ReplyFault.{ReplyFault}
 use Rattle.sv_servlet.specs.declared.servlet.Next.{Next}
+use Rattle.sv_web.specs.Cookies.{cookie_result}
 use Rattle.sv_web.specs.Redirect.{redirect_result}
+use Rattle.sv_web.specs.SentCookie.{SentCookie}
 
 -- a call of the reply
 pub data ReplyCall : Type 0 where
   SetStatus : ℕ → ReplyCall
   SetField : Field → ReplyCall
+  AddField : Field → ReplyCall
+  SetCookie : SentCookie → ReplyCall
   Write : List ℕ → ReplyCall
   Redirect : List ℕ → ReplyCall
 
@@ -42,6 +46,8 @@ pub data Work (R : Type 0) : Type 0 where
 abbrev pub reply_result : ReplyCall → ReplyState → Result ReplyState ReplyFault
 reply_result (SetStatus code) r = status_result r code
 reply_result (SetField f) r = field_result r f
+reply_result (AddField f) r = addition_result r f
+reply_result (SetCookie c) r = cookie_result r c
 reply_result (Write text) r = write_result r text
 reply_result (Redirect to) r = redirect_result r to
 

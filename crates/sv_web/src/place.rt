@@ -1,17 +1,15 @@
 //! Paths of the own context, and redirects to them.
 
-ghost use Rattle.std.specs.Prelude.{◌≡◌, IfOk, IsTrue, Some};
-ghost use Rattle.http_header.specs.FieldValue.{is_visible_text};
-ghost use Rattle.http_header.specs.Token.{is_visible_or_blank};
+ghost use Rattle.std.specs.Prelude.{◌≡◌, IsTrue, Some};
 ghost use Rattle.sv_web.specs.Exchange.{Completes};
 ghost use Rattle.sv_servlet.specs.Reply.{Answers, field_result};
 ghost use Rattle.sv_web.specs.Place as spec;
 
 use crate::cutting::begins_with;
 use crate::exchange::Exchange;
+use crate::header::visible_value;
 use crate::refusal::Refusal;
-use http_header::{HeaderName, HeaderValue, HeaderValueError};
-use std::alloc::{AllocError, Global};
+use http_header::{HeaderName, HeaderValue};
 use sv_model::Field;
 use sv_servlet::{Next, Reply, ReplyFault};
 
@@ -62,34 +60,6 @@ pub fn is_own_path(path: &str) -> bool
 {
     let path = path.as_bytes();
     begins_with(path, b"/") && is_within(path)
-}
-
-/// A byte of visible ASCII, a blank or a tab.
-fn is_visible(byte: u8) -> bool
-    ensures { result ≡ is_visible_or_blank byte }
-{
-    (byte >= 32 && byte < 127) || byte == b'\t'
-}
-
-fn is_visible_text(text: &[u8]) -> bool
-    ensures { result ≡ is_visible_text text.now }
-{
-    text.iter().all(|byte| is_visible(*byte))
-}
-
-/// A field's value of visible bytes; none of any other.
-#[tactic(auto, unfolding(crate::specs::Place::visible_value))]
-fn visible_value(alloc: Global, text: &[u8]) -> Result<Option<HeaderValue>, AllocError>
-    ensures { IfOk result (λ value. value ≡ spec.visible_value text.now) }
-{
-    if !is_visible_text(text) {
-        return Ok(None);
-    }
-    match HeaderValue::from_bytes(alloc, text) {
-        Ok(value) => Ok(Some(value)),
-        Err(HeaderValueError::Invalid) => Ok(None),
-        Err(HeaderValueError::OutOfMemory) => Err(AllocError),
-    }
 }
 
 /// The field that names an address.

@@ -6,7 +6,8 @@ ghost use Rattle.sv_web.specs.Request as spec;
 
 use http::Method;
 use std::alloc::{AllocError, Global};
-use sv_model::{Field, Param, Text};
+use sv_model::{Cookie, Field, Param, Text};
+use sv_servlet::Setting;
 
 /// Whether the method is POST (RFC 9110, section 9.3.3).
 pub fn is_post(method: &Method) -> bool
@@ -28,6 +29,44 @@ pub fn field<'a>(fields: &'a [Field], name: &str) -> Option<&'a [u8]>
 {
     match first_field(fields, name) {
         Some(field) => Some(field.value.as_bytes()),
+        None => None,
+    }
+}
+
+/// The first cookie of a name.
+fn first_cookie<'a>(cookies: &'a [Cookie], name: &str) -> Option<&'a Cookie>
+    ensures { option_copied result ≡ find (spec.is_cookie_of name.now) cookies.now }
+{
+    cookies
+        .iter()
+        .find(|cookie| cookie.name.as_slice() == name.as_bytes())
+}
+
+/// The value of the first cookie of a name, as it was sent. A client sends the one of the longest path first (RFC 6265, section 5.4).
+pub fn cookie<'a>(cookies: &'a [Cookie], name: &str) -> Option<&'a [u8]>
+    ensures { option_copied result ≡ spec.cookie cookies.now name.now }
+{
+    match first_cookie(cookies, name) {
+        Some(cookie) => Some(cookie.value.as_slice()),
+        None => None,
+    }
+}
+
+/// The first setting of a name.
+fn first_setting<'a>(settings: &'a [Setting], name: &str) -> Option<&'a Setting>
+    ensures { option_copied result ≡ find (spec.is_setting_of name.now) settings.now }
+{
+    settings
+        .iter()
+        .find(|setting| setting.name.as_str() == name)
+}
+
+/// The value of the context's setting of a name (`getInitParameter`, section 4.3).
+pub fn setting<'a>(settings: &'a [Setting], name: &str) -> Option<&'a str>
+    ensures { option_copied result ≡ spec.setting settings.now name.now }
+{
+    match first_setting(settings, name) {
+        Some(setting) => Some(setting.value.as_str()),
         None => None,
     }
 }
