@@ -53,6 +53,15 @@ pub enum Fault {
     /// Status 4: a file of figures.
     #[error("a file of figures {0}")]
     Figures(FiguresFault),
+    /// Status 6: the node that is said to be gone answers.
+    #[error("the node at port {0} answers: it isn't gone")]
+    Answers(u16),
+    /// Status 6: at each look sessions were on their way.
+    #[error("sessions were on their way between the other nodes at each look; try again")]
+    Unsettled,
+    /// Status 5: the machine's clock can't be read.
+    #[error("the clock can't be read")]
+    Clock,
     /// Status 5: the node at a port doesn't answer.
     #[error("the node at port {0} doesn't answer")]
     Unanswered(u16),
@@ -82,8 +91,9 @@ impl Fault {
             | Fault::Unmade
             | Fault::Anothers
             | Fault::Figures(_) => 4,
-            Fault::Unanswered(_) | Fault::Program | Fault::Output | Fault::Memory => 5,
-            Fault::NotDone => 6,
+            Fault::Unanswered(_) | Fault::Clock | Fault::Program | Fault::Output | Fault::Memory =>
+                5,
+            Fault::Answers(_) | Fault::Unsettled | Fault::NotDone => 6,
         }
     }
 }

@@ -1,5 +1,8 @@
 //! Makes the journal of a node that has none.
 
+ghost use Rattle.std.specs.Prelude.{◌≤◌, All, length};
+ghost use Rattle.sv_journal.specs.declared.limits.TheConstants.{PAYLOAD_LIMIT};
+
 use crate::cluster::{port_of, read_cluster};
 use crate::fault::Fault;
 use std::alloc::Global;
@@ -25,10 +28,45 @@ fn new_file(machine: &HostRuntime, path: &str) -> Result<FileDisk, Fault> {
     }
 }
 
-/// Makes a journal of two new files.
-fn make(alloc: Global, a: FileDisk, b: FileDisk) -> Result<(), Fault> {
+/// A journal of two new files.
+fn new_journal(alloc: Global, a: FileDisk, b: FileDisk) -> Result<Journal<FileDisk>, Fault> {
     match Journal::open(alloc, a, b) {
-        Ok(_) => Ok(()),
+        Ok(journal) => Ok(journal),
+        Err(_) => Err(Fault::Unmade),
+    }
+}
+
+/// The path of a journal's second file.
+fn beside(alloc: Global, journal: &str) -> Result<String, Fault> {
+    match format!(in alloc; "{journal}.b") {
+        Ok(path) => Ok(path),
+        Err(_) => Err(Fault::Memory),
+    }
+}
+
+/// Refuses a journal of which a file is there.
+pub fn refuse_journal(machine: &HostRuntime, journal: &str) -> Result<(), Fault> {
+    let beside = beside(machine.alloc(), journal)?;
+    refuse_existing(machine, journal)?;
+    refuse_existing(machine, beside.as_str())
+}
+
+/// Makes the journal at a path, where neither of its files is.
+fn journal_at(machine: &HostRuntime, journal: &str) -> Result<Journal<FileDisk>, Fault> {
+    refuse_journal(machine, journal)?;
+    let beside = beside(machine.alloc(), journal)?;
+    let a = new_file(machine, journal)?;
+    let b = new_file(machine, beside.as_str())?;
+    new_journal(machine.alloc(), a, b)
+}
+
+/// Makes the journal at a path, where neither of its files is, with these entries.
+pub fn make_journal(machine: &HostRuntime, journal: &str, entries: &[Vec<u8>]) -> Result<(), Fault>
+    requires { All (λ payload. length payload.items ≤ PAYLOAD_LIMIT) entries.now }
+{
+    let mut journal = journal_at(machine, journal)?;
+    match journal.compact(entries) {
+        Ok(()) => Ok(()),
         Err(_) => Err(Fault::Unmade),
     }
 }
@@ -42,14 +80,9 @@ pub fn init(
 ) -> Result<(), Fault> {
     let cluster = read_cluster(machine, config)?;
     port_of(&cluster, node)?;
-    let beside = format!(in machine.alloc(); "{journal}.b")?;
-    refuse_existing(machine, journal)?;
-    refuse_existing(machine, beside.as_str())?;
-    let a = new_file(machine, journal)?;
-    let b = new_file(machine, beside.as_str())?;
-    make(machine.alloc(), a, b)?;
+    journal_at(machine, journal)?;
     let number = node.value;
-    match println!(machine; "{journal} and {beside} are a new journal, for node {number}") {
+    match println!(machine; "{journal} and {journal}.b are a new journal, for node {number}") {
         Ok(()) => Ok(()),
         Err(_) => Err(Fault::Output),
     }

@@ -1,6 +1,6 @@
 //! The program `kegctl`: what an operator of nodes has in hand. `kegctl --help` says what it does.
 //!
-//! Journals are read and never written, also beside a node that runs. Commands go to a node's port on the loopback address. A fault
+//! Journals are read and never written, also beside a node that runs; those that it makes are new. Commands go to a node's port on the loopback address. A fault
 //! prints a line on standard error, and the exit status tells of what kind it is.
 #![tactic(auto)]
 
@@ -8,6 +8,7 @@ mod cluster;
 mod commands;
 mod draining;
 mod fault;
+mod gone;
 mod greetings;
 mod health;
 mod init;

@@ -72,7 +72,7 @@ const KEYS: Word = Word {
 };
 
 /// The commands, in the order of the help.
-const OFFERS: [Offer; 11] = [
+const OFFERS: [Offer; 12] = [
     Offer {
         name: "check",
         about: "says what a descriptor has, or where it is at fault and what to write there",
@@ -234,6 +234,33 @@ const OFFERS: [Offer; 11] = [
                 id: "halt",
                 form: Form::Choice,
                 help: "halts the node once it has none left",
+            },
+        ],
+    },
+    Offer {
+        name: "gone",
+        about: "says what it means that a node and its files are gone for good, by the journals of all others; and makes the journal of a new node under its number",
+        words: &[
+            CONFIG,
+            Word {
+                id: "JOURNAL",
+                form: Form::Needed,
+                help: "the first file of the new node's journal",
+            },
+            Word {
+                id: "NODE",
+                form: Form::Needed,
+                help: "the number of the node that is gone",
+            },
+            Word {
+                id: "OTHER",
+                form: Form::ForEachNode,
+                help: "the first files of the other nodes' journals, in the order of their numbers",
+            },
+            Word {
+                id: "make",
+                form: Form::Choice,
+                help: "makes the journal; else nothing is written",
             },
         ],
     },

@@ -7,6 +7,7 @@ use crate::cluster::{config_fault, read_config, read_deployment};
 use crate::commands::{address, halt, hand_over, tick, told};
 use crate::draining::take_out;
 use crate::fault::{DescriptorFault, Fault};
+use crate::gone::declare_gone;
 use crate::init::init;
 use crate::journal::{entries, kept, records};
 use crate::program::ask_program;
@@ -327,6 +328,7 @@ pub fn carry_out(machine: &HostRuntime, order: Order<'_>) -> Result<(), Fault> {
         } => show_status(machine, config, node, question),
         Order::Stop { config } => stop(machine, config),
         Order::Drain(order) => take_out(machine, order),
+        Order::Gone(order) => declare_gone(machine, &order),
         Order::Watch(order) => watch(machine, order),
     }
 }

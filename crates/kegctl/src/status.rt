@@ -27,6 +27,11 @@ fn health_of(machine: &HostRuntime, port: u16) -> Health {
     }
 }
 
+/// The node at a port does what it is told.
+pub fn answers(machine: &HostRuntime, port: u16) -> bool {
+    matches!(health_of(machine, port), Health::Well(_) | Health::Short)
+}
+
 /// What each node is asked.
 #[derive(Clone, Copy, Debug, PartialEq, Eq)]
 pub enum Question {

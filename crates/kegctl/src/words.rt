@@ -1,6 +1,7 @@
 //! The words of the command line, by the kit's `clap`.
 
 use crate::fault::Fault;
+use crate::gone::Gone;
 use crate::offered::program;
 use crate::status::Question;
 use crate::whose::Claim;
@@ -67,6 +68,7 @@ pub enum Order<'a> {
         config: &'a str,
     },
     Drain(Drain<'a>),
+    Gone(Gone<'a>),
     Watch(Watch<'a>),
 }
 
@@ -188,6 +190,20 @@ fn watch_of<'a>(alloc: Global, matches: &ArgMatches<'a>) -> Result<Order<'a>, Fa
     }
 }
 
+fn gone_of<'a>(alloc: Global, matches: &ArgMatches<'a>) -> Result<Order<'a>, Fault> {
+    let node = node_of(text(matches, "NODE"))?;
+    match texts(alloc, matches, "OTHER") {
+        Ok(others) => Ok(Order::Gone(Gone {
+            config: text(matches, "CONFIG"),
+            journal: text(matches, "JOURNAL"),
+            node,
+            others,
+            makes: matches.get_flag("make"),
+        })),
+        Err(fault) => Err(fault),
+    }
+}
+
 fn listing_of<'a>(matches: &ArgMatches<'a>) -> Listing<'a> {
     Listing {
         journal: text(matches, "JOURNAL"),
@@ -291,6 +307,7 @@ fn order_of<'a>(alloc: Global, name: &str, matches: &ArgMatches<'a>) -> Result<O
             config: text(matches, "CONFIG"),
         }),
         "drain" => drain_of(matches),
+        "gone" => gone_of(alloc, matches),
         "watch" => watch_of(alloc, matches),
         _ => order_on_node(name, matches),
     }

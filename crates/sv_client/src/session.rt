@@ -11,7 +11,7 @@ ghost use Rattle.sv_target.specs.SessionCookie as spec;
 use http_header::{HeaderName, HeaderValue, HeaderValueError};
 use std::alloc::{AllocError, Global};
 use sv_model::{CONTEXT_LIMIT, Cookie, Field, Key, Secret, Sequence};
-use sv_target::{cookies, session_cookie};
+use sv_target::{SESSION_COOKIE, cookies, session_cookie};
 
 /// The session that a cookie names.
 #[derive(Clone, Copy, Debug, PartialEq, Eq)]
@@ -27,10 +27,10 @@ pub struct Session {
 #[tactic(auto, using(crate::proofs::SessionLemmas::nameable))]
 fn session_of(cookies: &[Cookie], context: u8) -> Option<Session>
     ensures context { IfSome result (λ session. session.context ≡ context) }
-    ensures named { IfSome result (λ session. spec.session_cookie cookies.now context ≡ Some (session.key, session.secret)) }
-    ensures none { IsNone result → spec.session_cookie cookies.now context ≡ None }
+    ensures named { IfSome result (λ session. spec.session_cookie spec.default_name cookies.now context ≡ Some (session.key, session.secret)) }
+    ensures none { IsNone result → spec.session_cookie spec.default_name cookies.now context ≡ None }
 {
-    match session_cookie(cookies, context) {
+    match session_cookie(SESSION_COOKIE.as_bytes(), cookies, context) {
         Some((key, secret)) => Some(Session {
             context,
             key,
@@ -86,7 +86,7 @@ fn cookie_of(alloc: Global, value: &str) -> Result<Cookie, AllocError>
     ensures { IfOk result (λ cookie. cookie ≡ cookie_with value.now) }
 {
     let mut name = Sequence::new(alloc);
-    name.extend_from_slice(b"JSESSIONID")?;
+    name.extend_from_slice(SESSION_COOKIE.as_bytes())?;
     let mut bytes = Sequence::new(alloc);
     bytes.extend_from_slice(value.as_bytes())?;
     Ok(Cookie { name, value: bytes })

@@ -2,6 +2,7 @@
 
 ghost use Rattle.std.specs.Prelude.{◌≡◌, ◌≢◌, ◌∷◌, [], ◌++◌, IfErr, IfOk, OnOk, Ok, map};
 ghost use Rattle.sv_core.specs.Census.{census_of};
+ghost use Rattle.sv_core.specs.Core.{durable_at};
 ghost use Rattle.sv_core.specs.Snapshot.{snapshot_of};
 ghost use Rattle.sv_core.specs.declared.fault.ApplyFault.TheVariants.{BadRecord};
 ghost use Rattle.sv_journal.specs.Format.{payloads};
@@ -69,11 +70,9 @@ impl Drop for Replayed {
     }
 }
 
-/// What the records give at a node of this number.
-fn replayed_at(alloc: Global, node: u8, records: &[Record]) -> Result<Replayed, ApplyFault>
-    ensures node { IfOk result (λ found. found.node ≡ node) }
-    ensures kept { IfOk result (λ found. found.kept.items ≡ snapshot_of (replayed blank records.now)) }
-    ensures census { IfOk result (λ found. found.census ≡ census_of (replayed blank records.now)) }
+/// A node of this number, with what the records give.
+fn node_with(alloc: Global, node: u8, records: &[Record]) -> Result<Core<()>, ApplyFault>
+    ensures durable { IfOk result (λ core. durable_at core ≡ replayed blank records.now) }
     ensures fit { IfOk result (λ _. Fit node records.now) }
     ensures bad { IfErr result (λ fault. fault ≡ BadRecord → ¬ (Fit node records.now)) }
 {
@@ -84,10 +83,34 @@ fn replayed_at(alloc: Global, node: u8, records: &[Record]) -> Result<Replayed, 
         keys: KEY_MOST as u32,
         forget: false,
     };
-    let core = match Core::recover(alloc, (), setting, records) {
-        Ok(core) => core,
-        Err(refused) => return Err(refused.fault),
-    };
+    match Core::recover(alloc, (), setting, records) {
+        Ok(core) => Ok(core),
+        Err(refused) => Err(refused.fault),
+    }
+}
+
+/// The same for a caller that knows the number.
+pub fn recovered(alloc: Global, node: u8, records: &[Record]) -> Result<Core<()>, FoundFault>
+    ensures durable { IfOk result (λ core. durable_at core ≡ replayed blank records.now) }
+    ensures fit { IfOk result (λ _. Fit node records.now) }
+    ensures unfit { IfErr result (λ fault. fault ≢ Memory → (fault ≡ Unfit) × (¬ (Fit node records.now))) }
+{
+    match node_with(alloc, node, records) {
+        Ok(core) => Ok(core),
+        Err(ApplyFault::Memory) => Err(FoundFault::Memory),
+        Err(ApplyFault::BadRecord) => Err(FoundFault::Unfit),
+    }
+}
+
+/// What the records give at a node of this number.
+fn replayed_at(alloc: Global, node: u8, records: &[Record]) -> Result<Replayed, ApplyFault>
+    ensures node { IfOk result (λ found. found.node ≡ node) }
+    ensures kept { IfOk result (λ found. found.kept.items ≡ snapshot_of (replayed blank records.now)) }
+    ensures census { IfOk result (λ found. found.census ≡ census_of (replayed blank records.now)) }
+    ensures fit { IfOk result (λ _. Fit node records.now) }
+    ensures bad { IfErr result (λ fault. fault ≡ BadRecord → ¬ (Fit node records.now)) }
+{
+    let core = node_with(alloc, node, records)?;
     let census = core.census();
     match core.snapshot() {
         Ok(kept) => Ok(Replayed { node, kept, census }),

@@ -5,10 +5,12 @@
 //! its two files, in memory, so that nothing is ever written; [`replay`] gives what its records give. [`session_line`] is
 //! what is shown of a session and [`ShownRecord`] of a record, and [`places_of`] says where each record stands; [`Room`] says how full
 //! the node's table of keys is, and [`KeysLine`] of what; [`look_at`] tells of a descriptor, and [`losses`] of one that takes the place
-//! of another; [`is_anothers`] and [`is_own`] say whose journal a record can be in.
+//! of another; [`is_anothers`] and [`is_own`] say whose journal a record can be in; [`seen_of`] says what the other nodes know of the
+//! sessions of one that is gone for good, and [`remade`] makes the journal of a node that takes its number.
 #![tactic(auto)]
 
 mod descriptor;
+mod gone;
 mod images;
 mod kept;
 pub mod laws;
@@ -22,8 +24,9 @@ mod room;
 mod whose;
 
 pub use descriptor::{Look, look_at};
+pub use gone::{LastSeen, Whereabouts, payloads_of, remade, seen_of};
 pub use images::{FoundFault, entries_of};
-pub use kept::{Replayed, records_of, replay};
+pub use kept::{Replayed, records_of, recovered, replay};
 pub use lines::{AttributeLine, SessionLine, SessionPlace, SessionTimes, Shown, session_line};
 pub use losing::{Moved, losses, moved_contexts};
 pub use naming::{ShownKey, key_text, shown_key};
