@@ -206,10 +206,8 @@ impl Server {
             && len != write.len
             && let Ok(now) = machine.monotonic()
         {
-            let nanoseconds = now.saturating_sub(begun).as_nanos();
-            self.connections
-                .report
-                .written(u64::try_from(nanoseconds).unwrap_or(u64::MAX));
+            let duration = now.saturating_sub(begun);
+            self.connections.report.written(duration);
         }
     }
 

@@ -1,7 +1,7 @@
 //! How long something took, each time that it was done.
 
 /// How many lengths there are.
-const COUNT: usize = 10;
+const COUNT: usize = 12;
 
 /// A length that a duration is compared with.
 #[derive(Clone, Copy)]
@@ -11,7 +11,7 @@ pub struct Length {
     pub word: &'static str,
 }
 
-/// From a tenth of a millisecond to 3 seconds, each about three times the one before.
+/// From a tenth of a millisecond to 30 seconds, each about three times the one before.
 pub const LENGTHS: [Length; COUNT] = [
     Length {
         nanoseconds: 100_000,
@@ -52,6 +52,14 @@ pub const LENGTHS: [Length; COUNT] = [
     Length {
         nanoseconds: 3_000_000_000,
         word: "3",
+    },
+    Length {
+        nanoseconds: 10_000_000_000,
+        word: "10",
+    },
+    Length {
+        nanoseconds: 30_000_000_000,
+        word: "30",
     },
 ];
 

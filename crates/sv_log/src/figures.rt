@@ -8,7 +8,8 @@ use crate::loss::Loss;
 use crate::names::{
     ACCEPTED, BAD_REQUESTS, BUILD, COMPACTIONS, CONNECTIONS, ENDED, GAVE_WAY, GONE, GROUPS,
     JOURNAL, KNOWN, KNOWN_LIMIT, LATE, LOST, MOVED, NO_ROOM, NOT_TAKEN, ORDERED, PEERS, REFUSED,
-    REQUESTS, SENT, SESSIONS, STARTED, STEPS, TIME, WAITING, WRITE_DURATION, WRITE_SECONDS, WRITES,
+    REQUEST_DURATION, REQUESTS, SENT, SESSIONS, STARTED, STEPS, TIME, WAITING, WRITE_DURATION,
+    WRITE_SECONDS, WRITES,
 };
 use crate::reach::{NODES, Peers, Reach};
 use std::alloc::AllocError;
@@ -52,6 +53,8 @@ pub struct Figures {
     compactions: u64,
     /// Groups that were written to the journal and synced.
     writes: Durations,
+    /// Requests that were answered.
+    requests: Durations,
 }
 
 /// What there is at a node at a moment.
@@ -183,6 +186,11 @@ impl Figures {
         self.writes.add(nanoseconds);
     }
 
+    /// Counts a request that was answered, which took so long.
+    pub fn count_request(&mut self, nanoseconds: u64) {
+        self.requests.add(nanoseconds);
+    }
+
     /// The counters that have one number each.
     fn counters(&self) -> [(Family, u64); 13] {
         [
@@ -244,6 +252,7 @@ impl Figures {
     /// Writes all figures of a node, each name with its lines `# HELP` and `# TYPE` once.
     pub fn write(&self, out: &mut String, node: u8, gauges: Gauges) -> Result<(), AllocError> {
         self.write_answered(out, node)?;
+        REQUEST_DURATION.histogram(out, node, &self.requests)?;
         self.write_refused(out, node)?;
         self.write_lost(out, node)?;
         write_plain(out, node, &self.counters())?;

@@ -98,6 +98,12 @@ pub const WRITES: Family = Family {
     help: "Groups that were written to the journal and synced.",
 };
 
+pub const REQUEST_DURATION: Family = Family {
+    name: "request_duration_seconds",
+    kind: Kind::Histogram,
+    help: "How long each request took that was given to the node: from when it had come whole until it was answered, refusals among the answers.",
+};
+
 pub const WRITE_DURATION: Family = Family {
     name: "journal_write_duration_seconds",
     kind: Kind::Histogram,

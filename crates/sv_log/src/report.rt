@@ -13,6 +13,7 @@ use std::alloc::Global;
 use std::fmt;
 use std::fs::{File, Files};
 use std::rt::Env;
+use std::time::Duration;
 
 /// Why a report can't be begun.
 #[derive(Clone, Copy, Debug, PartialEq, Eq)]
@@ -55,6 +56,11 @@ impl Drop for Report {
             started: _,
         } = self;
     }
+}
+
+/// As many nanoseconds as a number has room for.
+fn nanoseconds(duration: Duration) -> u64 {
+    u64::try_from(duration.as_nanos()).unwrap_or(u64::MAX)
 }
 
 impl Report {
@@ -210,9 +216,16 @@ impl Report {
     }
 
     /// A group was written to the journal and synced, which took so long.
-    pub fn written(&mut self, nanoseconds: u64) {
+    pub fn written(&mut self, duration: Duration) {
         if let Some(metrics) = &mut self.metrics {
-            metrics.figures.count_write(nanoseconds);
+            metrics.figures.count_write(nanoseconds(duration));
+        }
+    }
+
+    /// A request was answered that had come so long before.
+    pub fn took(&mut self, duration: Duration) {
+        if let Some(metrics) = &mut self.metrics {
+            metrics.figures.count_request(nanoseconds(duration));
         }
     }
 

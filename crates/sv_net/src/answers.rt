@@ -163,11 +163,12 @@ impl Connections {
         let Some(open) = self.take(place) else {
             return;
         };
-        let (socket, state, _begun, _heard) = open.into_parts();
+        let (socket, state, begun, _heard) = open.into_parts();
         let State::Waiting { mut client, .. } = state else {
             self.leave(place);
             return;
         };
+        self.report.took(self.clock.saturating_sub(begun));
         text.clear();
         match client.connection.answer(text, response, now) {
             Outcome::Answered => self.say(place, socket, text, client.next()),

@@ -95,9 +95,11 @@ impl Open {
         }
     }
 
-    /// It has so much more time.
+    /// It has so much more time. A request that waits has no such limit, and is said to have taken as long as it has.
     pub(crate) fn forgive(&mut self, stood: Duration) {
-        self.begun = self.begun.saturating_add(stood);
+        if !self.state.is_waiting() {
+            self.begun = self.begun.saturating_add(stood);
+        }
         self.heard = self.heard.saturating_add(stood);
     }
 

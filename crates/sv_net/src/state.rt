@@ -253,6 +253,11 @@ impl State {
         }
     }
 
+    /// A client's request is the node's, and isn't answered.
+    pub(crate) fn is_waiting(&self) -> bool {
+        matches!(self, State::Waiting { .. })
+    }
+
     /// The state of a client whose request waits, once it sends no more.
     pub(crate) fn silenced(self) -> State {
         match self {
