@@ -1,0 +1,11 @@
+pub mod Language
+pub mod Kept
+pub mod Frame
+pub mod Guard
+pub mod Login
+pub mod Slots
+pub mod Courts
+pub mod Bookings
+pub mod League
+pub mod Upload
+pub mod Oops
