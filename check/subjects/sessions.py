@@ -58,12 +58,16 @@ def a_peer_that_is_not_there():
 
 
 def a_node_that_is_down():
-    """Of the 64 requests that may wait at a node at most 32 wait for sessions of one home. The others have places left."""
+    """Of the 64 requests that may wait at a node at most 32 wait for sessions of one home. The others have places left. A session that
+    the node made, and that is elsewhere, is served at each of the others."""
     cluster = Cluster(3, f"deadline = {deadline()}")
     for node in range(3):
         cluster.start(node)
-    (_, away), (_, near) = cluster.count(2), cluster.count(1)
+    (_, away), (_, near), (_, moved) = cluster.count(2), cluster.count(1), cluster.count(2)
+    expect("a count of a session at another node than the one that made it", cluster.count(1, moved), ("2\n", moved))
     cluster.kill(2)
+    for number, node in enumerate([0, 1, 0], start=3):
+        expect("its count while that is down", cluster.count(node, moved), (f"{number}\n", moved))
     waiting = [cluster.connect(0) for _ in range(40)]
     for stream in waiting:
         stream.sendall(asks_for(away))

@@ -5,6 +5,7 @@
 //! Each answer is written out: by RFC 9112, sections 4 to 6, a status line, the Date of the moment (784111777 is the
 //! example date of RFC 9110, section 5.6.7), the fields of the page, Content-Length, Connection where it closes.
 
+mod cookies;
 pub mod descriptors;
 mod dispatch;
 mod expiry;
@@ -49,7 +50,7 @@ fn serve(
         reader,
         writer,
     };
-    showcase(alloc).start(alloc, deployment, stream)
+    showcase(alloc).start(alloc, deployment, &[], stream)
 }
 
 /// All that is written for a stream that is served by a descriptor, and the fault that ends it.
@@ -124,6 +125,10 @@ fn expect_given_sessions(rt: &(impl Abort + AllocGlobal)) {
     expect_tables(rt, &sessions::GIVEN);
 }
 
+fn expect_chosen_cookies(rt: &(impl Abort + AllocGlobal)) {
+    expect_tables(rt, &cookies::CHOICES);
+}
+
 fn expect_renewing(rt: &(impl Abort + AllocGlobal)) {
     expect_tables(rt, &renewing::TABLES);
 }
@@ -144,6 +149,7 @@ fn expect_dispatches(rt: &(impl Abort + AllocGlobal)) {
 fn expect_sessions(rt: &(impl Abort + AllocGlobal)) {
     expect_named_sessions(rt);
     expect_given_sessions(rt);
+    expect_chosen_cookies(rt);
     expect_renewing(rt);
 }
 

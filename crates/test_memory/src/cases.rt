@@ -1,5 +1,6 @@
 //! The cases by their names.
 
+mod carrying;
 mod connections;
 mod containers;
 mod copies;
@@ -25,7 +26,7 @@ use sv_model::{
 };
 
 /// All of them, in the order of the floors.
-pub const NAMES: [&str; 96] = [
+pub const NAMES: [&str; 99] = [
     "text-copy",
     "bytes-copy",
     "field-copy",
@@ -76,6 +77,8 @@ pub const NAMES: [&str; 96] = [
     "reply-header",
     "reply-header-again",
     "reply-set",
+    "reply-add",
+    "reply-set-cookie",
     "reply-write",
     "request-attributes-insert",
     "request-attributes-copy",
@@ -90,6 +93,7 @@ pub const NAMES: [&str; 96] = [
     "stamp",
     "gate",
     "dispatch-run",
+    "dispatch-attribute",
     "container-start",
     "container-serve",
     "container-serve-once",
@@ -196,6 +200,7 @@ fn of_records(alloc: Global, refusals: &mut Refusals, name: &str) -> Shown {
 fn of_container(alloc: Global, refusals: &mut Refusals, name: &str) -> Shown {
     match name {
         "dispatch-run" => dispatches::dispatched(alloc, refusals),
+        "dispatch-attribute" => dispatches::carried(alloc, refusals),
         "container-start" => containers::start(alloc, refusals),
         "container-serve" => containers::serve_again(alloc, refusals),
         "container-serve-once" => containers::serve_once(alloc, refusals),

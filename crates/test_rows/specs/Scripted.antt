@@ -7,14 +7,14 @@ use Rattle.sv_servlet.specs.Reply.{status_result, write_result}
 use Rattle.sv_servlet.specs.ReplyState.{ReplyState}
 use Rattle.sv_servlet.specs.Servlet.{Answer, Lent, answer, lent}
 use Rattle.sv_servlet.specs.declared.filter.Before.{Before}
-use Rattle.sv_servlet.specs.declared.filter.Before.TheVariants.{Pass, Stop, SendError as RefuseBy, Fault as RefuseFor}
+use Rattle.sv_servlet.specs.declared.filter.Before.TheVariants.{Pass, PassWith, Stop, SendError as RefuseBy, Fault as RefuseFor}
 use Rattle.sv_servlet.specs.declared.reply.ReplyFault.{ReplyFault}
 use Rattle.sv_servlet.specs.declared.servlet.Next.{Next}
 use Rattle.sv_servlet.specs.declared.servlet.Next.TheVariants.{Done, Forward, Include, SendError, Fault}
 use Rattle.test_rows.specs.declared.scripted.Says.{Says}
 use Rattle.test_rows.specs.declared.scripted.Says.TheVariants.{Text, Attribute, Uri}
 use Rattle.test_rows.specs.declared.scripted.Then.{Then}
-use Rattle.test_rows.specs.declared.scripted.Then.TheVariants.{Ends, Forwards, Includes, Fails, Faults}
+use Rattle.test_rows.specs.declared.scripted.Then.TheVariants.{Ends, Forwards, Includes, Fails, Faults, Carries}
 
 abbrev pub or_dash : Option (List ℕ) → List ℕ
 or_dash None = codes "-"
@@ -34,6 +34,7 @@ next_of (Forwards path) = Forward path.now
 next_of (Includes path) = Include path.now 7
 next_of (Fails code) = SendError code (codes "why")
 next_of (Faults name) = Fault name.now
+next_of (Carries value) = Done
 
 abbrev pub before_of : Then → Before
 before_of Ends = Pass
@@ -41,6 +42,7 @@ before_of (Forwards path) = Stop
 before_of (Includes path) = Stop
 before_of (Fails code) = RefuseBy code (codes "why")
 before_of (Faults name) = RefuseFor name.now
+before_of (Carries value) = PassWith (codes "member") value.now
 
 -- the reply takes a call; where it is refused the servlet has no memory left
 abbrev pub on_reply : Lent → Result ReplyState ReplyFault → Lent

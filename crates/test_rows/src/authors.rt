@@ -5,8 +5,10 @@ mod asked;
 mod attributes;
 mod checked;
 mod closed;
+mod cookies;
 mod deeds;
 mod echo;
+mod files;
 mod methods;
 mod pages;
 mod parts;
@@ -15,9 +17,23 @@ mod requests;
 mod said;
 mod served;
 mod status;
+mod tokens;
 
 use crate::fault::RowFault;
 use std::alloc::Global;
+
+fn of_cookie(alloc: Global, kind: &str, words: &str) -> Result<String, RowFault> {
+    match kind {
+        "cookie" => cookies::cookie(alloc, words),
+        "setting" => cookies::setting(alloc, words),
+        "set-cookie" => cookies::set(alloc, words),
+        "token" => cookies::token(alloc, words),
+        "now" => cookies::now(alloc, words),
+        "csrf" => tokens::csrf(alloc, words),
+        "csrf-token" => tokens::given(alloc, words),
+        _ => Err(RowFault::Kind),
+    }
+}
 
 fn of_session(alloc: Global, kind: &str, words: &str) -> Result<String, RowFault> {
     match kind {
@@ -28,7 +44,7 @@ fn of_session(alloc: Global, kind: &str, words: &str) -> Result<String, RowFault
         "status" => served::status(alloc, words),
         "echo" => served::echo(alloc, words),
         "closed" => served::closed(alloc, words),
-        _ => Err(RowFault::Kind),
+        _ => of_cookie(alloc, kind, words),
     }
 }
 
@@ -41,6 +57,7 @@ fn of_exchange(alloc: Global, kind: &str, parts: &str) -> Result<String, RowFaul
         "json" => deeds::json_back(alloc, parts),
         "json-error" => deeds::json_error(alloc, parts),
         "part" => parts::part(alloc, parts),
+        "file" => files::file(alloc, parts),
         _ => of_session(alloc, kind, parts),
     }
 }

@@ -19,11 +19,12 @@
 //! - `watched`, figures: `figures`, `cut-figures`, `figure`, `rate`, `known-keys`, `table` and `screen`;
 //! - `sessions`, whose parts are calls: `edit`, `expired`, `joined` and `session-fault`;
 //! - `servlets`, likewise: `reply`, `reply-fault`, `request-attributes`, `init`, `lives` and `filter`;
-//! - `dispatches`, whose servlet and filter do as a row of a table says, with a proved meaning: `chain`, `included`, `filtered`,
+//! - `dispatches`, whose servlet and filter do as a row of a table says, with a proved meaning: `chain`, `included`, `carried`, `filtered`,
 //!   `nested`, `looped`, `page` and `shown`;
 //! - `authors`, what they share: `u8`, `u16`, `u64`, `post`, `parameter`, `parameter-or`, `escaped`, `written`, `error`, `head`,
 //!   `own-path`, `value`, `has-session`, `text`, `number`, `status`, `echo` and `closed`;
-//! - `authors`, whole answers: `methods`, `json-put`, `page-of`, `send-to`, `json`, `json-error` and `part`.
+//! - `authors`, cookies and tokens: `cookie`, `setting`, `set-cookie`, `token`, `now`, `csrf` and `csrf-token`;
+//! - `authors`, whole answers: `methods`, `json-put`, `page-of`, `send-to`, `json`, `json-error`, `part` and `file`.
 #![tactic(auto)]
 
 mod answer;

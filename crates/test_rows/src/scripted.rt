@@ -29,6 +29,8 @@ pub enum Then {
     Includes(&'static str),
     Fails(u16),
     Faults(&'static str),
+    /// A filter passes, and the request has the attribute `member` with this value; a servlet ends.
+    Carries(&'static str),
 }
 
 /// Sets a status, writes a text, and gives what is to follow; where it is resumed, writes `7]` if it
@@ -92,7 +94,7 @@ fn next_of(alloc: Global, then: Then) -> Result<Next, AllocError>
     ensures { IfOk result (λ next. next ≡ spec.next_of then) }
 {
     match then {
-        Then::Ends => Ok(Next::Done),
+        Then::Ends | Then::Carries(_) => Ok(Next::Done),
         Then::Forwards(path) => Ok(Next::Forward(Text::from_str(alloc, path)?)),
         Then::Includes(path) => {
             let path = Text::from_str(alloc, path)?;
@@ -161,6 +163,10 @@ fn before_of(alloc: Global, then: Then) -> Result<Before, AllocError>
             Ok(Before::SendError { code, text })
         }
         Then::Faults(name) => Ok(Before::Fault(Text::from_str(alloc, name)?)),
+        Then::Carries(value) => Ok(Before::PassWith {
+            name: Text::from_str(alloc, "member")?,
+            value: Text::from_str(alloc, value)?,
+        }),
     }
 }
 

@@ -70,7 +70,9 @@ fn call_of<'a>(
         query: none,
         params: &[],
         fields: &[],
+        cookies: &[],
         body: b"",
+        settings: &[],
         attributes,
         resume: 0,
     }

@@ -92,7 +92,7 @@ fn serve(
         reader,
         writer,
     };
-    showcase(alloc).start(alloc, deployment, two)
+    showcase(alloc).start(alloc, deployment, &[], two)
 }
 
 /// All that is written for two requests at these moments.

@@ -71,7 +71,7 @@ pub fn told(rt: &impl Abort, alloc: Global) -> String {
         input: CHANGES,
         noted: &mut noted,
     };
-    let end = showcase(alloc).start(alloc, deployment, purpose);
+    let end = showcase(alloc).start(alloc, deployment, &[], purpose);
     end.expect(rt, "a stream that is served");
     noted
 }

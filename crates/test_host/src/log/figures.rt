@@ -12,13 +12,15 @@ enum Counted {
     Event(Event),
     /// A write took so many nanoseconds.
     Write(u64),
+    /// A request took so many nanoseconds.
+    Request(u64),
 }
 
 /// What has happened at a node, and the lines of the figures that tell of it.
 struct Row(&'static [Counted], &'static str);
 
 /// Each event counts in its own figure.
-static ROWS: [Row; 22] = [
+static ROWS: [Row; 23] = [
     Row(
         &[Counted::Event(Event::Answered { class: 5 })],
         "\nkegbramble_requests_total{node=\"3\",class=\"5xx\"} 1\n",
@@ -130,6 +132,8 @@ kegbramble_journal_write_duration_seconds_bucket{node=\"3\",le=\"0.1\"} 1
 kegbramble_journal_write_duration_seconds_bucket{node=\"3\",le=\"0.3\"} 1
 kegbramble_journal_write_duration_seconds_bucket{node=\"3\",le=\"1\"} 1
 kegbramble_journal_write_duration_seconds_bucket{node=\"3\",le=\"3\"} 2
+kegbramble_journal_write_duration_seconds_bucket{node=\"3\",le=\"10\"} 2
+kegbramble_journal_write_duration_seconds_bucket{node=\"3\",le=\"30\"} 2
 kegbramble_journal_write_duration_seconds_bucket{node=\"3\",le=\"+Inf\"} 2
 kegbramble_journal_write_duration_seconds_sum{node=\"3\"} 1.504000001
 kegbramble_journal_write_duration_seconds_count{node=\"3\"} 2
@@ -137,7 +141,7 @@ kegbramble_journal_write_duration_seconds_count{node=\"3\"} 2
     ),
     // What is at most a length is in its bucket; what is longer than all of them is among all alone.
     Row(
-        &[Counted::Write(100_000), Counted::Write(3_000_000_001)],
+        &[Counted::Write(100_000), Counted::Write(30_000_000_001)],
         "
 kegbramble_journal_write_duration_seconds_bucket{node=\"3\",le=\"0.0001\"} 1
 kegbramble_journal_write_duration_seconds_bucket{node=\"3\",le=\"0.0003\"} 1
@@ -149,7 +153,31 @@ kegbramble_journal_write_duration_seconds_bucket{node=\"3\",le=\"0.1\"} 1
 kegbramble_journal_write_duration_seconds_bucket{node=\"3\",le=\"0.3\"} 1
 kegbramble_journal_write_duration_seconds_bucket{node=\"3\",le=\"1\"} 1
 kegbramble_journal_write_duration_seconds_bucket{node=\"3\",le=\"3\"} 1
+kegbramble_journal_write_duration_seconds_bucket{node=\"3\",le=\"10\"} 1
+kegbramble_journal_write_duration_seconds_bucket{node=\"3\",le=\"30\"} 1
 kegbramble_journal_write_duration_seconds_bucket{node=\"3\",le=\"+Inf\"} 2
+",
+    ),
+    // A quarter of a millisecond is more than 0.1 and at most 0.3; 12 seconds are more than 10 and at most 30.
+    Row(
+        &[Counted::Request(250_000), Counted::Request(12_000_000_000)],
+        "
+# TYPE kegbramble_request_duration_seconds histogram
+kegbramble_request_duration_seconds_bucket{node=\"3\",le=\"0.0001\"} 0
+kegbramble_request_duration_seconds_bucket{node=\"3\",le=\"0.0003\"} 1
+kegbramble_request_duration_seconds_bucket{node=\"3\",le=\"0.001\"} 1
+kegbramble_request_duration_seconds_bucket{node=\"3\",le=\"0.003\"} 1
+kegbramble_request_duration_seconds_bucket{node=\"3\",le=\"0.01\"} 1
+kegbramble_request_duration_seconds_bucket{node=\"3\",le=\"0.03\"} 1
+kegbramble_request_duration_seconds_bucket{node=\"3\",le=\"0.1\"} 1
+kegbramble_request_duration_seconds_bucket{node=\"3\",le=\"0.3\"} 1
+kegbramble_request_duration_seconds_bucket{node=\"3\",le=\"1\"} 1
+kegbramble_request_duration_seconds_bucket{node=\"3\",le=\"3\"} 1
+kegbramble_request_duration_seconds_bucket{node=\"3\",le=\"10\"} 1
+kegbramble_request_duration_seconds_bucket{node=\"3\",le=\"30\"} 2
+kegbramble_request_duration_seconds_bucket{node=\"3\",le=\"+Inf\"} 2
+kegbramble_request_duration_seconds_sum{node=\"3\"} 12.000250000
+kegbramble_request_duration_seconds_count{node=\"3\"} 2
 ",
     ),
     // Of a node that nothing was sent to nothing is known.
@@ -235,6 +263,7 @@ fn count_all(figures: &mut Figures, all: &[Counted]) {
         match *one {
             Counted::Event(event) => figures.count(event),
             Counted::Write(nanoseconds) => figures.count_write(nanoseconds),
+            Counted::Request(nanoseconds) => figures.count_request(nanoseconds),
         }
     }
 }

@@ -7,6 +7,7 @@ ghost use Rattle.sv_servlet.specs.declared.servlet.Phase.TheVariants.{New, Ready
 ghost use Rattle.test_memory.specs.Stages.{IsOne};
 
 use crate::again::{Refusals, Unshown, done};
+use crate::cases::carrying::Carrying;
 use crate::given;
 use http::Method;
 use std::alloc::{AllocError, Global};
@@ -14,7 +15,7 @@ use sv_dispatch::{Ended, Hosted, Stage, run};
 use sv_mapping::{Dispatcher, Dispatchers, FilterMapping, FilterTarget, Mappings, Pattern};
 use sv_model::{Param, Sequence, Text};
 use sv_samples::{Includer, Stamp};
-use sv_servlet::{Call, Filter, GenericServlet, Reply, RequestAttributes, Servlet};
+use sv_servlet::{Call, Filter, GenericFilter, GenericServlet, Reply, RequestAttributes, Servlet};
 use sv_session::SessionEdit;
 use sv_web::Web;
 
@@ -151,7 +152,9 @@ fn call<'a>(
         query: None,
         params,
         fields: &[],
+        cookies: &[],
         body: b"",
+        settings: &[],
         attributes,
         resume: 0,
     }
@@ -218,13 +221,29 @@ fn tried<S: Servlet, F: Filter>(alloc: Global, refusals: &mut Refusals, stage: S
     }
 }
 
-/// The calls grow by the chains of filters, by those that have passed, by the text that is written, by the dispatch that waits for
-/// the one that it includes, and by the latter's path, parameters and attributes.
-pub fn dispatched(alloc: Global, refusals: &mut Refusals) -> Shown {
-    let filter = ready_filter(Stamp::new(alloc, "stamp-b")?)?;
+/// The same with a filter round the servlet that includes.
+fn filtered<F: Filter>(alloc: Global, refusals: &mut Refusals, filter: F) -> Shown
+    requires { F.filter_phase filter ≡ New }
+{
+    let filter = ready_filter(filter)?;
     let servlet = ready(GenericServlet::new(Web::new(alloc, Includer)))?;
     match stage(alloc, servlet, filter) {
         Ok(stage) => tried(alloc, refusals, stage),
         Err(why) => Err(why),
     }
+}
+
+/// The calls grow by the chains of filters, by those that have passed, by the text that is written, by the dispatch that waits for
+/// the one that it includes, and by the latter's path, parameters and attributes.
+pub fn dispatched(alloc: Global, refusals: &mut Refusals) -> Shown {
+    filtered(alloc, refusals, Stamp::new(alloc, "stamp-b")?)
+}
+
+/// Here also by the attribute with which the filter passes, and by the attributes that have it.
+pub fn carried(alloc: Global, refusals: &mut Refusals) -> Shown {
+    filtered(
+        alloc,
+        refusals,
+        GenericFilter::new(Web::new(alloc, Carrying)),
+    )
 }

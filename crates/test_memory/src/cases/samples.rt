@@ -30,7 +30,9 @@ fn call<'a>(
         query: Some("user=ann"),
         params,
         fields: &[],
+        cookies: &[],
         body: b"",
+        settings: &[],
         attributes,
         resume: 0,
     }

@@ -6,6 +6,7 @@ use std::alloc::{AllocError, Global};
 use sv_model::{Birth, Fate, Key, Secret};
 use sv_servlet::{Replied, Reply, ReplyFault, RequestAttributes};
 use sv_session::{Edited, SessionEdit, SessionFault};
+use sv_web::{SetCookie, set_cookie};
 
 type Shown = Result<String, Unshown>;
 
@@ -104,12 +105,22 @@ fn reply(alloc: Global) -> Result<Reply, Unshown> {
     Ok(reply)
 }
 
+/// Sets a cookie with attributes.
+fn cookie(alloc: Global, reply: &mut Reply) -> Result<(), ReplyFault> {
+    let mut cookie = SetCookie::new("lang", "en");
+    cookie.path = Some("/shop");
+    cookie.max_age = Some(3_600);
+    set_cookie(alloc, reply, &cookie)
+}
+
 /// The call of a case.
 fn call_reply(alloc: Global, reply: &mut Reply, name: &str) -> Result<(), ReplyFault> {
     match name {
         "reply-header" => reply.header("x-own-name-of-a-field", "a value"),
         "reply-header-again" => reply.header("X-A", "another value"),
         "reply-set" => reply.set(given::field(alloc)?),
+        "reply-add" => reply.add(given::field(alloc)?),
+        "reply-set-cookie" => cookie(alloc, reply),
         _ => reply.write(b"more of the body than there is room for"),
     }
 }

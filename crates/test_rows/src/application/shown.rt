@@ -1,7 +1,9 @@
 //! Deployments as texts, so that a row can say all of them.
 
 use std::alloc::{AllocError, Global};
-use sv_config::{Cluster, Context, ErrorPage, Once, PageFor};
+use sv_config::{
+    Cluster, Context, CookieConfig, ErrorPage, FileMapping, FileSource, Once, PageFor, Setting,
+};
 
 fn ports_text(alloc: Global, ports: &[u16]) -> Result<String, AllocError> {
     let mut text = String::from_str(alloc, "ports")?;
@@ -74,6 +76,51 @@ fn push_once(text: &mut String, once: &Option<Once>) -> Result<(), AllocError> {
     Ok(())
 }
 
+/// The name, `secure` and the value of SameSite of a session cookie, as far as they are there; nothing where none is.
+fn push_cookie(text: &mut String, cookie: &CookieConfig) -> Result<(), AllocError> {
+    if cookie.name.is_none() && !cookie.secure && cookie.same_site.is_none() {
+        return Ok(());
+    }
+    text.push_str(", cookie")?;
+    if let Some(name) = &cookie.name {
+        write!(text, " {name}")?;
+    }
+    if cookie.secure {
+        text.push_str(" secure")?;
+    }
+    if let Some(same_site) = cookie.same_site {
+        write!(text, " {}", same_site.word())?;
+    }
+    Ok(())
+}
+
+/// The settings, each as its name and its value in quotes; nothing where there is none.
+fn push_settings(text: &mut String, settings: &[Setting]) -> Result<(), AllocError> {
+    for setting in settings {
+        write!(text, ", {} is {:?}", setting.name, setting.value)?;
+    }
+    Ok(())
+}
+
+/// What a file mapping serves, by what paths, and with which Cache-Control.
+fn push_file(text: &mut String, file: &FileMapping) -> Result<(), AllocError> {
+    match &file.source {
+        FileSource::File(path) => write!(text, ", file {path} at {}", file.path)?,
+        FileSource::Folder(path) => write!(text, ", folder {path} at {}", file.path)?,
+    }
+    if let Some(cache) = &file.cache {
+        write!(text, " for {cache}")?;
+    }
+    Ok(())
+}
+
+fn push_files(text: &mut String, files: &[FileMapping]) -> Result<(), AllocError> {
+    for file in files {
+        push_file(text, file)?;
+    }
+    Ok(())
+}
+
 /// The path between angle brackets, the interval, and how many patterns and filter mappings there are.
 fn front_text(alloc: Global, context: &Context) -> Result<String, AllocError> {
     format!(in alloc;
@@ -91,7 +138,10 @@ fn push_context(alloc: Global, text: &mut String, context: &Context) -> Result<(
     push_names(text, ", filters", &context.filters)?;
     push_names(text, ", listeners", &context.listeners)?;
     push_pages(alloc, text, &context.error_pages)?;
-    push_once(text, &context.once)
+    push_once(text, &context.once)?;
+    push_cookie(text, &context.cookie)?;
+    push_settings(text, &context.settings)?;
+    push_files(text, &context.files)
 }
 
 /// Each context, behind a semicolon from the second one on.

@@ -16,6 +16,8 @@ use sv_web::{HttpServlet, Web};
 pub struct Asked<'a> {
     pub method: &'a Method,
     pub context_path: &'a str,
+    /// Empty for none.
+    pub path_info: &'a str,
     pub fields: &'a [Field],
     pub body: &'a [u8],
 }
@@ -26,8 +28,17 @@ impl<'a> Asked<'a> {
         Asked {
             method,
             context_path: "/shop",
+            path_info: "",
             fields: &[],
             body: b"",
+        }
+    }
+
+    fn path_info(self) -> Option<&'a str> {
+        if self.path_info.is_empty() {
+            None
+        } else {
+            Some(self.path_info)
         }
     }
 
@@ -38,11 +49,13 @@ impl<'a> Asked<'a> {
             request_uri: "/shop/a",
             context_path: self.context_path,
             servlet_path: "/a",
-            path_info: None,
+            path_info: self.path_info(),
             query: None,
             params: &[],
             fields: self.fields,
+            cookies: &[],
             body: self.body,
+            settings: &[],
             attributes,
             resume: 0,
         }

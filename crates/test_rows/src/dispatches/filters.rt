@@ -1,12 +1,14 @@
 //! Filters round a servlet (Jakarta Servlet 6.0, chapter "Filtering").
 //!
-//! The part of `chain` is what the second filter says of a request for `/w`; there is no error page. `included` has no parts.
+//! The part of `chain` is what the second filter says of a request for `/w`; there is no error page. `included` has no parts. Those of
+//! `carried` are a path, and what each of two filters of requests has the attribute `member` be, `-` if it sets none.
 
 ghost use Rattle.test_rows.specs.Staged.{IsStaged};
 
 use super::{add_filters, add_servlets, dispatched, filter_of, then_of};
 use crate::dispatches::Row;
 use crate::fault::RowFault;
+use crate::row::first;
 use crate::scripted::{Marking, Says, Scripted, Then};
 use crate::staged::{add_filter, empty_stage};
 use std::alloc::Global;
@@ -57,4 +59,46 @@ pub fn included(alloc: Global) -> Result<String, RowFault> {
     let mut stage: Stage<Scripted, Marking> = empty_stage(alloc);
     furnish_including(alloc, &mut stage)?;
     dispatched(alloc, stage, "/iw")
+}
+
+static SHOWING: [Row; 3] = [
+    ("/w", 200, Says::Attribute("member"), Then::Ends),
+    ("/fw", 200, Says::Text("gone"), Then::Forwards("/w")),
+    ("/iw", 200, Says::Text("["), Then::Includes("/w")),
+];
+
+/// What a filter says that has the attribute be so.
+fn carries(word: &str) -> Result<Then, RowFault> {
+    match word {
+        "Ada" => Ok(Then::Carries("Ada")),
+        "Bea" => Ok(Then::Carries("Bea")),
+        "-" => Ok(Then::Ends),
+        _ => Err(RowFault::Part),
+    }
+}
+
+/// A servlet that shows the attribute, one that forwards to it, one that includes it, and two filters.
+fn furnish_showing(
+    alloc: Global,
+    stage: &mut Stage<Scripted, Marking>,
+    one: Then,
+    two: Then,
+) -> Result<(), RowFault>
+    requires { IsStaged stage.old }
+    ensures { IsStaged stage.new }
+{
+    add_servlets(alloc, stage, &SHOWING)?;
+    let requests = Dispatchers::of(&[Dispatcher::Request]);
+    add_filter(alloc, stage, requests, filter_of(alloc, "<b", "b>", one))?;
+    add_filter(alloc, stage, requests, filter_of(alloc, "<a", "a>", two))
+}
+
+/// What a filter sets is seen behind it.
+pub fn carried(alloc: Global, parts: &str) -> Result<String, RowFault> {
+    let (path, values) = first(parts);
+    let (one, two) = first(values);
+    let (one, two) = (carries(one)?, carries(two)?);
+    let mut stage: Stage<Scripted, Marking> = empty_stage(alloc);
+    furnish_showing(alloc, &mut stage, one, two)?;
+    dispatched(alloc, stage, path)
 }

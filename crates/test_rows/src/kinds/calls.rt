@@ -11,6 +11,7 @@ fn of_dispatch(alloc: Global, kind: &str, parts: &str) -> Result<String, RowFaul
     match kind {
         "chain" => filters::chain(alloc, parts),
         "included" => filters::included(alloc),
+        "carried" => filters::carried(alloc, parts),
         "filtered" => kinds::filtered(alloc, parts),
         "nested" => nesting::nested(alloc, parts),
         "looped" => nesting::looped(alloc),

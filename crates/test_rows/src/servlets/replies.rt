@@ -1,6 +1,6 @@
 //! Replies step by step.
 //!
-//! The parts of `reply` are its calls: `status CODE`, `header NAME=VALUE`, `set NAME=VALUE` for a field that was made before,
+//! The parts of `reply` are its calls: `status CODE`, `header NAME=VALUE`, `set NAME=VALUE` for a field that was made before, and `add NAME=VALUE`,
 //! `many COUNT` for fields from `x-0` on, `write TEXT`, `fill LENGTH` for a body of so many bytes, `reset`, `clear`, `hold` and `let-go`;
 //! `nothing` is no call. The part of `reply-fault` is the fault's number.
 
@@ -31,6 +31,11 @@ fn set(alloc: Global, reply: &mut Reply, words: &str) -> Result<Answer, RowFault
     Ok(reply.set(field_of(alloc, name, value)?))
 }
 
+fn add(alloc: Global, reply: &mut Reply, words: &str) -> Result<Answer, RowFault> {
+    let (name, value) = row::pair(words);
+    Ok(reply.add(field_of(alloc, name, value)?))
+}
+
 /// Sets so many fields, up to the first one that is refused.
 fn set_many(alloc: Global, reply: &mut Reply, count: &str) -> Result<Answer, RowFault> {
     for number in 0..row::size(count)? {
@@ -54,6 +59,7 @@ fn made(alloc: Global, reply: &mut Reply, call: &str, words: &str) -> Result<Ans
         "status" => status(reply, words),
         "header" => header(alloc, reply, words),
         "set" => set(alloc, reply, words),
+        "add" => add(alloc, reply, words),
         "many" => set_many(alloc, reply, words),
         "write" => Ok(reply.write(words.as_bytes())),
         "fill" => fill(alloc, reply, words),

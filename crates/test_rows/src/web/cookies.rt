@@ -62,7 +62,10 @@ pub fn session(alloc: Global, parts: &str) -> Result<String, RowFault> {
     let (context, rest) = first(parts);
     let context = small(context)?;
     let cookies = cookies_of(alloc, rest)?;
-    Ok(session_of(alloc, session_cookie(cookies.as_slice(), context))?)
+    Ok(session_of(
+        alloc,
+        session_cookie(SESSION_COOKIE.as_bytes(), cookies.as_slice(), context),
+    )?)
 }
 
 /// The session of a context that the fields of a request name.
@@ -71,7 +74,10 @@ pub fn asked(alloc: Global, parts: &str) -> Result<String, RowFault> {
     let context = small(context)?;
     let fields = fields_of(alloc, rest)?;
     let found = cookies(alloc, fields.as_slice())?;
-    Ok(session_of(alloc, session_cookie(found.as_slice(), context))?)
+    Ok(session_of(
+        alloc,
+        session_cookie(SESSION_COOKIE.as_bytes(), found.as_slice(), context),
+    )?)
 }
 
 /// The secret of 16 bytes in hexadecimal.
