@@ -27,7 +27,7 @@ use sv_journal::Disk;
 use sv_log::{Event, Level, Milestone, Report};
 use sv_model::{Engine, Moment, Parked};
 use sv_net::{Connections, port_of};
-use sv_node::Node;
+use sv_node::{Node, SessionCounts};
 
 /// In milliseconds: a turn waits so long, at most.
 const TURN: u64 = 1_000;
@@ -178,6 +178,12 @@ impl Server {
         } = node.census();
         let report = &mut self.connections.report;
         report.census(active as u64, sent as u64, gone as u64, ended as u64);
+        let SessionCounts {
+            made,
+            ended,
+            expired,
+        } = node.session_counts();
+        report.turnover(made, ended, expired);
         report.measure(node.journal_len());
     }
 

@@ -6,12 +6,14 @@ use crate::event::{Event, Refusal, cause_name};
 use crate::family::{Family, Label};
 use crate::loss::Loss;
 use crate::names::{
-    ACCEPTED, BAD_REQUESTS, BUILD, COMPACTIONS, CONNECTIONS, ENDED, GAVE_WAY, GONE, GROUPS,
-    JOURNAL, KNOWN, KNOWN_LIMIT, LATE, LOST, MOVED, NO_ROOM, NOT_TAKEN, ORDERED, PEERS, REFUSED,
-    REQUEST_DURATION, REQUESTS, SENT, SESSIONS, STARTED, STEPS, TIME, WAITING, WRITE_DURATION,
-    WRITE_SECONDS, WRITES,
+    ACCEPTED, BAD_REQUESTS, BUILD, COMPACTIONS, CONNECTIONS, ENDED, ENDED_TOTAL, EXPIRED,
+    FILE_LIMIT, GAVE_WAY, GONE, GROUPS, JOURNAL, KNOWN, KNOWN_LIMIT, LATE, LOST, MADE, MOVED,
+    NO_ROOM, NOT_TAKEN, OPEN_FILES, ORDERED, PEERS, REFUSED, REQUEST_DURATION, REQUESTS, RESIDENT,
+    SENT, SESSIONS, STARTED, STEPS, TIME, WAITING, WRITE_DURATION, WRITE_SECONDS, WRITES,
 };
+use crate::process::Process;
 use crate::reach::{NODES, Peers, Reach};
+use crate::turnover::Turnover;
 use std::alloc::AllocError;
 use sv_model::Cause;
 use sv_version::number;
@@ -70,12 +72,15 @@ pub struct Gauges {
     pub now: u64,
     /// None until the journal was opened: nothing is known of sessions and keys before, nor of the journal's length.
     pub keys: Option<Census>,
+    /// The same of the sessions that it has made and ended.
+    pub turnover: Turnover,
     /// So many keys the node knows at most.
     pub limit: u64,
     /// When the node was started, in seconds since 1970.
     pub started: u64,
     /// Whether another node can be reached, by its number.
     pub peers: Peers,
+    pub process: Process,
 }
 
 /// Writes figures that have one number each.
@@ -262,9 +267,11 @@ impl Figures {
         write_build(out, node)?;
         write_plain(out, node, &[(STARTED, gauges.started)])?;
         write_peers(out, node, &gauges.peers)?;
+        write_plain(out, node, &gauges.of_sessions())?;
         gauges.write_keys(out, node)?;
         write_plain(out, node, &gauges.of_clients())?;
         gauges.write_journal(out, node)?;
+        gauges.write_process(out, node)?;
         write_plain(out, node, &[(TIME, gauges.now)])
     }
 }
@@ -283,6 +290,36 @@ impl Gauges {
             (ENDED, keys.ended),
         ];
         write_plain(out, node, &known)
+    }
+
+    /// How many sessions have come and gone.
+    fn of_sessions(self) -> [(Family, u64); 3] {
+        let Turnover {
+            made,
+            ended,
+            expired,
+        } = self.turnover;
+        [(MADE, made), (ENDED_TOTAL, ended), (EXPIRED, expired)]
+    }
+
+    /// Writes what the process holds of its machine, as far as that is known.
+    fn write_process(self, out: &mut String, node: u8) -> Result<(), AllocError> {
+        let Process {
+            resident,
+            open_files,
+            file_limit,
+        } = self.process;
+        let figures = [
+            (RESIDENT, resident),
+            (OPEN_FILES, open_files),
+            (FILE_LIMIT, file_limit),
+        ];
+        for (family, value) in figures {
+            if let Some(value) = value {
+                write_plain(out, node, &[(family, value)])?;
+            }
+        }
+        Ok(())
     }
 
     fn of_clients(self) -> [(Family, u64); 2] {

@@ -140,6 +140,24 @@ pub const SESSIONS: Family = Family {
     help: "Sessions that the node has: active here, or sent to another node that has not acknowledged them.",
 };
 
+pub const MADE: Family = Family {
+    name: "sessions_made_total",
+    kind: Kind::Counter,
+    help: "Sessions that were made.",
+};
+
+pub const ENDED_TOTAL: Family = Family {
+    name: "sessions_ended_total",
+    kind: Kind::Counter,
+    help: "Sessions that a request has ended here, or has named once they had expired.",
+};
+
+pub const EXPIRED: Family = Family {
+    name: "sessions_expired_total",
+    kind: Kind::Counter,
+    help: "Sessions that have expired here before anything named them again.",
+};
+
 pub const KNOWN: Family = Family {
     name: "known_keys",
     kind: Kind::Gauge,
@@ -180,6 +198,24 @@ pub const JOURNAL: Family = Family {
     name: "journal_bytes",
     kind: Kind::Gauge,
     help: "The length of the journal.",
+};
+
+pub const RESIDENT: Family = Family {
+    name: "process_resident_memory_bytes",
+    kind: Kind::Gauge,
+    help: "Memory of the process that is in the machine's.",
+};
+
+pub const OPEN_FILES: Family = Family {
+    name: "process_open_fds",
+    kind: Kind::Gauge,
+    help: "Files that the process has open, its connections among them.",
+};
+
+pub const FILE_LIMIT: Family = Family {
+    name: "process_max_fds",
+    kind: Kind::Gauge,
+    help: "So many files the process may have open.",
 };
 
 pub const TIME: Family = Family {

@@ -8,7 +8,9 @@ use crate::log::Log;
 use crate::loss::Loss;
 use crate::metrics::Metrics;
 use crate::milestone::Milestone;
+use crate::process::Process;
 use crate::reach::{NODES, Peers, Reach};
+use crate::turnover::Turnover;
 use std::alloc::Global;
 use std::fmt;
 use std::fs::{File, Files};
@@ -33,6 +35,7 @@ pub struct Report {
     journal: u64,
     /// None until they were counted, which is when the journal was opened.
     keys: Option<Census>,
+    turnover: Turnover,
     /// So many keys the node knows at most.
     limit: u64,
     /// When it was begun, by the clock that nobody sets, in milliseconds.
@@ -51,6 +54,7 @@ impl Drop for Report {
             now: _,
             journal: _,
             keys: _,
+            turnover: _,
             limit: _,
             begun: _,
             started: _,
@@ -73,6 +77,7 @@ impl Report {
             now: 0,
             journal: 0,
             keys: None,
+            turnover: Turnover::default(),
             limit: 0,
             begun: 0,
             started: 0,
@@ -244,13 +249,22 @@ impl Report {
         });
     }
 
+    /// How many sessions the node has made, and how many have ended, as [`Turnover`] has them.
+    pub fn turnover(&mut self, made: u64, ended: u64, expired: u64) {
+        self.turnover = Turnover {
+            made,
+            ended,
+            expired,
+        };
+    }
+
     /// Whether the figures are about to be written, so that the keys are to be counted for them.
     pub fn wants_census(&self) -> bool {
         self.is_due()
     }
 
     /// What there is at a node at which so many clients wait, and so many connections are open.
-    fn gauges(&self, waiting: usize, connections: usize) -> Gauges {
+    fn gauges(&self, process: Process, waiting: usize, connections: usize) -> Gauges {
         Gauges {
             waiting: waiting as u64,
             connections: connections as u64,
@@ -260,13 +274,24 @@ impl Report {
             limit: self.limit,
             started: self.started,
             peers: self.peers,
+            turnover: self.turnover,
+            process,
         }
     }
 
     /// Writes the figures.
-    fn write_figures<R: Files<File = File>>(&mut self, files: &R, gauges: Gauges) {
+    fn write_figures<R: Files<File = File> + Alloc + Clone + Drop>(
+        &mut self,
+        machine: &R,
+        waiting: usize,
+        connections: usize,
+    ) {
+        if !self.is_counting() {
+            return;
+        }
+        let gauges = self.gauges(Process::now(machine), waiting, connections);
         if let Some(metrics) = &mut self.metrics
-            && metrics.write(files, gauges).is_err()
+            && metrics.write(machine, gauges).is_err()
         {
             self.note(Event::NoFigures);
         }
@@ -282,14 +307,14 @@ impl Report {
 
     /// Writes the lines that were put down, and the figures where they are due: so many clients wait, and so many connections are
     /// open.
-    pub fn turn<R: Files<File = File> + Eprint>(
+    pub fn turn<R: Files<File = File> + Eprint + Alloc + Clone + Drop>(
         &mut self,
         machine: &R,
         waiting: usize,
         connections: usize,
     ) {
         if self.is_due() {
-            self.write_figures(machine, self.gauges(waiting, connections));
+            self.write_figures(machine, waiting, connections);
         }
         if let Some(log) = &mut self.log {
             log.flush(machine);
@@ -297,13 +322,13 @@ impl Report {
     }
 
     /// The same at the end, with what was counted and not said yet, and the figures as they are then.
-    pub fn end<R: Files<File = File> + Eprint>(
+    pub fn end<R: Files<File = File> + Eprint + Alloc + Clone + Drop>(
         &mut self,
         machine: &R,
         waiting: usize,
         connections: usize,
     ) {
-        self.write_figures(machine, self.gauges(waiting, connections));
+        self.write_figures(machine, waiting, connections);
         if let Some(log) = &mut self.log {
             log.say_counted();
             log.flush(machine);

@@ -21,6 +21,7 @@ use Rattle.sv_model.specs.Step.{View, IsStep}
 use Rattle.sv_record.specs.Record.{spelling}
 use Rattle.sv_node.specs.Stops.{TellsBoth, Stores, RestoresEither, LeavesEither, LeavesAdded}
 use Rattle.sv_node.specs.declared.node.Node.{Node}
+use Rattle.sv_node.specs.declared.session_counts.SessionCounts.{SessionCounts}
 
 -- a node with its engine's meaning, and what its listeners have noted
 abbrev pub view_of : {E D : Type 0} → (E → EngineMeaning) → (E → List (List ℕ)) → Node E D → View
@@ -46,6 +47,9 @@ journal_of n = n.journal
 -- how many records were replayed when it was opened
 abbrev pub restored_of : {E D : Type 0} → Node E D → ℕ
 restored_of n = n.restored
+
+abbrev pub counts_of : {E D : Type 0} → Node E D → SessionCounts
+counts_of n = n.counts
 
 -- what holds between the calls of a node
 pub record IsNode {E D : Type 0} (valid : E → Type 0) (tells : D → Type 0) (seen : D → List ℕ) (may_leave : D → List ℕ → Type 0) (n : Node E D) : Type 0 where

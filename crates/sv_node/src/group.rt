@@ -16,6 +16,7 @@ ghost use Rattle.sv_node.specs.Group.{FitsIn, LacksRoom, StagesMore, TakesOne, T
 use crate::fault::step_fault;
 use crate::ledger::payload_of;
 use crate::node::Node;
+use crate::session_counts::SessionCounts;
 use std::alloc::{AllocError, Global};
 use sv_core::{Core, Held};
 use sv_journal::{Batch, Disk, Journal};
@@ -63,6 +64,7 @@ fn take<E: Engine, D: Disk>(
     core: &mut Core<E>,
     journal: &Journal<D>,
     batch: &mut Batch,
+    counts: &mut SessionCounts,
     moment: Moment,
     input: Input,
 ) -> Result<Held, StepFault>
@@ -87,6 +89,7 @@ fn take<E: Engine, D: Disk>(
     if let Err(fault) = stage(alloc, journal, batch, decision.entry()) {
         return Err(fault);
     }
+    counts.count(decision.entry());
     Ok(core.take(decision))
 }
 
@@ -121,6 +124,7 @@ fn take_all<E: Engine, D: Disk>(
     batch: &mut Batch,
     inputs: Vec<(Moment, Input)>,
     held: &mut Vec<Result<Held, StepFault>>,
+    counts: &mut SessionCounts,
 )
     requires valid { E.valid (engine_of core.old) }
     requires setting { IsSetting (setting_of core.old) }
@@ -141,7 +145,7 @@ fn take_all<E: Engine, D: Disk>(
 {
     for next in inputs {
         let (moment, input) = next;
-        held.push_reserved(take(alloc, core, journal, batch, moment, input));
+        held.push_reserved(take(alloc, core, journal, batch, counts, moment, input));
     }
 }
 
@@ -217,6 +221,7 @@ impl<E: Engine, D: Disk> Node<E, D> {
             mut held,
             mut answers,
         } = room;
+        let mut counts = self.counts;
         take_all(
             self.alloc,
             &mut self.core,
@@ -224,10 +229,12 @@ impl<E: Engine, D: Disk> Node<E, D> {
             &mut batch,
             inputs,
             &mut held,
+            &mut counts,
         );
         if let Err(fault) = self.journal.append_all(&batch) {
             return Err(step_fault(fault));
         }
+        self.counts = counts;
         tell_all(&mut self.core, held, &mut answers);
         Ok(answers)
     }

@@ -15,7 +15,9 @@ mod ledger;
 mod node;
 mod not_opened;
 mod starting;
+mod session_counts;
 
 pub use fault::OpenFault;
 pub use node::Node;
 pub use not_opened::NotOpened;
+pub use session_counts::SessionCounts;

@@ -17,6 +17,7 @@ use crate::fault::{OpenFault, apply_fault, open_fault, step_fault};
 use crate::ledger::{keep, read};
 use crate::not_opened::NotOpened;
 use crate::starting::start;
+use crate::session_counts::SessionCounts;
 use std::alloc::Global;
 use sv_core::{Census, Core};
 use sv_journal::{Disk, Journal, JournalFault};
@@ -28,6 +29,7 @@ pub struct Node<E, D: Disk> {
     pub(crate) core: Core<E>,
     pub(crate) journal: Journal<D>,
     pub(crate) restored: usize,
+    pub(crate) counts: SessionCounts,
     pub(crate) alloc: Global,
 }
 
@@ -115,6 +117,7 @@ impl<E: Engine, D: Disk> Node<E, D> {
             core,
             journal,
             restored,
+            counts: SessionCounts::default(),
             alloc,
         })
     }
@@ -151,7 +154,7 @@ impl<E: Engine, D: Disk> Node<E, D> {
 }
 
 impl<E, D: Disk> Node<E, D> {
-    ghost use Rattle.sv_node.specs.Node.{engine_of, journal_of, state_of, durable_of, restored_of};
+    ghost use Rattle.sv_node.specs.Node.{engine_of, journal_of, state_of, durable_of, restored_of, counts_of};
 
     /// The requests that wait for their sessions, as they came.
     pub fn parked(&self) -> &[Parked]
@@ -181,6 +184,13 @@ impl<E, D: Disk> Node<E, D> {
         self.restored
     }
 
+    /// How many sessions were made, and how many have ended here, by `step_all` since it was opened.
+    pub fn session_counts(&self) -> SessionCounts
+        ensures { result ≡ counts_of self.now }
+    {
+        self.counts
+    }
+
     /// How many bytes of the journal's file its entries take up, with the header before them and the gate that ends them, when a
     /// call last succeeded. The file may be longer.
     pub fn journal_len(&self) -> u64
@@ -197,6 +207,7 @@ impl<E, D: Disk> Node<E, D> {
             core,
             journal,
             restored: _,
+            counts: _,
             alloc: _,
         } = self;
         let (a, b) = journal.into_disks();

@@ -3,7 +3,9 @@
 use crate::fixtures::add;
 use std::alloc::Global;
 use std::process::Abort;
-use sv_log::{Census, Event, Figures, Gauges, Loss, NODES, Phase, Reach, Refusal};
+use sv_log::{
+    Census, Event, Figures, Gauges, Loss, NODES, Phase, Process, Reach, Refusal, Turnover,
+};
 use sv_model::{Cause, Key};
 
 /// What is counted.
@@ -190,7 +192,8 @@ kegbramble_start_time_seconds{node=\"3\"} 784111000
 # TYPE kegbramble_peer_reachable gauge
 kegbramble_peer_reachable{node=\"3\",peer=\"1\"} 1
 kegbramble_peer_reachable{node=\"3\",peer=\"2\"} 0
-# HELP kegbramble_sessions ",
+# HELP kegbramble_sessions_made_total Sessions that were made.
+",
     ),
     Row(&[Counted::Event(Event::Moved)], LAST),
 ];
@@ -222,11 +225,30 @@ const GAUGES: Gauges = Gauges {
     limit: 65_536,
     started: 784_111_000,
     peers: PEERS,
+    turnover: Turnover {
+        made: 40,
+        ended: 20,
+        expired: 7,
+    },
+    process: Process {
+        resident: Some(1_736_704),
+        open_files: Some(1006),
+        file_limit: Some(20_000),
+    },
 };
 
 /// That stands behind the counters, each name with its own two lines before it, and nothing but the full stop comes after it. All known
 /// keys are 3 and 1 and 2 and 4.
 const LAST: &str = "
+# HELP kegbramble_sessions_made_total Sessions that were made.
+# TYPE kegbramble_sessions_made_total counter
+kegbramble_sessions_made_total{node=\"3\"} 40
+# HELP kegbramble_sessions_ended_total Sessions that a request has ended here, or has named once they had expired.
+# TYPE kegbramble_sessions_ended_total counter
+kegbramble_sessions_ended_total{node=\"3\"} 20
+# HELP kegbramble_sessions_expired_total Sessions that have expired here before anything named them again.
+# TYPE kegbramble_sessions_expired_total counter
+kegbramble_sessions_expired_total{node=\"3\"} 7
 # HELP kegbramble_sessions Sessions that the node has: active here, or sent to another node that has not acknowledged them.
 # TYPE kegbramble_sessions gauge
 kegbramble_sessions{node=\"3\",state=\"active\"} 3
@@ -252,6 +274,15 @@ kegbramble_connections{node=\"3\"} 1000
 # HELP kegbramble_journal_bytes The length of the journal.
 # TYPE kegbramble_journal_bytes gauge
 kegbramble_journal_bytes{node=\"3\"} 1073741824
+# HELP kegbramble_process_resident_memory_bytes Memory of the process that is in the machine's.
+# TYPE kegbramble_process_resident_memory_bytes gauge
+kegbramble_process_resident_memory_bytes{node=\"3\"} 1736704
+# HELP kegbramble_process_open_fds Files that the process has open, its connections among them.
+# TYPE kegbramble_process_open_fds gauge
+kegbramble_process_open_fds{node=\"3\"} 1006
+# HELP kegbramble_process_max_fds So many files the process may have open.
+# TYPE kegbramble_process_max_fds gauge
+kegbramble_process_max_fds{node=\"3\"} 20000
 # HELP kegbramble_time_seconds What the node took for the time when it wrote this, in seconds since 1970.
 # TYPE kegbramble_time_seconds gauge
 kegbramble_time_seconds{node=\"3\"} 784111777
@@ -292,18 +323,20 @@ fn each_figure_has_its_line(rt: HostRuntime) {
 
 /// What is known of a node only once its journal was opened, which may take a while: a 0 would say that its sessions are gone.
 const OF_THE_JOURNAL: [&str; 6] = [
-    "kegbramble_sessions",
-    "kegbramble_known_keys",
-    "kegbramble_known_keys_limit",
-    "kegbramble_gone_keys",
-    "kegbramble_ended_keys",
-    "kegbramble_journal_bytes",
+    "kegbramble_sessions{",
+    "kegbramble_known_keys{",
+    "kegbramble_known_keys_limit{",
+    "kegbramble_gone_keys{",
+    "kegbramble_ended_keys{",
+    "kegbramble_journal_bytes{",
 ];
 
+/// Of what the system doesn't tell, and of what only an open journal tells, nothing is said.
 #[test]
 fn nothing_is_said_of_a_journal_that_was_not_opened(rt: HostRuntime) {
     let gauges = Gauges {
         keys: None,
+        process: Process::default(),
         ..GAUGES
     };
     let text = text_of(&rt, rt.alloc(), &[], gauges);

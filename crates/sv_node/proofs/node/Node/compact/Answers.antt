@@ -47,7 +47,7 @@ returns-clause-compaction g c =
     let d = g.D.Disk in
     let old = c.args.self.now in
     let last = c.replace.new.journal in
-    let new : Node g.row.E.Denot g.row.D.Denot = record { core = old.core; journal = last; restored = old.restored; alloc = old.alloc } in
+    let new : Node g.row.E.Denot g.row.D.Denot = record old { journal = last } in
     let r = c.replace.ensures in
     let set = setting_of old in
     let before = durable_of old in

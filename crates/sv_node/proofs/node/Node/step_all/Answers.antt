@@ -23,7 +23,7 @@ returns-in_default-clause-group g c =
     let d = g.D.Disk in
     let old = c.args.self.now in
     let live : IsTrue old.journal.live = cc in
-    untouched e.valid e.meaning e.heard d.tells d.seen d.may_leave d.moment d.left_since d.failed g.met.D.Disk.counts_now g.met.D.Disk.only_now old (record { core = old.core; journal = old.journal; restored = old.restored; alloc = old.alloc }) c.args.inputs.items c.requires.valid live refl refl
+    untouched e.valid e.meaning e.heard d.tells d.seen d.may_leave d.moment d.left_since d.failed g.met.D.Disk.counts_now g.met.D.Disk.only_now old old c.args.inputs.items c.requires.valid live refl refl
 
 pub returns-in-Err-clause-group : goal.returns-in-Err-clause-group
 returns-in-Err-clause-group g c =
@@ -37,7 +37,7 @@ returns-in-Err-clause-group g c =
     let t = c.take_all.ensures.taken in
     let found = outcomes c.take_all.new.held.items in
     let rs = entries_of m set n inputs found in
-    let new : Node g.row.E.Denot g.row.D.Denot = record { core = c.take_all.new.core; journal = c.append_all.new.self; restored = old.restored; alloc = old.alloc } in
+    let new : Node g.row.E.Denot g.row.D.Denot = record old { core = c.take_all.new.core; journal = c.append_all.new.self } in
     let live : IsTrue old.journal.live = cc in
     let is = device_alone c.in-Err.fault (λ failed. let dead = c.in-Err.ensures.failed.0 failed in absurd cc) (λ full. let f = c.in-Err.ensures.full.0 full in has_room old.journal c.take_all.new.batch c.take_all.ensures.room f.1 f.2) c.in-Err.ensures.damaged c.in-Err.ensures.memory in
     let device = c.in-Err.ensures.device (ap Err is) in
@@ -91,7 +91,7 @@ returns-clause-group g c =
     let t = c.take_all.ensures.taken in
     let found = outcomes c.take_all.new.held.items in
     let rs = entries_of m set n inputs found in
-    let new : Node g.row.E.Denot g.row.D.Denot = record { core = c.tell_all.new.core; journal = c.append_all.new.self; restored = old.restored; alloc = old.alloc } in
+    let new : Node g.row.E.Denot g.row.D.Denot = record old { core = c.tell_all.new.core; journal = c.append_all.new.self; counts = c.take_all.new.counts } in
     let mid = c.take_all.new.core in
     let was = e.heard (core.engine_of old.core) in
     let events = flat_map events_held c.take_all.new.held.items in

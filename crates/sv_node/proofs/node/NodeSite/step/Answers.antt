@@ -25,7 +25,7 @@ returns-in_default-clause-step g c =
     let e = g.E.Engine in
     let d = g.D.Disk in
     let old = c.args.self.now in
-    quiet e.valid e.meaning e.heard d.tells d.seen d.may_leave d.moment d.left_since d.failed g.met.D.Disk.counts_now g.met.D.Disk.only_now old (record { core = c.decide.new.self; journal = old.journal; restored = old.restored; alloc = old.alloc }) (decided_at e.meaning old c.args.moment c.args.input) (Err Memory)
+    quiet e.valid e.meaning e.heard d.tells d.seen d.may_leave d.moment d.left_since d.failed g.met.D.Disk.counts_now g.met.D.Disk.only_now old (record old { core = c.decide.new.self }) (decided_at e.meaning old c.args.moment c.args.input) (Err Memory)
     c.requires.valid (record { view = c.decide.ensures.view; journal = refl }) (λ dead. absurd cc) c.decide.ensures.setting refl
 
 pub returns-in-Err-clause-valid : goal.returns-in-Err-clause-valid
@@ -33,7 +33,7 @@ returns-in-Err-clause-valid g c =
     let e = g.E.Engine in
     let d = g.D.Disk in
     let old = c.args.self.now in
-    still_node e.valid e.meaning e.heard d.tells d.seen d.may_leave d.moment d.left_since d.failed g.met.D.Disk.counts_now g.met.D.Disk.only_now old (record { core = c.decide.new.self; journal = c.keep.new.journal; restored = old.restored; alloc = old.alloc })
+    still_node e.valid e.meaning e.heard d.tells d.seen d.may_leave d.moment d.left_since d.failed g.met.D.Disk.counts_now g.met.D.Disk.only_now old (record old { core = c.decide.new.self; journal = c.keep.new.journal })
     c.requires.valid c.decide.ensures.valid c.decide.ensures.setting (ap (λ (v : View). v.node) c.decide.ensures.view)
     (λ live. unchanged e.valid e.meaning e.heard d.tells d.seen d.may_leave d.moment d.left_since d.failed g.met.D.Disk.counts_now g.met.D.Disk.only_now c.keep.new.journal old.journal c.in-Err.fault live c.in-Err.ensures.device (c.in-Err.ensures.unchanged refl))
 
@@ -42,7 +42,7 @@ returns-in-Err-clause-step g c =
     let e = g.E.Engine in
     let d = g.D.Disk in
     let old = c.args.self.now in
-    let new : Node g.row.E.Denot g.row.D.Denot = record { core = c.decide.new.self; journal = c.keep.new.journal; restored = old.restored; alloc = old.alloc } in
+    let new : Node g.row.E.Denot g.row.D.Denot = record old { core = c.decide.new.self; journal = c.keep.new.journal } in
     let set = setting_of old in
     let before = durable_of old in
     let decision = decided_at e.meaning old c.args.moment c.args.input in
@@ -86,7 +86,7 @@ returns-clause-step g c =
     let e = g.E.Engine in
     let d = g.D.Disk in
     let old = c.args.self.now in
-    let new : Node g.row.E.Denot g.row.D.Denot = record { core = c.accept.new.self; journal = c.keep.new.journal; restored = old.restored; alloc = old.alloc } in
+    let new : Node g.row.E.Denot g.row.D.Denot = record old { core = c.accept.new.self; journal = c.keep.new.journal } in
     let mid = c.decide.new.self in
     let set = setting_of old in
     let before = durable_of old in
