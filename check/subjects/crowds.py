@@ -93,6 +93,16 @@ def clients_that_take_nothing():
     in_one_try("that nobody waited", lambda: takes_its_place() < 15)
 
 
+def clients_that_ask(cluster, cookies, count):
+    """So many clients, each of which asks for one of two sessions as soon as it has come."""
+    clients = []
+    for number in range(count):
+        stream = cluster.connect(1)
+        stream.sendall(asks_for(cookies[number % 2]))
+        clients.append(stream)
+    return clients
+
+
 def goes_on_without_files():
     """Whether a node runs on that has no files left, as long as the one that drips has dripped before the requests are refused."""
     cluster = Cluster(3, f"deadline = {9 + brief_deadline()}")
@@ -102,9 +112,10 @@ def goes_on_without_files():
         cluster.start(home)
         cookies.append(cluster.count(home)[1])
         cluster.kill(home)
-    waiting = [cluster.connect(1) for _ in range(60)]
-    for number, stream in enumerate(waiting):
-        stream.sendall(asks_for(cookies[number % 2]))
+    # A client that has said nothing gives way where files are spent. So these have asked, and the node has heard them, before others come.
+    waiting = clients_that_ask(cluster, cookies, 25)
+    cluster.get(1, "/shop/hello")
+    waiting += clients_that_ask(cluster, cookies, 35)
     # Each byte of the one that drips has the node look once more whether there is room.
     waiting[0].setsockopt(socket.IPPROTO_TCP, socket.TCP_NODELAY, 1)
     try:
