@@ -41,8 +41,9 @@ impl Process {
     /// This one, now.
     pub fn now<R: Files<File = File> + Alloc + Clone + Drop>(machine: &R) -> Process {
         Process {
-            resident: number_in(machine, "/proc/self/status", "VmRSS:")
-                .and_then(|kilobytes| kilobytes.checked_mul(1024)),
+            resident: number_in(machine, "/proc/self/status", "VmRSS:").and_then(
+                |kilobytes| kilobytes.checked_mul(1024),
+            ),
             open_files: open_files(machine),
             file_limit: number_in(machine, "/proc/self/limits", "Max open files"),
         }

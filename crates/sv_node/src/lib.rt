@@ -14,8 +14,8 @@ pub mod laws;
 mod ledger;
 mod node;
 mod not_opened;
-mod starting;
 mod session_counts;
+mod starting;
 
 pub use fault::OpenFault;
 pub use node::Node;
