@@ -21,9 +21,9 @@ public final class Language extends HttpServlet {
     static final String COURTS_DE =
         "</p><h1>Ihre Plätze</h1><form method=post action=courts><label>Platz <input name=court type=number min=1 max=4 required></label> <label>Uhr <input name=hour type=number min=8 max=21 required></label> <button>Buchen</button> <button formaction=logout formnovalidate>Abmelden</button><input type=hidden name=csrf value=\"";
     static final String UPLOAD =
-        "</p><h1>Your list</h1><form method=post enctype=\"multipart/form-data\" action=\"upload?csrf=";
+        "</p><h1>Your list</h1><form method=post enctype=\"multipart/form-data\" action=upload><input type=hidden name=csrf value=\"";
     static final String UPLOAD_DE =
-        "</p><h1>Ihre Liste</h1><form method=post enctype=\"multipart/form-data\" action=\"upload?csrf=";
+        "</p><h1>Ihre Liste</h1><form method=post enctype=\"multipart/form-data\" action=upload><input type=hidden name=csrf value=\"";
     static final String LEAGUE =
         "</p><h1>League</h1><table><tr><th>Team<th>Points";
     static final String LEAGUE_DE =

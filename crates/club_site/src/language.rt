@@ -32,10 +32,10 @@ pub const COURTS_DE: &str =
 
 /// The form of a list, up to its token.
 pub const UPLOAD: &str =
-    "</p><h1>Your list</h1><form method=post enctype=\"multipart/form-data\" action=\"upload?csrf=";
+    "</p><h1>Your list</h1><form method=post enctype=\"multipart/form-data\" action=upload><input type=hidden name=csrf value=\"";
 
 pub const UPLOAD_DE: &str =
-    "</p><h1>Ihre Liste</h1><form method=post enctype=\"multipart/form-data\" action=\"upload?csrf=";
+    "</p><h1>Ihre Liste</h1><form method=post enctype=\"multipart/form-data\" action=upload><input type=hidden name=csrf value=\"";
 
 /// The league's table, up to its rows.
 pub const LEAGUE: &str = "</p><h1>League</h1><table><tr><th>Team<th>Points";

@@ -1,6 +1,6 @@
 -- A cookie that a server sets (RFC 6265, section 4.1.1; its attribute SameSite as the IETF's draft "Cookies: HTTP State Management
 -- Mechanism" has it).
-use Rattle.std.specs.Prelude.{◌≡◌, ℕ, ◌&&◌, ◌||◌, ◌-◌, ◌==◌, not, Bool, true, List, [], ◌++◌, bytes_eq, codes, decimal, drop, length, nat_le, nat_lt, take}
+use Rattle.std.specs.Prelude.{◌≡◌, ℕ, ◌&&◌, ◌||◌, ◌-◌, ◌==◌, not, Bool, false, true, List, [], ◌++◌, bytes_eq, codes, decimal, drop, length, nat_le, nat_lt, take}
 use Rattle.std.specs.Prelude.{slice_index, Option, Some, None, Result, Ok, Err, if◌then◌else◌}
 use Rattle.std.specs.List.{list_all}
 use Rattle.std.specs.Option.{option_map_or}
@@ -42,6 +42,10 @@ is_path_byte c = nat_le 32 c && nat_le c 126 && not (c == 59)
 
 abbrev pub is_path : List ℕ → Bool
 is_path path = list_all is_path_byte path
+
+-- a cookie without attributes
+abbrev pub bare : List ℕ → List ℕ → SentCookie
+bare name value = record { name = name; value = value; path = None; max_age = None; is_secure = false; is_http_only = false; same_site = None }
 
 abbrev pub is_cookie : SentCookie → Bool
 is_cookie c = is_name c.name && is_value c.value && option_map_or is_path c.path true

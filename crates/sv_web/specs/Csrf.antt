@@ -1,6 +1,5 @@
 -- The filter that tells a site's own forms from those of others by a token of the session (OWASP's synchronizer token pattern).
-use Rattle.std.specs.Prelude.{ℕ, Bool, false, ◌&&◌, ◌||◌, List, bytes_eq, codes, Option, Some, None, is_none, Result, Ok, Err, if◌then◌else◌}
-use Rattle.sv_model.specs.declared.field.Field.{Field}
+use Rattle.std.specs.Prelude.{ℕ, Bool, false, ◌&&◌, ◌||◌, List, bytes_eq, codes, Option, Some, None, is_none, option_map, Result, Ok, Err, if◌then◌else◌}
 use Rattle.sv_session.specs.Calls.{get_result}
 use Rattle.sv_session.specs.Edit.{Edit}
 use Rattle.sv_session.specs.Fault.{fault_name}
@@ -10,6 +9,7 @@ use Rattle.sv_servlet.specs.declared.filter.Before.{Before}
 use Rattle.sv_servlet.specs.declared.filter.Before.TheVariants.{Pass, SendError}
 use Rattle.sv_servlet.specs.declared.servlet.Next.{Next}
 use Rattle.sv_web.specs.Attributes.{has_session}
+use Rattle.sv_web.specs.Multipart.{PartOf, part}
 use Rattle.sv_web.specs.Refusal.{fault_sent}
 use Rattle.sv_web.specs.Request.{field, parameter}
 use Rattle.sv_web.specs.Steps.{set_attribute, shown}
@@ -38,13 +38,17 @@ new_token e = token_text e (codes "csrf")
 abbrev pub is_safe : List ℕ → Bool
 is_safe method = bytes_eq method (codes "GET") || bytes_eq method (codes "HEAD") || bytes_eq method (codes "OPTIONS") || bytes_eq method (codes "TRACE")
 
-abbrev pub param_or_field : Option (List ℕ) → List Field → Option (List ℕ)
-param_or_field (Some token) fields = Some token
-param_or_field None fields = field fields (codes "x-csrf-token")
+-- the first part `csrf` of a body of parts
+abbrev pub part_token : Asked → Option (List ℕ)
+part_token call = option_map (λ (p : PartOf). p.content) (part call (codes "csrf"))
 
--- the first parameter `csrf`, or else the field `x-csrf-token`
+abbrev pub or_else : Option (List ℕ) → Option (List ℕ) → Option (List ℕ)
+or_else (Some token) other = Some token
+or_else None other = other
+
+-- the first parameter `csrf`, or else the field `x-csrf-token`, or else the first part `csrf`
 abbrev pub brought : Asked → Option (List ℕ)
-brought call = param_or_field (parameter call.params (codes "csrf")) call.fields
+brought call = or_else (parameter call.params (codes "csrf")) (or_else (field call.fields (codes "x-csrf-token")) (part_token call))
 
 -- both are there, and they are the same
 abbrev pub is_same : Option (List ℕ) → Option (List ℕ) → Bool

@@ -168,7 +168,9 @@ fn part_if(is: bool, part: &'static [u8]) -> &'static [u8]
 
 impl<'a> SetCookie<'a> {
     /// A cookie without attributes.
-    pub fn new(name: &'a str, value: &'a str) -> SetCookie<'a> {
+    pub fn new(name: &'a str, value: &'a str) -> SetCookie<'a>
+        ensures { result ≡ spec.bare name.now value.now }
+    {
         SetCookie {
             name,
             value,

@@ -9,6 +9,7 @@ ghost use Rattle.sv_web.specs.Exchange.{CompletesGiving};
 use crate::attributes::has_session;
 use crate::exchange::Exchange;
 use crate::http_filter::HttpFilter;
+use crate::multipart::part;
 use crate::refusal::Refusal;
 use crate::request::{field, parameter};
 use crate::tokens::token;
@@ -25,8 +26,8 @@ const ATTRIBUTE: &str = "csrf";
 ///
 /// A session gets a token at its first GET or HEAD, or where a servlet asks for it by [`csrf_token`], and keeps it as the attribute
 /// `csrf`. A request of any other method than GET, HEAD, OPTIONS and TRACE (RFC 9110, section 9.2.1) has to bring it, as its first
-/// parameter `csrf` or else as the field `x-csrf-token`: else it is answered 403, and no servlet is called. So a form is shown to a
-/// session alone. The parts of a `multipart/form-data` are no parameters: such a form sends the token in its query.
+/// parameter `csrf`, or else as the field `x-csrf-token`, or else as the first part `csrf` of a `multipart/form-data` (RFC 7578): else
+/// it is answered 403, and no servlet is called. So a form is shown to a session alone.
 #[derive(Clone, Copy)]
 pub struct Csrf;
 
@@ -66,23 +67,36 @@ fn kept_token(edit: &SessionEdit) -> Option<&[u8]>
     }
 }
 
-/// The token that a request brings.
-fn brought<'a>(call: &Call<'a>) -> Option<&'a [u8]>
-    ensures { option_copied result ≡ spec.brought call.now }
+/// The token among the parts of a request's body.
+fn part_token<'a>(alloc: Global, call: &Call<'a>) -> Result<Option<&'a [u8]>, AllocError>
+    ensures { IfOk result (λ token. option_copied token ≡ spec.part_token call.now) }
 {
-    match parameter(call.params, "csrf") {
-        Some(token) => Some(token.as_bytes()),
-        None => field(call.fields, "x-csrf-token"),
+    match part(alloc, call, "csrf")? {
+        Some(part) => Ok(Some(part.content)),
+        None => Ok(None),
     }
 }
 
-/// Whether a request brings the token of its session.
-fn has_token(call: &Call<'_>, edit: &SessionEdit) -> bool
-    ensures { result ≡ spec.is_same (spec.brought call.now) (spec.kept_token edit.entry.now) }
+/// The token that a request brings.
+fn brought<'a>(alloc: Global, call: &Call<'a>) -> Result<Option<&'a [u8]>, AllocError>
+    ensures { IfOk result (λ token. option_copied token ≡ spec.brought call.now) }
 {
-    match (brought(call), kept_token(edit)) {
-        (Some(sent), Some(token)) => is_equal(sent, token),
-        _ => false,
+    if let Some(token) = parameter(call.params, "csrf") {
+        return Ok(Some(token.as_bytes()));
+    }
+    if let Some(token) = field(call.fields, "x-csrf-token") {
+        return Ok(Some(token));
+    }
+    part_token(alloc, call)
+}
+
+/// Whether a request brings the token of its session.
+fn has_token(alloc: Global, call: &Call<'_>, edit: &SessionEdit) -> Result<bool, AllocError>
+    ensures { IfOk result (λ is. is ≡ spec.is_same (spec.brought call.now) (spec.kept_token edit.entry.now)) }
+{
+    match (brought(alloc, call)?, kept_token(edit)) {
+        (Some(sent), Some(token)) => Ok(is_equal(sent, token)),
+        _ => Ok(false),
     }
 }
 
@@ -90,7 +104,7 @@ fn has_token(call: &Call<'_>, edit: &SessionEdit) -> bool
 fn admit(alloc: Global, call: &Call<'_>, edit: &SessionEdit) -> Result<Before, AllocError>
     ensures { IfOk result (λ before. before ≡ spec.admitted call.now edit.entry.now) }
 {
-    if has_token(call, edit) {
+    if has_token(alloc, call, edit)? {
         return Ok(Before::Pass);
     }
     let text = Text::from_str(alloc, "This request has no token of its session.")?;

@@ -1,8 +1,9 @@
 //! The filter of a session's token, called as a dispatch does.
 //!
 //! `csrf` has a method; `none`, `made` or `kept`, for no session, for one that was just made, and for one that keeps the token `t0ken`; and
-//! what the request brings, `param=TOKEN` or `field=TOKEN`, with a comma between them. It gives what the filter says, and the token that
-//! the session then keeps. `csrf-token` has `none`, `made` or `kept`.
+//! what the request brings, with a comma between them: `param=TOKEN`, `field=TOKEN`, `part=TOKEN` or `other=TOKEN` for a part `csrf` or
+//! `other` of a form's body, and `type=TYPE` for that body's media type, which is else that of a form with parts. It gives what the filter
+//! says, and the token that the session then keeps. `csrf-token` has `none`, `made` or `kept`.
 
 use crate::authors::asked::{Asked, method_of};
 use crate::authors::attributes::edit_of;
@@ -22,7 +23,12 @@ use sv_web::{Csrf, Exchange, Refusal, Web, csrf_token};
 struct Brought {
     params: Vec<Param>,
     fields: Vec<Field>,
+    body: String,
+    media_type: String,
 }
+
+/// The media type of a form with parts.
+const FORM: &str = "multipart/form-data";
 
 fn param_of(alloc: Global, value: &str) -> Result<Param, AllocError> {
     Ok(Param {
@@ -31,19 +37,59 @@ fn param_of(alloc: Global, value: &str) -> Result<Param, AllocError> {
     })
 }
 
-fn brought_by(alloc: Global, words: &str) -> Result<Brought, RowFault> {
-    let mut params = Vec::new(alloc);
-    let mut fields = Vec::new(alloc);
-    for word in words.split(',') {
-        let (kind, token) = pair(word);
+impl Brought {
+    fn nothing(alloc: Global) -> Result<Brought, AllocError> {
+        Ok(Brought {
+            params: Vec::new(alloc),
+            fields: Vec::new(alloc),
+            body: String::new(alloc),
+            media_type: String::from_str(alloc, FORM)?,
+        })
+    }
+
+    /// Adds a part to the body.
+    fn push_part(&mut self, name: &str, content: &str) -> Result<(), AllocError> {
+        let head = "content-disposition: form-data";
+        write!(
+            self.body,
+            "--b0\r\n{head}; name=\"{name}\"\r\n\r\n{content}\r\n"
+        )
+    }
+
+    fn push(&mut self, alloc: Global, kind: &str, token: &str) -> Result<(), RowFault> {
         match kind {
-            "param" => params.push(param_of(alloc, token)?)?,
-            "field" => fields.push(field_of(alloc, "x-csrf-token", token)?)?,
+            "param" => self.params.push(param_of(alloc, token)?)?,
+            "field" => self.fields.push(field_of(alloc, "x-csrf-token", token)?)?,
+            "part" => self.push_part("csrf", token)?,
+            "other" => self.push_part("other", token)?,
+            "type" => self.media_type = String::from_str(alloc, token)?,
             "" => {}
             _ => return Err(RowFault::Part),
         }
+        Ok(())
     }
-    Ok(Brought { params, fields })
+
+    /// Ends the body, of which a field tells.
+    fn end(&mut self, alloc: Global) -> Result<(), RowFault> {
+        if self.body.is_empty() {
+            return Ok(());
+        }
+        self.body.push_str("--b0--\r\n")?;
+        let media_type = format!(in alloc; "{}; boundary=b0", self.media_type)?;
+        self.fields
+            .push(field_of(alloc, "content-type", media_type.as_str())?)?;
+        Ok(())
+    }
+}
+
+fn brought_by(alloc: Global, words: &str) -> Result<Brought, RowFault> {
+    let mut brought = Brought::nothing(alloc)?;
+    for word in words.split(',') {
+        let (kind, token) = pair(word);
+        brought.push(alloc, kind, token)?;
+    }
+    brought.end(alloc)?;
+    Ok(brought)
 }
 
 /// The edit of a word.
@@ -81,6 +127,7 @@ fn judged(
     let attributes = RequestAttributes::new(alloc);
     let asked = Asked {
         fields: brought.fields.as_slice(),
+        body: brought.body.as_bytes(),
         ..Asked::by(method)
     };
     let call = Call {
