@@ -12,4 +12,5 @@ pub mod ContainerLemmas
 pub mod PrepareLemmas
 pub mod OnceLemmas
 pub mod ServeLemmas
+pub mod PlainLemmas
 pub mod OrderLemmas

@@ -181,6 +181,7 @@ fn turn_away(
 
 /// What becomes of the session that is handed in with a request to a context that names `named`, at `now` in whole
 /// seconds.
+#[inline(always)]
 pub fn admit(
     alloc: Global,
     choice: Option<&Choice>,

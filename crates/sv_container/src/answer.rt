@@ -1,6 +1,6 @@
 //! What an application answers to a request: the dispatch, and the response that comes of it.
 
-ghost use Rattle.std.specs.Prelude.{◌≡◌, IfOk, IsTrue, None, Some, false, option_map, true};
+ghost use Rattle.std.specs.Prelude.{◌≡◌, IfOk, IsTrue, None, Some, false, is_some, option_map, true};
 ghost use Rattle.sv_dispatch.specs.Pages.{ran, served as served_by_table};
 ghost use Rattle.sv_dispatch.specs.Place.{place_of};
 ghost use Rattle.sv_dispatch.specs.Stages.{lent_of};
@@ -24,7 +24,8 @@ use std::mem;
 use sv_dispatch::{Ended, run};
 use sv_mapping::Mappings;
 use sv_model::{
-    Fate, Key, Outcome, Request, Response, Secret, Sequence, Session, is_head, plain_page,
+    EngineFault, Fate, Key, Outcome, Request, Response, Secret, Sequence, Session, is_head,
+    plain_page,
 };
 use sv_servlet::{Call, Filter, Replied, Reply, RequestAttributes, Servlet};
 use sv_session::{Edited, SessionEdit};
@@ -42,6 +43,7 @@ fn shown<'a>(patterns: &Mappings, path: &'a str) -> (&'a str, Option<&'a str>)
 }
 
 /// The reply as the response, or the plain page of its status behind its fields.
+#[inline(always)]
 fn replied(
     alloc: Global,
     request: &Request,
@@ -80,6 +82,7 @@ fn fate_of(held: Option<(Key, Session)>) -> Fate
 
 impl<S: Servlet, F: Filter> Application<S, F> {
     /// Dispatches a request for a path within the context.
+    #[inline(always)]
     fn dispatch(
         &mut self,
         alloc: Global,
@@ -255,6 +258,7 @@ impl<S: Servlet, F: Filter> Application<S, F> {
     }
 
     /// What comes of a request that is answered and not served.
+    #[inline(never)]
     fn unserved(
         &self,
         alloc: Global,
@@ -307,6 +311,7 @@ impl<S: Servlet, F: Filter> Application<S, F> {
     }
 
     /// What comes of a request whose session has no room for what it is to remember.
+    #[inline(never)]
     fn unserved_full(
         &self,
         alloc: Global,
@@ -342,10 +347,38 @@ impl<S: Servlet, F: Filter> Application<S, F> {
         }
     }
 
-    /// Serves a request for a path within the context, with what became of the session that was handed in.
+    /// Serves a request for a path within the context, with what became of the session that was handed in, where sessions remember
+    /// nothing.
     #[inline(always)]
+    fn serve_plain(
+        &mut self,
+        alloc: Global,
+        request: &Request,
+        path: &str,
+        admission: Admission,
+        now: u64,
+        fresh: (Key, Secret),
+    ) -> Result<Outcome, AllocError>
+        requires sound { IsSoundApp (app_of S.serves S.servlet_phase F.filtering F.filter_phase self.old) }
+        requires serving { self.old.is_in_service ≡ true }
+        requires plain { is_some self.old.once ≡ false }
+        ensures same { app_of S.serves S.servlet_phase F.filtering F.filter_phase self.new
+            ≡ app_of S.serves S.servlet_phase F.filtering F.filter_phase self.old }
+        ensures outcome { IfOk result (λ o. o ≡ served_in (app_of S.serves S.servlet_phase F.filtering F.filter_phase self.old) request.now path.now admission
+            now fresh) }
+    {
+        let joined = admission.joined();
+        let (expired, held) = admission.into_parts();
+        let edit = self.begin(alloc, held, now, fresh);
+        let (response, edit) = self.answer(alloc, request, path, edit)?;
+        let edited = edit.finish();
+        self.plain_outcome(alloc, joined, expired, fresh, response, edited)
+    }
+
+    /// Serves a request for a path within the context, with what became of the session that was handed in, unless its session remembers
+    /// it.
     #[tactic(auto, unfolding(crate::specs::Serving::served_in, crate::specs::Serving::served_new))]
-    fn serve_admitted(
+    fn serve_unknown(
         &mut self,
         alloc: Global,
         request: &Request,
@@ -374,6 +407,30 @@ impl<S: Servlet, F: Filter> Application<S, F> {
         }
     }
 
+    /// Serves a request for a path within the context, with the session that is handed in, where sessions remember what was answered.
+    // Apart, and with the result of `serve`, so that a request of a context whose sessions remember nothing has no room cleared for what
+    // is made here.
+    #[inline(never)]
+    fn serve_once(
+        &mut self,
+        alloc: Global,
+        request: &Request,
+        path: &str,
+        handed: Option<(Key, &Session)>,
+        now: u64,
+        fresh: (Key, Secret),
+    ) -> Result<Outcome, EngineFault>
+        requires sound { IsSoundApp (app_of S.serves S.servlet_phase F.filtering F.filter_phase self.old) }
+        requires serving { self.old.is_in_service ≡ true }
+        ensures same { app_of S.serves S.servlet_phase F.filtering F.filter_phase self.new
+            ≡ app_of S.serves S.servlet_phase F.filtering F.filter_phase self.old }
+        ensures outcome { IfOk result (λ o. o ≡ served_by (Some (app_of S.serves S.servlet_phase F.filtering F.filter_phase self.old)) request.now path.now
+            (option_map (λ s. (s.0, s.1.now)) handed.entry) now fresh) }
+    {
+        let admission = self.admit(alloc, request, handed, now)?;
+        Ok(self.serve_unknown(alloc, request, path, handed, admission, now, fresh)?)
+    }
+
     /// Serves a request for a path within the context, with the session that is handed in; one that the session remembers is answered
     /// from its memory.
     pub fn serve(
@@ -384,7 +441,7 @@ impl<S: Servlet, F: Filter> Application<S, F> {
         handed: Option<(Key, &Session)>,
         now: u64,
         fresh: (Key, Secret),
-    ) -> Result<Outcome, AllocError>
+    ) -> Result<Outcome, EngineFault>
         requires sound { IsSoundApp (app_of S.serves S.servlet_phase F.filtering F.filter_phase self.old) }
         requires serving { self.old.is_in_service ≡ true }
         ensures same { app_of S.serves S.servlet_phase F.filtering F.filter_phase self.new
@@ -392,7 +449,10 @@ impl<S: Servlet, F: Filter> Application<S, F> {
         ensures outcome { IfOk result (λ o. o ≡ served_by (Some (app_of S.serves S.servlet_phase F.filtering F.filter_phase self.old)) request.now path.now
             (option_map (λ s. (s.0, s.1.now)) handed.entry) now fresh) }
     {
+        if self.once.is_some() {
+            return self.serve_once(alloc, request, path, handed, now, fresh);
+        }
         let admission = self.admit(alloc, request, handed, now)?;
-        self.serve_admitted(alloc, request, path, handed, admission, now, fresh)
+        Ok(self.serve_plain(alloc, request, path, admission, now, fresh)?)
     }
 }

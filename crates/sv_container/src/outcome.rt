@@ -44,6 +44,7 @@ pub fn told(context: u8, event: Event) -> Told
 }
 
 /// The events of a request in a context, with those of its edit.
+#[inline(always)]
 fn events_for(
     alloc: Global,
     context: u8,
@@ -94,6 +95,7 @@ pub fn unserved_of(
 }
 
 /// What became of the session that was handed in.
+#[inline(always)]
 fn fate_for(expired: Option<Key>, fate: Fate) -> Fate
     ensures { result ≡ fate_for expired fate }
 {
@@ -104,6 +106,7 @@ fn fate_for(expired: Option<Key>, fate: Fate) -> Fate
 }
 
 /// What comes of a request in a context.
+#[inline(always)]
 pub fn outcome_of(
     alloc: Global,
     context: u8,

@@ -115,6 +115,7 @@ fn cookie_field(
 
 /// The session that the client has to know of, by the key of the one that was joined, and the key and secret of a
 /// session that was made.
+#[inline(always)]
 pub fn announced(
     joined: Option<Key>,
     fresh: (Key, Secret),
@@ -130,6 +131,7 @@ pub fn announced(
 }
 
 /// Names the session, if one has to be known, behind the application's fields.
+#[inline(always)]
 pub fn with_cookie(
     alloc: Global,
     cookie: &SessionCookie,

@@ -1,4 +1,5 @@
 use Rattle.std.proofs.Common.{◌∙◌, sym}
+use Rattle.std.proofs.lemmas.Result.{IfOk-weaker}
 use Rattle.std.specs.Prelude.{string_bytes}
 use Rattle.sv_container.proofs.EngineLemmas.{app_within, below_there, context_there, meaning_kept, path_within, served_one, serving_one, sound_kept, sound_one}
 use Rattle.sv_container.proofs.engine.ContainerEngine.serve.Goals as goal
@@ -21,12 +22,6 @@ serve-requires-clause-sound g c = sound_one g.S.Servlet.serves g.S.Servlet.servl
 pub serve-requires-clause-serving : goal.serve-requires-clause-serving
 serve-requires-clause-serving g c = serving_one g.S.Servlet.serves g.S.Servlet.servlet_phase g.F.Filter.filtering g.F.Filter.filter_phase g.L.Listener.hears c.args.self.now _ _ _ c.in-Some.ensures c.index_mut.ensures.value
 
-pub returns-in_err-serve-clause-valid : goal.returns-in_err-serve-clause-valid
-returns-in_err-serve-clause-valid g c = sound_kept g.S.Servlet.serves g.S.Servlet.servlet_phase g.F.Filter.filtering g.F.Filter.filter_phase g.L.Listener.hears c.args.self.now _ _ _ c.requires c.serve.ensures.same c.index_mut.ensures.value
-
-pub returns-in_err-serve-clause-meaning : goal.returns-in_err-serve-clause-meaning
-returns-in_err-serve-clause-meaning g c = meaning_kept g.S.Servlet.serves g.S.Servlet.servlet_phase g.F.Filter.filtering g.F.Filter.filter_phase g.L.Listener.hears c.args.self.now _ _ _ c.serve.ensures.same c.index_mut.ensures.value
-
 pub returns-clause-valid : goal.returns-clause-valid
 returns-clause-valid g c = sound_kept g.S.Servlet.serves g.S.Servlet.servlet_phase g.F.Filter.filtering g.F.Filter.filter_phase g.L.Listener.hears c.args.self.now _ _ _ c.requires c.serve.ensures.same c.index_mut.ensures.value
 
@@ -34,8 +29,10 @@ pub returns-clause-outcome : goal.returns-clause-outcome
 returns-clause-outcome g c =
     let within = path_within g.S.Servlet.serves g.S.Servlet.servlet_phase g.F.Filter.filtering g.F.Filter.filter_phase g.L.Listener.hears c.args.self.now _ _ c.in-Some.ensures in
     let context = c.as_str-2.ensures.value ∙ context_there string_bytes c.args.self.now.paths.items _ _ within c.index.ensures in
-    served_one g.S.Servlet.serves g.S.Servlet.servlet_phase g.F.Filter.filtering g.F.Filter.filter_phase g.L.Listener.hears c.args.self.now _ _ _ _ _ _ _ _ _ _ _
-    c.in-Some.ensures c.as_str.ensures c.index_mut.ensures.value context c.as_str-3.ensures c.path_in_context-path.ensures c.in_ok-serve.ensures.outcome
+    IfOk-weaker c.serve.result _ _
+    (λ o is. served_one g.S.Servlet.serves g.S.Servlet.servlet_phase g.F.Filter.filtering g.F.Filter.filter_phase g.L.Listener.hears c.args.self.now _ _ _ _ _ _ _ _ _ _ o
+    c.in-Some.ensures c.as_str.ensures c.index_mut.ensures.value context c.as_str-3.ensures c.path_in_context-path.ensures is)
+    c.serve.ensures.outcome
 
 pub returns-clause-meaning : goal.returns-clause-meaning
 returns-clause-meaning g c = meaning_kept g.S.Servlet.serves g.S.Servlet.servlet_phase g.F.Filter.filtering g.F.Filter.filter_phase g.L.Listener.hears c.args.self.now _ _ _ c.serve.ensures.same c.index_mut.ensures.value

@@ -6,7 +6,7 @@ use Rattle.sv_container.specs.declared.admission.Admission.{Admission}
 use Rattle.sv_container.specs.declared.recall.Recall.{Recall}
 use Rattle.sv_container.specs.declared.recall.Recall.TheVariants.{New}
 use Rattle.sv_container.proofs.ServeLemmas.{served_apart_is}
-use Rattle.sv_container.proofs.application.Application.serve_admitted.Goals as goal
+use Rattle.sv_container.proofs.application.Application.serve_unknown.Goals as goal
 
 pub returns-in-New-clause-outcome : goal.returns-in-New-clause-outcome
 returns-in-New-clause-outcome g c =
