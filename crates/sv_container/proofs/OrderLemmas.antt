@@ -5,7 +5,6 @@ use Rattle.sv_model.specs.declared.commit.Commit.{Commit}
 use Rattle.sv_model.specs.declared.commit.Commit.TheVariants.{Served, Expired}
 use Rattle.sv_model.specs.declared.key.Key.{Key}
 use Rattle.sv_model.specs.declared.key.Secret.{Secret}
-use Rattle.sv_model.specs.declared.key.Token.{Token}
 use Rattle.sv_model.specs.declared.outcome.Birth.{Birth}
 use Rattle.sv_model.specs.declared.outcome.Birth.TheVariants.{Absent, Alive, Ended as BirthEnded}
 use Rattle.sv_model.specs.declared.outcome.Fate.{Fate}

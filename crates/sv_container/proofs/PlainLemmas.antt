@@ -1,5 +1,5 @@
 -- What is served where sessions remember nothing.
-use Rattle.std.proofs.Common.{◌≡◌, ◌∙◌, refl, ap, sym, ℕ, Bool, false, List, None, Option, Some, option_map}
+use Rattle.std.proofs.Common.{◌≡◌, ◌∙◌, refl, ap, sym, ℕ, false, List, None, Option, Some, option_map}
 use Rattle.std.specs.Prelude.{is_some}
 use Rattle.sv_model.specs.declared.key.Key.{Key}
 use Rattle.sv_model.specs.declared.key.Secret.{Secret}

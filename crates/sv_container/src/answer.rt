@@ -407,11 +407,12 @@ impl<S: Servlet, F: Filter> Application<S, F> {
         }
     }
 
-    /// Serves a request for a path within the context, with the session that is handed in, where sessions remember what was answered.
-    // Apart, and with the result of `serve`, so that a request of a context whose sessions remember nothing has no room cleared for what
+    /// Serves a request for a path within the context, with the session that is handed in, where sessions remember what was answered: one
+    /// that its session remembers is answered from its memory.
+    // Apart, and with the result of the engine's call, so that a request of a context whose sessions remember nothing has no room cleared for what
     // is made here.
     #[inline(never)]
-    fn serve_once(
+    pub fn serve_once(
         &mut self,
         alloc: Global,
         request: &Request,
@@ -431,8 +432,7 @@ impl<S: Servlet, F: Filter> Application<S, F> {
         Ok(self.serve_unknown(alloc, request, path, handed, admission, now, fresh)?)
     }
 
-    /// Serves a request for a path within the context, with the session that is handed in; one that the session remembers is answered
-    /// from its memory.
+    /// The same where sessions remember nothing.
     pub fn serve(
         &mut self,
         alloc: Global,
@@ -441,18 +441,16 @@ impl<S: Servlet, F: Filter> Application<S, F> {
         handed: Option<(Key, &Session)>,
         now: u64,
         fresh: (Key, Secret),
-    ) -> Result<Outcome, EngineFault>
+    ) -> Result<Outcome, AllocError>
         requires sound { IsSoundApp (app_of S.serves S.servlet_phase F.filtering F.filter_phase self.old) }
         requires serving { self.old.is_in_service ≡ true }
+        requires plain { is_some self.old.once ≡ false }
         ensures same { app_of S.serves S.servlet_phase F.filtering F.filter_phase self.new
             ≡ app_of S.serves S.servlet_phase F.filtering F.filter_phase self.old }
         ensures outcome { IfOk result (λ o. o ≡ served_by (Some (app_of S.serves S.servlet_phase F.filtering F.filter_phase self.old)) request.now path.now
             (option_map (λ s. (s.0, s.1.now)) handed.entry) now fresh) }
     {
-        if self.once.is_some() {
-            return self.serve_once(alloc, request, path, handed, now, fresh);
-        }
         let admission = self.admit(alloc, request, handed, now)?;
-        Ok(self.serve_plain(alloc, request, path, admission, now, fresh)?)
+        self.serve_plain(alloc, request, path, admission, now, fresh)
     }
 }

@@ -68,7 +68,11 @@ impl<S: Servlet, F: Filter, L: Listener> Engine for Container<S, F, L> {
             return Ok(served_outside(self.alloc, request)?);
         };
         let path = path_in_context(self.paths[place].as_str(), request.path.as_str());
-        self.applications[place].serve(self.alloc, request, path, session, now, fresh)
+        let application = &mut self.applications[place];
+        if application.once.is_some() {
+            return application.serve_once(self.alloc, request, path, session, now, fresh);
+        }
+        Ok(application.serve(self.alloc, request, path, session, now, fresh)?)
     }
 
     fn tell(&mut self, told: &[Told]) {
