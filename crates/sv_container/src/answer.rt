@@ -180,7 +180,7 @@ impl<S: Servlet, F: Filter> Application<S, F> {
             announced,
             response,
         )?;
-        outcome_of(alloc, self.number, expired, response, edited)
+        outcome_of(self.number, expired, response, edited)
     }
 
     /// What an edit leaves, with what its sessions are to remember, where they remember anything; false where they have no room for that.

@@ -46,20 +46,17 @@ pub fn told(context: u8, event: Event) -> Told
 /// The events of a request in a context, with those of its edit.
 #[inline(always)]
 fn events_for(
-    alloc: Global,
     context: u8,
     expired: Option<Key>,
     edited: Sequence<Told>,
 ) -> Result<Sequence<Told>, AllocError>
     ensures { IfOk result (λ events. events ≡ events_for context expired edited) }
 {
-    let mut events = Vec::new(alloc);
+    let mut events = edited.into_vec();
+    events.insert(0, told(context, Event::RequestIn))?;
     if let Some(key) = expired {
-        events.push(told(context, Event::Destroyed(key)))?;
+        events.insert(0, told(context, Event::Destroyed(key)))?;
     }
-    events.push(told(context, Event::RequestIn))?;
-    let mut edited = edited.into_vec();
-    events.append(&mut edited)?;
     events.push(told(context, Event::RequestOut))?;
     Ok(Sequence::from_vec(events))
 }
@@ -108,7 +105,6 @@ fn fate_for(expired: Option<Key>, fate: Fate) -> Fate
 /// What comes of a request in a context.
 #[inline(always)]
 pub fn outcome_of(
-    alloc: Global,
     context: u8,
     expired: Option<Key>,
     response: Response,
@@ -126,6 +122,6 @@ pub fn outcome_of(
         response,
         fate: fate_for(expired, fate),
         birth,
-        events: events_for(alloc, context, expired, events)?,
+        events: events_for(context, expired, events)?,
     })
 }
