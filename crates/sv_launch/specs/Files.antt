@@ -1,5 +1,5 @@
 -- Files by where their paths lead.
-use Rattle.std.specs.Prelude.{ℕ, Bool, false, nat_eq, Option, Some, None, ◌&&◌}
+use Rattle.std.specs.Prelude.{Bool, false, nat_eq, Option, Some, None, ◌&&◌}
 use Rattle.std.specs.Str.{bytes_eq}
 use Rattle.sv_launch.specs.declared.files.Inode.{Inode}
 use Rattle.sv_launch.specs.declared.files.Target.{Target}

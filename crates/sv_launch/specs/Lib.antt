@@ -5,3 +5,4 @@ pub mod Objects
 pub mod OneOf
 pub mod Files
 pub mod Served
+pub mod Launched

@@ -2,6 +2,9 @@
 
 ghost use Rattle.std.specs.Prelude.{◌≡◌, IfOk, None, Some};
 ghost use Rattle.sv_container.specs.Life.{AreNamedNew};
+ghost use Rattle.sv_container.specs.Serving.{deployed};
+ghost use Rattle.sv_launch.specs.Launched.{AreDeclared, IsLaunched};
+ghost use Rattle.sv_launch.specs.Served.{files_or};
 ghost use Rattle.sv_web.specs.Work.{serving, surrounding};
 
 use crate::fault::Fault;
@@ -205,6 +208,12 @@ impl<'a, S: ServletTable, F: FilterTable, L: ListenerTable> Application<'a, S, F
     ) -> Result<Objects<FilesOr<'f, S::Servlet>, F::Filter, L::Listener>, Fault>
         ensures servlets { IfOk result (λ objects. AreNamedNew ⟦<FilesOr<'f, S::Servlet> as Servlet>⟧.servlet_phase objects.servlets.items) }
         ensures filters { IfOk result (λ objects. AreNamedNew F.Filter.filter_phase objects.filters.items) }
+        ensures servlets_are { IfOk result (λ objects. AreDeclared ⟦<FilesOr<'f, S::Servlet> as Servlet>⟧.serves
+            (λ context name. files_or files.now context name (S.servlets self.now.servlets name)) (λ c. c.servlets) contexts.now objects.servlets.items) }
+        ensures filters_are { IfOk result (λ objects. AreDeclared F.Filter.filtering (λ context name. F.filters self.now.filters name)
+            (λ c. c.filters) contexts.now objects.filters.items) }
+        ensures listeners_are { IfOk result (λ objects. AreDeclared L.Listener.hears (λ context name. L.listeners self.now.listeners name)
+            (λ c. c.listeners) contexts.now objects.listeners.items) }
     {
         Ok(Objects {
             servlets: objects_of(
@@ -227,7 +236,12 @@ impl<'a, S: ServletTable, F: FilterTable, L: ListenerTable> Application<'a, S, F
         deployment: Deployment,
         files: &'f [ServedFiles],
     ) -> Result<Container<FilesOr<'f, S::Servlet>, F::Filter, L::Listener>, Fault>
-        ensures { IfOk result (λ container. ⟦<Container<FilesOr<'f, S::Servlet>, F::Filter, L::Listener> as Engine>⟧.valid container) }
+        ensures valid { IfOk result (λ container. ⟦<Container<FilesOr<'f, S::Servlet>, F::Filter, L::Listener> as Engine>⟧.valid container) }
+        ensures launched { IfOk result (λ container. IsLaunched ⟦<FilesOr<'f, S::Servlet> as Servlet>⟧.serves F.Filter.filtering L.Listener.hears
+            (λ context name. files_or files.now context name (S.servlets self.now.servlets name)) (λ context name. F.filters self.now.filters name)
+            (λ context name. L.listeners self.now.listeners name) deployment.contexts.items
+            (deployed ⟦<FilesOr<'f, S::Servlet> as Servlet>⟧.serves ⟦<FilesOr<'f, S::Servlet> as Servlet>⟧.servlet_phase F.Filter.filtering
+            F.Filter.filter_phase L.Listener.hears container)) }
     {
         let Objects {
             servlets,
