@@ -153,6 +153,19 @@ def sessions_that_expire():
     cluster.end()
 
 
+def secrets_of_sessions():
+    """They are those of the file that the descriptor names, in its order, and no two sessions have the same."""
+    cluster = Cluster(1)
+    path = f"{cluster.folder}/secrets"
+    with open(path, "wb") as file:
+        file.write(b"".join(number.to_bytes(16, "big") for number in range(1, 1001)))
+    cluster.config = cluster.describe(f'secrets = "{path}"')
+    cluster.start(0)
+    secrets = [int(cluster.get(0, "/shop/count")[2][-32:], 16) for _ in range(10)]
+    expect("secrets of the file, in its order", secrets, sorted(set(secrets) & set(range(1, 1001))))
+    cluster.end()
+
+
 def sessions_of_the_journal(cluster, node):
     """The keys that the node knows by its journal."""
     return sorted(replay(cluster.journal(node)).held)
@@ -277,6 +290,7 @@ CHECKS = (
     who_waits_is_served_before_the_time_is_looked_at,
     a_session_of_65_000_bytes,
     sessions_that_expire,
+    secrets_of_sessions,
     keys_that_are_forgotten,
     keys_that_are_kept,
     a_clock_that_is_set_back,
