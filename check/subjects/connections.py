@@ -44,6 +44,32 @@ def answered_to_drops(cluster):
             return False
 
 
+def are_both_answered(cluster):
+    """Whether two that send a request in three pieces, by turns, are both answered, as long as neither is silent for two seconds."""
+    streams = [cluster.connect(0) for _ in range(2)]
+    try:
+        for piece in (HELLO[:10], HELLO[10:20]):
+            for stream in streams:
+                stream.sendall(piece)
+                until_read(stream)
+        for stream in streams:
+            stream.sendall(HELLO[20:])
+        return [rest_of(stream)[:12] for stream in streams] == [b"HTTP/1.1 200"] * 2
+    except ConnectionError:
+        return False
+    finally:
+        for stream in streams:
+            stream.close()
+
+
+def two_that_send_in_pieces():
+    """Each goes on at its own place, and is answered there."""
+    cluster = Cluster(1)
+    cluster.start(0)
+    in_one_try("the answers to both", lambda: are_both_answered(cluster))
+    cluster.end()
+
+
 def clients_that_hold_up_nobody():
     cluster = Cluster(1)
     cluster.start(0)
@@ -246,6 +272,7 @@ def a_kept_connection_that_rests():
 
 CHECKS = (
     callers_that_do_not_go_on,
+    two_that_send_in_pieces,
     clients_that_hold_up_nobody,
     a_client_that_goes_on_sending,
     connections_that_are_kept,
