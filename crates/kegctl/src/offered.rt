@@ -2,13 +2,14 @@
 
 use clap::{Arg, ArgAction, Command};
 use std::alloc::{AllocError, Global};
+use sv_model::NODE_LIMIT;
 use sv_version::version;
 
 /// The program's name in what it prints, whatever its file is called.
 const NAME: &str = "kegctl";
 
 /// So many nodes may be in a cluster.
-const NODES: usize = 8;
+const NODES: usize = NODE_LIMIT as usize;
 
 /// How a word of the command line is given.
 #[derive(Clone, Copy)]

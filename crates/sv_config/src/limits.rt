@@ -11,13 +11,14 @@ use crate::rules::TableKind;
 use crate::settings::has_too_many_settings;
 use std::alloc::{AllocError, Global};
 use sv_mapping::MAX_PATTERNS;
+use sv_model::{CONTEXT_LIMIT, NODE_LIMIT};
 use toml::Table;
 
-pub(crate) const MAX_NODES: usize = 8;
+pub(crate) const MAX_NODES: usize = NODE_LIMIT as usize;
 
 pub(crate) const MAX_KEYS: i64 = 1_048_576;
 
-pub(crate) const MAX_CONTEXTS: usize = 16;
+pub(crate) const MAX_CONTEXTS: usize = CONTEXT_LIMIT as usize;
 
 pub(crate) const MAX_SERVLETS: usize = 64;
 

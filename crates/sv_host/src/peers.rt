@@ -16,7 +16,7 @@ use sv_model::NODE_LIMIT;
 use sv_record::{CONTEXTS_LEN, Errand, Greeting};
 
 /// So many nodes may be in a cluster.
-const NODES: usize = NODE_LIMIT as usize;
+pub const NODES: usize = NODE_LIMIT as usize;
 
 /// In seconds: so often a node that serves greets the others.
 const PERIOD: u64 = 10;

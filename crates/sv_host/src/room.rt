@@ -9,6 +9,7 @@ ghost use Rattle.sv_host.specs.Group.{inputs_of, IsRising};
 ghost use Rattle.sv_host.specs.Serving.{HasGathered};
 
 use crate::group::Group;
+use crate::peers::NODES;
 use crate::server::Server;
 use sv_journal::Disk;
 use sv_model::{Cause, Engine, Parked, Request};
@@ -17,9 +18,6 @@ use sv_node::Node;
 /// So many of the requests that wait may wait for sessions of one home, of the 64 for which a node has places: where one node is
 /// down, requests for its sessions leave places for those of the others.
 pub const HOME_LIMIT: usize = 32;
-
-/// The nodes of a cluster, at most.
-const NODES: usize = 8;
 
 /// How many requests wait, by the home of the session that each of them waits for.
 #[derive(Clone, Copy, Debug, PartialEq, Eq)]

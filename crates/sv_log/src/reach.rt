@@ -1,7 +1,9 @@
 //! Whether other nodes can be reached.
 
+use sv_model::NODE_LIMIT;
+
 /// So many nodes may be in a cluster.
-pub const NODES: usize = 8;
+pub const NODES: usize = NODE_LIMIT as usize;
 
 /// Whether another node can be reached.
 #[derive(Clone, Copy, PartialEq, Eq, Default)]
