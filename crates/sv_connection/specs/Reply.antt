@@ -4,21 +4,12 @@ use Rattle.http_header.specs.FieldValue.{plain_value}
 use Rattle.sv_model.specs.declared.field.Field.{Field}
 use Rattle.sv_model.specs.declared.response.Response.{Response}
 use Rattle.sv_model.specs.declared.output.Cause.{Cause}
-use Rattle.sv_model.specs.declared.output.Cause.TheVariants.{ParkFull, Deadline, TableFull, SerialsSpent, WantsSpent, JournalFull, Memory}
 use Rattle.sv_model.specs.declared.output.Output.{Output}
 use Rattle.sv_model.specs.declared.output.Output.TheVariants.{Answer, Refuse, Send, Moved, MoveRefused}
+use Rattle.sv_model.specs.Cause.{cause_name}
 use Rattle.sv_model.specs.Field.{plain_type}
 use Rattle.sv_connection.specs.declared.reply.Naming.{Naming}
 use Rattle.sv_connection.specs.declared.reply.Naming.TheVariants.{InBody, InField}
-
-abbrev pub cause_name : Cause → List ℕ
-cause_name ParkFull = codes "ParkFull"
-cause_name Deadline = codes "Deadline"
-cause_name TableFull = codes "TableFull"
-cause_name SerialsSpent = codes "SerialsSpent"
-cause_name WantsSpent = codes "WantsSpent"
-cause_name JournalFull = codes "JournalFull"
-cause_name Memory = codes "Memory"
 
 -- `kegbramble-cause`, by which a front server knows the cause
 abbrev pub cause_field : Cause → Field

@@ -157,8 +157,9 @@ fn say_step_fault<W: Write>(
         (W.contents writer.new) result.closed result.outcome }
 {
     match fault {
-        StepFault::Full => say_refusal(alloc, buffer, writer, Cause::JournalFull, manner),
-        StepFault::Memory => say_refusal(alloc, buffer, writer, Cause::Memory, manner),
+        StepFault::Full | StepFault::Memory => {
+            say_refusal(alloc, buffer, writer, fault.cause(), manner)
+        }
         StepFault::Failed | StepFault::Device => Said {
             outcome: Outcome::Failed,
             closed: true,

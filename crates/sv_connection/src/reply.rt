@@ -2,7 +2,7 @@
 
 ghost use Rattle.std.specs.Prelude.{◌≡◌, IfOk, find};
 ghost use Rattle.std.specs.Option.{option_copied};
-ghost use Rattle.sv_connection.specs.Reply.{cause_field, cause_name, refusal, refusal_by, speaks_to};
+ghost use Rattle.sv_connection.specs.Reply.{cause_field, refusal, refusal_by, speaks_to};
 
 use http::StatusCode;
 use http_header::{HeaderName, HeaderValue};
@@ -18,28 +18,13 @@ pub enum Naming {
     InField,
 }
 
-/// The name of a cause, as it stands in a refusal's body.
-fn cause_name(cause: Cause) -> &'static str
-    ensures { result.now ≡ cause_name cause }
-{
-    match cause {
-        Cause::ParkFull => "ParkFull",
-        Cause::Deadline => "Deadline",
-        Cause::TableFull => "TableFull",
-        Cause::SerialsSpent => "SerialsSpent",
-        Cause::WantsSpent => "WantsSpent",
-        Cause::JournalFull => "JournalFull",
-        Cause::Memory => "Memory",
-    }
-}
-
 /// `kegbramble-cause`, with the cause's name.
 fn cause_field(cause: Cause) -> Field
     ensures { result ≡ cause_field cause }
 {
     Field {
         name: HeaderName::from_static("kegbramble-cause"),
-        value: HeaderValue::from_static(cause_name(cause)),
+        value: HeaderValue::from_static(cause.name()),
     }
 }
 
@@ -72,7 +57,7 @@ pub fn refusal_by(
     }
     let mut body = Sequence::new(alloc);
     body.extend_from_slice(b"503 ")?;
-    body.extend_from_slice(cause_name(cause).as_bytes())?;
+    body.extend_from_slice(cause.name().as_bytes())?;
     body.extend_from_slice(b"\n")?;
     Ok(Response {
         status: StatusCode::SERVICE_UNAVAILABLE,

@@ -4,7 +4,7 @@ ghost use Rattle.std.specs.Prelude.{◌≡◌, ◌<◌, Bool, List, Option, Some
 ghost use Rattle.sv_model.specs.declared.node.Parked.{Parked};
 ghost use Rattle.sv_model.specs.NodeState.{known};
 ghost use Rattle.sv_model.specs.Waiting.{on_ask, on_named, serve_parked, on_poke};
-ghost use Rattle.sv_model.specs.Migration.{on_no, on_ours, on_packet, is_ours, sender, addressee};
+ghost use Rattle.sv_model.specs.Migration.{on_no, on_ours, on_packet, is_ours};
 ghost use Rattle.sv_model.specs.Node.{decided};
 ghost use Rattle.sv_core.specs.Kept.{node_of, IsReady};
 ghost use Rattle.sv_core.specs.Decision.{decision_of};
@@ -15,37 +15,13 @@ use crate::kept::Kept;
 use crate::serving::serve;
 use sv_model::{Engine, Input, Key, Moment, Packet, Request, Secret};
 
-/// The node that sent a packet.
-fn sender(packet: &Packet) -> u8
-    ensures { result ≡ sender packet.now }
-{
-    match packet {
-        Packet::Want { from, .. } => *from,
-        Packet::Grant { from, .. } => *from,
-        Packet::Ack { from, .. } => *from,
-        Packet::No { from, .. } => *from,
-    }
-}
-
-/// The node that a packet is for.
-fn addressee(packet: &Packet) -> u8
-    ensures { result ≡ addressee packet.now }
-{
-    match packet {
-        Packet::Want { to, .. } => *to,
-        Packet::Grant { to, .. } => *to,
-        Packet::Ack { to, .. } => *to,
-        Packet::No { to, .. } => *to,
-    }
-}
-
 impl Kept {
     /// The packet is from another node of the cluster to this one.
     fn is_ours(&self, packet: &Packet) -> bool
         ensures { result ≡ is_ours self.now.setting packet.now }
     {
-        let from = sender(packet);
-        addressee(packet) == self.setting.node
+        let from = packet.sender();
+        packet.addressee() == self.setting.node
             && from != self.setting.node
             && from < self.setting.nodes
     }

@@ -4,7 +4,7 @@ use Rattle.std.specs.Prelude.{is_none}
 use Rattle.std.specs.declared.alloc.Global.{Global}
 use Rattle.std.proofs.lemmas.List.{drop_all, drop_more}
 use Rattle.sv_host.specs.HandingOut.{ConcludesRefused, HandsOn, HandsOnAll, HandsOut, HandsOutFrom, HandsOutGroup, RefusesAll, TellsNobody, TellsOne, way_at}
-use Rattle.sv_host.specs.Outcome.{cause_of}
+use Rattle.sv_model.specs.Cause.{cause_of}
 use Rattle.sv_host.specs.Packets.{Passes}
 use Rattle.sv_host.specs.Round.{lets}
 use Rattle.sv_host.specs.declared.packets.Sending.{Sending}

@@ -2,7 +2,7 @@
 use Rattle.std.specs.Prelude.{◌≡◌, ℕ, ◌+◌, Bool, List, [], ◌∷◌, Vec, Option, Some, None, IfSome, Result, Ok, Err, map, slice_get, vec_items}
 use Rattle.std.specs.declared.alloc.Global.{Global}
 use Rattle.sv_host.specs.Group.{inputs_of, ways_of}
-use Rattle.sv_host.specs.Outcome.{cause_of}
+use Rattle.sv_model.specs.Cause.{cause_of}
 use Rattle.sv_host.specs.Parked.{clients_of, place_under, without}
 use Rattle.sv_host.specs.Time.{seconds_of}
 use Rattle.sv_host.specs.declared.group.Asker.{Asker}

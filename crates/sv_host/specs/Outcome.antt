@@ -1,7 +1,5 @@
 -- What comes of a step, and what is answered for it.
 use Rattle.std.specs.Prelude.{ℕ, List, [], ◌∷◌, Result, Ok, Err}
-use Rattle.sv_model.specs.declared.output.Cause.{Cause}
-use Rattle.sv_model.specs.declared.output.Cause.TheVariants as cause
 use Rattle.sv_model.specs.declared.output.MoveRefusal.{MoveRefusal}
 use Rattle.sv_model.specs.declared.output.MoveRefusal.TheVariants.{UnknownKey, NotActive, BadPeer, EpochsSpent}
 use Rattle.sv_model.specs.declared.output.Output.{Output}
@@ -39,13 +37,6 @@ answer_byte Quiet = 0
 answer_byte Busy = 0
 answer_byte (MoveRefused why) = refusal_byte why
 answer_byte Refused = 5
-
--- why a request is refused whose step was
-abbrev pub cause_of : StepFault → Cause
-cause_of step.Failed = cause.Memory
-cause_of step.Full = cause.JournalFull
-cause_of step.Device = cause.Memory
-cause_of step.Memory = cause.Memory
 
 -- a node goes on behind a step that was refused, unless its disk has failed
 abbrev pub refused : StepFault → Result Taken Stop

@@ -14,13 +14,13 @@ ghost use Rattle.sv_net.specs.Saying.{Answers, Tells, refused_as};
 
 use crate::fault::Stop;
 use crate::group::{Asker, Group, Way};
-use crate::outcome::{Taken, answer_byte, cause_of, refused, sum_up};
+use crate::outcome::{Taken, answer_byte, refused, sum_up};
 use crate::packets::{Packets, Sending};
 use crate::round::Share;
 use crate::server::Server;
 use sv_log::{Event, Loss, Refusal};
 use sv_model::{Cause, Output, Packet, Response, StepFault};
-use sv_net::{address_of, addressee};
+use sv_net::address_of;
 
 /// Where what comes of an input goes that nobody asked for.
 const NO_WAY: Way = Way {
@@ -45,7 +45,7 @@ impl Server {
         ensures clients { clients_of self.new.parked ≡ clients_of self.old.parked }
         ensures spares { Spares self.old.connections self.new.connections }
     {
-        let to = addressee(&packet);
+        let to = packet.addressee();
         match address_of(self.ports.as_slice(), to) {
             Some(addr) => self.connections.send(machine, to, addr, packet),
             None => self.connections.report.lost(to, Loss::NoPeer),
@@ -160,15 +160,15 @@ impl Server {
         ensures { ConcludesRefused asker fault now self.old self.new }
     {
         match asker {
-            Asker::Client { token, .. } => self.refuse(token, cause_of(fault), now),
+            Asker::Client { token, .. } => self.refuse(token, fault.cause(), now),
             Asker::Command(place) => {
                 self.connections.report.note(Event::OrderRefused {
-                    cause: cause_of(fault),
+                    cause: fault.cause(),
                 });
                 self.connections.obeyed(place, answer_byte(Taken::Refused));
             }
             Asker::Nobody => self.connections.report.note(Event::LeftOut {
-                cause: cause_of(fault),
+                cause: fault.cause(),
             }),
         }
     }

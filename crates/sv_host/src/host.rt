@@ -30,7 +30,7 @@ use std::alloc::Global;
 use sv_journal::Disk;
 use sv_log::Report;
 use sv_model::{Engine, Setting};
-use sv_net::{Acceptor, Connections, Persistence, loopback};
+use sv_net::{Acceptor, Connections, Persistence, loopback, port_of};
 use sv_node::{Node, NotOpened};
 use sv_record::CONTEXTS_LEN;
 
@@ -65,11 +65,7 @@ pub struct Ended<E, D> {
 
 /// Listens at the node's port.
 fn open_door(machine: &HostRuntime, place: &Place) -> Result<(Acceptor, Registry), HostFault> {
-    let port = place
-        .ports
-        .get(usize::from(place.setting.node))
-        .copied()
-        .unwrap_or(0);
+    let port = port_of(place.ports.as_slice(), place.setting.node);
     match Acceptor::bind(machine, loopback(port)) {
         Ok(opened) => Ok(opened),
         Err(_) => Err(HostFault::Socket),

@@ -24,7 +24,7 @@ use crate::server::Server;
 use sv_connection::RequestFault;
 use sv_log::Event;
 use sv_model::{Input, Packet, Request, is_head};
-use sv_net::{Client, Next, Peer, Socket, State, name_of, sender};
+use sv_net::{Client, Next, Peer, Socket, State, name_of};
 use sv_record::Frame;
 
 /// A connection that was taken from its place, which is kept for it.
@@ -113,7 +113,7 @@ fn receive(server: &mut Server, from: Lifted, packet: Packet, rest: Vec<u8>) -> 
 {
     let Lifted { place, socket } = from;
     let peer = Peer {
-        node: sender(&packet),
+        node: packet.sender(),
         bytes: rest,
     };
     server.connections.begin(place, socket, peer.taken());
@@ -128,7 +128,7 @@ fn receive(server: &mut Server, from: Lifted, packet: Packet, rest: Vec<u8>) -> 
 fn take_packet(server: &mut Server, from: Lifted, packet: Packet, rest: Vec<u8>) -> Option<Came>
     ensures { result ≡ came_of server.old.peers packet }
 {
-    let node = sender(&packet);
+    let node = packet.sender();
     if server.peers.takes(node) {
         return receive(server, from, packet, rest);
     }

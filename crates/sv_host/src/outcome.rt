@@ -2,10 +2,10 @@
 
 ghost use Rattle.std.specs.Prelude.{OnOk, ◌≡◌, false};
 ghost use Rattle.sv_node.specs.Call.{step_ends};
-ghost use Rattle.sv_host.specs.Outcome.{answer_byte, cause_of, refusal_byte, refused, sum_up};
+ghost use Rattle.sv_host.specs.Outcome.{answer_byte, refusal_byte, refused, sum_up};
 
 use crate::fault::{HostFault, Stop};
-use sv_model::{Cause, MoveRefusal, Output, StepFault};
+use sv_model::{MoveRefusal, Output, StepFault};
 
 /// What came of a step that a node was told to take.
 #[derive(Clone, Copy, Debug, PartialEq, Eq)]
@@ -51,16 +51,6 @@ pub fn answer_byte(taken: Taken) -> u8
         Taken::Quiet | Taken::Busy => 0,
         Taken::MoveRefused(why) => refusal_byte(why),
         Taken::Refused => 5,
-    }
-}
-
-/// Why a request is refused whose step was.
-pub fn cause_of(fault: StepFault) -> Cause
-    ensures { result ≡ cause_of fault }
-{
-    match fault {
-        StepFault::Full => Cause::JournalFull,
-        StepFault::Memory | StepFault::Failed | StepFault::Device => Cause::Memory,
     }
 }
 

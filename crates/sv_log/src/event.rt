@@ -79,19 +79,6 @@ pub enum Event {
     ClockSet { way: &'static str, seconds: u64 },
 }
 
-/// The name of a cause, as the body of the answer has it.
-pub fn cause_name(cause: Cause) -> &'static str {
-    match cause {
-        Cause::ParkFull => "ParkFull",
-        Cause::Deadline => "Deadline",
-        Cause::TableFull => "TableFull",
-        Cause::SerialsSpent => "SerialsSpent",
-        Cause::WantsSpent => "WantsSpent",
-        Cause::JournalFull => "JournalFull",
-        Cause::Memory => "Memory",
-    }
-}
-
 /// The name of a reason for which a session isn't moved.
 fn refusal_name(why: MoveRefusal) -> &'static str {
     match why {
@@ -240,11 +227,11 @@ impl Event {
     fn fields(self) -> (Field, Field) {
         match self {
             Event::Refused(Refusal { cause, number, .. }) => (
-                Field::Word("cause", cause_name(cause)),
+                Field::Word("cause", cause.name()),
                 Field::Number("number", number),
             ),
             Event::LeftOut { cause } | Event::OrderRefused { cause } => {
-                (Field::Word("cause", cause_name(cause)), Field::None)
+                (Field::Word("cause", cause.name()), Field::None)
             }
             Event::BadRequest { fault } => (Field::Word("fault", fault), Field::None),
             Event::GaveWay { phase } | Event::Late { phase } => {
@@ -295,7 +282,7 @@ impl Event {
         match self {
             Event::Refused(Refusal { cause, .. })
             | Event::LeftOut { cause }
-            | Event::OrderRefused { cause } => (cause_name(cause), 0),
+            | Event::OrderRefused { cause } => (cause.name(), 0),
             Event::BadRequest { fault } => (fault, 0),
             Event::GaveWay { phase } | Event::Late { phase } => (phase.name(), 0),
             Event::PacketLost { to, why } => (why.name(), to),

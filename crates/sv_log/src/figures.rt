@@ -2,7 +2,7 @@
 
 use crate::census::Census;
 use crate::durations::Durations;
-use crate::event::{Event, Refusal, cause_name};
+use crate::event::{Event, Refusal};
 use crate::family::{Family, Label};
 use crate::loss::Loss;
 use crate::names::{
@@ -17,17 +17,6 @@ use crate::turnover::Turnover;
 use std::alloc::AllocError;
 use sv_model::Cause;
 use sv_version::number;
-
-/// The causes of a refusal, in the order in which figures have them.
-const CAUSES: [Cause; 7] = [
-    Cause::ParkFull,
-    Cause::Deadline,
-    Cause::TableFull,
-    Cause::SerialsSpent,
-    Cause::WantsSpent,
-    Cause::JournalFull,
-    Cause::Memory,
-];
 
 /// The classes of a status (RFC 9110, section 15).
 const CLASSES: [&str; 5] = ["1xx", "2xx", "3xx", "4xx", "5xx"];
@@ -155,7 +144,7 @@ impl Figures {
             }
             Event::Refused(Refusal { cause, .. }) => rise_at(
                 &mut self.refused,
-                CAUSES.iter().position(|one| *one == cause),
+                Cause::ALL.iter().position(|one| *one == cause),
             ),
             Event::PacketLost { why, .. } => rise_at(
                 &mut self.lost,
@@ -231,10 +220,10 @@ impl Figures {
     /// Writes the refusals by their cause.
     fn write_refused(&self, out: &mut String, node: u8) -> Result<(), AllocError> {
         REFUSED.head(out)?;
-        for (cause, count) in CAUSES.iter().zip(&self.refused) {
+        for (cause, count) in Cause::ALL.iter().zip(&self.refused) {
             let label = Label {
                 key: "cause",
-                value: cause_name(*cause),
+                value: cause.name(),
             };
             REFUSED.labelled(out, node, label, *count)?;
         }

@@ -13,6 +13,7 @@ pub mod Node
 pub mod Replay
 pub mod Opening
 pub mod Outputs
+pub mod Cause
 pub mod Membership
 pub mod Fitting
 pub mod Blanks

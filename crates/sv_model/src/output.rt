@@ -1,6 +1,7 @@
 //! What a step puts out.
 
 ghost use Rattle.std.specs.Prelude.{◌≡◌, IfOk};
+ghost use Rattle.sv_model.specs.Cause.{cause_name};
 
 use crate::packet::Packet;
 use crate::response::Response;
@@ -23,6 +24,34 @@ pub enum Cause {
     JournalFull,
     /// Memory was refused.
     Memory,
+}
+
+impl Cause {
+    /// Each of them, once.
+    pub const ALL: [Cause; 7] = [
+        Cause::ParkFull,
+        Cause::Deadline,
+        Cause::TableFull,
+        Cause::SerialsSpent,
+        Cause::WantsSpent,
+        Cause::JournalFull,
+        Cause::Memory,
+    ];
+
+    /// Its name, as the body of the answer has it.
+    pub fn name(self) -> &'static str
+        ensures { result.now ≡ cause_name self }
+    {
+        match self {
+            Cause::ParkFull => "ParkFull",
+            Cause::Deadline => "Deadline",
+            Cause::TableFull => "TableFull",
+            Cause::SerialsSpent => "SerialsSpent",
+            Cause::WantsSpent => "WantsSpent",
+            Cause::JournalFull => "JournalFull",
+            Cause::Memory => "Memory",
+        }
+    }
 }
 
 /// Why a session wasn't handed to another node.

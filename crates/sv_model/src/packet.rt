@@ -1,6 +1,7 @@
 //! What nodes send each other. Each packet has the numbers of its sender and its addressee, below 8.
 
 ghost use Rattle.std.specs.Prelude.{◌≡◌, IfOk};
+ghost use Rattle.sv_model.specs.Migration.{addressee, sender};
 
 use crate::key::Key;
 use crate::session::Session;
@@ -45,6 +46,30 @@ pub enum Packet {
 }
 
 impl Packet {
+    /// The node that it comes from.
+    pub fn sender(&self) -> u8
+        ensures { result ≡ sender self.now }
+    {
+        match self {
+            Packet::Want { from, .. }
+            | Packet::Grant { from, .. }
+            | Packet::Ack { from, .. }
+            | Packet::No { from, .. } => *from,
+        }
+    }
+
+    /// The node that it goes to.
+    pub fn addressee(&self) -> u8
+        ensures { result ≡ addressee self.now }
+    {
+        match self {
+            Packet::Want { to, .. }
+            | Packet::Grant { to, .. }
+            | Packet::Ack { to, .. }
+            | Packet::No { to, .. } => *to,
+        }
+    }
+
     /// An equal packet in memory of its own.
     pub fn copy(&self, alloc: Global) -> Result<Packet, AllocError>
         ensures { IfOk result (λ copy. copy ≡ self.now) }

@@ -1,6 +1,7 @@
 //! What takes inputs, a step each: one node, alone or of many.
 
 ghost use Rattle.std.specs.Prelude.{◌≡◌, List, Result, vec_items};
+ghost use Rattle.sv_model.specs.Cause.{cause_of};
 ghost use Rattle.sv_model.specs.Site.{with_list};
 ghost use Rattle.sv_model.specs.Ranges.{IsInput};
 ghost use Rattle.sv_model.specs.declared.key.Moment.{Moment};
@@ -12,7 +13,7 @@ ghost use Rattle.sv_model.specs.declared.site.StepFault.TheVariants.{Memory};
 use crate::engine::EngineFault;
 use crate::input::Input;
 use crate::key::Moment;
-use crate::output::Output;
+use crate::output::{Cause, Output};
 use std::alloc::{AllocError, AllocFailed};
 use thiserror::Error;
 
@@ -31,6 +32,18 @@ pub enum StepFault {
     /// Fault 4.
     #[error("memory was refused in the step")]
     Memory,
+}
+
+impl StepFault {
+    /// Why a request is refused whose step was not taken.
+    pub fn cause(self) -> Cause
+        ensures { result ≡ cause_of self }
+    {
+        match self {
+            StepFault::Full => Cause::JournalFull,
+            StepFault::Memory | StepFault::Failed | StepFault::Device => Cause::Memory,
+        }
+    }
 }
 
 impl From<AllocError> for StepFault {

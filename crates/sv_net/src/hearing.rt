@@ -7,7 +7,6 @@ use crate::client::Client;
 use crate::connections::Connections;
 use crate::frames::take_in;
 use crate::open::Open;
-use crate::peers::sender;
 use crate::socket::Socket;
 use crate::state::{Peer, State};
 use std::alloc::Global;
@@ -109,7 +108,7 @@ fn is_of(frame: &Frame, node: u8) -> bool
     ensures { result ≡ is_of frame.now node }
 {
     match frame {
-        Frame::Peer(packet) => sender(packet) == node,
+        Frame::Peer(packet) => packet.sender() == node,
         Frame::Move { .. } | Frame::Tick | Frame::Halt => false,
     }
 }

@@ -35,7 +35,7 @@ pub use client::Client;
 pub use connections::Connections;
 pub use hearing::{Heard, PIECE};
 pub use open::Open;
-pub use peers::{address_of, addressee, loopback, port_of, sender};
+pub use peers::{address_of, loopback, port_of};
 pub use persistence::Persistence;
 pub use socket::{Socket, Written, comes_later};
 pub use state::{Next, Peer, State, Turn};

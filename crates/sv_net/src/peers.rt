@@ -3,35 +3,9 @@
 ghost use Rattle.std.specs.Prelude.{◌≡◌, IfSome, slice_get};
 ghost use Rattle.std.specs.Option.{option_map};
 ghost use Rattle.std.specs.Net.Socket.{socket_port};
-ghost use Rattle.sv_model.specs.Migration.{addressee, sender};
 ghost use Rattle.sv_net.specs.Peers.{port_at, IsLoopback};
 
 use std::net::{IpAddr, Ipv4Addr, SocketAddr};
-use sv_model::Packet;
-
-/// The node that a packet goes to.
-pub fn addressee(packet: &Packet) -> u8
-    ensures { result ≡ addressee packet.now }
-{
-    match packet {
-        Packet::Want { to, .. }
-        | Packet::Grant { to, .. }
-        | Packet::Ack { to, .. }
-        | Packet::No { to, .. } => *to,
-    }
-}
-
-/// The node that a packet comes from.
-pub fn sender(packet: &Packet) -> u8
-    ensures { result ≡ sender packet.now }
-{
-    match packet {
-        Packet::Want { from, .. }
-        | Packet::Grant { from, .. }
-        | Packet::Ack { from, .. }
-        | Packet::No { from, .. } => *from,
-    }
-}
 
 /// The loopback address of a port.
 pub fn loopback(port: u16) -> SocketAddr

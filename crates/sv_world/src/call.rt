@@ -18,24 +18,12 @@ pub struct Call {
     pub input: Input,
 }
 
-/// To whom a packet goes.
-pub fn addressee(packet: &Packet) -> u8
-    ensures { result ≡ addressee packet.now }
-{
-    match *packet {
-        Packet::Want { to, .. } => to,
-        Packet::Grant { to, .. } => to,
-        Packet::Ack { to, .. } => to,
-        Packet::No { to, .. } => to,
-    }
-}
-
 /// The delivery of a packet.
 fn delivery(alloc: Global, moment: Moment, packet: &Packet) -> Result<Call, AllocError>
     ensures { IfOk result (λ call. call ≡ record { node = addressee packet.now; moment = moment; input = Incoming packet.now }) }
 {
     Ok(Call {
-        node: addressee(packet),
+        node: packet.addressee(),
         moment,
         input: Input::Packet(packet.copy(alloc)?),
     })

@@ -6,7 +6,6 @@ ghost use Rattle.sv_world.specs.Finding.{boot_in, start_in, stop_by, number_in, 
 ghost use Rattle.sv_world.specs.Sent.{may_come};
 ghost use Rattle.sv_world.specs.Worlds.{state_by, cluster_by, AreSet};
 
-use crate::call::addressee;
 use crate::event::WorldEvent;
 use crate::fault::WorldFault;
 use crate::line::Line;
@@ -107,7 +106,7 @@ fn delivery_fault<E>(
         Some(packet) => step_fault(
             seats,
             trace,
-            addressee(packet),
+            packet.addressee(),
             was_sent(packets, packet),
             None,
         ),

@@ -3,5 +3,5 @@ use Rattle.sv_host.proofs.server.Server.conclude_refused.Goals as goal
 
 pub returns-in-Client : goal.returns-in-Client
 returns-in-Client c =
-    client_refused c.args.asker c.in-Client.place c.in-Client.token c.args.fault c.cause_of.result c.args.now c.args.self.now c.refuse.new.self c.in-Client.is c.cause_of.ensures
+    client_refused c.args.asker c.in-Client.place c.in-Client.token c.args.fault c.cause.result c.args.now c.args.self.now c.refuse.new.self c.in-Client.is c.cause.ensures
     (c.refuse.ensures.clients, c.refuse.ensures.refused, c.refuse.ensures.others)
