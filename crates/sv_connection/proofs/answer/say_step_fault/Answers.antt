@@ -15,6 +15,6 @@ returns-in-Full g c token =
     let now = g.W.Write.contents c.say_refusal.new.writer in
     let said = c.say_refusal.result in
     let refused = λ (f : StepFault) (is : c.args.fault ≡ f).
-        subst (λ (cause : Cause). IsSaid (refusal cause m.head_only m.close) m.now Answered was now said.closed said.outcome) (c.cause.ensures ∙ ap cause_of is) c.say_refusal.ensures in
+    subst (λ (cause : Cause). IsSaid (refusal cause m.head_only m.close) m.now Answered was now said.closed said.outcome) (c.cause.ensures ∙ ap cause_of is) c.say_refusal.ensures in
     let follows = λ (f : StepFault). Follows (verdict token m.head_only m.close (Err f)) m.now was now said.closed said.outcome in
     ⊎_elim (λ (is : c.args.fault ≡ Full). subst follows (sym is) (refused Full is)) (λ (is : c.args.fault ≡ Memory). subst follows (sym is) (refused Memory is)) c.in-Full.is
