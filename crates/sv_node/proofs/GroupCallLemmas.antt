@@ -166,7 +166,7 @@ module _ {E D : Type 0} (meaning : E → EngineMeaning) (heard : E → List (Lis
       }
 
   -- where a disk has failed it is a stop before all of them, or after all of which nothing has left
-  group_leads : (answers : List Answer) → state_of new ≡ behind (meaning (engine_of old)) (setting_of old) (state_of old) inputs answers → (d : Durable) → (d ≡ durable_of old) ⊎ (d ≡ durable_of new)
+  pub group_leads : (answers : List Answer) → state_of new ≡ behind (meaning (engine_of old)) (setting_of old) (state_of old) inputs answers → (d : Durable) → (d ≡ durable_of old) ⊎ (d ≡ durable_of new)
       → Leads (meaning (engine_of old)) (setting_of old) low high (stand_of old) (halted d) []
   group_leads answers is d (inl none) =
       leads_by (meaning (engine_of old)) (setting_of old) low high (stand_of old) (halted d) (record { call = Stop; after = quiet (kept d) }) (ap (λ (x : Durable). quiet (kept x)) none) tt (not_below low (all_given inputs) rise) refl

@@ -145,7 +145,7 @@ module _ {E D : Type 0} (meaning : E → EngineMeaning) (heard : E → List (Lis
 
   module _ (low mid high : ℕ) (a b c : Node E D) (x : Goes low mid a b) where
     -- where the calls behind lead
-    on_from : (to : Stand) (told : List Told) → Leads (meaning (engine_of b)) (setting_of b) mid high (stand_of b) to told → Leads (meaning (engine_of a)) (setting_of a) low high (stand_of a) to (x.told ++ told)
+    pub on_from : (to : Stand) (told : List Told) → Leads (meaning (engine_of b)) (setting_of b) mid high (stand_of b) to told → Leads (meaning (engine_of a)) (setting_of a) low high (stand_of a) to (x.told ++ told)
     on_from to told leads =
         leads_join (meaning (engine_of a)) (setting_of a) low mid high (stand_of a) (stand_of b) to x.told told x.leads
         (subst (λ (m : EngineMeaning). Leads m (setting_of a) mid high (stand_of b) to told) x.meaning_is
@@ -235,7 +235,7 @@ module _ {E D : Type 0} (meaning : E → EngineMeaning) (heard : E → List (Lis
   module _ (seen : D → List ℕ) (set : Setting) (engine : E) (a b : D) (n new : Node E D) (s : IsStarted meaning heard n engine set)
       (first : tells a → tells b → (d : Durable) × Restores set (seen a) (seen b) d × (d.boot ≢ last_number) × (durable_of n ≡ restarted set d)) (both : tells a → tells b → TellsBoth tells (journal_of n)) where
     -- calls of the opened node, behind its opening
-    behind_opening : (low high : ℕ) (d : Durable) (told : List Told) (to : Stand) → tells a → tells b → Restores set (seen a) (seen b) d
+    pub behind_opening : (low high : ℕ) (d : Durable) (told : List Told) (to : Stand) → tells a → tells b → Restores set (seen a) (seen b) d
         → Leads (meaning (engine_of n)) (setting_of n) 0 high (stand_of n) to told → Leads (meaning engine) set low high (halted d) to told
     behind_opening low high d told to ta tb r leads =
         let f = first ta tb in
