@@ -4,7 +4,7 @@
 //! of Prometheus, version 0.0.4, written anew every few seconds ([`Metrics`]). Both are made of [`Event`]s, which have numbers, names of
 //! this crate's own and keys of sessions, and no text that a client has sent: so a client can forge no line, and what a client keeps to
 //! itself, as a cookie's secret, a value or a body, has no way into either. A [`Report`] has both, or none, and then an event costs
-//! nothing but the look whether there is one.
+//! nothing but the look whether there is one. Who reads figures calls them by [`names`], as they are written.
 #![tactic(auto)]
 
 mod census;
@@ -18,7 +18,7 @@ mod log;
 mod loss;
 mod metrics;
 mod milestone;
-mod names;
+pub mod names;
 mod phase;
 mod process;
 mod quoted;
@@ -31,6 +31,7 @@ mod turnover;
 pub use census::Census;
 pub use event::{Event, Refusal};
 pub use failure::{Failure, Site};
+pub use family::{Family, Kind};
 pub use figures::{Figures, Gauges};
 pub use level::Level;
 pub use log::{Log, STANDARD_ERROR};
