@@ -8,4 +8,5 @@ pub mod RoundLemmas
 pub mod HandLemmas
 pub mod HoldingLemmas
 pub mod ServingLemmas
+pub mod NudgeLemmas
 pub mod TakeLemmas

@@ -2,6 +2,7 @@
 use Rattle.std.specs.Prelude.{◌≡◌, ℕ, ◌+◌, Bool, List, [], ◌∷◌, Vec, Option, Some, None, IfSome, Result, Ok, Err, map, slice_get, vec_items}
 use Rattle.std.specs.declared.alloc.Global.{Global}
 use Rattle.sv_host.specs.Group.{inputs_of, ways_of}
+use Rattle.sv_host.specs.Outcome.{group_taken}
 use Rattle.sv_model.specs.Cause.{cause_of}
 use Rattle.sv_host.specs.Parked.{clients_of, place_under, without}
 use Rattle.sv_host.specs.Time.{seconds_of}
@@ -10,6 +11,8 @@ use Rattle.sv_host.specs.declared.group.Asker.TheVariants.{Client, Command, Nobo
 use Rattle.sv_host.specs.declared.group.Group.{Group}
 use Rattle.sv_host.specs.declared.group.Way.{Way}
 use Rattle.sv_host.specs.declared.packets.Packets.TheVariants.{All}
+use Rattle.sv_host.specs.declared.fault.Stop.{Stop}
+use Rattle.sv_host.specs.declared.outcome.Taken.{Taken}
 use Rattle.sv_host.specs.declared.server.Server.{Server}
 use Rattle.sv_model.specs.Engine.{EngineMeaning}
 use Rattle.sv_model.specs.Site.{with_list}
@@ -104,10 +107,11 @@ HandsOutGroup ways (Err fault) (Ok taken) now old new = RefusesAll ways fault no
 HandsOutGroup ways (Err fault) (Err stop) now old new = TellsNobody old new
 
 -- a group was given to the node, and what came of it was told
-pub record IsHandedOut {E D T F : Type 0} (meaning : E → EngineMeaning) (heard : E → List (List ℕ)) (failed : D → ℕ) (old new : Node E D) (group : Group)
-    (server next : Server) (result : Result T F) : Type 0 where
+pub record IsHandedOut {E D : Type 0} (meaning : E → EngineMeaning) (heard : E → List (List ℕ)) (failed : D → ℕ) (old new : Node E D) (group : Group)
+    (server next : Server) (result : Result Taken Stop) : Type 0 where
   pub answers : Result (Vec (Result (Vec Output Global) StepFault) Global) StepFault
   pub ends : GroupEnds meaning heard failed old (inputs_of group) (with_list (λ a. map (with_list vec_items) a.items) answers) new
   pub start : Server
   pub clients : clients_of start.parked ≡ clients_of server.parked
   pub told : HandsOutGroup (ways_of group) answers result (seconds_of start.time) start next
+  pub taken : result ≡ group_taken answers

@@ -1,4 +1,5 @@
 pub mod Outcome
+pub mod Nudges
 pub mod Outputs
 pub mod Round
 pub mod Asking

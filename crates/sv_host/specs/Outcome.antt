@@ -1,5 +1,6 @@
 -- What comes of a step, and what is answered for it.
-use Rattle.std.specs.Prelude.{ℕ, List, [], ◌∷◌, Result, Ok, Err}
+use Rattle.std.specs.Prelude.{ℕ, List, [], ◌∷◌, Vec, Result, Ok, Err}
+use Rattle.std.specs.declared.alloc.Global.{Global}
 use Rattle.sv_model.specs.declared.output.MoveRefusal.{MoveRefusal}
 use Rattle.sv_model.specs.declared.output.MoveRefusal.TheVariants.{UnknownKey, NotActive, BadPeer, EpochsSpent}
 use Rattle.sv_model.specs.declared.output.Output.{Output}
@@ -25,6 +26,16 @@ sum_up [] = Quiet
 sum_up (o ∷ []) = alone o
 sum_up (o ∷ p ∷ os) = Busy
 
+-- of a step, by its answer
+abbrev pub taken_of : Result (Vec Output Global) StepFault → Taken
+taken_of (Ok outputs) = sum_up outputs.items
+taken_of (Err fault) = Refused
+
+-- of steps in turn: what came of the last of them
+abbrev pub last_taken : Taken → List (Result (Vec Output Global) StepFault) → Taken
+last_taken taken [] = taken
+last_taken taken (answer ∷ answers) = last_taken (taken_of answer) answers
+
 -- the bytes that answer a command
 abbrev pub refusal_byte : MoveRefusal → ℕ
 refusal_byte UnknownKey = 1
@@ -44,3 +55,8 @@ refused step.Failed = Err (Fault host.Device)
 refused step.Full = Ok Refused
 refused step.Device = Err (Fault host.Device)
 refused step.Memory = Ok Refused
+
+-- what comes of a group
+abbrev pub group_taken : Result (Vec (Result (Vec Output Global) StepFault) Global) StepFault → Result Taken Stop
+group_taken (Ok answers) = Ok (last_taken Quiet answers.items)
+group_taken (Err fault) = refused fault

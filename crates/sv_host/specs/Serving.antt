@@ -5,6 +5,7 @@ use Rattle.sv_host.specs.Group.{IsRising, before_of}
 use Rattle.sv_journal.specs.Journal.{disk_a, disk_b}
 use Rattle.sv_model.specs.Engine.{EngineMeaning}
 use Rattle.sv_node.specs.History.{HasEnded, HasGone}
+use Rattle.sv_node.specs.Moments.{RunsWithoutLoss}
 use Rattle.sv_node.specs.Node.{IsNode, engine_of, journal_of}
 use Rattle.sv_node.specs.declared.node.Node.{Node}
 
@@ -17,11 +18,13 @@ pub record IsServing {E D : Type 0} (fit : E → Type 0) (tells : D → Type 0) 
 
 -- by what came of it: some groups were given to the node, and what is gathered from now on comes behind them
 pub record HasServed {E D T F : Type 0} (meaning : E → EngineMeaning) (heard : E → List (List ℕ)) (fit : E → Type 0) (tells : D → Type 0)
-    (seen : D → List ℕ) (may_leave : D → List ℕ → Type 0)
+    (seen : D → List ℕ) (may_leave : D → List ℕ → Type 0) (moment : D → ℕ) (left_since : D → ℕ → List ℕ → Type 0)
     (old : Node E D) (group : Group) (new : Node E D) (next : Group) (answer : Result T F) : Type 0 where
   pub valid : IsNode fit tells seen may_leave new
   pub rising : IsRising next
   pub gone : HasGone meaning heard tells may_leave (before_of group) (before_of next) old new answer
+  -- and a stop at any moment loses nothing
+  pub runs : RunsWithoutLoss meaning tells seen may_leave moment left_since (before_of group) old new
 
 -- none was given to it: what has come was gathered
 pub record HasGathered (group next : Group) : Type 0 where
@@ -30,9 +33,10 @@ pub record HasGathered (group next : Group) : Type 0 where
 
 -- it served until its end, and was taken apart into these
 pub record HasLived {E D : Type 0} (meaning : E → EngineMeaning) (heard : E → List (List ℕ)) (fit : E → Type 0) (tells : D → Type 0)
-    (seen : D → List ℕ) (may_leave : D → List ℕ → Type 0)
+    (seen : D → List ℕ) (may_leave : D → List ℕ → Type 0) (moment : D → ℕ) (left_since : D → ℕ → List ℕ → Type 0)
     (node : Node E D) (engine : E) (a b : D) : Type 0 where
   pub last : Node E D
   pub valid : IsNode fit tells seen may_leave last
   pub ended : HasEnded meaning heard tells may_leave node last
+  pub runs : RunsWithoutLoss meaning tells seen may_leave moment left_since 0 node last
   pub parts : ◌≡◌ {A = E × D × D} (engine, a, b) (engine_of last, disk_a (journal_of last), disk_b (journal_of last))

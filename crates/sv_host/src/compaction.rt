@@ -3,6 +3,7 @@
 ghost use Rattle.std.specs.Prelude.{IsTrue, IfErr, OnOk, ℕ, ◌≡◌, ◌⊎◌, false};
 ghost use Rattle.sv_node.specs.Call.{compaction_ends};
 ghost use Rattle.sv_node.specs.History.{HasGone};
+ghost use Rattle.sv_node.specs.Moments.{RunsWithoutLoss};
 ghost use Rattle.sv_node.specs.Node.{IsNode, journal_of};
 ghost use Rattle.sv_journal.specs.declared.journal_fault.JournalFault.TheVariants.{Device, Failed};
 ghost use Rattle.sv_host.specs.Serving.{IsServing, HasServed};
@@ -44,6 +45,7 @@ fn write_anew<E: Engine, D: Disk>(
     ensures valid { IsNode E.valid D.tells D.seen D.may_leave node.new }
     ensures stops { IfErr result (HasFailed node.new) }
     ensures gone { (low : ℕ) → HasGone E.meaning E.heard D.tells D.may_leave low low node.old node.new result }
+    ensures runs { (low : ℕ) → RunsWithoutLoss E.meaning D.tells D.seen D.may_leave D.moment D.left_since low node.old node.new }
 {
     match node.compact() {
         Ok(()) => {
@@ -69,6 +71,7 @@ pub fn renew<E: Engine, D: Disk>(server: &mut Server, node: &mut Node<E, D>) -> 
     ensures valid { IsNode E.valid D.tells D.seen D.may_leave node.new }
     ensures stops { IfErr result (HasFailed node.new) }
     ensures gone { (low : ℕ) → HasGone E.meaning E.heard D.tells D.may_leave low low node.old node.new result }
+    ensures runs { (low : ℕ) → RunsWithoutLoss E.meaning D.tells D.seen D.may_leave D.moment D.left_since low node.old node.new }
 {
     if node.restored() == 0 {
         return Ok(());
@@ -84,6 +87,7 @@ fn compact<E: Engine, D: Disk>(server: &mut Server, node: &mut Node<E, D>) -> Re
     ensures valid { IsNode E.valid D.tells D.seen D.may_leave node.new }
     ensures stops { IfErr result (HasFailed node.new) }
     ensures gone { (low : ℕ) → HasGone E.meaning E.heard D.tells D.may_leave low low node.old node.new result }
+    ensures runs { (low : ℕ) → RunsWithoutLoss E.meaning D.tells D.seen D.may_leave D.moment D.left_since low node.old node.new }
 {
     let len = node.journal_len();
     server.connections.report.measure(len);
@@ -101,7 +105,7 @@ pub fn compact_in_turn<E: Engine, D: Disk>(
 ) -> Result<(), Stop>
     requires { IsServing E.valid D.tells D.seen D.may_leave node.old group.old }
     ensures stops { IfErr result (HasFailed node.new) }
-    ensures served { HasServed E.meaning E.heard E.valid D.tells D.seen D.may_leave node.old group.old node.new group.new result }
+    ensures served { HasServed E.meaning E.heard E.valid D.tells D.seen D.may_leave D.moment D.left_since node.old group.old node.new group.new result }
 {
     compact(server, node)
 }

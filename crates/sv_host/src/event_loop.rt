@@ -2,6 +2,7 @@
 
 ghost use Rattle.std.specs.Prelude.{IsTrue};
 ghost use Rattle.sv_node.specs.History.{HasEnded};
+ghost use Rattle.sv_node.specs.Moments.{RunsWithoutLoss};
 ghost use Rattle.sv_node.specs.Node.{IsNode, journal_of};
 ghost use Rattle.sv_host.specs.Group.{IsRising};
 ghost use Rattle.sv_host.specs.Serving.{IsServing, HasServed, HasGathered};
@@ -26,7 +27,7 @@ fn wait_on<E: Engine, D: Disk>(
     group: &mut Group,
 ) -> Result<(), Stop>
     requires { IsServing E.valid D.tells D.seen D.may_leave node.old group.old }
-    ensures { HasServed E.meaning E.heard E.valid D.tells D.seen D.may_leave node.old group.old node.new group.new result }
+    ensures { HasServed E.meaning E.heard E.valid D.tells D.seen D.may_leave D.moment D.left_since node.old group.old node.new group.new result }
 {
     ask_again(machine, server, node, group)?;
     expire(machine, server, node, group)
@@ -40,7 +41,7 @@ fn keep_time<E: Engine, D: Disk>(
     group: &mut Group,
 ) -> Result<(), Stop>
     requires { IsServing E.valid D.tells D.seen D.may_leave node.old group.old }
-    ensures { HasServed E.meaning E.heard E.valid D.tells D.seen D.may_leave node.old group.old node.new group.new result }
+    ensures { HasServed E.meaning E.heard E.valid D.tells D.seen D.may_leave D.moment D.left_since node.old group.old node.new group.new result }
 {
     server.await_by(node.parked());
     tick(machine, server, node, group)?;
@@ -55,7 +56,7 @@ fn look_after<E: Engine, D: Disk>(
     group: &mut Group,
 ) -> Result<(), Stop>
     requires { IsServing E.valid D.tells D.seen D.may_leave node.old group.old }
-    ensures { HasServed E.meaning E.heard E.valid D.tells D.seen D.may_leave node.old group.old node.new group.new result }
+    ensures { HasServed E.meaning E.heard E.valid D.tells D.seen D.may_leave D.moment D.left_since node.old group.old node.new group.new result }
 {
     settle(machine, server, node, group)?;
     compact_in_turn(server, node, group)
@@ -69,7 +70,7 @@ fn end_turn<E: Engine, D: Disk>(
     group: &mut Group,
 ) -> Result<(), Stop>
     requires { IsServing E.valid D.tells D.seen D.may_leave node.old group.old }
-    ensures { HasServed E.meaning E.heard E.valid D.tells D.seen D.may_leave node.old group.old node.new group.new result }
+    ensures { HasServed E.meaning E.heard E.valid D.tells D.seen D.may_leave D.moment D.left_since node.old group.old node.new group.new result }
 {
     // A request whose session has come is served before the time is looked at: else it might be past its deadline by then.
     look_after(machine, server, node, group)?;
@@ -102,7 +103,7 @@ fn step_some<E: Engine, D: Disk>(
     group: &mut Group,
 ) -> Result<(), Stop>
     requires { IsServing E.valid D.tells D.seen D.may_leave node.old group.old }
-    ensures { HasServed E.meaning E.heard E.valid D.tells D.seen D.may_leave node.old group.old node.new group.new result }
+    ensures { HasServed E.meaning E.heard E.valid D.tells D.seen D.may_leave D.moment D.left_since node.old group.old node.new group.new result }
 {
     if group.is_empty() {
         return Ok(());
@@ -121,7 +122,7 @@ fn step_gathered<E: Engine, D: Disk>(
     group: &mut Group,
 ) -> Result<(), Stop>
     requires { IsServing E.valid D.tells D.seen D.may_leave node.old group.old }
-    ensures { HasServed E.meaning E.heard E.valid D.tells D.seen D.may_leave node.old group.old node.new group.new result }
+    ensures { HasServed E.meaning E.heard E.valid D.tells D.seen D.may_leave D.moment D.left_since node.old group.old node.new group.new result }
 {
     match gather_own(machine, server, node, group) {
         Ok(()) => step_some(machine, server, node, group),
@@ -138,7 +139,7 @@ fn finish_turn<E: Engine, D: Disk>(
     gathered: Result<(), Stop>,
 ) -> Result<(), Stop>
     requires { IsServing E.valid D.tells D.seen D.may_leave node.old group.old }
-    ensures { HasServed E.meaning E.heard E.valid D.tells D.seen D.may_leave node.old group.old node.new group.new result }
+    ensures { HasServed E.meaning E.heard E.valid D.tells D.seen D.may_leave D.moment D.left_since node.old group.old node.new group.new result }
 {
     step_gathered(machine, server, node, group)?;
     match gathered {
@@ -174,7 +175,7 @@ fn take_turn<E: Engine, D: Disk>(
     acceptor: &mut Acceptor,
 ) -> Result<(), Stop>
     requires { IsServing E.valid D.tells D.seen D.may_leave node.old group.old }
-    ensures { HasServed E.meaning E.heard E.valid D.tells D.seen D.may_leave node.old group.old node.new group.new result }
+    ensures { HasServed E.meaning E.heard E.valid D.tells D.seen D.may_leave D.moment D.left_since node.old group.old node.new group.new result }
 {
     wait(machine, server, node, acceptor);
     let gathered = gather(machine, server, group, acceptor);
@@ -192,6 +193,7 @@ pub fn run<E: Engine, D: Disk>(
     requires live { IsTrue (journal_of node.old).live }
     ensures valid { IsNode E.valid D.tells D.seen D.may_leave node.new }
     ensures ended { HasEnded E.meaning E.heard D.tells D.may_leave node.old node.new }
+    ensures runs { RunsWithoutLoss E.meaning D.tells D.seen D.may_leave D.moment D.left_since 0 node.old node.new }
 {
     let mut group = Group::new(server.alloc);
     for _ in 0..u64::MAX {

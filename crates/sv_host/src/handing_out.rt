@@ -1,13 +1,14 @@
 //! What a group has put out, handed to whom it is for.
 
-ghost use Rattle.std.specs.Prelude.{IfErr, IfSome, IsOk, OnOk, ◌≡◌, false};
+ghost use Rattle.std.specs.Prelude.{IfErr, IfSome, OnOk, ◌≡◌, false};
 ghost use Rattle.sv_model.specs.Ranges.{IsPacket};
 ghost use Rattle.sv_node.specs.Call.{step_ends};
 ghost use Rattle.std.specs.List.{AllByRecursion};
 ghost use Rattle.sv_host.specs.Outputs.{AreHandedOn, AreSendable, IsHandedOn, IsSendable};
 ghost use Rattle.sv_host.specs.HandingOut.{Concludes, ConcludesRefused, HandsOn, HandsOnAll, HandsOut, HandsOutFrom, HandsOutGroup, RefusesAll, SameElsewhere, TellsNobody, way_at};
-ghost use Rattle.sv_host.specs.Outcome.{refused};
+ghost use Rattle.sv_host.specs.Outcome.{group_taken, last_taken, refused, taken_of};
 ghost use Rattle.sv_host.specs.Parked.{clients_of, place_under, without};
+ghost use Rattle.sv_host.specs.declared.outcome.Taken.TheVariants.{Quiet};
 ghost use Rattle.sv_net.specs.Places.{Spares, held_at, manner_at, naming_of};
 ghost use Rattle.sv_host.specs.Time.{seconds_of};
 ghost use Rattle.sv_net.specs.Saying.{Answers, Tells, refused_as};
@@ -182,7 +183,8 @@ impl Server {
         now: u64,
     ) -> Taken
         requires { IsHandedOn answer }
-        ensures { HandsOut way.asker answer now self.old self.new }
+        ensures told { HandsOut way.asker answer now self.old self.new }
+        ensures taken { result ≡ taken_of answer }
     {
         match answer {
             Ok(outputs) => {
@@ -207,7 +209,8 @@ impl Server {
         answers: Vec<Result<Vec<Output>, StepFault>>,
     ) -> Taken
         requires { AllByRecursion (λ a. IsHandedOn a) answers.items }
-        ensures { HandsOutFrom 0 ways.now answers.items (seconds_of self.old.time) self.old self.new }
+        ensures told { HandsOutFrom 0 ways.now answers.items (seconds_of self.old.time) self.old self.new }
+        ensures taken { result ≡ last_taken Quiet answers.items }
     {
         let now = self.time.seconds();
         let steps = answers.len() as u64;
@@ -252,8 +255,7 @@ impl Server {
         answers: Result<Vec<Result<Vec<Output>, StepFault>>, StepFault>,
     ) -> Result<Taken, Stop>
         requires { AreHandedOn answers }
-        ensures refused { IfErr answers (λ fault. result ≡ refused fault) }
-        ensures taken { OnOk answers (IsOk result) }
+        ensures taken { result ≡ group_taken answers }
         ensures goes_on { IfErr answers (λ fault. OnOk result (step_ends fault ≡ false)) }
         ensures told { HandsOutGroup ways.now answers result (seconds_of self.old.time) self.old self.new }
     {

@@ -4,8 +4,9 @@ ghost use Rattle.std.specs.Prelude.{◌≡◌, IfOk, IfErr, IsTrue};
 ghost use Rattle.sv_model.specs.NodeState.{Durable};
 ghost use Rattle.sv_model.specs.Ranges.{IsSetting};
 ghost use Rattle.sv_node.specs.History.{HasEnded, IsLife};
+ghost use Rattle.sv_node.specs.Moments.{LivesWithoutLoss, RunsWithoutLoss};
 ghost use Rattle.sv_node.specs.Node.{IsNode, journal_of};
-ghost use Rattle.sv_node.specs.Opened.{LeavesStart};
+ghost use Rattle.sv_node.specs.Opened.{LeavesStart, StartsWithoutLoss};
 ghost use Rattle.sv_node.specs.Stops.{Restores};
 ghost use Rattle.sv_host.specs.Secrets.{first_by, last_of};
 ghost use Rattle.sv_host.specs.Serving.{HasLived};
@@ -133,6 +134,7 @@ fn serve_ready<E: Engine, D: Disk>(
     requires live { IsTrue (journal_of node.old).live }
     ensures valid { IsNode E.valid D.tells D.seen D.may_leave node.new }
     ensures ended { HasEnded E.meaning E.heard D.tells D.may_leave node.old node.new }
+    ensures runs { RunsWithoutLoss E.meaning D.tells D.seen D.may_leave D.moment D.left_since 0 node.old node.new }
 {
     if let Some(fault) = begin(machine, server, node, number) {
         return server.say_stopped(machine, Stop::Fault(fault));
@@ -154,6 +156,7 @@ fn serve_all<E: Engine, D: Disk>(
     requires live { IsTrue (journal_of node.old).live }
     ensures valid { IsNode E.valid D.tells D.seen D.may_leave node.new }
     ensures ended { HasEnded E.meaning E.heard D.tells D.may_leave node.old node.new }
+    ensures runs { RunsWithoutLoss E.meaning D.tells D.seen D.may_leave D.moment D.left_since 0 node.old node.new }
 {
     server.count_kept(node);
     let bytes = node.journal_len();
@@ -178,7 +181,7 @@ fn live<E: Engine, D: Disk>(
 ) -> Ended<E, D>
     requires valid { IsNode E.valid D.tells D.seen D.may_leave node }
     requires live { IsTrue (journal_of node).live }
-    ensures { HasLived E.meaning E.heard E.valid D.tells D.seen D.may_leave node result.engine result.a result.b }
+    ensures { HasLived E.meaning E.heard E.valid D.tells D.seen D.may_leave D.moment D.left_since node result.engine result.a result.b }
 {
     let mut node = node;
     let fault = serve_all(machine, server, &mut node, acceptor, number);
@@ -268,9 +271,14 @@ impl Host {
         requires { E.valid engine }
         // What the disks give behind it is what some calls of the node lead to, from what they gave before it.
         ensures life { IfOk result (λ r. IsLife E.meaning E.heard D.tells D.seen D.may_leave (setting_of self) engine a b r.engine r.a r.b) }
+        // And so does a stop at any moment between.
+        ensures any_moment { IfOk result (λ r. D.tells a → D.tells b → (d : Durable) → Restores (setting_of self) (D.seen a) (D.seen b) d →
+            LivesWithoutLoss D.seen D.may_leave D.moment D.left_since (E.meaning engine) (setting_of self) d a b r.a r.b) }
         // Where it isn't opened, what is lost is at most the start itself.
         ensures unopened { IfErr result (λ r. D.tells a → D.tells b → (d : Durable) → Restores (setting_of self) (D.seen a) (D.seen b) d →
             LeavesStart D.may_leave (setting_of self) a b d r.a r.b) }
+        ensures any_moment_unopened { IfErr result (λ r. D.tells a → D.tells b → (d : Durable) → Restores (setting_of self) (D.seen a) (D.seen b) d →
+            StartsWithoutLoss D.seen D.may_leave D.moment D.left_since (setting_of self) d a b r.a r.b) }
         ensures engine { IfErr result (λ r. r.engine ≡ engine) }
         // Why it isn't opened, want of memory apart.
         ensures damaged { IfErr result (λ r. r.fault ≡ Damaged → D.tells a → D.tells b → (d : Durable) → Restores (setting_of self) (D.seen a) (D.seen b) d

@@ -1,6 +1,7 @@
 //! What a running node keeps beside its journal: its clients, its peers, its secrets, and the time.
 
-ghost use Rattle.std.specs.Prelude.{◌≡◌, ◌≤◌, IfErr, IfOk};
+ghost use Rattle.std.specs.Prelude.{◌≡◌, ◌≤◌, ◌<◌, [], IfErr, IfOk, IsFalse, IsTrue};
+ghost use Rattle.sv_host.specs.Group.{inputs_of};
 ghost use Rattle.sv_host.specs.HandingOut.{IsHandedOut};
 ghost use Rattle.sv_host.specs.Secrets.{last_of, secret_in, Draws};
 ghost use Rattle.sv_host.specs.Serving.{IsServing, HasServed};
@@ -98,6 +99,7 @@ impl Server {
     fn say_clock(&mut self, set: ClockSet)
         ensures secrets { last_of self.new.secrets ≡ last_of self.old.secrets }
         ensures time { self.new.time ≡ self.old.time }
+        ensures ticked { self.new.ticked ≡ self.old.ticked }
     {
         let (way, seconds) = match set {
             ClockSet::No => return,
@@ -114,6 +116,7 @@ impl Server {
         ensures time { result ≡ self.new.time }
         ensures never_back { steady_of self.old.time ≤ steady_of self.new.time }
         ensures secrets { last_of self.new.secrets ≡ last_of self.old.secrets }
+        ensures ticked { self.new.ticked ≡ self.old.ticked }
     {
         let time = self.time.next(read(machine));
         let set = self.time.was_set(time);
@@ -134,13 +137,23 @@ impl Server {
         }
     }
 
-    /// The second in which a turn ends, by the clock that nobody sets.
-    pub fn second(&mut self, machine: &HostRuntime) -> u64 {
+    /// Whether a second has begun since the node last looked at the time, by the clock that nobody sets. It looks at it now.
+    pub fn begins_second(&mut self, machine: &HostRuntime) -> bool
+        ensures spared { IsTrue self.old.is_spared → IsFalse result }
+        ensures begun { IsTrue result → (self.old.ticked < self.new.ticked) × (self.new.ticked ≡ steady_of self.new.time) }
+        ensures same { IsFalse result → self.new.ticked ≡ self.old.ticked }
+        ensures none { IsFalse self.old.is_spared → IsFalse result → steady_of self.new.time ≤ self.new.ticked }
+        ensures never_back { steady_of self.old.time ≤ steady_of self.new.time }
+    {
         if self.is_spared {
-            self.ticked
-        } else {
-            self.now(machine).steady_seconds()
+            return false;
         }
+        let second = self.now(machine).steady_seconds();
+        if second <= self.ticked {
+            return false;
+        }
+        self.ticked = second;
+        true
     }
 
     /// The moment of a step: what both clocks show, and a secret that no step has had.
@@ -265,8 +278,9 @@ impl Server {
         group: &mut Group,
     ) -> Result<Taken, Stop>
         requires { IsServing E.valid D.tells D.seen D.may_leave node.old group.old }
-        ensures served { HasServed E.meaning E.heard E.valid D.tells D.seen D.may_leave node.old group.old node.new group.new result }
+        ensures served { HasServed E.meaning E.heard E.valid D.tells D.seen D.may_leave D.moment D.left_since node.old group.old node.new group.new result }
         ensures told { IsHandedOut E.meaning E.heard D.failed node.old node.new group.old self.old self.new result }
+        ensures emptied { inputs_of group.new ≡ [] }
         ensures stops { IfErr result IsLost }
     {
         let (inputs, ways) = group.take();

@@ -2,6 +2,7 @@ use Rattle.std.proofs.Common.{Err, inl, arith}
 use Rattle.std.specs.Prelude.{⊤}
 use Rattle.sv_host.specs.Group.{before_of}
 use Rattle.sv_node.proofs.HistoryLemmas.{goes_nowhere, goes_join, gone_join}
+use Rattle.sv_node.proofs.MomentLemmas.{runs_join, runs_nowhere}
 use Rattle.sv_host.proofs.event_loop.run.Goals as goal
 
 pub take_turn-requires : goal.take_turn-requires
@@ -24,6 +25,8 @@ loop-preserved g c =
       valid = c.take_turn.ensures.valid;
       rising = c.take_turn.ensures.rising;
       goes = goes_join e.meaning e.heard d.tells d.may_leave d.moment d.left_since 0 (before_of l.group) (before_of c.take_turn.new.group) c.args.node.now l.node c.take_turn.new.node l.invariant.goes c.in_default-take_turn.ensures.gone;
+      runs = runs_join e.meaning e.heard d.tells d.seen d.may_leave d.moment d.left_since 0 (before_of l.group) (before_of c.take_turn.new.group) c.args.node.now l.node c.take_turn.new.node l.invariant.goes l.invariant.runs
+          c.take_turn.ensures.runs;
     }
 
 pub loop-init : goal.loop-init
@@ -34,6 +37,7 @@ loop-init g c =
       valid = c.requires.valid;
       rising = c.new-group.ensures.rising;
       goes = goes_nowhere e.meaning e.heard d.tells d.may_leave d.moment d.left_since 0 (before_of c.new-group.result) c.args.node.now (omega arith) c.requires.live;
+      runs = runs_nowhere e.meaning e.heard d.tells d.seen d.may_leave d.moment d.left_since 0 c.args.node.now;
     }
 
 pub returns-clause-ended : goal.returns-clause-ended
@@ -41,3 +45,17 @@ returns-clause-ended g c = (before_of c.loop.group, inl c.loop.invariant.goes)
 
 pub returns-in-Some-clause-ended : goal.returns-in-Some-clause-ended
 returns-in-Some-clause-ended g c = (before_of c.loop.group, inl c.loop.invariant.goes)
+
+pub returns-in-Err-clause-runs : goal.returns-in-Err-clause-runs
+returns-in-Err-clause-runs g c =
+    let e = g.E.Engine in
+    let d = g.D.Disk in
+    let l = c.loop in
+    runs_join e.meaning e.heard d.tells d.seen d.may_leave d.moment d.left_since 0 (before_of l.group) (before_of c.take_turn.new.group) c.args.node.now l.node c.take_turn.new.node l.invariant.goes l.invariant.runs
+    c.take_turn.ensures.runs
+
+pub returns-clause-runs : goal.returns-clause-runs
+returns-clause-runs g c = c.loop.invariant.runs
+
+pub returns-in-Some-clause-runs : goal.returns-in-Some-clause-runs
+returns-in-Some-clause-runs g c = c.loop.invariant.runs

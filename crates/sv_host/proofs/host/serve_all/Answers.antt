@@ -1,6 +1,7 @@
 use Rattle.std.proofs.Common.{Err}
 use Rattle.std.specs.Prelude.{⊤}
 use Rattle.sv_node.proofs.HistoryLemmas.{gone_join}
+use Rattle.sv_node.proofs.MomentLemmas.{runs_join}
 use Rattle.sv_host.proofs.host.serve_all.Goals as goal
 
 pub serve_ready-requires-clause-live : goal.serve_ready-requires-clause-live
@@ -15,3 +16,12 @@ returns-in-Ok-clause-ended g c =
 
 pub returns-in-Err-clause-ended : goal.returns-in-Err-clause-ended
 returns-in-Err-clause-ended g c = (0, c.in-Err.ensures.gone 0)
+
+pub returns-in-Ok-clause-runs : goal.returns-in-Ok-clause-runs
+returns-in-Ok-clause-runs g c =
+    let e = g.E.Engine in
+    let d = g.D.Disk in
+    runs_join e.meaning e.heard d.tells d.seen d.may_leave d.moment d.left_since 0 0 0 c.args.node.now c.renew.new.node c.serve_ready.new.node (c.in-Ok.ensures.gone 0) (c.renew.ensures.runs 0) c.serve_ready.ensures.runs
+
+pub returns-in-Err-clause-runs : goal.returns-in-Err-clause-runs
+returns-in-Err-clause-runs g c = c.renew.ensures.runs 0

@@ -17,12 +17,13 @@ loop-answer-preserved c =
       count = omega (arith, steps.1, was.count, c.saturating_add-place.ensures);
       handed = λ final all. was.handed final
           (one_more_out c.loop-answer.place c.saturating_add-place.result c.args.ways.now c.way_at-way.result (into_iter_items c.loop-answer.answer-iterator) rest c.in-Some.answer c.seconds-now.result
-          c.loop-answer.self c.hand_out_one-taken.new.self final steps.0 c.way_at-way.ensures (omega (arith, steps.1, was.count, c.saturating_add-place.ensures)) c.hand_out_one-taken.ensures all);
+          c.loop-answer.self c.hand_out_one-taken.new.self final steps.0 c.way_at-way.ensures (omega (arith, steps.1, was.count, c.saturating_add-place.ensures)) c.hand_out_one-taken.ensures.told all);
+      taken = was.taken ∙ ap (last_taken c.loop-answer.taken) steps.0 ∙ ap (λ t. last_taken t rest) (sym c.hand_out_one-taken.ensures.taken);
     }
 
 -- none is left
-pub returns : goal.returns
-returns c =
+pub returns-clause-told : goal.returns-clause-told
+returns-clause-told c =
     let was = c.loop-answer.invariant in
     let items = into_iter_items c.loop-answer.answer-iterator in
     all_out c.args.ways.now (into_iter_items c.into_iter-answer-iterator.result) c.args.answers.items c.seconds-now.result (seconds_of c.args.self.now.time) c.args.self.now _

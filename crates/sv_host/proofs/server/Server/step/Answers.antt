@@ -12,6 +12,7 @@ use Rattle.sv_node.specs.Group.{GroupEnds}
 use Rattle.sv_node.specs.GroupCalls.{all_given}
 use Rattle.sv_node.specs.History.{RiseIn, numbers_in}
 use Rattle.sv_node.specs.Node.{engine_of}
+use Rattle.sv_node.proofs.MomentLemmas.{group_runs}
 use Rattle.sv_host.proofs.LifeLemmas.{group_served}
 use Rattle.sv_host.proofs.SendLemmas.{of_answers}
 use Rattle.sv_host.proofs.server.Server.step.Goals as goal
@@ -37,6 +38,9 @@ returns-clause-served g c =
           (subst (λ (xs : List (Moment × Input)). RiseIn c.args.group.now.before (all_given xs)) (sym t.inputs) rising.rises)
           (subst (λ (n : ℕ). n ≤ c.take-inputs.new.self.before) (ap (λ (xs : List (Moment × Input)). numbers_in c.args.group.now.before (all_given xs)) (sym t.inputs)) (subst (λ (n : ℕ). numbers_in c.args.group.now.before (all_given c.args.group.now.inputs.items) ≤ n) (sym t.before) rising.number))
           c.step_all-answers.result c.hand_out.result c.step_all-answers.ensures.group c.hand_out.ensures.goes_on;
+      runs = group_runs e.meaning e.heard d.tells d.seen d.may_leave d.moment d.left_since d.failed c.args.node.now c.step_all-answers.new.self c.requires.live (c.requires.valid.stored c.requires.live)
+          c.take-inputs.result.0.items c.args.group.now.before (subst (λ (xs : List (Moment × Input)). RiseIn c.args.group.now.before (all_given xs)) (sym t.inputs) rising.rises)
+          (with_list (λ a. map (with_list vec_items) a.items) c.step_all-answers.result) c.step_all-answers.ensures.group;
     }
 
 -- what the node gives is handed out
@@ -52,4 +56,5 @@ returns-clause-told g c =
       start = start;
       clients = ap (λ p. clients_of p) c.end_write.ensures;
       told = subst (λ (ways : List Way). HandsOutGroup ways c.step_all-answers.result c.hand_out.result (seconds_of start.time) start c.hand_out.new.self) (c.as_slice.ensures.value ∙ c.take-inputs.ensures.ways) c.hand_out.ensures.told;
+      taken = c.hand_out.ensures.taken;
     }
