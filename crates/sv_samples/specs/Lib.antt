@@ -1,3 +1,4 @@
+pub mod Hello
 pub mod Count
 pub mod Snoop
 pub mod Login

@@ -1,8 +1,8 @@
 -- What a sample of one of several kinds does: what those of its kind do.
-use Rattle.sv_hello.specs.Hello.{hello}
 use Rattle.sv_samples.specs.Count.{count}
 use Rattle.sv_samples.specs.Faulty.{faulty}
 use Rattle.sv_samples.specs.Forwarder.{forwarder}
+use Rattle.sv_samples.specs.Hello.{hello}
 use Rattle.sv_samples.specs.Includer.{includer}
 use Rattle.sv_samples.specs.Login.{login}
 use Rattle.sv_samples.specs.Renew.{renew}

@@ -1,12 +1,12 @@
 -- What the names of the samples stand for.
 use Rattle.std.specs.Prelude.{ℕ, List, bytes_eq, codes, Option, Some, None, option_map, if◌then◌else◌}
 use Rattle.std.specs.List.{before_first}
-use Rattle.sv_hello.specs.Hello.{hello}
 use Rattle.sv_launch.specs.Objects.{Hears}
 use Rattle.sv_samples.specs.Count.{count}
 use Rattle.sv_samples.specs.Faulty.{faulty}
 use Rattle.sv_samples.specs.Forwarder.{forwarder}
 use Rattle.sv_samples.specs.Gate.{gate}
+use Rattle.sv_samples.specs.Hello.{hello}
 use Rattle.sv_samples.specs.Includer.{includer}
 use Rattle.sv_samples.specs.Login.{login}
 use Rattle.sv_samples.specs.Renew.{renew}

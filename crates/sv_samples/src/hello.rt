@@ -10,7 +10,7 @@ use sv_web::{HttpServlet, Refusal, set_plain_text};
 pub struct Hello;
 
 impl HttpServlet for Hello {
-    ghost use Rattle.sv_hello.specs.Hello.{hello};
+    ghost use Rattle.sv_samples.specs.Hello.{hello};
 
     ghost work = { λ _. hello };
 
