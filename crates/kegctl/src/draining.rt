@@ -5,7 +5,7 @@
 //! again.
 
 ghost use Rattle.std.specs.Prelude.{◌≡◌, OnOk};
-ghost use Rattle.sv_drain.specs.Left.{left_of};
+ghost use Rattle.sv_control.specs.Left.{left_of};
 
 use crate::commands::{PATIENCE, halt, hand_over, tick, told};
 use crate::fault::Fault;
@@ -16,8 +16,7 @@ use crate::words::Drain;
 use std::thread;
 use std::time::Duration;
 use sv_client::Address;
-use sv_control::{Replayed, key_text};
-use sv_drain::{Left, left_in};
+use sv_control::{Left, Replayed, key_text, left_in};
 use sv_model::{Key, KeyState, NODE_LIMIT, Record};
 use sv_script::NodeNumber;
 

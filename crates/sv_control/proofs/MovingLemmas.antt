@@ -6,7 +6,7 @@ use Rattle.sv_core.specs.Snapshot.{snapshot_of, head_by, state_record}
 use Rattle.sv_model.specs.NodeState.{Durable}
 use Rattle.sv_model.specs.declared.key.Key.{Key}
 use Rattle.sv_model.specs.declared.state.KeyState.{KeyState}
-use Rattle.sv_drain.specs.Left.{active_at, active_in, active_of, if_active}
+use Rattle.sv_control.specs.Left.{active_at, active_in, active_of, if_active}
 
 states_active : (es : List (Key × KeyState)) → flat_map active_at (map state_record es) ≡ flat_map (λ (e : Key × KeyState). if_active e.0 e.1) es
 states_active [] = refl

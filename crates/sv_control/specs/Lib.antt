@@ -1,5 +1,6 @@
 pub mod Gone
 pub mod Kept
+pub mod Left
 pub mod Lines
 pub mod Losing
 pub mod Naming

@@ -3,7 +3,7 @@
 ghost use Rattle.std.specs.Prelude.{◌≡◌, ◌<◌, ◌^◌};
 ghost use Rattle.sv_core.specs.Census.{census_of, total};
 ghost use Rattle.sv_core.specs.Snapshot.{snapshot_of};
-ghost use Rattle.sv_drain.specs.Left.{active_in, active_of};
+ghost use Rattle.sv_control.specs.Left.{active_in, active_of};
 ghost use Rattle.sv_control.specs.Naming.{Names, key_text};
 ghost use Rattle.sv_control.specs.Room.{known_in};
 ghost use Rattle.sv_model.specs.Keys.{IsKey};

@@ -1,7 +1,7 @@
 //! What is left of a drain, by a snapshot of what the node keeps.
 
 ghost use Rattle.std.specs.Prelude.{◌≡◌, ◌↔◌, ◌++◌, IfOk, OnOk, IsTrue};
-ghost use Rattle.sv_drain.specs.Left.{active_at, active_in, sent_at, sent_in, left_of};
+ghost use Rattle.sv_control.specs.Left.{active_at, active_in, sent_at, sent_in, left_of};
 
 use std::alloc::{AllocError, Global};
 use sv_model::{Key, KeyState, Record};
