@@ -6,9 +6,9 @@ use std::alloc::{AllocError, Global};
 use std::fs;
 use std::io::ErrorKind;
 use std::rt::Files;
+use sv_client::NodeNumber;
 use sv_config::{Cluster, ConfigFault, Deployment};
 use sv_model::NODE_LIMIT;
-use sv_script::NodeNumber;
 
 /// The fault of the program for that of a descriptor.
 pub fn config_fault(fault: ConfigFault) -> Fault {

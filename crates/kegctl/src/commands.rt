@@ -4,10 +4,9 @@ ghost use Rattle.sv_model.specs.Keys.{IsKey};
 ghost use Rattle.sv_record.specs.Frame.{IsFrame};
 
 use crate::fault::Fault;
-use sv_client::{Address, command};
+use sv_client::{Address, NodeNumber, command};
 use sv_model::Key;
 use sv_record::Frame;
-use sv_script::NodeNumber;
 
 /// How long a node may take for a command, in seconds: what it sends to a peer that doesn't answer takes one.
 pub const PATIENCE: u64 = 10;

@@ -15,10 +15,9 @@ use crate::taker::Taker;
 use crate::words::Drain;
 use std::thread;
 use std::time::Duration;
-use sv_client::Address;
+use sv_client::{Address, NodeNumber};
 use sv_control::{Left, Replayed, key_text, left_in};
 use sv_model::{Key, KeyState, NODE_LIMIT, Record};
-use sv_script::NodeNumber;
 
 /// Between two looks, in thousandths of a second.
 const PAUSE: u64 = 250;

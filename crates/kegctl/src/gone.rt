@@ -10,13 +10,13 @@ use crate::journal::{entries, records};
 use crate::status::answers;
 use std::collections::BTreeMap;
 use std::rt::Clock;
+use sv_client::NodeNumber;
 use sv_config::Cluster;
 use sv_control::{
     LastSeen, Whereabouts, is_anothers, key_text, payloads_of, recovered, remade, seen_of,
 };
 use sv_core::Core;
 use sv_model::{Key, Record};
-use sv_script::NodeNumber;
 
 /// What the others know of sessions, by their keys.
 type Seen = BTreeMap<Key, LastSeen>;

@@ -8,8 +8,8 @@ use crate::fault::Fault;
 use std::alloc::Global;
 use std::fs;
 use std::io::ErrorKind;
+use sv_client::NodeNumber;
 use sv_journal::{FileDisk, IfMissing, Journal};
-use sv_script::NodeNumber;
 
 /// Refuses a path at which anything is.
 fn refuse_existing(machine: &HostRuntime, path: &str) -> Result<(), Fault> {

@@ -19,14 +19,13 @@ use crate::whose::check_claim;
 use crate::words::{Check, Form, Listing, Order};
 use serde::Serialize;
 use std::fmt::Display;
-use sv_client::session_named;
+use sv_client::{NodeNumber, session_named};
 use sv_config::Deployment;
 use sv_control::{
     Look, RecordPlace, Replayed, SessionLine, Shown, ShownRecord, look_at, losses, places_of,
     replay, session_line, shown_key,
 };
 use sv_model::{Key, Record};
-use sv_script::NodeNumber;
 
 /// A line on standard output.
 fn say(machine: &HostRuntime, text: &str) -> Result<(), Fault> {

@@ -8,10 +8,9 @@ use crate::room::Keys;
 use crate::taker::Taker;
 use crate::words::Drain;
 use std::alloc::{AllocError, Global};
-use sv_client::Address;
+use sv_client::{Address, NodeNumber};
 use sv_config::Cluster;
 use sv_model::Key;
-use sv_script::NodeNumber;
 
 /// A session that was handed over: its key, and when it was last named then, in seconds since 1970.
 pub type Moved = (Key, u64);

@@ -7,7 +7,7 @@ use crate::greetings::{Difference, Said, said_by};
 use crate::health::Health;
 use crate::limit::clock;
 use std::net::{Ipv4Addr, SocketAddr, TcpStream};
-use sv_script::NodeNumber;
+use sv_client::NodeNumber;
 
 /// How a node is whose port gave no answer, by another connection to it.
 fn silence_of(machine: &HostRuntime, port: u16) -> Health {

@@ -5,8 +5,7 @@ use crate::fault::Fault;
 use crate::greetings::hears;
 use crate::limit::clock;
 use std::time::Duration;
-use sv_client::Address;
-use sv_script::NodeNumber;
+use sv_client::{Address, NodeNumber};
 
 /// A node that has answered is given sessions for so long before it is asked again, in thousandths of a second.
 const FRESH: u64 = 250;

@@ -3,9 +3,9 @@
 use crate::fault::Fault;
 use crate::journal::{entries, records};
 use crate::room::Keys;
+use sv_client::NodeNumber;
 use sv_control::{RecordPlace, ShownRecord, is_anothers, is_own, places_of, replay};
 use sv_model::Record;
-use sv_script::NodeNumber;
 
 /// A journal, and the node whose it is said to be.
 #[derive(Clone, Copy, Debug, PartialEq, Eq)]

@@ -8,9 +8,9 @@ use crate::whose::Claim;
 use clap::ArgMatches;
 use clap::error::Error;
 use std::alloc::Global;
+use sv_client::NodeNumber;
 use sv_control::Shown;
 use sv_model::NODE_LIMIT;
-use sv_script::NodeNumber;
 
 /// So many seconds a drain takes at most, if it isn't said; and it is never told to take longer than a day.
 const SECONDS: &str = "10";

@@ -1,3 +1,4 @@
 pub mod Fault
 pub mod Request
+pub mod Script
 pub mod Words

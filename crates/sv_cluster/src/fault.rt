@@ -4,10 +4,10 @@ ghost use Rattle.std.specs.Prelude.{◌≡◌};
 ghost use Rattle.sv_cluster.specs.Fault.{status_of};
 ghost use Rattle.sv_cluster.specs.declared.fault.Fault.TheVariants.{Arguments, Script, Socket};
 
+use crate::script::ScriptFault;
 use crate::words::Arguments as BadWords;
 use sv_client::Unanswered;
 use sv_config::ConfigFault;
-use sv_script::ScriptFault;
 use thiserror::Error;
 
 /// Why the program ends before its script does. Its text is its name, which the program prints.

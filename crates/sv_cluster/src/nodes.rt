@@ -7,10 +7,9 @@ use crate::process::{Process, await_end, kill, start};
 use crate::reply::read_reply;
 use crate::request::write_request;
 use crate::words::Words;
-use sv_client::{Address, Session, command, exchange};
+use sv_client::{Address, NodeNumber, Session, command, exchange};
 use sv_config::Cluster as Described;
 use sv_record::Frame;
-use sv_script::NodeNumber;
 
 /// So many seconds beyond its deadline a node may take for an answer.
 const SLACK: u64 = 10;

@@ -3,12 +3,13 @@
 use crate::fault::Fault;
 use crate::files::{read_cluster, read_text};
 use crate::nodes::Nodes;
+use crate::script::{Act, Line, read_script};
 use crate::words::Words;
 use std::alloc::{AllocError, Global};
 use std::io;
 use std::io::Write;
+use sv_client::NodeNumber;
 use sv_config::Cluster;
-use sv_script::{Act, Line, NodeNumber, read_script};
 
 /// The bytes of a text.
 fn text(alloc: Global, text: &str) -> Result<Vec<u8>, AllocError> {

@@ -6,7 +6,7 @@ use std::alloc::Global;
 use std::io;
 use std::io::{ErrorKind, Read};
 use std::process::{Child, Command, Processes, Stdio};
-use sv_script::NodeNumber;
+use sv_client::NodeNumber;
 
 /// A node that was started.
 pub type Process = Child<<HostRuntime as Processes>::Started>;

@@ -1,6 +1,6 @@
 //! Tests of plain data, of its formats, of scripts, and of disks and journals, as their users call them.
 //!
-//! It stands on `sv_model`, `sv_record`, `sv_script` and `sv_journal`, and proves nothing of its own. What the bytes of records and
+//! It stands on `sv_model`, `sv_record`, `sv_cluster` and `sv_journal`, and proves nothing of its own. What the bytes of records and
 //! packets say are rows of `test_rows`.
 #![tactic(auto)]
 

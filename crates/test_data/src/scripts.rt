@@ -2,7 +2,8 @@
 
 use std::alloc::Global;
 use std::process::Abort;
-use sv_script::{Act, Line, NodeNumber, ScriptFault, read_script};
+use sv_client::NodeNumber;
+use sv_cluster::{Act, Line, ScriptFault, read_script};
 
 const ZERO: NodeNumber = NodeNumber { value: 0 };
 

@@ -2,12 +2,12 @@
 
 ghost use Rattle.std.specs.Prelude.{◌≡◌, ◌≢◌, ◌++◌, ◌∷◌, [], map, IfOk, IfErr, IfSome, IfNone, IsTrue, OnOk};
 ghost use Rattle.std.specs.List.{list_any, slice_split};
-ghost use Rattle.sv_script.specs.Script.{ask_of, is_fault, is_line_feed, is_space, line_data, move_of, number_at, number_of};
-ghost use Rattle.sv_script.specs.Script.{of_three, of_two, order_in, orders_of, reading, readings, script_in};
-ghost use Rattle.sv_script.specs.declared.script.ScriptFault.TheVariants.{BadLine, Memory};
+ghost use Rattle.sv_cluster.specs.Script.{ask_of, is_fault, is_line_feed, is_space, line_data, move_of, number_at, number_of};
+ghost use Rattle.sv_cluster.specs.Script.{of_three, of_two, order_in, orders_of, reading, readings, script_in};
+ghost use Rattle.sv_cluster.specs.declared.script.ScriptFault.TheVariants.{BadLine, Memory};
 
-use crate::number::NodeNumber;
 use std::alloc::{AllocError, AllocFailed, Global};
+use sv_client::NodeNumber;
 use thiserror::Error;
 
 /// What a line asks for.

@@ -2,10 +2,10 @@
 use Rattle.std.specs.Prelude.{ℕ, ◌-◌, ◌==◌, ◌&&◌, Bool, true, false, not, nat_lt, List, []}
 use Rattle.std.specs.Prelude.{◌∷◌, map, filter, codes, bytes_eq, Option, Some, None, is_none, if◌then◌else◌}
 use Rattle.std.specs.List.{slice_split}
-use Rattle.sv_script.specs.declared.number.NodeNumber.{NodeNumber}
-use Rattle.sv_script.specs.declared.script.Act.{Act}
-use Rattle.sv_script.specs.declared.script.Act.TheVariants.{Start, Ask, Move, Tick, Halt}
-use Rattle.sv_script.specs.declared.script.Line.{Line}
+use Rattle.sv_client.specs.declared.number.NodeNumber.{NodeNumber}
+use Rattle.sv_cluster.specs.declared.script.Act.{Act}
+use Rattle.sv_cluster.specs.declared.script.Act.TheVariants.{Start, Ask, Move, Tick, Halt}
+use Rattle.sv_cluster.specs.declared.script.Line.{Line}
 
 -- what a line asks for
 pub data Order : Type 0 where

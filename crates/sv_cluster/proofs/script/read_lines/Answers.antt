@@ -1,8 +1,8 @@
 use Rattle.std.proofs.Common.{◌<◌, [], List, ℕ, length, arith}
 use Rattle.std.proofs.lemmas.Result.{err_from_is_err_and}
 use Rattle.std.specs.Borrow.{Bor}
-use Rattle.sv_script.proofs.ScriptLemmas.{faulty}
-use Rattle.sv_script.proofs.script.read_lines.Goals as goal
+use Rattle.sv_cluster.proofs.ScriptLemmas.{faulty}
+use Rattle.sv_cluster.proofs.script.read_lines.Goals as goal
 
 pub returns-in_err-add_line-clause-fault : goal.returns-in_err-add_line-clause-fault
 returns-in_err-add_line-clause-fault c =

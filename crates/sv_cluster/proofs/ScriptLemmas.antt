@@ -4,7 +4,7 @@ use Rattle.std.specs.Prelude.{◌||◌}
 use Rattle.std.specs.List.{list_any}
 use Rattle.std.proofs.Math.Bool.{or-true}
 use Rattle.std.proofs.lemmas.List.Folds.{list_any-append}
-use Rattle.sv_script.specs.Script.{is_fault, readings}
+use Rattle.sv_cluster.specs.Script.{is_fault, readings}
 
 readings_cons : (line : List ℕ) (lines : List (List ℕ)) → readings (line ∷ lines) ≡ readings (line ∷ []) ++ readings lines
 readings_cons [] lines = refl
