@@ -5,6 +5,7 @@ use crate::figures::Figures;
 use crate::number::{percent_of, rate_of};
 use crate::row::{Row, Shown};
 use std::alloc::{AllocError, Global};
+use sv_log::names::{KNOWN, KNOWN_LIMIT, WRITE_SECONDS, WRITES};
 
 /// Figures that are older than this, in seconds, are old: a node writes them every 5.
 const OLD: u64 = 15;
@@ -95,8 +96,8 @@ fn mean(alloc: Global, nanoseconds: u64) -> Result<Cell, AllocError> {
 /// What has been written and how long that took, or how much more than before.
 fn writes_of(figures: &Figures) -> Option<(u64, u64)> {
     Some((
-        figures.count("journal_writes_total", None)?,
-        figures.nanoseconds("journal_write_seconds_total")?,
+        figures.count(WRITES.name, None)?,
+        figures.nanoseconds(WRITE_SECONDS.name)?,
     ))
 }
 
@@ -121,7 +122,7 @@ fn number_cell(
     number: u64,
 ) -> Result<Cell, AllocError> {
     let before = match &column.before {
-        Some(before) => before.count(row.name, row.label),
+        Some(before) => before.count(row.figure.name, row.label),
         None => None,
     };
     match row.shown {
@@ -137,7 +138,7 @@ fn cell_in(
     figures: &Figures,
     row: Row,
 ) -> Result<Cell, AllocError> {
-    let number = figures.count(row.name, row.label);
+    let number = figures.count(row.figure.name, row.label);
     match number {
         Some(number) => number_cell(alloc, column, row, number),
         None => nothing(alloc),
@@ -147,8 +148,8 @@ fn cell_in(
 /// How many keys are known, of how many.
 fn limited_in(alloc: Global, figures: &Figures) -> Result<Cell, AllocError> {
     match (
-        figures.count("known_keys", None),
-        figures.count("known_keys_limit", None),
+        figures.count(KNOWN.name, None),
+        figures.count(KNOWN_LIMIT.name, None),
     ) {
         (Some(number), Some(limit)) => limited(alloc, number, limit),
         _ => nothing(alloc),

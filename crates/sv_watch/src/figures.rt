@@ -3,12 +3,10 @@
 use crate::fault::FiguresFault;
 use crate::figure::{Figure, figure_of};
 use crate::number::{nanoseconds_of, whole_of};
+use sv_log::names::TIME;
 
 /// Each name begins so.
 const OURS: &str = "kegbramble_";
-
-/// The figure that a node writes last.
-const LAST: &str = "time_seconds";
 
 /// All figures of a node, as it wrote them at a moment.
 #[derive(Drop)]
@@ -85,11 +83,11 @@ fn first_node(text: &str) -> Option<u8> {
     None
 }
 
-/// The value of the last line, if that is of the figure that a node writes last.
+/// The value of the last line, if that is of the figure that a node writes last, the time.
 fn last_value(text: &str) -> Option<u64> {
     let mut value = None;
     for line in text.lines() {
-        value = value_in(line, LAST, None);
+        value = value_in(line, TIME.name, None);
     }
     whole_of(value?)
 }

@@ -1,5 +1,11 @@
 //! The rows of a table.
 
+use sv_log::Family;
+use sv_log::names::{
+    CONNECTIONS, JOURNAL, KNOWN, LOST, MOVED, REFUSED, REQUESTS, SENT, SESSIONS, TIME, WAITING,
+    WRITES,
+};
+
 /// What a row shows of its figure.
 #[derive(Clone, Copy, Debug, PartialEq, Eq)]
 pub enum Shown {
@@ -7,21 +13,20 @@ pub enum Shown {
     Age,
     /// A number as it is.
     Level,
-    /// A number, and how many there can be: a figure of the name with `_limit` behind it. From 80 in a hundred on it is marked.
+    /// The keys that are known, and how many there can be. From 80 in a hundred on it is marked.
     Limited,
     /// A number since the start, and how often a second it rises.
     Counter,
-    /// What each of those that it counts took, in thousandths of a second: a figure of the same name, of seconds.
+    /// What each of those that it counts took, in thousandths of a second: the seconds are a figure of their own.
     Mean,
 }
 
 /// A row of a table.
-#[derive(Clone, Copy, Debug, PartialEq, Eq)]
+#[derive(Clone, Copy)]
 pub struct Row {
     pub title: &'static str,
-    /// The figure's name behind `kegbramble_`.
-    pub name: &'static str,
-    /// Which of the figures of that name; all of them together where it is none.
+    pub figure: Family,
+    /// Which of the figures of its name; all of them together where it is none.
     pub label: Option<&'static str>,
     pub shown: Shown,
 }
@@ -30,133 +35,133 @@ pub struct Row {
 pub static ROWS: [Row; 22] = [
     Row {
         title: "written",
-        name: "time_seconds",
+        figure: TIME,
         label: None,
         shown: Shown::Age,
     },
     Row {
         title: "sessions here",
-        name: "sessions",
+        figure: SESSIONS,
         label: Some("state=\"active\""),
         shown: Shown::Level,
     },
     Row {
         title: "on their way",
-        name: "sessions",
+        figure: SESSIONS,
         label: Some("state=\"sent\""),
         shown: Shown::Level,
     },
     Row {
         title: "known keys",
-        name: "known_keys",
+        figure: KNOWN,
         label: None,
         shown: Shown::Limited,
     },
     Row {
         title: "answers 2xx",
-        name: "requests_total",
+        figure: REQUESTS,
         label: Some("class=\"2xx\""),
         shown: Shown::Counter,
     },
     Row {
         title: "answers 3xx",
-        name: "requests_total",
+        figure: REQUESTS,
         label: Some("class=\"3xx\""),
         shown: Shown::Counter,
     },
     Row {
         title: "answers 4xx",
-        name: "requests_total",
+        figure: REQUESTS,
         label: Some("class=\"4xx\""),
         shown: Shown::Counter,
     },
     Row {
         title: "answers 5xx",
-        name: "requests_total",
+        figure: REQUESTS,
         label: Some("class=\"5xx\""),
         shown: Shown::Counter,
     },
     Row {
         title: "503 Deadline",
-        name: "requests_refused_total",
+        figure: REFUSED,
         label: Some("cause=\"Deadline\""),
         shown: Shown::Counter,
     },
     Row {
         title: "503 ParkFull",
-        name: "requests_refused_total",
+        figure: REFUSED,
         label: Some("cause=\"ParkFull\""),
         shown: Shown::Counter,
     },
     Row {
         title: "503 TableFull",
-        name: "requests_refused_total",
+        figure: REFUSED,
         label: Some("cause=\"TableFull\""),
         shown: Shown::Counter,
     },
     Row {
         title: "503 JournalFull",
-        name: "requests_refused_total",
+        figure: REFUSED,
         label: Some("cause=\"JournalFull\""),
         shown: Shown::Counter,
     },
     Row {
         title: "503 Memory",
-        name: "requests_refused_total",
+        figure: REFUSED,
         label: Some("cause=\"Memory\""),
         shown: Shown::Counter,
     },
     Row {
         title: "503 SerialsSpent",
-        name: "requests_refused_total",
+        figure: REFUSED,
         label: Some("cause=\"SerialsSpent\""),
         shown: Shown::Counter,
     },
     Row {
         title: "503 WantsSpent",
-        name: "requests_refused_total",
+        figure: REFUSED,
         label: Some("cause=\"WantsSpent\""),
         shown: Shown::Counter,
     },
     Row {
         title: "waiting requests",
-        name: "waiting_requests",
+        figure: WAITING,
         label: None,
         shown: Shown::Level,
     },
     Row {
         title: "connections",
-        name: "connections",
+        figure: CONNECTIONS,
         label: None,
         shown: Shown::Level,
     },
     Row {
         title: "ordered moves",
-        name: "moves_total",
+        figure: MOVED,
         label: None,
         shown: Shown::Counter,
     },
     Row {
         title: "packets sent",
-        name: "packets_sent_total",
+        figure: SENT,
         label: None,
         shown: Shown::Counter,
     },
     Row {
         title: "packets lost",
-        name: "packets_lost_total",
+        figure: LOST,
         label: None,
         shown: Shown::Counter,
     },
     Row {
         title: "journal bytes",
-        name: "journal_bytes",
+        figure: JOURNAL,
         label: None,
         shown: Shown::Level,
     },
     Row {
         title: "ms a write",
-        name: "journal_write",
+        figure: WRITES,
         label: None,
         shown: Shown::Mean,
     },
