@@ -4,7 +4,7 @@ use Rattle.std.specs.Prelude.{◌∷◌, map, filter, codes, bytes_eq, Option, S
 use Rattle.std.specs.List.{slice_split}
 use Rattle.sv_client.specs.declared.number.NodeNumber.{NodeNumber}
 use Rattle.sv_cluster.specs.declared.script.Act.{Act}
-use Rattle.sv_cluster.specs.declared.script.Act.TheVariants.{Start, Ask, Move, Tick, Halt}
+use Rattle.sv_cluster.specs.declared.script.Act.TheVariants.{Start, Ask, Move, Tick, Halt, Kill}
 use Rattle.sv_cluster.specs.declared.script.Line.{Line}
 
 -- what a line asks for
@@ -14,6 +14,7 @@ pub data Order : Type 0 where
   MoveSession : (node to : ℕ) → Order
   TickNode : (node : ℕ) → Order
   HaltNode : (node : ℕ) → Order
+  KillNode : (node : ℕ) → Order
 
 -- the number of a node in decimal: one digit, of 0 to 7
 abbrev pub number_at : List ℕ → Option ℕ
@@ -21,13 +22,14 @@ number_at [] = None
 number_at (d ∷ []) = if nat_lt 47 d && nat_lt d 56 then Some (d - 48) else None
 number_at (d ∷ e ∷ ds) = None
 
--- `start N`, `tick N`, `halt N`
+-- `start N`, `tick N`, `halt N`, `kill N`
 abbrev pub of_two : List ℕ → Option ℕ → Option Order
 of_two verb None = None
 of_two verb (Some node) =
     if bytes_eq verb (codes "start") then Some (StartNode node)
     else if bytes_eq verb (codes "tick") then Some (TickNode node)
     else if bytes_eq verb (codes "halt") then Some (HaltNode node)
+    else if bytes_eq verb (codes "kill") then Some (KillNode node)
     else None
 
 -- `ask N PATH`, whose PATH has a character at least
@@ -102,6 +104,7 @@ order_of (Ask node path) = AskNode node.value path.now
 order_of (Move node to) = MoveSession node.value to.value
 order_of (Tick node) = TickNode node.value
 order_of (Halt node) = HaltNode node.value
+order_of (Kill node) = KillNode node.value
 
 abbrev pub orders_of : Option Act → Option Order
 orders_of None = None

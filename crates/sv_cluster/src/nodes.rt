@@ -155,6 +155,16 @@ impl<'a> Nodes<'a> {
         await_end(&mut stopped.process)
     }
 
+    /// Ends a node by `kill -9`.
+    pub fn kill(&mut self, node: NodeNumber) -> Result<(), Fault> {
+        let Some(place) = self.place_of(node) else {
+            return Err(Fault::Socket);
+        };
+        let mut ended = self.running.swap_remove(place);
+        kill(&mut ended.process);
+        Ok(())
+    }
+
     /// Halts each node that still runs; one that can't be told is killed. The first fault is given.
     pub fn halt_all(&mut self) -> Result<(), Fault> {
         let mut ended = Ok(());

@@ -81,6 +81,12 @@ fn halt(alloc: Global, nodes: &mut Nodes<'_>, node: NodeNumber) -> Result<Vec<u8
     printed(text(alloc, "done"))
 }
 
+/// `kill N`.
+fn kill(alloc: Global, nodes: &mut Nodes<'_>, node: NodeNumber) -> Result<Vec<u8>, Fault> {
+    nodes.kill(node)?;
+    printed(text(alloc, "killed"))
+}
+
 /// Does what a line asks for. What is to be printed of it is given.
 fn perform(alloc: Global, nodes: &mut Nodes<'_>, act: Act<'_>) -> Result<Vec<u8>, Fault> {
     match act {
@@ -89,6 +95,7 @@ fn perform(alloc: Global, nodes: &mut Nodes<'_>, act: Act<'_>) -> Result<Vec<u8>
         Act::Move { node, to } => hand_over(alloc, nodes, node, to),
         Act::Tick(node) => tick(alloc, nodes, node),
         Act::Halt(node) => halt(alloc, nodes, node),
+        Act::Kill(node) => kill(alloc, nodes, node),
     }
 }
 

@@ -23,6 +23,8 @@ pub enum Act<'a> {
     Tick(NodeNumber),
     /// `halt N`: the node stops.
     Halt(NodeNumber),
+    /// `kill N`: the node's process is ended by `kill -9`.
+    Kill(NodeNumber),
 }
 
 /// A line of a script.
@@ -69,7 +71,7 @@ fn read_number(word: &str) -> Option<NodeNumber>
     }
 }
 
-/// `start N`, `tick N`, `halt N`.
+/// `start N`, `tick N`, `halt N`, `kill N`.
 fn read_two<'a>(verb: &str, node: &str) -> Option<Act<'a>>
     ensures { orders_of result ≡ of_two verb.now (number_at node.now) }
 {
@@ -78,6 +80,7 @@ fn read_two<'a>(verb: &str, node: &str) -> Option<Act<'a>>
         "start" => Some(Act::Start(node)),
         "tick" => Some(Act::Tick(node)),
         "halt" => Some(Act::Halt(node)),
+        "kill" => Some(Act::Kill(node)),
         _ => None,
     }
 }

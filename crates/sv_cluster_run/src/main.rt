@@ -8,7 +8,8 @@
 //! - `ask N PATH`: asks the node for the path, with the session cookie that was set last; prints the status and the body;
 //! - `move N TO`: has the node hand over the session of that cookie to the node TO; prints `moved`, or `refused` and why;
 //! - `tick N`: has the node look at the time; prints `done`, or `refused 5`;
-//! - `halt N`: halts the node, and waits for the end of its process; prints `done`.
+//! - `halt N`: halts the node, and waits for the end of its process; prints `done`;
+//! - `kill N`: ends the node's process by `kill -9`; prints `killed`.
 //!
 //! CONFIG and SCRIPT are read whole before the first line is run. Nodes that still run at the end are halted, also behind a
 //! fault. A fault prints one line `cluster_run: ` and its name on standard error and ends the program with its status.
@@ -36,6 +37,7 @@ cluster_run runs a cluster of nodes from a script, and prints each line with wha
     move N TO    has the node hand the session of that cookie over to the node TO
     tick N       has the node do what is due
     halt N       halts the node, and waits for its end
+    kill N       ends the node by kill -9
 
 Nodes that still run at the end are halted. Status 0: all lines were run. 2: words. 3: the script or the descriptor.
 4: a node didn't start, or didn't end well. 5: a node doesn't answer, or standard output can't be written.

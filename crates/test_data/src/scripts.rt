@@ -12,9 +12,9 @@ const ONE: NodeNumber = NodeNumber { value: 1 };
 const TWO: NodeNumber = NodeNumber { value: 2 };
 
 /// One line of each kind, with an empty one between.
-const SCRIPT: &str = "start 0\nask 0 /shop/count\n\nmove 0 2\ntick 1\nhalt 2\n";
+const SCRIPT: &str = "start 0\nask 0 /shop/count\n\nmove 0 2\ntick 1\nhalt 2\nkill 1\n";
 
-const LINES: [Line<'static>; 5] = [
+const LINES: [Line<'static>; 6] = [
     Line {
         text: "start 0",
         act: Act::Start(ZERO),
@@ -40,6 +40,10 @@ const LINES: [Line<'static>; 5] = [
     Line {
         text: "halt 2",
         act: Act::Halt(TWO),
+    },
+    Line {
+        text: "kill 1",
+        act: Act::Kill(ONE),
     },
 ];
 
