@@ -1,4 +1,5 @@
--- What a sample of one of several kinds does: what those of its kind do.
+-- What a sample of one of several kinds does: what those of its kind do; and which word each has.
+use Rattle.std.specs.Prelude.{ℕ, List, bytes_eq, codes, Option, Some, None, if◌then◌else◌}
 use Rattle.sv_samples.specs.Count.{count}
 use Rattle.sv_samples.specs.Faulty.{faulty}
 use Rattle.sv_samples.specs.Forwarder.{forwarder}
@@ -22,3 +23,16 @@ work_of (Renew s) = renew
 work_of (Includer s) = includer
 work_of (Forwarder s) = forwarder
 work_of (Faulty s) = faulty
+
+-- the work of the sample servlet of a word
+abbrev pub work_named : List ℕ → Option (Asked → Work Next)
+work_named word =
+    if bytes_eq word (codes "hello") then Some hello
+    else if bytes_eq word (codes "count") then Some count
+    else if bytes_eq word (codes "snoop") then Some snoop
+    else if bytes_eq word (codes "login") then Some login
+    else if bytes_eq word (codes "renew") then Some renew
+    else if bytes_eq word (codes "includer") then Some includer
+    else if bytes_eq word (codes "forwarder") then Some forwarder
+    else if bytes_eq word (codes "faulty") then Some faulty
+    else None

@@ -1,5 +1,8 @@
 //! A servlet of the samples that is one of several kinds, as one type.
 
+ghost use Rattle.std.specs.Prelude.{◌≡◌, option_map};
+ghost use Rattle.sv_samples.specs.Sample as spec;
+
 use crate::{Count, Faulty, Forwarder, Hello, Includer, Login, Renew, Snoop};
 use std::alloc::Global;
 use sv_servlet::{Call, Next, Reply};
@@ -17,6 +20,25 @@ pub enum Sample {
     Includer(Includer),
     Forwarder(Forwarder),
     Faulty(Faulty),
+}
+
+impl Sample {
+    /// The sample of a word, such as `count`.
+    pub fn named(word: &str) -> Option<Sample>
+        ensures { option_map spec.work_of result ≡ spec.work_named word.now }
+    {
+        match word {
+            "hello" => Some(Sample::Hello(Hello)),
+            "count" => Some(Sample::Count(Count)),
+            "snoop" => Some(Sample::Snoop(Snoop)),
+            "login" => Some(Sample::Login(Login)),
+            "renew" => Some(Sample::Renew(Renew)),
+            "includer" => Some(Sample::Includer(Includer)),
+            "forwarder" => Some(Sample::Forwarder(Forwarder)),
+            "faulty" => Some(Sample::Faulty(Faulty)),
+            _ => None,
+        }
+    }
 }
 
 impl HttpServlet for Sample {

@@ -5,8 +5,7 @@
 //! takes its mark from what is behind it.
 #![tactic(auto)]
 
-mod descriptor;
 mod names;
 
-pub use descriptor::BUILT_IN;
 pub use names::{Samples, showcase};
+pub use sv_samples::BUILT_IN;

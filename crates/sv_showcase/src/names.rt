@@ -1,15 +1,11 @@
 //! The samples that a descriptor can name.
 
-ghost use Rattle.std.specs.Prelude.{◌≡◌, option_map};
-ghost use Rattle.sv_samples.specs.Sample.{work_of};
+ghost use Rattle.std.specs.Prelude.{◌≡◌};
 ghost use Rattle.sv_showcase.specs.Names as spec;
 
-use crate::descriptor::BUILT_IN;
 use std::alloc::{AllocError, Global};
 use sv_launch::{Application, FilterTable, ListenerTable, OneOf, ServletTable};
-use sv_samples::{
-    Count, Faulty, Forwarder, Gate, Hello, Includer, Login, Renew, Sample, Snoop, Stamp, Tally,
-};
+use sv_samples::{BUILT_IN, Gate, Sample, Stamp, Tally};
 use sv_servlet::{GenericFilter, GenericServlet};
 use sv_web::Web;
 
@@ -20,23 +16,6 @@ fn word_of(name: &str) -> &str
     match name.split_once('-') {
         Some((word, _)) => word,
         None => name,
-    }
-}
-
-/// The sample servlet of a word.
-fn sample_of(word: &str) -> Option<Sample>
-    ensures { option_map work_of result ≡ spec.work_of_word word.now }
-{
-    match word {
-        "hello" => Some(Sample::Hello(Hello)),
-        "count" => Some(Sample::Count(Count)),
-        "snoop" => Some(Sample::Snoop(Snoop)),
-        "login" => Some(Sample::Login(Login)),
-        "renew" => Some(Sample::Renew(Renew)),
-        "includer" => Some(Sample::Includer(Includer)),
-        "forwarder" => Some(Sample::Forwarder(Forwarder)),
-        "faulty" => Some(Sample::Faulty(Faulty)),
-        _ => None,
     }
 }
 
@@ -52,7 +31,7 @@ impl ServletTable for Samples {
     ghost servlets = { λ _. servlets };
 
     fn servlet(&self, alloc: Global, name: &str) -> Result<Option<Self::Servlet>, AllocError> {
-        match sample_of(word_of(name)) {
+        match Sample::named(word_of(name)) {
             Some(sample) => Ok(Some(GenericServlet::new(Web::new(alloc, sample)))),
             None => Ok(None),
         }

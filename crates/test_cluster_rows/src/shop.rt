@@ -9,9 +9,7 @@ use std::alloc::{AllocError, Global};
 use sv_config::Deployment;
 use sv_container::{Container, Named};
 use sv_model::Engine;
-use sv_samples::{
-    Count, Faulty, Forwarder, Gate, Hello, Includer, Login, Renew, Sample, Snoop, Tally,
-};
+use sv_samples::{BUILT_IN, Gate, Sample, Tally};
 use sv_servlet::{GenericFilter, GenericServlet, Servlet};
 use sv_web::Web;
 
@@ -21,6 +19,7 @@ type Served = GenericServlet<Web<Sample>>;
 /// The applications, started.
 pub type Shop = Container<Served, GenericFilter<Web<Gate>>, Tally>;
 
+/// How the built-in descriptor begins; its tables follow.
 const HEAD: &str = r#"[[context]]
 path = "/shop"
 "#;
@@ -28,39 +27,6 @@ path = "/shop"
 const A_MINUTE: &str = "interval = 60\n";
 
 const ONCE: &str = "once = { answers = 2, parameter = \"once\" }\n";
-
-const TABLES: &str = r#"
-[[context.servlet]]
-name = "hello"
-patterns = ["/hello"]
-
-[[context.servlet]]
-name = "count"
-patterns = ["/count"]
-
-[[context.servlet]]
-name = "snoop"
-patterns = ["/snoop", ""]
-
-[[context.servlet]]
-name = "login"
-patterns = ["/login"]
-
-[[context.servlet]]
-name = "includer"
-patterns = ["/inc"]
-
-[[context.servlet]]
-name = "forwarder"
-patterns = ["/fwd"]
-
-[[context.servlet]]
-name = "faulty"
-patterns = ["/faulty", "/oops"]
-
-[[context.listener]]
-name = "tally"
-"#;
 
 const RENEWING: &str = r#"
 [[context.servlet]]
@@ -70,27 +36,15 @@ patterns = ["/renew"]
 
 /// The descriptor of a name.
 fn descriptor(alloc: Global, name: &str) -> Result<String, RowFault> {
+    let Some(tables) = BUILT_IN.strip_prefix(HEAD) else {
+        return Err(RowFault::Start);
+    };
     match name {
-        "built-in" => Ok(format!(in alloc; "{HEAD}{TABLES}")?),
-        "of-a-minute" => Ok(format!(in alloc; "{HEAD}{A_MINUTE}{TABLES}")?),
-        "renewing" => Ok(format!(in alloc; "{HEAD}{TABLES}{RENEWING}")?),
-        "once" => Ok(format!(in alloc; "{HEAD}{ONCE}{TABLES}{RENEWING}")?),
+        "built-in" => Ok(String::from_str(alloc, BUILT_IN)?),
+        "of-a-minute" => Ok(format!(in alloc; "{HEAD}{A_MINUTE}{tables}")?),
+        "renewing" => Ok(format!(in alloc; "{BUILT_IN}{RENEWING}")?),
+        "once" => Ok(format!(in alloc; "{HEAD}{ONCE}{tables}{RENEWING}")?),
         _ => Err(RowFault::Word),
-    }
-}
-
-/// The sample of a name; none where the name is that of no sample.
-fn sample_of(name: &str) -> Option<Sample> {
-    match name {
-        "hello" => Some(Sample::Hello(Hello)),
-        "count" => Some(Sample::Count(Count)),
-        "snoop" => Some(Sample::Snoop(Snoop)),
-        "login" => Some(Sample::Login(Login)),
-        "renew" => Some(Sample::Renew(Renew)),
-        "includer" => Some(Sample::Includer(Includer)),
-        "forwarder" => Some(Sample::Forwarder(Forwarder)),
-        "faulty" => Some(Sample::Faulty(Faulty)),
-        _ => None,
     }
 }
 
@@ -100,7 +54,7 @@ fn servlets(alloc: Global, names: &[String]) -> Result<Vec<Named<Served>>, RowFa
 {
     let mut all = Vec::new(alloc);
     for name in names {
-        let Some(sample) = sample_of(name.as_str()) else {
+        let Some(sample) = Sample::named(name.as_str()) else {
             return Err(RowFault::Start);
         };
         let name = String::from_str(alloc, name.as_str())?;

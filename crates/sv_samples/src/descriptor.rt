@@ -1,4 +1,4 @@
-//! The descriptor that is built in.
+//! The descriptor that the program `node` has built in.
 
 /// The built-in descriptor: the context `/shop` with each sample servlet, and a listener.
 pub const BUILT_IN: &str = r#"[[context]]
