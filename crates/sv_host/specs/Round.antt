@@ -1,6 +1,6 @@
 -- Which packets of a tick are sent: of the wants in the order in which their requests came, and of the sessions by their keys, those
 -- behind the last one of theirs that was sent before, and then those from the first one on.
-use Rattle.std.specs.Prelude.{◌≡◌, ℕ, ◌+◌, ◌-◌, ◌&&◌, ◌||◌, ◌==◌, Bool, true, false, not, cond, nat_lt, min, List, Option, Some, None}
+use Rattle.std.specs.Prelude.{◌≡◌, ℕ, ◌+◌, ◌-◌, ◌&&◌, ◌||◌, ◌==◌, Bool, true, false, not, cond, nat_lt, min, List, [], ◌∷◌, ◌++◌, Option, Some, None}
 use Rattle.std.specs.List.{sum_by}
 use Rattle.sv_model.specs.declared.output.Output.{Output}
 use Rattle.sv_model.specs.Outputs.{packet_in}
@@ -107,3 +107,39 @@ has_left p false = nat_lt 0 p.front
 abbrev pub lets : Share → Option Packet → Bool
 lets s None = true
 lets s (Some p) = has_left (part_of s (is_want p)) (is_next (part_of s (is_want p)).before.last (rank_of p))
+
+-- a part behind a packet that it was asked for: one fewer, if it has some left, and that one is the last, but for those behind the
+-- last one sent before where some from the first one on are sent too
+abbrev pub behind_after : Part → Rank → Part
+behind_after p rank = cond (nat_lt 0 p.behind) (record p { behind = p.behind - 1; last = cond p.wraps p.last (Some rank) }) p
+
+abbrev pub front_after : Part → Rank → Part
+front_after p rank = cond (nat_lt 0 p.front) (record p { front = p.front - 1; last = Some rank }) p
+
+abbrev pub part_after : Part → Rank → Part
+part_after p rank = cond (is_next p.before.last rank) (behind_after p rank) (front_after p rank)
+
+abbrev pub share_after_packet : Bool → Share → Rank → Share
+share_after_packet true s rank = record s { wants = part_after s.wants rank }
+share_after_packet false s rank = record s { others = part_after s.others rank }
+
+-- a share behind an output
+abbrev pub share_after : Share → Option Packet → Share
+share_after s None = s
+share_after s (Some p) = share_after_packet (is_want p) s (rank_of p)
+
+-- where the next tick's packets begin: each line behind the last one of its part
+abbrev pub round_at : Share → Round
+round_at s = record { wants = record { last = s.wants.last }; others = record { last = s.others.last } }
+
+-- a share behind all that a tick puts out; what is handed on of it; and the round then
+abbrev pub share_end : Share → List Output → Share
+share_end s [] = s
+share_end s (o ∷ os) = share_end (share_after s (packet_in o)) os
+
+abbrev pub sent_of : Share → List Output → List Output
+sent_of s [] = []
+sent_of s (o ∷ os) = cond (lets s (packet_in o)) (o ∷ []) [] ++ sent_of (share_after s (packet_in o)) os
+
+abbrev pub round_after : Share → List Output → Round
+round_after s outputs = round_at (share_end s outputs)

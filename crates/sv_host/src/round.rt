@@ -221,7 +221,7 @@ impl Line {
 }
 
 impl Part {
-    ghost use Rattle.sv_host.specs.Round.{has_left, is_next, left_of};
+    ghost use Rattle.sv_host.specs.Round.{behind_after, front_after, has_left, is_next, left_of, part_after};
 
     /// How many may still be sent.
     fn left(self) -> usize
@@ -236,6 +236,7 @@ impl Part {
         ensures taken { IsTrue result → left_of self.new + 1 ≡ left_of self.old }
         ensures left { IsFalse result → left_of self.new ≡ left_of self.old }
         ensures lets { result ≡ has_left self.old (is_next self.old.before.last rank) }
+        ensures after { self.new ≡ part_after self.old rank }
         ensures before { self.new.before ≡ self.old.before }
     {
         if self.before.is_next(rank) {
@@ -250,6 +251,7 @@ impl Part {
         ensures taken { IsTrue result → left_of self.new + 1 ≡ left_of self.old }
         ensures left { IsFalse result → left_of self.new ≡ left_of self.old }
         ensures lets { result ≡ has_left self.old true }
+        ensures after { self.new ≡ behind_after self.old rank }
         ensures before { self.new.before ≡ self.old.before }
     {
         if self.behind == 0 {
@@ -267,6 +269,7 @@ impl Part {
         ensures taken { IsTrue result → left_of self.new + 1 ≡ left_of self.old }
         ensures left { IsFalse result → left_of self.new ≡ left_of self.old }
         ensures lets { result ≡ has_left self.old false }
+        ensures after { self.new ≡ front_after self.old rank }
         ensures before { self.new.before ≡ self.old.before }
     {
         if self.front == 0 {
@@ -328,13 +331,14 @@ impl Round {
 }
 
 impl Share {
-    ghost use Rattle.sv_host.specs.Round.{has_left, is_next, left_in, lets, part_of};
+    ghost use Rattle.sv_host.specs.Round.{has_left, is_next, left_in, lets, part_of, round_at, share_after, share_after_packet};
 
     /// Whether an output is handed on, of those of the tick in order. What isn't sent is a packet that is lost.
     pub fn takes(&mut self, output: &Output) -> bool
         ensures taken { IsTrue result → left_in self.new + length (sends_in (output.now ∷ [])) ≡ left_in self.old }
         ensures left { IsFalse result → left_in self.new ≡ left_in self.old }
         ensures lets { result ≡ lets self.old (packet_in output.now) }
+        ensures after { self.new ≡ share_after self.old (packet_in output.now) }
         ensures wants { self.new.wants.before ≡ self.old.wants.before }
         ensures others { self.new.others.before ≡ self.old.others.before }
     {
@@ -350,6 +354,7 @@ impl Share {
         ensures left { IsFalse result → left_in self.new ≡ left_in self.old }
         ensures lets { result ≡ has_left (part_of self.old (is_want packet.now))
             (is_next (part_of self.old (is_want packet.now)).before.last (rank_of packet.now)) }
+        ensures after { self.new ≡ share_after_packet (is_want packet.now) self.old (rank_of packet.now) }
         ensures wants { self.new.wants.before ≡ self.old.wants.before }
         ensures others { self.new.others.before ≡ self.old.others.before }
     {
@@ -363,8 +368,7 @@ impl Share {
 
     /// Where the next tick's packets begin.
     pub fn end(self) -> Round
-        ensures wants { result.wants.last ≡ self.wants.last }
-        ensures others { result.others.last ≡ self.others.last }
+        ensures { result ≡ round_at self }
     {
         Round {
             wants: self.wants.end(),
