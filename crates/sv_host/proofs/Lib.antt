@@ -5,6 +5,11 @@ pub mod GroupLemmas
 pub mod GatherLemmas
 pub mod RoomLemmas
 pub mod RoundLemmas
+pub mod RankLemmas
+pub mod RunLemmas
+pub mod PartLemmas
+pub mod LineLemmas
+pub mod TurnLemmas
 pub mod HandLemmas
 pub mod HoldingLemmas
 pub mod ServingLemmas

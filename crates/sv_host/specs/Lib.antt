@@ -2,6 +2,7 @@ pub mod Outcome
 pub mod Nudges
 pub mod Outputs
 pub mod Round
+pub mod Turns
 pub mod Asking
 pub mod Lease
 pub mod Held

@@ -23,6 +23,7 @@ mod holding;
 mod host;
 mod intake;
 mod judging;
+pub mod laws;
 mod lease;
 mod nudges;
 mod outcome;
