@@ -1,5 +1,5 @@
 -- Which of the packets that a step puts out are sent.
-use Rattle.std.specs.Prelude.{◌≡◌, Bool, true, is_none, List}
+use Rattle.std.specs.Prelude.{◌≡◌, Bool, true, is_none, List, [], ◌∷◌}
 use Rattle.sv_model.specs.declared.output.Output.{Output}
 use Rattle.sv_model.specs.Outputs.{packet_in}
 use Rattle.sv_host.specs.declared.packets.Packets.{Packets}
@@ -7,7 +7,7 @@ use Rattle.sv_host.specs.declared.packets.Packets.TheVariants as packets
 use Rattle.sv_host.specs.declared.packets.Sending.{Sending}
 use Rattle.sv_host.specs.declared.packets.Sending.TheVariants.{All, Share, Nothing}
 use Rattle.sv_host.specs.declared.round.Round.{Round}
-use Rattle.sv_host.specs.Round.{lets, IsShareOf, IsShareOfWants}
+use Rattle.sv_host.specs.Round.{lets, round_at, share_after, IsShareOf, IsShareOfWants}
 
 -- how many of these are still to be sent: all, those of the share that begins behind this round, its wants alone, or none
 abbrev pub IsSending : Packets → Round → List Output → Sending → Type 0
@@ -25,3 +25,19 @@ abbrev pub Passes : Sending → Output → Bool → Type 0
 Passes All output taken = taken ≡ true
 Passes (Share share) output taken = taken ≡ lets share (packet_in output)
 Passes Nothing output taken = taken ≡ is_none (packet_in output)
+
+-- what is still to be sent behind an output, and behind all of them
+abbrev pub sending_after : Sending → Output → Sending
+sending_after All output = All
+sending_after (Share share) output = Share (share_after share (packet_in output))
+sending_after Nothing output = Nothing
+
+abbrev pub sending_end : Sending → List Output → Sending
+sending_end sending [] = sending
+sending_end sending (o ∷ os) = sending_end (sending_after sending o) os
+
+-- where the next tick's packets begin then: where they would have, but behind packets that are sent in turn
+abbrev pub round_left : Round → Sending → Round
+round_left round All = round
+round_left round (Share share) = round_at share
+round_left round Nothing = round

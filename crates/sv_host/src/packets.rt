@@ -1,6 +1,7 @@
 //! Which of the packets that a step puts out are sent.
 
-ghost use Rattle.sv_host.specs.Packets.{IsSending, Passes};
+ghost use Rattle.std.specs.Prelude.{◌≡◌};
+ghost use Rattle.sv_host.specs.Packets.{IsSending, Passes, sending_after};
 
 use crate::round::{Round, Share};
 use sv_model::Output;
@@ -39,7 +40,8 @@ impl Sending {
 
     /// Whether an output is handed on.
     pub fn takes(&mut self, output: &Output) -> bool
-        ensures { Passes self.old output.now result }
+        ensures passes { Passes self.old output.now result }
+        ensures after { self.new ≡ sending_after self.old output.now }
     {
         match self {
             Sending::All => true,
