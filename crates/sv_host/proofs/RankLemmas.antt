@@ -19,9 +19,6 @@ behind_unless a b c p q = grind (arith, nat_tests)
 pub not_behind_itself : (a : Rank) → is_behind a a ≡ false
 not_behind_itself a = grind (arith, nat_tests)
 
-pub not_same : (a b : Rank) → is_behind b a ≡ true → is_same b a ≡ false
-not_same a b p = grind (arith, nat_tests)
-
 -- how many pass a test
 abbrev pub count : (Rank → Bool) → List Rank → ℕ
 count f [] = 0
