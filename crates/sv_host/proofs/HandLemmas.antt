@@ -5,8 +5,10 @@ use Rattle.std.specs.declared.alloc.Global.{Global}
 use Rattle.std.proofs.lemmas.List.{drop_all, drop_more}
 use Rattle.sv_host.specs.HandingOut.{ConcludesRefused, HandsOn, HandsOnAll, HandsOut, HandsOutFrom, HandsOutGroup, RefusesAll, TellsNobody, TellsOne, way_at}
 use Rattle.sv_model.specs.Cause.{cause_of}
+use Rattle.sv_host.specs.Outcome.{last_taken}
 use Rattle.sv_host.specs.Packets.{Passes}
 use Rattle.sv_host.specs.Round.{lets}
+use Rattle.sv_host.specs.declared.outcome.Taken.{Taken}
 use Rattle.sv_host.specs.declared.packets.Sending.{Sending}
 use Rattle.sv_host.specs.declared.packets.Sending.TheVariants.{All, Share, Nothing}
 use Rattle.sv_host.specs.declared.group.Asker.{Asker}
@@ -90,3 +92,8 @@ pub all_out : (ways : List Way) (items answers : List (Result (Vec Output Global
     → HandsOutFrom 0 ways items now old final → HandsOutFrom 0 ways answers seconds old final
 all_out ways items answers now seconds old final same at out =
     subst (λ xs. HandsOutFrom 0 ways xs seconds old final) same (subst (λ n. HandsOutFrom 0 ways items n old final) at out)
+
+-- none is left
+pub none_taken : (taken : Taken) (answers : List (Result (Vec Output Global) StepFault)) → length answers ≡ 0 → last_taken taken answers ≡ taken
+none_taken taken [] none = refl
+none_taken taken (a ∷ answers) none = absurd (omega (arith, none))

@@ -1,12 +1,18 @@
 -- What pokes and ticks do for those who wait.
 use Rattle.std.proofs.Common.{◌≡◌, ◌≢◌, ◌⊎◌, inl, inr, ⊎_elim, ℕ, suc, ◌+◌, ◌<◌, ◌≤◌, Bool, true, false, cond, length, map, Vec, Global, vec_items, Option, Some, None, Result, Ok, Err, List, [], ◌∷◌, ◌++◌, refl, sym, ap, ◌∙◌, subst, arith}
-use Rattle.std.specs.Prelude.{not}
+use Rattle.std.specs.Prelude.{IfOk, max, not}
 use Rattle.std.specs.List.{AllByRecursion, filter}
 use Rattle.std.proofs.lemmas.Bool.{leb-false}
-use Rattle.sv_host.specs.Nudges.{IsNudge, IsSettled, IsInTime, input_of}
-use Rattle.sv_host.specs.Outcome.{alone, sum_up, taken_of, last_taken}
+use Rattle.std.proofs.lemmas.List.{append_assoc, append-nil, length-append}
+use Rattle.sv_host.specs.Group.{inputs_of}
+use Rattle.sv_host.specs.Nudges.{IsNudge, HasNudge, HasNudges, IsTold, IsSettled, IsInTime, input_of, moment_of, second_of}
+use Rattle.sv_host.specs.Outcome.{sum_up, taken_of, last_taken, group_taken}
 use Rattle.sv_host.specs.declared.nudges.Nudge.{Nudge}
 use Rattle.sv_host.specs.declared.nudges.Nudge.TheVariants.{Poke, Tick, LateTick}
+use Rattle.sv_host.specs.declared.nudges.Ticked.{Ticked}
+use Rattle.sv_host.specs.declared.nudges.Ticked.TheVariants as ticked
+use Rattle.sv_host.specs.declared.fault.Stop.{Stop}
+use Rattle.sv_host.specs.declared.group.Group.{Group}
 use Rattle.sv_host.specs.declared.outcome.Taken.{Taken}
 use Rattle.sv_host.specs.declared.outcome.Taken.TheVariants.{Quiet, Busy, MoveRefused, Refused}
 use Rattle.sv_model.specs.declared.input.Input.{Input}
@@ -15,10 +21,12 @@ use Rattle.sv_model.specs.declared.key.Moment.{Moment}
 use Rattle.sv_model.specs.declared.node.Parked.{Parked}
 use Rattle.sv_model.specs.declared.node.Setting.{Setting}
 use Rattle.sv_model.specs.declared.output.Cause.{Cause}
+use Rattle.sv_model.specs.declared.output.MoveRefusal.{MoveRefusal}
 use Rattle.sv_model.specs.declared.output.Output.{Output}
 use Rattle.sv_model.specs.declared.output.Output.TheVariants as output
 use Rattle.sv_model.specs.declared.site.StepFault.{StepFault}
-use Rattle.sv_model.specs.Decision.{Decision, left}
+use Rattle.sv_model.specs.declared.site.StepFault.TheVariants as step
+use Rattle.sv_model.specs.Decision.{left}
 use Rattle.sv_model.specs.Engine.{EngineMeaning}
 use Rattle.sv_model.specs.Membership.{In}
 use Rattle.sv_model.specs.Node.{decided}
@@ -27,15 +35,18 @@ use Rattle.sv_model.specs.Serving.{answer_of, answered_unless, no_birth}
 use Rattle.sv_model.specs.Site.{with_list}
 use Rattle.sv_model.specs.Time.{is_late}
 use Rattle.sv_model.specs.Waiting.{first_of, serve_first, without}
-use Rattle.sv_node.specs.Group.{Answer, Answered, IsAnswer, behind, left_by}
+use Rattle.sv_node.specs.Group.{Answer, Answered, IsAnswer, GroupEnds, behind, left_by}
+use Rattle.sv_node.specs.Node.{engine_of, journal_of, setting_of, state_of}
+use Rattle.sv_node.specs.declared.node.Node.{Node}
+use Rattle.sv_journal.proofs.EntryLemmas.{all_append}
 
 -- ---- the first that passes
 
 none_first : (test : Parked → Bool) (q : Parked) (ps : List Parked) (p : Parked) → (first_of test ps ≡ None → In p ps → test p ≡ false) → (b : Bool) → test q ≡ b → cond b (Some q) (first_of test ps) ≡ None
     → (q ≡ p) ⊎ In p ps → test p ≡ false
-none_first test q ps p others true is no i = absurd cc
-none_first test q ps p others false is no (inl same) = ap test (sym same) ∙ is
-none_first test q ps p others false is no (inr rest) = others no rest
+none_first test q ps p others true is left i = absurd cc
+none_first test q ps p others false is left (inl same) = ap test (sym same) ∙ is
+none_first test q ps p others false is left (inr rest) = others left rest
 
 none_passes : (test : Parked → Bool) (ps : List Parked) → first_of test ps ≡ None → (p : Parked) → In p ps → test p ≡ false
 none_passes test [] none p i = absurd i
@@ -59,7 +70,7 @@ passed : (test : Parked → Bool) (ps : List Parked) (p : Parked) → In p (filt
 passed test [] p i = absurd i
 passed test (q ∷ ps) p i = passed_first test q ps p (passed test ps p) (test q) refl i
 
-not_late : (b : Bool) → not b ≡ true → b ≡ false
+pub not_late : (b : Bool) → not b ≡ true → b ≡ false
 not_late true is = absurd cc
 not_late false is = refl
 
@@ -137,49 +148,169 @@ module _ (m : EngineMeaning) (set : Setting) where
     poke_serves end n at (Err fault) is loud done = absurd (done refl)
 
     tick_ends : (end second : ℕ) (n : State) (at : Moment) (a : Coded) → second ≤ at.steady → taken_of a ≢ Refused → IsInTime set second (left_by n (decided m set n at input.Tick) (plain a))
-    tick_ends end second n at (Ok outs) since done p i =
+    tick_ends end second n at (Ok outs) since done = λ p i.
         let early = passed (λ q. not (is_late set at.steady q)) n.parked p i in
         let late : is_late set at.steady p ≡ false = not_late (is_late set at.steady p) early in
         omega (arith, since, leb-false (p.since + set.deadline) at.steady late)
     tick_ends end second n at (Err fault) since done = absurd (done refl)
 
+    -- one that isn't a poke
+    tick_at : (nudge : Nudge) → nudge ≢ Poke → (end second : ℕ) (n : State) (at : Moment) (a : Coded) → second ≤ at.steady → taken_of a ≢ Refused
+        → IsInTime set (second_of nudge second) (left_by n (decided m set n (moment_of nudge at) (input_of nudge)) (plain a))
+    tick_at Poke other end second n at a since done = absurd (other refl)
+    tick_at Tick other end second n at a since done = tick_ends end second n at a since done
+    tick_at (LateTick s) other end second n at a since done = tick_ends end (max second s) n (moment_of (LateTick s) at) a (omega (arith, since)) done
+
     -- ---- all of them, one behind the other
 
     module _ (second : ℕ) where
-      pub pokes_settle : (taken : Taken) (end : ℕ) (n : State) (i : Moment × Input) (is : List (Moment × Input)) (answers : List Coded) → AllByRecursion (IsNudge Poke second) (i ∷ is)
+      pokes_settle : (taken : Taken) (end : ℕ) (n : State) (i : Moment × Input) (is : List (Moment × Input)) (answers : List Coded) → AllByRecursion (IsNudge Poke second) (i ∷ is)
           → Answered m set len end n (i ∷ is) (all_plain answers) → last_taken taken answers ≡ Quiet → IsSettled (behind m set n (i ∷ is) (all_plain answers))
       pokes_settle taken end n i is [] are h quiet = absurd h
       pokes_settle taken end n i [] (a ∷ []) are h quiet =
-          subst (λ (x : Input). IsAnswer len end (decided m set n i.0 x) (plain a) → IsSettled (left_by n (decided m set n i.0 x) (plain a))) (sym are.0.is) (λ answer. poke_settles end n i.0 a answer quiet) h.0
+          subst (λ (j : Moment × Input). IsAnswer len end (decided m set n j.0 j.1) (plain a) → IsSettled (left_by n (decided m set n j.0 j.1) (plain a))) (sym are.0.is) (λ answer. poke_settles end n are.0.at a answer quiet) h.0
       pokes_settle taken end n i [] (a ∷ b ∷ answers) are h quiet = absurd h.1
       pokes_settle taken end n i (j ∷ is) (a ∷ answers) are h quiet = pokes_settle (taken_of a) _ (left_by n (decided m set n i.0 i.1) (plain a)) j is answers are.1 h.1 quiet
 
-      pub pokes_serve : (taken : Taken) (end : ℕ) (n : State) (i : Moment × Input) (is : List (Moment × Input)) (answers : List Coded) → AllByRecursion (IsNudge Poke second) (i ∷ is)
+      pokes_serve : (taken : Taken) (end : ℕ) (n : State) (i : Moment × Input) (is : List (Moment × Input)) (answers : List Coded) → AllByRecursion (IsNudge Poke second) (i ∷ is)
           → Answered m set len end n (i ∷ is) (all_plain answers) → last_taken taken answers ≢ Quiet → last_taken taken answers ≢ Refused
           → length (behind m set n (i ∷ is) (all_plain answers)).parked < length n.parked
       pokes_serve taken end n i is [] are h loud done = absurd h
       pokes_serve taken end n i [] (a ∷ []) are h loud done =
-          subst (λ (x : Input). IsAnswer len end (decided m set n i.0 x) (plain a) → length (left_by n (decided m set n i.0 x) (plain a)).parked < length n.parked) (sym are.0.is) (λ answer. poke_serves end n i.0 a answer loud done) h.0
+          subst (λ (j : Moment × Input). IsAnswer len end (decided m set n j.0 j.1) (plain a) → length (left_by n (decided m set n j.0 j.1) (plain a)).parked < length n.parked) (sym are.0.is)
+          (λ answer. poke_serves end n are.0.at a answer loud done) h.0
       pokes_serve taken end n i [] (a ∷ b ∷ answers) are h loud done = absurd h.1
       pokes_serve taken end n i (j ∷ is) (a ∷ answers) are h loud done =
-          let keeps = subst (λ (x : Input). length (left_by n (decided m set n i.0 x) (plain a)).parked ≤ length n.parked) (sym are.0.is) (poke_keeps n i.0 a) in
+          let keeps = subst (λ (j : Moment × Input). length (left_by n (decided m set n j.0 j.1) (plain a)).parked ≤ length n.parked) (sym are.0.is) (poke_keeps n are.0.at a) in
           omega (arith, keeps, pokes_serve (taken_of a) _ (left_by n (decided m set n i.0 i.1) (plain a)) j is answers are.1 h.1 loud done)
 
-      -- ticks behind whatever else was gathered
-      ticks_only : (nudge : Nudge) → input_of nudge ≡ input.Tick → (taken : Taken) (end : ℕ) (n : State) (i : Moment × Input) (is : List (Moment × Input)) (answers : List Coded)
+      ticks_only : (nudge : Nudge) → nudge ≢ Poke → (taken : Taken) (end : ℕ) (n : State) (i : Moment × Input) (is : List (Moment × Input)) (answers : List Coded)
           → AllByRecursion (IsNudge nudge second) (i ∷ is) → Answered m set len end n (i ∷ is) (all_plain answers) → last_taken taken answers ≢ Refused
-          → IsInTime set second (behind m set n (i ∷ is) (all_plain answers))
-      ticks_only nudge tick taken end n i is [] are h done = absurd h
-      ticks_only nudge tick taken end n i [] (a ∷ []) are h done =
-          subst (λ (x : Input). IsInTime set second (left_by n (decided m set n i.0 x) (plain a))) (sym (are.0.is ∙ tick)) (tick_ends end second n i.0 a are.0.since done)
-      ticks_only nudge tick taken end n i [] (a ∷ b ∷ answers) are h done = absurd h.1
-      ticks_only nudge tick taken end n i (j ∷ is) (a ∷ answers) are h done = ticks_only nudge tick (taken_of a) _ (left_by n (decided m set n i.0 i.1) (plain a)) j is answers are.1 h.1 done
+          → IsInTime set (second_of nudge second) (behind m set n (i ∷ is) (all_plain answers))
+      ticks_only nudge other taken end n i is [] are h done = absurd h
+      ticks_only nudge other taken end n i [] (a ∷ []) are h done =
+          subst (λ (j : Moment × Input). IsInTime set (second_of nudge second) (left_by n (decided m set n j.0 j.1) (plain a))) (sym are.0.is) (tick_at nudge other end second n are.0.at a are.0.since done)
+      ticks_only nudge other taken end n i [] (a ∷ b ∷ answers) are h done = absurd h.1
+      ticks_only nudge other taken end n i (j ∷ is) (a ∷ answers) are h done = ticks_only nudge other (taken_of a) _ (left_by n (decided m set n i.0 i.1) (plain a)) j is answers are.1 h.1 done
 
-      pub ticks_end : (nudge : Nudge) → input_of nudge ≡ input.Tick → (taken : Taken) (end : ℕ) (n : State) (before more : List (Moment × Input)) (answers : List Coded)
+      -- behind whatever else was gathered
+      ticks_end : (nudge : Nudge) → nudge ≢ Poke → (taken : Taken) (end : ℕ) (n : State) (before more : List (Moment × Input)) (answers : List Coded)
           → AllByRecursion (IsNudge nudge second) more → 0 < length more → Answered m set len end n (before ++ more) (all_plain answers) → last_taken taken answers ≢ Refused
-          → IsInTime set second (behind m set n (before ++ more) (all_plain answers))
-      ticks_end nudge tick taken end n [] [] answers are some h done = absurd (omega (arith, some))
-      ticks_end nudge tick taken end n [] (i ∷ is) answers are some h done = ticks_only nudge tick taken end n i is answers are h done
-      ticks_end nudge tick taken end n (j ∷ before) more [] are some h done = absurd h
-      ticks_end nudge tick taken end n (j ∷ before) more (a ∷ answers) are some h done =
-          ticks_end nudge tick (taken_of a) _ (left_by n (decided m set n j.0 j.1) (plain a)) before more answers are some h.1 done
+          → IsInTime set (second_of nudge second) (behind m set n (before ++ more) (all_plain answers))
+      ticks_end nudge other taken end n [] [] answers are some h done = absurd (omega (arith, some))
+      ticks_end nudge other taken end n [] (i ∷ is) answers are some h done = ticks_only nudge other taken end n i is answers are h done
+      ticks_end nudge other taken end n (j ∷ before) more [] are some h done = absurd h
+      ticks_end nudge other taken end n (j ∷ before) more (a ∷ answers) are some h done =
+          ticks_end nudge other (taken_of a) _ (left_by n (decided m set n j.0 j.1) (plain a)) before more answers are some h.1 done
+
+      settle_by : (end : ℕ) (n : State) (more : List (Moment × Input)) (answers : List Coded) → AllByRecursion (IsNudge Poke second) more → 0 < length more → Answered m set len end n more (all_plain answers)
+          → last_taken Quiet answers ≡ Quiet → IsSettled (behind m set n more (all_plain answers))
+      settle_by end n [] answers are some h quiet = absurd (omega (arith, some))
+      settle_by end n (i ∷ is) answers are some h quiet = pokes_settle Quiet end n i is answers are h quiet
+
+      serve_by : (end : ℕ) (n : State) (more : List (Moment × Input)) (answers : List Coded) → AllByRecursion (IsNudge Poke second) more → 0 < length more → Answered m set len end n more (all_plain answers)
+          → last_taken Quiet answers ≢ Quiet → last_taken Quiet answers ≢ Refused → length (behind m set n more (all_plain answers)).parked < length n.parked
+      serve_by end n [] answers are some h loud done = absurd (omega (arith, some))
+      serve_by end n (i ∷ is) answers are some h loud done = pokes_serve Quiet end n i is answers are h loud done
+
+-- ---- of a node
+
+module _ {E D : Type 0} (meaning : E → EngineMeaning) (heard : E → List (List ℕ)) (failed : D → ℕ) (second count : ℕ) (old new : Node E D) (group : Group) (taken : Taken) where
+  module _ (nudge : Nudge) where
+    abbrev Told : Type 0
+    Told = IsTold meaning heard failed nudge second count old group new taken
+
+    pub in_time : nudge ≢ Poke → 0 < count → Told → taken ≢ Refused → IsInTime (setting_of old) (second_of nudge second) (state_of new)
+    in_time other some t done =
+        let m = meaning (engine_of old) in
+        subst (λ (n : State). IsInTime (setting_of old) (second_of nudge second) n) (sym t.ends.1)
+        (ticks_end m (setting_of old) (journal_of old).len second nudge other Quiet (journal_of old).end (state_of old) (inputs_of group) t.more t.answers t.are (omega (arith, some, t.long)) t.ends.0 (λ is. done (t.taken_is ∙ is)))
+
+  module _ (empty : inputs_of group ≡ []) (t : IsTold meaning heard failed Poke second count old group new taken) (some : 0 < count) where
+    given : GroupEnds meaning heard failed old t.more (Ok (map (with_list vec_items) t.answers)) new
+    given = subst (λ (is : List (Moment × Input)). GroupEnds meaning heard failed old (is ++ t.more) (Ok (map (with_list vec_items) t.answers)) new) empty t.ends
+
+    pub settled : taken ≡ Quiet → IsSettled (state_of new)
+    settled quiet =
+        let m = meaning (engine_of old) in
+        subst IsSettled (sym given.1) (settle_by m (setting_of old) (journal_of old).len second (journal_of old).end (state_of old) t.more t.answers t.are (omega (arith, some, t.long)) given.0 (sym t.taken_is ∙ quiet))
+
+    pub served : taken ≢ Quiet → taken ≢ Refused → length (state_of new).parked < length (state_of old).parked
+    served loud done =
+        let m = meaning (engine_of old) in
+        subst (λ (n : State). length n.parked < length (state_of old).parked) (sym given.1)
+        (serve_by m (setting_of old) (journal_of old).len second (journal_of old).end (state_of old) t.more t.answers t.are (omega (arith, some, t.long)) given.0 (λ is. loud (t.taken_is ∙ is)) (λ is. done (t.taken_is ∙ is)))
+
+-- ---- what is added to a group
+
+pub none_more : (nudge : Nudge) (second : ℕ) (group : Group) → HasNudges nudge second 0 group group
+none_more nudge second group = record { more = []; long = refl; are = tt; inputs = sym (append-nil (inputs_of group)) }
+
+later : (nudge : Nudge) (second now : ℕ) (i : Moment × Input) → second ≤ now → IsNudge nudge now i → IsNudge nudge second i
+later nudge second now i le is = record { at = is.at; is = is.is; since = omega (arith, le, is.since) }
+
+pub one_more : (nudge : Nudge) (second now count : ℕ) (group mid next : Group) → second ≤ now → HasNudges nudge second count group mid → HasNudge nudge now mid next → HasNudges nudge second (suc count) group next
+one_more nudge second now count group mid next le was one = record {
+  more = was.more ++ one.one ∷ [];
+  long = omega (arith, was.long, length-append was.more (one.one ∷ []));
+  are = all_append (IsNudge nudge second) was.more (one.one ∷ []) was.are (later nudge second now one.one le one.is, tt);
+  inputs = one.inputs ∙ ap (λ (is : List (Moment × Input)). is ++ one.one ∷ []) was.inputs ∙ append_assoc (inputs_of group) was.more (one.one ∷ []);
+}
+
+-- ---- what is answered
+
+pub if_done : {P : Taken → Type 0} (r : Result Taken Stop) → ((taken : Taken) → r ≡ Ok taken → P taken) → IfOk r P
+if_done (Ok taken) f = f taken refl
+if_done (Err stop) f = tt
+
+pub refused_or : (t : Ticked) → (t ≡ ticked.Refused) ⊎ (t ≢ ticked.Refused)
+refused_or ticked.Ending = inr (λ is. cc)
+refused_or ticked.Quiet = inr (λ is. cc)
+refused_or ticked.Refused = inl refl
+
+-- the first tick of a second, or the late one
+pub end_by : {E D : Type 0} (t : Ticked) (second now : ℕ) (r : Result Ticked Stop) (mid new : Node E D) → second ≡ now → (t ≢ ticked.Refused → IsInTime (setting_of mid) now (state_of mid))
+    → (t ≡ ticked.Refused → IfOk r (λ last. last ≢ ticked.Refused → IsInTime (setting_of new) second (state_of new))) → (t ≢ ticked.Refused → (r ≡ Ok t) × (new ≡ mid))
+    → IfOk r (λ last. last ≢ ticked.Refused → IsInTime (setting_of new) now (state_of new))
+end_by {E = E} {D = D} t second now r mid new same first late same_node = ⊎_elim
+    (λ (is : t ≡ ticked.Refused). subst (λ (s : ℕ). IfOk r (λ last. last ≢ ticked.Refused → IsInTime (setting_of new) s (state_of new))) same (late is))
+    (λ (ne : t ≢ ticked.Refused).
+    let n = same_node ne in
+    subst (λ (x : Result Ticked Stop). IfOk x (λ last. last ≢ ticked.Refused → IsInTime (setting_of new) now (state_of new))) (sym n.0)
+    (λ done. subst (λ (x : Node E D). IsInTime (setting_of x) now (state_of x)) (sym n.1) (first ne)))
+    (refused_or t)
+
+pub late_enough : {E D : Type 0} (r : Result Ticked Stop) (nudge : Nudge) (second before : ℕ) (new : Node E D) → nudge ≡ LateTick second
+    → IfOk r (λ last. last ≢ ticked.Refused → IsInTime (setting_of new) (second_of nudge before) (state_of new)) → IfOk r (λ last. last ≢ ticked.Refused → IsInTime (setting_of new) second (state_of new))
+late_enough (Ok last) nudge second before new is h = λ done p i.
+    let then : IsInTime (setting_of new) (max before second) (state_of new) = subst (λ (k : Nudge). IsInTime (setting_of new) (second_of k before) (state_of new)) is (h done) in
+    omega (arith, then p i)
+late_enough (Err stop) nudge second before new is h = tt
+
+same_taken : (a b : Taken) → ◌≡◌ {A = Result Taken Stop} (Ok a) (Ok b) → a ≡ b
+same_taken a b is = cc
+
+pub told_by : {E D : Type 0} (meaning : E → EngineMeaning) (heard : E → List (List ℕ)) (failed : D → ℕ) (nudge : Nudge) (second count : ℕ) (old new : Node E D) (group mid : Group) (taken : Taken)
+    → HasNudges nudge second count group mid → (answers : Result (Vec (Result (Vec Output Global) StepFault) Global) StepFault)
+    → GroupEnds meaning heard failed old (inputs_of mid) (with_list (λ a. map (with_list vec_items) a.items) answers) new → Ok taken ≡ group_taken answers → taken ≢ Refused
+    → IsTold meaning heard failed nudge second count old group new taken
+told_by meaning heard failed nudge second count old new group mid taken has (Ok answers) ends is done = record {
+  more = has.more;
+  long = has.long;
+  are = has.are;
+  answers = answers.items;
+  ends = subst (λ (is : List (Moment × Input)). GroupEnds meaning heard failed old is (Ok (map (with_list vec_items) answers.items)) new) has.inputs ends;
+  taken_is = same_taken taken (last_taken Quiet answers.items) is;
+}
+told_by meaning heard failed nudge second count old new group mid taken has (Err step.Full) ends is done = absurd (done (same_taken taken Refused is))
+told_by meaning heard failed nudge second count old new group mid taken has (Err step.Memory) ends is done = absurd (done (same_taken taken Refused is))
+told_by meaning heard failed nudge second count old new group mid taken has (Err step.Failed) ends is done = absurd cc
+told_by meaning heard failed nudge second count old new group mid taken has (Err step.Device) ends is done = absurd cc
+
+pub not_both : (a b taken : Taken) → a ≢ b → taken ≡ a → taken ≡ b → ⊥
+not_both a b taken other is not = other (sym is ∙ not)
+
+-- what else there is
+pub is_busy : (taken : Taken) → (taken ≡ Busy) ⊎ ((why : MoveRefusal) × (taken ≡ MoveRefused why)) → (taken ≢ Quiet) × (taken ≢ Refused)
+is_busy taken (inl is) = (λ quiet. cc, λ refused. cc)
+is_busy taken (inr is) = (λ quiet. let no = is.1 in cc, λ refused. let no = is.1 in cc)

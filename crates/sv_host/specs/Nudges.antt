@@ -1,5 +1,5 @@
 -- What a node is told by itself, and what holds behind it of those who wait.
-use Rattle.std.specs.Prelude.{◌≡◌, ◌<◌, ◌+◌, ◌≤◌, ◌++◌, ◌∷◌, [], ℕ, List, Vec, Result, Ok, false, length, map, vec_items}
+use Rattle.std.specs.Prelude.{◌≡◌, ◌<◌, ◌+◌, ◌≤◌, ◌++◌, ◌∷◌, [], ℕ, max, List, Vec, Result, Ok, false, length, map, vec_items}
 use Rattle.std.specs.declared.alloc.Global.{Global}
 use Rattle.std.specs.List.{AllByRecursion}
 use Rattle.sv_host.specs.Group.{inputs_of}
@@ -34,13 +34,25 @@ IsInTime set steady n = (p : Parked) → In p n.parked → steady < p.since + se
 abbrev pub input_of : Nudge → Input
 input_of Poke = input.Poke
 input_of Tick = input.Tick
-input_of LateTick = input.Tick
+input_of (LateTick second) = input.Tick
 
--- one of what a node is told by itself, in this second or a later one; a late tick in none since 1970
+-- when the node is told: a late tick in no second since 1970
+abbrev pub moment_of : Nudge → Moment → Moment
+moment_of Poke at = at
+moment_of Tick at = at
+moment_of (LateTick second) at = record { now = 0; steady = max at.steady second; secret = at.secret }
+
+-- the second up to which time has passed then, if that is the second before
+abbrev pub second_of : Nudge → ℕ → ℕ
+second_of Poke before = before
+second_of Tick before = before
+second_of (LateTick second) before = max before second
+
+-- one of what a node is told by itself, in this second or a later one
 pub record IsNudge (nudge : Nudge) (second : ℕ) (i : Moment × Input) : Type 0 where
-  pub is : i.1 ≡ input_of nudge
-  pub since : second ≤ i.0.steady
-  pub late : nudge ≡ LateTick → i.0.now ≡ 0
+  pub at : Moment
+  pub is : i ≡ (moment_of nudge at, input_of nudge)
+  pub since : second ≤ at.steady
 
 -- it stands behind the others of a group
 pub record HasNudge (nudge : Nudge) (second : ℕ) (group next : Group) : Type 0 where

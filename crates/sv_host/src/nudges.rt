@@ -5,7 +5,7 @@ ghost use Rattle.sv_model.specs.Ranges.{IsInput};
 ghost use Rattle.sv_node.specs.History.{IsAbove};
 ghost use Rattle.sv_node.specs.Node.{setting_of, state_of};
 ghost use Rattle.sv_host.specs.Group.{inputs_of, IsRising};
-ghost use Rattle.sv_host.specs.Nudges.{input_of, HasNudge, HasNudges, IsInTime, IsSettled, IsTold};
+ghost use Rattle.sv_host.specs.Nudges.{input_of, moment_of, second_of, HasNudge, HasNudges, IsInTime, IsSettled, IsTold};
 ghost use Rattle.sv_host.specs.Secrets.{last_of};
 ghost use Rattle.sv_host.specs.Serving.{IsServing, HasServed, HasGathered};
 ghost use Rattle.sv_host.specs.Stops.{IsSpent, LacksSecrets};
@@ -31,13 +31,6 @@ const ENDED_TOGETHER: usize = 8;
 /// The tick of a second.
 const THE_TICK: Nudges = Nudges {
     nudge: Nudge::Tick,
-    packets: Packets::InTurn,
-    count: 1,
-};
-
-/// The same of a second whose tick was refused: it ends no session, so it needs no room in the journal.
-const THE_LATE_TICK: Nudges = Nudges {
-    nudge: Nudge::LateTick,
     packets: Packets::InTurn,
     count: 1,
 };
@@ -69,8 +62,8 @@ enum Nudge {
     Poke,
     /// Time has passed.
     Tick,
-    /// Time has passed for those who wait, and none since 1970: at that moment no session has expired.
-    LateTick,
+    /// Time has passed for those who wait, up to this second at least, and none since 1970: at that moment no session has expired.
+    LateTick(u64),
 }
 
 impl Nudge {
@@ -81,19 +74,21 @@ impl Nudge {
     {
         match self {
             Nudge::Poke => Input::Poke,
-            Nudge::Tick | Nudge::LateTick => Input::Tick,
+            Nudge::Tick | Nudge::LateTick(_) => Input::Tick,
         }
     }
 
     /// The moment at which the node is told.
     fn at(self, moment: Moment) -> Moment
-        ensures steady { result.steady ≡ moment.steady }
-        ensures late { self ≡ LateTick → result.now ≡ 0 }
-        ensures on_time { self ≢ LateTick → result ≡ moment }
+        ensures { result ≡ moment_of self moment }
     {
         match self {
             Nudge::Poke | Nudge::Tick => moment,
-            Nudge::LateTick => Moment { now: 0, ..moment },
+            Nudge::LateTick(second) => Moment {
+                now: 0,
+                steady: moment.steady.max(second),
+                secret: moment.secret,
+            },
         }
     }
 }
@@ -104,6 +99,20 @@ struct Nudges {
     nudge: Nudge,
     packets: Packets,
     count: usize,
+}
+
+impl Nudges {
+    /// In the place of the tick of a second that was refused: it ends no session, so it needs no room in the journal.
+    fn late(second: u64) -> Nudges
+        ensures nudge { result.nudge ≡ LateTick second }
+        ensures one { result.count ≡ 1 }
+    {
+        Nudges {
+            nudge: Nudge::LateTick(second),
+            packets: Packets::InTurn,
+            count: 1,
+        }
+    }
 }
 
 /// Adds one of what a node is told by itself to a group; whether there was memory for it.
@@ -275,7 +284,7 @@ fn tick_all<E: Engine, D: Disk>(
     requires { IsServing E.valid D.tells D.seen D.may_leave node.old group.old }
     ensures served { HasServed E.meaning E.heard E.valid D.tells D.seen D.may_leave D.moment D.left_since node.old group.old node.new group.new result }
     ensures in_time { ticks.nudge ≢ Poke → 0 < ticks.count → IfOk result (λ ticked. ticked ≢ TickedRefused → IsInTime (setting_of node.new)
-        (steady_of server.old.time) (state_of node.new)) }
+        (second_of ticks.nudge (steady_of server.old.time)) (state_of node.new)) }
     ensures stops { IfErr result (IsSpent server.new) }
 {
     let before = node.journal_len();
@@ -293,16 +302,16 @@ fn end_waiting<E: Engine, D: Disk>(
     node: &mut Node<E, D>,
     group: &mut Group,
     ticked: Ticked,
+    second: u64,
 ) -> Result<Ticked, Stop>
     requires { IsServing E.valid D.tells D.seen D.may_leave node.old group.old }
     ensures served { HasServed E.meaning E.heard E.valid D.tells D.seen D.may_leave D.moment D.left_since node.old group.old node.new group.new result }
-    ensures in_time { ticked ≡ TickedRefused → IfOk result (λ ticked. ticked ≢ TickedRefused → IsInTime (setting_of node.new) (steady_of server.old.time)
-        (state_of node.new)) }
+    ensures in_time { ticked ≡ TickedRefused → IfOk result (λ ticked. ticked ≢ TickedRefused → IsInTime (setting_of node.new) second (state_of node.new)) }
     ensures same { ticked ≢ TickedRefused → (result ≡ Ok ticked) × (node.new ≡ node.old) }
     ensures stops { IfErr result (IsSpent server.new) }
 {
     match ticked {
-        Ticked::Refused => tick_all(machine, server, node, group, THE_LATE_TICK),
+        Ticked::Refused => tick_all(machine, server, node, group, Nudges::late(second)),
         Ticked::Ending | Ticked::Quiet => Ok(ticked),
     }
 }
@@ -319,8 +328,9 @@ fn tick_once<E: Engine, D: Disk>(
     ensures in_time { IfOk result (λ ticked. ticked ≢ TickedRefused → IsInTime (setting_of node.new) (steady_of server.old.time) (state_of node.new)) }
     ensures stops { IfErr result (IsSpent server.new) }
 {
+    let second = server.time.steady_seconds();
     let ticked = tick_all(machine, server, node, group, THE_TICK)?;
-    end_waiting(machine, server, node, group, ticked)
+    end_waiting(machine, server, node, group, ticked, second)
 }
 
 /// Lets the node look at the time, where a second has begun since it did; whether nobody is left waiting whose time has passed.

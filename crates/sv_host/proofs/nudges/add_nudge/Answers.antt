@@ -1,5 +1,5 @@
 use Rattle.sv_host.specs.Group.{number_of}
 use Rattle.sv_host.proofs.nudges.add_nudge.Goals as goal
 
-pub add-added-requires-clause-above : goal.add-added-requires-clause-above
-add-added-requires-clause-above c = c.input.ensures.above (number_of c.args.group.now)
+pub add-requires-clause-above : goal.add-requires-clause-above
+add-requires-clause-above c = c.input.ensures.above (number_of c.args.group.now)

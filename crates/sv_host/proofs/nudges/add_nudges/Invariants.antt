@@ -1,6 +1,13 @@
+use Rattle.std.proofs.Common.{◌≤◌}
+use Rattle.sv_host.specs.Nudges.{HasNudges}
 use Rattle.sv_host.specs.Serving.{HasGathered}
+use Rattle.sv_host.specs.Time.{steady_of}
 use Rattle.sv_host.proofs.nudges.add_nudges.Given as goal
 
--- no group has been given to the node meanwhile
-abbrev pub invariant-loop : goal.invariant-loop
-invariant-loop l = HasGathered l.initial.group l.group
+-- no group has been given to the node meanwhile, and so many were added
+abbrev pub invariant-loop-done : goal.invariant-loop-done
+invariant-loop-done l = record {
+  gathered : HasGathered l.initial.group l.group;
+  has : HasNudges l.nudges.nudge (steady_of l.initial.server.time) l._done l.initial.group l.group;
+  later : steady_of l.initial.server.time ≤ steady_of l.server.time;
+}

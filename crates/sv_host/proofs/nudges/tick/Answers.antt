@@ -1,5 +1,7 @@
-use Rattle.sv_host.proofs.ServingLemmas.{served_none}
+use Rattle.std.proofs.Common.{arith}
+use Rattle.sv_host.proofs.NudgeLemmas.{not_late}
 use Rattle.sv_host.proofs.nudges.tick.Goals as goal
 
-pub returns-then-now-server-clause-served : goal.returns-then-now-server-clause-served
-returns-then-now-server-clause-served g c = served_none _ c.requires
+pub returns-in-Ok-clause-in_time : goal.returns-in-Ok-clause-in_time
+returns-in-Ok-clause-in_time g c spared new done p i =
+    omega (arith, c.begins_second.ensures.never_back, c.in-Ok.ensures.in_time (c.is_refused.ensures (not_late c.is_refused.result done)) p i)

@@ -1,9 +1,11 @@
-use Rattle.std.proofs.Common.{arith, length, ap, refl, subst}
+use Rattle.std.proofs.Common.{◌∙◌, arith, length, ap, refl, subst, sym}
 use Rattle.std.specs.List.{AllByRecursion}
 use Rattle.std.specs.Vec.Iter.{into_iter_items}
+use Rattle.sv_host.specs.Outcome.{last_taken}
 use Rattle.sv_host.specs.Outputs.{IsHandedOn}
 use Rattle.sv_host.specs.Time.{seconds_of}
-use Rattle.sv_host.proofs.HandLemmas.{all_out, none_out, one_more_out}
+use Rattle.sv_host.specs.declared.outcome.Taken.TheVariants.{Quiet}
+use Rattle.sv_host.proofs.HandLemmas.{all_out, none_out, none_taken, one_more_out}
 use Rattle.sv_host.proofs.server.Server.hand_out_all.Goals as goal
 
 pub loop-answer-preserved : goal.loop-answer-preserved
@@ -29,3 +31,8 @@ returns-clause-told c =
     all_out c.args.ways.now (into_iter_items c.into_iter-answer-iterator.result) c.args.answers.items c.seconds-now.result (seconds_of c.args.self.now.time) c.args.self.now _
     c.into_iter-answer-iterator.ensures.into_iter_gives.0 c.seconds-now.ensures
     (was.handed _ (none_out c.loop-answer.place c.args.ways.now items c.seconds-now.result c.loop-answer.self _ (omega (arith, was.long, c.in-None.ensures.steps.0)) (refl, refl)))
+
+pub returns-clause-taken : goal.returns-clause-taken
+returns-clause-taken c =
+    let was = c.loop-answer.invariant in
+    sym (none_taken c.loop-answer.taken (into_iter_items c.loop-answer.answer-iterator) (omega (arith, was.long, c.in-None.ensures.steps.0))) ∙ sym was.taken ∙ ap (last_taken Quiet) c.into_iter-answer-iterator.ensures.into_iter_gives.0
