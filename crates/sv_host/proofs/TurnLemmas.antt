@@ -1,16 +1,22 @@
--- Ticks one after the other: the turn comes to each packet that all of them put out.
-use Rattle.std.proofs.Common.{◌≡◌, ◌≤◌, ◌<◌, ℕ, ◌+◌, ◌*◌, ◌-◌, Bool, true, false, not, min, List, [], ◌∷◌, Option, Some, inl, inr, refl, ap, sym, ◌∙◌, arith, length}
+-- Steps one after the other: the turn comes to each packet that all their ticks put out.
+use Rattle.std.proofs.Common.{◌≡◌, ◌≤◌, ◌<◌, ℕ, ◌+◌, ◌*◌, ◌-◌, Bool, true, false, not, cond, min, List, [], ◌∷◌, ◌++◌, Option, Some, inl, inr, refl, ap, sym, ◌∙◌, subst, arith, length}
 use Rattle.std.proofs.lemmas.List.Sums.{sum_by-cons}
-use Rattle.std.specs.List.{AllByRecursion, sum_by}
+use Rattle.std.specs.List.{AllByRecursion, sum_by, count_by}
+use Rattle.sv_model.specs.Outputs.{packet_in}
 use Rattle.sv_model.specs.declared.output.Output.{Output}
+use Rattle.sv_host.specs.declared.packets.Packets.{Packets}
+use Rattle.sv_host.specs.declared.packets.Packets.TheVariants as packets
+use Rattle.sv_host.specs.declared.packets.Sending.{Sending}
+use Rattle.sv_host.specs.declared.packets.Sending.TheVariants.{All, Share, Nothing}
 use Rattle.sv_host.specs.declared.round.Line.{Line}
 use Rattle.sv_host.specs.declared.round.Part.{Part}
 use Rattle.sv_host.specs.declared.round.Rank.{Rank}
 use Rattle.sv_host.specs.declared.round.Round.{Round}
-use Rattle.sv_host.specs.declared.round.Share.{Share}
+use Rattle.sv_host.specs.declared.round.Share as share
 use Rattle.sv_host.specs.declared.round.TheConstants.{OTHERS, ROUND_LIMIT}
-use Rattle.sv_host.specs.Round.{IsPartOf, behind_in, front_in, is_next, left_of, most_wants, part_of, round_after, sent_of}
-use Rattle.sv_host.specs.Turns.{AreInTurn, IsTickShare, KeepsPlaces, PutsOut, SendsEachInTime, SendsEachInTurn, Tick, is_sent_of, is_sent_some, kept_for, places_of, ranks_in, stands_in}
+use Rattle.sv_host.specs.Packets.{IsSending, round_left, sending_end, sent_by}
+use Rattle.sv_host.specs.Round.{IsPartOf, IsShareOf, IsShareOfWants, behind_in, front_in, is_next, left_of, lets, most_wants, part_of, round_after, sent_of, share_after, share_end}
+use Rattle.sv_host.specs.Turns.{AreInTurn, KeepsPlaces, PutsOut, SendsEachInTime, SendsEachInTurn, Step, TicksPutOut, is_sent_of, is_tick, kept_for, places_in, places_of, ranks_in, stands_in}
 use Rattle.sv_host.proofs.RankLemmas.{behind, settled}
 use Rattle.sv_host.proofs.RunLemmas.{neither}
 use Rattle.sv_host.proofs.PartLemmas.{behind_counted, both_sides, front_counted, part_end, part_of_end, sent_by_parts}
@@ -20,7 +26,7 @@ abbrev line_of : Bool → Round → Line
 line_of true round = round.wants
 line_of false round = round.others
 
-line_after : (wants : Bool) (s : Share) (os : List Output) → (line_of wants (round_after s os)).last ≡ (part_end (part_of s wants) (ranks_in wants os)).last
+line_after : (wants : Bool) (s : share.Share) (os : List Output) → (line_of wants (round_after s os)).last ≡ (part_end (part_of s wants) (ranks_in wants os)).last
 line_after true s os = ap (λ (p : Part). p.last) (part_of_end s true os)
 line_after false s os = ap (λ (p : Part). p.last) (part_of_end s false os)
 
@@ -30,12 +36,12 @@ all_counted wants last os =
     omega (arith, behind_counted wants last os, front_counted wants last os, both_sides (λ r. is_next last r) (ranks_in wants os))
 
 -- a part of the line that doesn't send a packet which is put out
-part_moves : (wants : Bool) (ranks : List Rank) (q : Rank) (l : Line) (most : ℕ) (t : Tick)
-    → IsPartOf l (behind_in wants l.last t.outputs) (front_in wants l.last t.outputs) most (part_of t.share wants) → PutsOut wants ranks q t
-    → stands_in q (ranks_in wants (sent_of t.share t.outputs)) ≡ false → HasMoved ranks q l (ranks_in wants t.outputs) most (part_of t.share wants)
-part_moves wants ranks q l most t h puts unsent =
-    line_moves ranks q l (ranks_in wants t.outputs) _ _ most (part_of t.share wants) h (behind_counted wants l.last t.outputs)
-    (front_counted wants l.last t.outputs) puts.rising puts.among puts.it (ap (λ rs. stands_in q rs) (sym (sent_by_parts t.share wants t.outputs)) ∙ unsent)
+part_moves : (wants : Bool) (ranks : List Rank) (q : Rank) (l : Line) (most : ℕ) (os : List Output) (s : share.Share)
+    → IsPartOf l (behind_in wants l.last os) (front_in wants l.last os) most (part_of s wants) → PutsOut wants ranks q os
+    → stands_in q (ranks_in wants (sent_of s os)) ≡ false → HasMoved ranks q l (ranks_in wants os) most (part_of s wants)
+part_moves wants ranks q l most os s h puts unsent =
+    line_moves ranks q l (ranks_in wants os) _ _ most (part_of s wants) h (behind_counted wants l.last os) (front_counted wants l.last os) puts.rising
+    puts.among puts.it (ap (λ rs. stands_in q rs) (sym (sent_by_parts s wants os)) ∙ unsent)
 
 -- the wants leave places for as many others as are kept for them
 enough : (after before most behind front count others left : ℕ) → after + before ≡ count → most ≡ ROUND_LIMIT - min others OTHERS
@@ -43,71 +49,157 @@ enough : (after before most behind front count others left : ℕ) → after + be
     → ROUND_LIMIT - min count (ROUND_LIMIT - OTHERS) ≤ ROUND_LIMIT - left
 enough after before most behind front count others left all is behind_is front_is left_is many = omega arith
 
-tick_moves : (wants alone : Bool) (ranks : List Rank) (q : Rank) (round : Round) (os : List Output) (s : Share) → IsTickShare alone round os s
-    → PutsOut wants ranks q (record { outputs = os; wants_alone = alone; share = s }) → stands_in q (ranks_in wants (sent_of s os)) ≡ false
-    → ahead ranks q (line_of wants (round_after s os)).last + places_of wants (record { outputs = os; wants_alone = alone; share = s })
-    ≤ ahead ranks q (line_of wants round).last
-tick_moves true true ranks q round os s h puts unsent =
-    let t : Tick = record { outputs = os; wants_alone = true; share = s } in
-    let moved = part_moves true ranks q round.wants ROUND_LIMIT t h.wants puts unsent in
+-- a share that doesn't send it moves its line by the places that are its
+abbrev Moves : Bool → Packets → List Rank → Rank → Round → List Output → Round → Type 0
+Moves wants packets ranks q round os next =
+    ahead ranks q (line_of wants next).last + places_in wants packets os ≤ ahead ranks q (line_of wants round).last
+
+wants_move : (ranks : List Rank) (q : Rank) (round : Round) (os : List Output) (s : share.Share) → IsShareOfWants round os s → PutsOut true ranks q os
+    → stands_in q (ranks_in true (sent_of s os)) ≡ false → Moves true packets.Wants ranks q round os (round_after s os)
+wants_move ranks q round os s h puts unsent =
+    let moved = part_moves true ranks q round.wants ROUND_LIMIT os s h.wants puts unsent in
     omega (arith, moved.1, ap (λ x. ahead ranks q x) (line_after true s os))
-tick_moves true false ranks q round os s h puts unsent =
-    let t : Tick = record { outputs = os; wants_alone = false; share = s } in
-    let moved = part_moves true ranks q round.wants _ t h.wants puts unsent in
+
+some_wants_move : (ranks : List Rank) (q : Rank) (round : Round) (os : List Output) (s : share.Share) → IsShareOf round os s → PutsOut true ranks q os
+    → stands_in q (ranks_in true (sent_of s os)) ≡ false → Moves true packets.InTurn ranks q round os (round_after s os)
+some_wants_move ranks q round os s h puts unsent =
+    let moved = part_moves true ranks q round.wants _ os s h.wants puts unsent in
     omega (arith, moved.1, ap (λ x. ahead ranks q x) (line_after true s os), all_counted false round.others.last os)
-tick_moves false true ranks q round os s h puts unsent =
+
+others_stay : (ranks : List Rank) (q : Rank) (round : Round) (os : List Output) (s : share.Share) → IsShareOfWants round os s
+    → Moves false packets.Wants ranks q round os (round_after s os)
+others_stay ranks q round os s h =
     omega (arith, ap (λ x. ahead ranks q x) (line_after false s os ∙ line_stays round.others s.others (ranks_in false os) h.others))
-tick_moves false false ranks q round os s h puts unsent =
-    let t : Tick = record { outputs = os; wants_alone = false; share = s } in
-    let moved = part_moves false ranks q round.others (ROUND_LIMIT - left_of s.wants) t h.others puts unsent in
+
+others_move : (ranks : List Rank) (q : Rank) (round : Round) (os : List Output) (s : share.Share) → IsShareOf round os s → PutsOut false ranks q os
+    → stands_in q (ranks_in false (sent_of s os)) ≡ false → Moves false packets.InTurn ranks q round os (round_after s os)
+others_move ranks q round os s h puts unsent =
+    let moved = part_moves false ranks q round.others (ROUND_LIMIT - left_of s.wants) os s h.others puts unsent in
     let places = enough _ _ _ s.wants.behind s.wants.front (length (ranks_in true os)) (length (ranks_in false os)) (left_of s.wants)
     (all_counted true round.wants.last os) (ap most_wants (all_counted false round.others.last os)) h.wants.behind h.wants.front refl moved.0 in
     omega (arith, moved.1, places, ap (λ x. ahead ranks q x) (line_after false s os))
 
+-- a step that sends of a share leaves that share's round, and sends what is sent of it
+end_of_share : (s : share.Share) (os : List Output) → sending_end (Share s) os ≡ Share (share_end s os)
+end_of_share s [] = refl
+end_of_share s (o ∷ os) = end_of_share (share_after s (packet_in o)) os
+
+sent_of_share : (s : share.Share) (os : List Output) → sent_by (Share s) os ≡ sent_of s os
+sent_of_share s [] = refl
+sent_of_share s (o ∷ os) = ap (λ rest. cond (lets s (packet_in o)) (o ∷ []) [] ++ rest) (sent_of_share (share_after s (packet_in o)) os)
+
+end_of_all : (os : List Output) → sending_end All os ≡ All
+end_of_all [] = refl
+end_of_all (o ∷ os) = end_of_all os
+
+end_of_nothing : (os : List Output) → sending_end Nothing os ≡ Nothing
+end_of_nothing [] = refl
+end_of_nothing (o ∷ os) = end_of_nothing os
+
+-- one that sends all, or nothing, leaves the round as it is
+stays : (wants : Bool) (ranks : List Rank) (q : Rank) (round next : Round) → next ≡ round
+    → ahead ranks q (line_of wants next).last + 0 ≤ ahead ranks q (line_of wants round).last
+stays wants ranks q round next same = omega (arith, ap (λ x. ahead ranks q (line_of wants x).last) same)
+
+left_by_all : (round : Round) (sending : Sending) (os : List Output) → sending ≡ All → round_left round (sending_end sending os) ≡ round
+left_by_all round sending os e = ap (λ x. round_left round (sending_end x os)) e ∙ ap (λ x. round_left round x) (end_of_all os)
+
+left_by_nothing : (round : Round) (sending : Sending) (os : List Output) → sending ≡ Nothing → round_left round (sending_end sending os) ≡ round
+left_by_nothing round sending os e = ap (λ x. round_left round (sending_end x os)) e ∙ ap (λ x. round_left round x) (end_of_nothing os)
+
+left_by_share : (wants : Bool) (packets : Packets) (ranks : List Rank) (q : Rank) (round : Round) (os : List Output) (s : share.Share)
+    → Moves wants packets ranks q round os (round_after s os) → Moves wants packets ranks q round os (round_left round (sending_end (Share s) os))
+left_by_share wants packets ranks q round os s moved =
+    subst (λ (x : Sending). Moves wants packets ranks q round os (round_left round x)) (sym (end_of_share s os)) moved
+
+unsent_of : (wants : Bool) (q : Rank) (os : List Output) (s : share.Share) → stands_in q (ranks_in wants (sent_by (Share s) os)) ≡ false
+    → stands_in q (ranks_in wants (sent_of s os)) ≡ false
+unsent_of wants q os s unsent = ap (λ xs. stands_in q (ranks_in wants xs)) (sym (sent_of_share s os)) ∙ unsent
+
+step_moves : (wants : Bool) (packets : Packets) (sending : Sending) (ranks : List Rank) (q : Rank) (round : Round) (os : List Output)
+    → IsSending packets round os sending → (is_tick wants packets ≡ true → PutsOut wants ranks q os)
+    → stands_in q (ranks_in wants (sent_by sending os)) ≡ false → Moves wants packets ranks q round os (round_left round (sending_end sending os))
+step_moves true packets.All sending ranks q round os h puts unsent = stays true ranks q round _ (left_by_all round sending os h)
+step_moves false packets.All sending ranks q round os h puts unsent = stays false ranks q round _ (left_by_all round sending os h)
+step_moves true packets.Nothing sending ranks q round os h puts unsent = stays true ranks q round _ (left_by_nothing round sending os h)
+step_moves false packets.Nothing sending ranks q round os h puts unsent = stays false ranks q round _ (left_by_nothing round sending os h)
+step_moves wants packets.InTurn All ranks q round os h puts unsent = absurd h
+step_moves wants packets.InTurn Nothing ranks q round os h puts unsent = absurd h
+step_moves wants packets.Wants All ranks q round os h puts unsent = absurd h
+step_moves wants packets.Wants Nothing ranks q round os h puts unsent = absurd h
+step_moves true packets.InTurn (Share s) ranks q round os h puts unsent =
+    left_by_share true packets.InTurn ranks q round os s (some_wants_move ranks q round os s h (puts refl) (unsent_of true q os s unsent))
+step_moves false packets.InTurn (Share s) ranks q round os h puts unsent =
+    left_by_share false packets.InTurn ranks q round os s (others_move ranks q round os s h (puts refl) (unsent_of false q os s unsent))
+step_moves true packets.Wants (Share s) ranks q round os h puts unsent =
+    left_by_share true packets.Wants ranks q round os s (wants_move ranks q round os s h (puts refl) (unsent_of true q os s unsent))
+step_moves false packets.Wants (Share s) ranks q round os h puts unsent =
+    left_by_share false packets.Wants ranks q round os s (others_stay ranks q round os s h)
+
 -- while a packet isn't sent, so many stand before it as places were given
-unsent_far : (wants : Bool) (ranks : List Rank) (q : Rank) (round : Round) (ts : List Tick) → AreInTurn round ts
-    → AllByRecursion (λ t. PutsOut wants ranks q t) ts → stands_in q ranks ≡ true → is_sent_of wants q ts ≡ false
-    → behind ranks (Some q) + 1 + sum_by (λ t. places_of wants t) ts ≤ ahead ranks q (line_of wants round).last
+unsent_far : (wants : Bool) (ranks : List Rank) (q : Rank) (round : Round) (ss : List Step) → AreInTurn round ss → TicksPutOut wants ranks q ss
+    → stands_in q ranks ≡ true → is_sent_of wants q ss ≡ false
+    → behind ranks (Some q) + 1 + sum_by (λ s. places_of wants s) ss ≤ ahead ranks q (line_of wants round).last
 unsent_far wants ranks q round [] turns puts at unsent = omega (arith, ahead_least ranks q (line_of wants round).last at)
-unsent_far wants ranks q round (t ∷ ts) (turn, turns) (put, puts) at unsent =
-    let apart = neither (stands_in q (ranks_in wants (sent_of t.share t.outputs))) (is_sent_of wants q ts) unsent in
-    let now = tick_moves wants t.wants_alone ranks q round t.outputs t.share turn put apart.0 in
-    let later = unsent_far wants ranks q (round_after t.share t.outputs) ts turns puts at apart.1 in
-    omega (arith, now, later, sum_by-cons (λ (x : Tick). places_of wants x) t ts)
+unsent_far wants ranks q round (s ∷ ss) (turn, turns) (put, puts) at unsent =
+    let apart = neither (stands_in q (ranks_in wants (sent_by s.sending s.outputs))) (is_sent_of wants q ss) unsent in
+    let now = step_moves wants s.packets s.sending ranks q round s.outputs turn put apart.0 in
+    let later = unsent_far wants ranks q (round_left round (sending_end s.sending s.outputs)) ss turns puts at apart.1 in
+    omega (arith, now, later, sum_by-cons (λ (x : Step). places_of wants x) s ss)
 
 pub sends_each : SendsEachInTurn
-sends_each wants ranks q round ts turns puts at few = elim (settled (is_sent_of wants q ts)) [
+sends_each wants ranks q round ss turns puts at few = elim (settled (is_sent_of wants q ss)) [
   | inl sent ↦ sent
   | inr unsent ↦
-      let far = unsent_far wants ranks q round ts turns puts at unsent in
+      let far = unsent_far wants ranks q round ss turns puts at unsent in
       absurd (omega (arith, far, ahead_most ranks q (line_of wants round).last))
 ]
 
-sum_of_all : (wants : Bool) (most : ℕ) (ts : List Tick) → AllByRecursion (λ t. most ≤ places_of wants t) ts
-    → length ts * most ≤ sum_by (λ t. places_of wants t) ts
+one_place : (tick : Bool) (most places : ℕ) → (tick ≡ true → most ≤ places) → cond tick 1 0 * most ≤ places
+one_place true most places fits = omega (arith, fits refl)
+one_place false most places fits = omega arith
+
+sum_of_all : (wants : Bool) (most : ℕ) (ss : List Step) → AllByRecursion (λ s. is_tick wants s.packets ≡ true → most ≤ places_of wants s) ss
+    → count_by (λ s. is_tick wants s.packets) ss * most ≤ sum_by (λ s. places_of wants s) ss
 sum_of_all wants most [] fits = omega arith
-sum_of_all wants most (t ∷ ts) (fit, fits) =
-    omega (arith, sum_of_all wants most ts fits, sum_by-cons (λ (x : Tick). places_of wants x) t ts)
+sum_of_all wants most (s ∷ ss) (fit, fits) =
+    let n = count_by (λ (x : Step). is_tick wants x.packets) ss in
+    let more : count_by (λ (x : Step). is_tick wants x.packets) (s ∷ ss) ≡ cond (is_tick wants s.packets) 1 0 + n
+    = sum_by-cons (λ (x : Step). cond (is_tick wants x.packets) 1 0) s ss in
+    rw more (omega (
+      arith,
+      one_place (is_tick wants s.packets) most (places_of wants s) fit,
+      sum_of_all wants most ss fits,
+      sum_by-cons (λ (x : Step). places_of wants x) s ss,
+    ))
 
 pub sends_in_time : SendsEachInTime
-sends_in_time wants most ranks q round ts turns puts at fits few =
-    sends_each wants ranks q round ts turns puts at (omega (arith, few, sum_of_all wants most ts fits))
+sends_in_time wants most ranks q round ss turns puts at fits few =
+    sends_each wants ranks q round ss turns puts at (omega (arith, few, sum_of_all wants most ss fits))
 
-keeps_some : (wants alone : Bool) (t : Tick) → t.wants_alone ≡ alone → is_sent_some wants t ≡ true → kept_for wants ≤ places_of wants t
-keeps_some true true t e sent = rw e (omega arith)
-keeps_some true false t e sent = rw e (omega arith)
-keeps_some false true t e sent = grind (arith, e, sent)
-keeps_some false false t e sent = rw e (omega arith)
+keeps_some : (wants : Bool) (packets : Packets) (os : List Output) → is_tick wants packets ≡ true → kept_for wants ≤ places_in wants packets os
+keeps_some true packets.InTurn os tick = omega arith
+keeps_some true packets.Wants os tick = omega arith
+keeps_some false packets.InTurn os tick = omega arith
+keeps_some true packets.All os tick = grind (arith, tick)
+keeps_some true packets.Nothing os tick = grind (arith, tick)
+keeps_some false packets.All os tick = grind (arith, tick)
+keeps_some false packets.Wants os tick = grind (arith, tick)
+keeps_some false packets.Nothing os tick = grind (arith, tick)
 
-keeps_all : (wants alone : Bool) (t : Tick) → t.wants_alone ≡ alone → is_sent_some wants t ≡ true → ranks_in (not wants) t.outputs ≡ []
-    → places_of wants t ≡ ROUND_LIMIT
-keeps_all true true t e sent none = rw e refl
-keeps_all true false t e sent none = rw (e, none) refl
-keeps_all false true t e sent none = grind (arith, e, sent)
-keeps_all false false t e sent none = rw (e, none) refl
+keeps_all : (wants : Bool) (packets : Packets) (os : List Output) → is_tick wants packets ≡ true → ranks_in (not wants) os ≡ []
+    → places_in wants packets os ≡ ROUND_LIMIT
+keeps_all true packets.InTurn os tick none = rw none refl
+keeps_all true packets.Wants os tick none = refl
+keeps_all false packets.InTurn os tick none = rw none refl
+keeps_all true packets.All os tick none = grind (arith, tick)
+keeps_all true packets.Nothing os tick none = grind (arith, tick)
+keeps_all false packets.All os tick none = grind (arith, tick)
+keeps_all false packets.Wants os tick none = grind (arith, tick)
+keeps_all false packets.Nothing os tick none = grind (arith, tick)
 
 pub keeps_places : KeepsPlaces
 keeps_places = record {
-  some = λ wants t. keeps_some wants t.wants_alone t refl;
-  all = λ wants t. keeps_all wants t.wants_alone t refl;
+  some = λ wants s. keeps_some wants s.packets s.outputs;
+  all = λ wants s. keeps_all wants s.packets s.outputs;
 }

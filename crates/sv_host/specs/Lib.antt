@@ -2,7 +2,6 @@ pub mod Outcome
 pub mod Nudges
 pub mod Outputs
 pub mod Round
-pub mod Turns
 pub mod Asking
 pub mod Lease
 pub mod Held
@@ -12,6 +11,7 @@ pub mod Place
 pub mod Secrets
 pub mod Parked
 pub mod Packets
+pub mod Turns
 pub mod Room
 pub mod Host
 pub mod Group

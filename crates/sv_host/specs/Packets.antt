@@ -1,5 +1,5 @@
 -- Which of the packets that a step puts out are sent.
-use Rattle.std.specs.Prelude.{◌≡◌, Bool, true, is_none, List, [], ◌∷◌}
+use Rattle.std.specs.Prelude.{◌≡◌, Bool, true, cond, is_none, List, [], ◌∷◌, ◌++◌}
 use Rattle.sv_model.specs.declared.output.Output.{Output}
 use Rattle.sv_model.specs.Outputs.{packet_in}
 use Rattle.sv_host.specs.declared.packets.Packets.{Packets}
@@ -21,12 +21,15 @@ IsSending packets.Wants round outputs Nothing = ⊥
 IsSending packets.Nothing round outputs sending = sending ≡ Nothing
 
 -- whether an output is handed on: always, if the share lets it pass, or if it is no packet
-abbrev pub Passes : Sending → Output → Bool → Type 0
-Passes All output taken = taken ≡ true
-Passes (Share share) output taken = taken ≡ lets share (packet_in output)
-Passes Nothing output taken = taken ≡ is_none (packet_in output)
+abbrev pub passes : Sending → Output → Bool
+passes All output = true
+passes (Share share) output = lets share (packet_in output)
+passes Nothing output = is_none (packet_in output)
 
--- what is still to be sent behind an output, and behind all of them
+abbrev pub Passes : Sending → Output → Bool → Type 0
+Passes sending output taken = taken ≡ passes sending output
+
+-- what is still to be sent behind an output, and behind all of them; and what is handed on of these
 abbrev pub sending_after : Sending → Output → Sending
 sending_after All output = All
 sending_after (Share share) output = Share (share_after share (packet_in output))
@@ -35,6 +38,10 @@ sending_after Nothing output = Nothing
 abbrev pub sending_end : Sending → List Output → Sending
 sending_end sending [] = sending
 sending_end sending (o ∷ os) = sending_end (sending_after sending o) os
+
+abbrev pub sent_by : Sending → List Output → List Output
+sent_by sending [] = []
+sent_by sending (o ∷ os) = cond (passes sending o) (o ∷ []) [] ++ sent_by (sending_after sending o) os
 
 -- where the next tick's packets begin then: where they would have, but behind packets that are sent in turn
 abbrev pub round_left : Round → Sending → Round
