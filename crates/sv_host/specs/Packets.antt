@@ -48,3 +48,7 @@ abbrev pub round_left : Round → Sending → Round
 round_left round All = round
 round_left round (Share share) = round_at share
 round_left round Nothing = round
+
+-- the round behind all outputs of a step
+abbrev pub LeavesRound : Packets → Round → List Output → Round → Type 0
+LeavesRound packets old outputs new = (sending : Sending) × IsSending packets old outputs sending × (new ≡ round_left old (sending_end sending outputs))

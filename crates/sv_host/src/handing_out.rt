@@ -7,6 +7,7 @@ ghost use Rattle.std.specs.List.{AllByRecursion};
 ghost use Rattle.sv_host.specs.Outputs.{AreHandedOn, AreSendable, IsHandedOn, IsSendable};
 ghost use Rattle.sv_host.specs.HandingOut.{Concludes, ConcludesRefused, HandsOn, HandsOnAll, HandsOut, HandsOutFrom, HandsOutGroup, RefusesAll, SameElsewhere, TellsNobody, way_at};
 ghost use Rattle.sv_host.specs.Outcome.{group_taken, last_taken, refused, taken_of};
+ghost use Rattle.sv_host.specs.Packets.{LeavesRound, sending_after};
 ghost use Rattle.sv_host.specs.Parked.{clients_of, place_under, without};
 ghost use Rattle.sv_host.specs.declared.outcome.Taken.TheVariants.{Quiet};
 ghost use Rattle.sv_net.specs.Places.{Spares, held_at, manner_at, naming_of};
@@ -45,6 +46,7 @@ impl Server {
         requires { IsPacket packet }
         ensures clients { clients_of self.new.parked ≡ clients_of self.old.parked }
         ensures spares { Spares self.old.connections self.new.connections }
+        ensures round { self.new.round ≡ self.old.round }
     {
         let to = packet.addressee();
         match address_of(self.ports.as_slice(), to) {
@@ -59,6 +61,7 @@ impl Server {
         ensures answered { IfSome (place_under token (clients_of self.old.parked)) (λ place. IfSome (manner_at self.old.connections place token)
             (λ _. IfSome (held_at self.new.connections place) (λ held. Tells response.now now held.state))) }
         ensures others { SameElsewhere (place_under token (clients_of self.old.parked)) self.old.connections self.new.connections }
+        ensures round { self.new.round ≡ self.old.round }
     {
         if let Some(place) = self.parked.take(token) {
             self.connections
@@ -72,6 +75,7 @@ impl Server {
         ensures refused { IfSome (place_under token (clients_of self.old.parked)) (λ place. IfSome (manner_at self.old.connections place token)
             (λ manner. IfSome (held_at self.new.connections place) (λ held. Answers (refused_as (naming_of self.old.connections) cause manner) now held.state))) }
         ensures others { SameElsewhere (place_under token (clients_of self.old.parked)) self.old.connections self.new.connections }
+        ensures round { self.new.round ≡ self.old.round }
     {
         if let Some(place) = self.parked.take(token) {
             let session = self.awaited.key_of(token);
@@ -88,7 +92,8 @@ impl Server {
     /// Hands on one output.
     fn hand_on_one(&mut self, machine: &HostRuntime, output: Output, now: u64)
         requires { IsSendable output }
-        ensures { HandsOn output now self.old self.new }
+        ensures told { HandsOn output now self.old self.new }
+        ensures round { self.new.round ≡ self.old.round }
     {
         match output {
             Output::Send(packet) => self.send(machine, packet),
@@ -108,7 +113,9 @@ impl Server {
         sending: &mut Sending,
     )
         requires { IsSendable output }
-        ensures { HandsOn output now self.old self.new }
+        ensures told { HandsOn output now self.old self.new }
+        ensures round { self.new.round ≡ self.old.round }
+        ensures after { sending.new ≡ sending_after sending.old output }
     {
         if sending.takes(&output) {
             self.hand_on_one(machine, output, now);
@@ -124,7 +131,8 @@ impl Server {
         packets: Packets,
     )
         requires { AreSendable outputs.items }
-        ensures { HandsOnAll outputs.items now self.old self.new }
+        ensures told { HandsOnAll outputs.items now self.old self.new }
+        ensures round { LeavesRound packets self.old.round outputs.items self.new.round }
     {
         let mut sending = Sending::of(packets, self.round, outputs.as_slice());
         for output in outputs {

@@ -1,7 +1,8 @@
 use Rattle.sv_host.proofs.HandLemmas.{one_handed}
 use Rattle.sv_host.proofs.SendLemmas.{others_of}
 use Rattle.std.specs.Vec.Iter.{into_iter_items}
-use Rattle.std.proofs.Common.{arith, length, ap, subst}
+use Rattle.std.proofs.Common.{arith, length, ap, sym, ◌∙◌, subst}
+use Rattle.sv_host.specs.Packets.{sending_end}
 use Rattle.sv_host.specs.Outputs.{AreSendable}
 use Rattle.sv_host.proofs.server.Server.hand_on.Goals as goal
 
@@ -13,5 +14,7 @@ loop-output-preserved c =
     record {
       sendable = others_of c.in-Some.output rest (subst (λ xs. AreSendable xs) steps.0 was.sendable);
       long = omega (arith, steps.1, was.long, ap length steps.0);
-      handed = λ final all. was.handed final (one_handed (into_iter_items c.loop-output.output-iterator) rest c.in-Some.output c.args.now c.loop-output.self c.hand_on_some.new.self final steps.0 c.hand_on_some.ensures all);
+      handed = λ final all. was.handed final (one_handed (into_iter_items c.loop-output.output-iterator) rest c.in-Some.output c.args.now c.loop-output.self c.hand_on_some.new.self final steps.0 c.hand_on_some.ensures.told all);
+      round = c.hand_on_some.ensures.round ∙ was.round;
+      ends = ap (λ sending. sending_end sending rest) c.hand_on_some.ensures.after ∙ ap (λ xs. sending_end c.loop-output.sending xs) (sym steps.0) ∙ was.ends;
     }
