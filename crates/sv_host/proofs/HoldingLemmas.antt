@@ -1,5 +1,5 @@
 -- Wants of a group that are held, and those that are added.
-use Rattle.std.proofs.Common.{◌≡◌, ◌<◌, ℕ, zero, suc, ◌+◌, Bool, true, false, not, cond, List, [], ◌∷◌, Option, Some, None, length, get_or, drop, ap, sym, ◌∙◌, refl, add-one, drop-cons}
+use Rattle.std.proofs.Common.{◌≡◌, ◌<◌, ℕ, zero, suc, ◌+◌, Bool, true, false, not, cond, List, [], ◌∷◌, ◌++◌, Option, Some, None, length, get_or, drop, ap, sym, ◌∙◌, refl, add-one, drop-cons, append_assoc}
 use Rattle.std.specs.Prelude.{remove, slice_get}
 use Rattle.std.specs.List.{sum_by}
 use Rattle.std.proofs.lemmas.List.Sums.{sum_by-cons}
@@ -7,7 +7,10 @@ use Rattle.sv_model.specs.declared.input.Input.{Input}
 use Rattle.sv_model.specs.declared.key.Moment.{Moment}
 use Rattle.sv_model.specs.declared.node.Parked.{Parked}
 use Rattle.sv_host.specs.declared.want.Want.{Want}
-use Rattle.sv_host.specs.Held.{is_other, is_want, is_want_at, others_in, IsWantAt}
+use Rattle.sv_host.specs.declared.group.Group.{Group}
+use Rattle.sv_host.specs.Group.{inputs_of}
+use Rattle.sv_host.specs.Held.{is_other, is_want, is_want_at, others_in, HasMoreWants, IsWantAt}
+use Rattle.sv_host.proofs.GatherLemmas.{all_both}
 
 -- one that is a want is none of the others
 first_out : (i : Moment × Input) (is : List (Moment × Input)) (b : Bool) → b ≡ is_other i → b ≡ false → others_in is ≡ others_in (i ∷ is)
@@ -30,3 +33,11 @@ pub count_on : (f : Parked → ℕ) (ps : List Parked) (i : ℕ) (p : Parked) �
 count_on f ps i p within is =
     let front : drop i ps ≡ p ∷ drop (i + 1) ps = drop-cons ps i p within ∙ (λ j. sym is j ∷ drop (sym (add-one i) j) ps) in
     ap (λ xs. sum_by f xs) front ∙ sum_by-cons f p (drop (i + 1) ps)
+
+-- wants were added, and then more of them
+pub more_wants_on : {group mid next : Group} → HasMoreWants group mid → HasMoreWants mid next → HasMoreWants group next
+more_wants_on {group = group} first rest = record {
+  more = first.more ++ rest.more;
+  inputs = rest.inputs ∙ ap (λ (is : List (Moment × Input)). is ++ rest.more) first.inputs ∙ append_assoc (inputs_of group) first.more rest.more;
+  wants = all_both (λ (i : Moment × Input). is_want i.1 ≡ true) first.more rest.more first.wants rest.wants;
+}

@@ -15,3 +15,5 @@ pub mod HoldingLemmas
 pub mod ServingLemmas
 pub mod NudgeLemmas
 pub mod TakeLemmas
+pub mod ClientLemmas
+pub mod AskedLemmas

@@ -10,6 +10,7 @@ pub mod Time
 pub mod Place
 pub mod Secrets
 pub mod Parked
+pub mod Clients
 pub mod Packets
 pub mod Turns
 pub mod Room

@@ -1,8 +1,10 @@
 //! What has come on the connections, gathered as the next group.
 
-ghost use Rattle.std.specs.Prelude.{ℕ, IfOk, IfErr, IfSome, ◌<◌};
+ghost use Rattle.std.specs.Prelude.{◌≡◌, ℕ, IfOk, IfErr, IfSome, ◌<◌};
+ghost use Rattle.sv_host.specs.Clients.{GathersFor, HasAsked};
 ghost use Rattle.sv_host.specs.Group.{Comes, HasMore, IsRising, number_of};
 ghost use Rattle.sv_host.specs.Heard.{IsHeardOf};
+ghost use Rattle.sv_host.specs.Parked.{clients_of};
 ghost use Rattle.sv_host.specs.Serving.{HasGathered};
 ghost use Rattle.sv_host.specs.Stops.{IsEnding, IsTold, LacksNumbers};
 
@@ -45,10 +47,12 @@ fn add(
 ) -> Result<(), Stop>
     requires comes { (place : ℕ) × Comes place number came }
     requires heard { IsHeardOf number came.input }
+    requires asked { HasAsked (clients_of server.old.parked) came.input }
     requires above { number_of group.old < number }
     requires rising { IsRising group.old }
     ensures gathered { HasGathered group.old group.new }
     ensures more { HasMore group.old group.new }
+    ensures clients { GathersFor group.old group.new (clients_of server.old.parked) (clients_of server.new.parked) }
     ensures ends { IfErr result (IsEnding server.new group.new) }
 {
     let Came {
@@ -80,10 +84,12 @@ fn add_some(
 ) -> Result<bool, Stop>
     requires comes { IfOk came (λ came. IfSome came (λ came. (place : ℕ) × Comes place number came)) }
     requires heard { IfOk came (λ came. IfSome came (λ came. IsHeardOf number came.input)) }
+    requires asked { IfOk came (λ came. IfSome came (λ came. HasAsked (clients_of server.old.parked) came.input)) }
     requires above { number_of group.old < number }
     requires rising { IsRising group.old }
     ensures gathered { HasGathered group.old group.new }
     ensures more { HasMore group.old group.new }
+    ensures clients { GathersFor group.old group.new (clients_of server.old.parked) (clients_of server.new.parked) }
     ensures ends { IfErr came (IsTold server.old) → IfErr result (IsEnding server.new group.new) }
 {
     match came {
@@ -107,6 +113,7 @@ fn gather_one(
     requires { IsRising group.old }
     ensures gathered { HasGathered group.old group.new }
     ensures more { HasMore group.old group.new }
+    ensures clients { GathersFor group.old group.new (clients_of server.old.parked) (clients_of server.new.parked) }
     ensures ends { IfErr result (IsEnding server.new group.new) }
 {
     let number = next_number(group)?;
@@ -126,6 +133,7 @@ fn gather_some(
     requires { IsRising group.old }
     ensures gathered { HasGathered group.old group.new }
     ensures more { HasMore group.old group.new }
+    ensures clients { GathersFor group.old group.new (clients_of server.old.parked) (clients_of server.new.parked) }
     ensures ends { IfErr result (IsEnding server.new group.new) }
 {
     for _ in 0..PACKETS {
@@ -150,6 +158,7 @@ fn gather_reported(
     requires { IsRising group.old }
     ensures gathered { HasGathered group.old group.new }
     ensures more { HasMore group.old group.new }
+    ensures clients { GathersFor group.old group.new (clients_of server.old.parked) (clients_of server.new.parked) }
     ensures ends { IfErr result (IsEnding server.new group.new) }
 {
     let mut count: usize = 0;
@@ -166,7 +175,9 @@ fn gather_reported(
 }
 
 /// Says at which place somebody is to be who was accepted; none if there is no memory.
-fn receive(machine: &HostRuntime, server: &mut Server, socket: Socket) -> Option<(usize, Open)> {
+fn receive(machine: &HostRuntime, server: &mut Server, socket: Socket) -> Option<(usize, Open)>
+    ensures { server.new.parked ≡ server.old.parked }
+{
     server.connections.report.note(Event::Accepted);
     server.connections.look_at_clock(machine);
     let place = server.connections.free_place()?;
@@ -174,7 +185,9 @@ fn receive(machine: &HostRuntime, server: &mut Server, socket: Socket) -> Option
 }
 
 /// The system has no room for somebody who stands at the door: one that is open gives way, and the next turn tries again.
-fn lacks_room(server: &mut Server, acceptor: &mut Acceptor) {
+fn lacks_room(server: &mut Server, acceptor: &mut Acceptor)
+    ensures { server.new.parked ≡ server.old.parked }
+{
     server.connections.report.note(Event::NoRoom);
     if acceptor.make_room(&mut server.connections) {
         acceptor.try_again();
@@ -186,7 +199,9 @@ fn admit(
     machine: &HostRuntime,
     server: &mut Server,
     acceptor: &mut Acceptor,
-) -> Option<(usize, Open)> {
+) -> Option<(usize, Open)>
+    ensures { server.new.parked ≡ server.old.parked }
+{
     if !acceptor.may_accept() || !acceptor.has_room(&mut server.connections) {
         return None;
     }
@@ -211,6 +226,7 @@ fn gather_behind(
     requires { IsRising group.old }
     ensures gathered { HasGathered group.old group.new }
     ensures more { HasMore group.old group.new }
+    ensures clients { GathersFor group.old group.new (clients_of server.old.parked) (clients_of server.new.parked) }
     ensures ends { IfErr result (IsEnding server.new group.new) }
 {
     if !server.connections.is_peer(place) {
@@ -234,6 +250,7 @@ fn gather_newcomer(
     requires { IsRising group.old }
     ensures gathered { HasGathered group.old group.new }
     ensures more { HasMore group.old group.new }
+    ensures clients { GathersFor group.old group.new (clients_of server.old.parked) (clients_of server.new.parked) }
     ensures ends { IfErr result (IsEnding server.new group.new) }
 {
     let (place, open) = newcomer;
@@ -258,6 +275,7 @@ fn take_in(
     requires { IsRising group.old }
     ensures gathered { HasGathered group.old group.new }
     ensures more { HasMore group.old group.new }
+    ensures clients { GathersFor group.old group.new (clients_of server.old.parked) (clients_of server.new.parked) }
     ensures ends { IfErr result (IsEnding server.new group.new) }
 {
     if group.len() < GROUP_LIMIT {
@@ -278,6 +296,7 @@ fn gather_door(
     requires { IsRising group.old }
     ensures gathered { HasGathered group.old group.new }
     ensures more { HasMore group.old group.new }
+    ensures clients { GathersFor group.old group.new (clients_of server.old.parked) (clients_of server.new.parked) }
     ensures ends { IfErr result (IsEnding server.new group.new) }
 {
     for _ in 0..NEWCOMERS {
@@ -300,6 +319,7 @@ pub fn gather(
     requires { IsRising group.old }
     ensures gathered { HasGathered group.old group.new }
     ensures more { HasMore group.old group.new }
+    ensures clients { GathersFor group.old group.new (clients_of server.old.parked) (clients_of server.new.parked) }
     ensures ends { IfErr result (IsEnding server.new group.new) }
 {
     gather_reported(machine, server, group, acceptor)?;

@@ -1,8 +1,10 @@
 //! Which inputs of a turn are given to the node now, and which later.
 
 ghost use Rattle.std.specs.Prelude.{◌≡◌, IfErr, IsFalse, IsTrue, remove};
+ghost use Rattle.sv_host.specs.Clients.{GathersFor};
 ghost use Rattle.sv_host.specs.Group.{inputs_of, IsRising};
 ghost use Rattle.sv_host.specs.Held.{HasMoreWants, others_in};
+ghost use Rattle.sv_host.specs.Parked.{clients_of};
 ghost use Rattle.sv_host.specs.Secrets.{last_of};
 ghost use Rattle.sv_host.specs.Serving.{HasGathered};
 ghost use Rattle.sv_host.specs.Stops.{LacksSecrets};
@@ -18,7 +20,9 @@ use sv_model::Parked;
 
 impl Server {
     /// A grant has come: how many requests wait for the session that it brings.
-    fn note_grant(&mut self, parked: &[Parked], granted: Granted, now: u64) -> usize {
+    fn note_grant(&mut self, parked: &[Parked], granted: Granted, now: u64) -> usize
+        ensures { self.new.parked ≡ self.old.parked }
+    {
         let count = waiting(parked, granted.key);
         if !self.holding.come(granted, count, now) {
             return 0;
@@ -33,6 +37,7 @@ impl Server {
     fn hold_one(&mut self, parked: &[Parked], group: &mut Group, at: usize, now: u64) -> bool
         requires { IsRising group.old }
         ensures gathered { HasGathered group.old group.new }
+        ensures clients { GathersFor group.old group.new (clients_of self.old.parked) (clients_of self.new.parked) }
         ensures others { others_in (inputs_of group.new) ≡ others_in (inputs_of group.old) }
         ensures stays { IsTrue result → inputs_of group.new ≡ inputs_of group.old }
         ensures left { IsFalse result → inputs_of group.new ≡ remove (inputs_of group.old) at }
@@ -59,6 +64,7 @@ impl Server {
     ) -> (usize, bool)
         requires { IsRising group.old }
         ensures gathered { HasGathered group.old group.new }
+        ensures clients { GathersFor group.old group.new (clients_of self.old.parked) (clients_of self.new.parked) }
         ensures others { others_in (inputs_of group.new) ≡ others_in (inputs_of group.old) }
     {
         match group.grant(at) {
@@ -71,6 +77,7 @@ impl Server {
     pub fn hold_wants(&mut self, parked: &[Parked], group: &mut Group, now: u64) -> usize
         requires { IsRising group.old }
         ensures gathered { HasGathered group.old group.new }
+        ensures clients { GathersFor group.old group.new (clients_of self.old.parked) (clients_of self.new.parked) }
         ensures others { others_in (inputs_of group.new) ≡ others_in (inputs_of group.old) }
     {
         let mut come: usize = 0;
@@ -94,6 +101,7 @@ impl Server {
     ) -> Result<(), Stop>
         requires { IsRising group.old }
         ensures gathered { HasGathered group.old group.new }
+        ensures clients { GathersFor group.old group.new (clients_of self.old.parked) (clients_of self.new.parked) }
         ensures more { HasMoreWants group.old group.new }
         ensures stops { IfErr result (LacksSecrets (last_of self.new.secrets)) }
     {
@@ -104,7 +112,9 @@ impl Server {
 
     /// The time by which wants are held, in milliseconds by the clock that nobody sets. Where none is held that is the time of the last
     /// input.
-    pub fn held_time(&mut self, machine: &HostRuntime) -> u64 {
+    pub fn held_time(&mut self, machine: &HostRuntime) -> u64
+        ensures { self.new.parked ≡ self.old.parked }
+    {
         if self.holding.is_empty() {
             self.time.steady
         } else {
@@ -121,6 +131,7 @@ impl Server {
     ) -> Result<(), Stop>
         requires { IsRising group.old }
         ensures gathered { HasGathered group.old group.new }
+        ensures clients { GathersFor group.old group.new (clients_of self.old.parked) (clients_of self.new.parked) }
         ensures more { HasMoreWants group.old group.new }
         ensures stops { IfErr result (LacksSecrets (last_of self.new.secrets)) }
     {

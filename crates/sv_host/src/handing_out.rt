@@ -5,6 +5,7 @@ ghost use Rattle.sv_model.specs.Ranges.{IsPacket};
 ghost use Rattle.sv_node.specs.Call.{step_ends};
 ghost use Rattle.std.specs.List.{AllByRecursion};
 ghost use Rattle.sv_host.specs.Outputs.{AreHandedOn, AreSendable, IsHandedOn, IsSendable};
+ghost use Rattle.sv_host.specs.Clients.{refused_of};
 ghost use Rattle.sv_host.specs.HandingOut.{Concludes, ConcludesRefused, HandsOn, HandsOnAll, HandsOut, HandsOutFrom, HandsOutGroup, RefusesAll, SameElsewhere, TellsNobody, way_at};
 ghost use Rattle.sv_host.specs.Outcome.{group_taken, last_taken, refused, taken_of};
 ghost use Rattle.sv_host.specs.Packets.{LeavesRound, sending_after};
@@ -144,7 +145,9 @@ impl Server {
     }
 
     /// Refuses whoever asked for what memory was refused for.
-    pub fn turn_away(&mut self, asker: Asker) {
+    pub fn turn_away(&mut self, asker: Asker)
+        ensures { clients_of self.new.parked ≡ refused_of asker (clients_of self.old.parked) }
+    {
         let now = self.time.seconds();
         self.conclude_refused(asker, StepFault::Memory, now);
     }

@@ -1,6 +1,6 @@
 //! What is done with what has come on a connection.
 
-ghost use Rattle.std.specs.Prelude.{◌≡◌, ◌++◌, ◌∷◌, [], false, Some, IfOk, IfErr, IfSome, IfNone, ℕ, ◌<◌};
+ghost use Rattle.std.specs.Prelude.{◌≡◌, ◌++◌, ◌∷◌, [], false, Some, IfOk, IfErr, IfSome, IfNone, ℕ, ◌<◌, List};
 ghost use Rattle.std.specs.Option.{option_map};
 ghost use Rattle.sv_model.specs.Method.{is_head};
 ghost use Rattle.sv_net.specs.Places.{held_at};
@@ -8,6 +8,7 @@ ghost use Rattle.sv_net.specs.declared.state.State.TheVariants.{Waiting};
 ghost use Rattle.sv_record.specs.Frame.{IsFrame};
 ghost use Rattle.sv_record.specs.declared.frame.Frame.TheVariants.{Halt as HaltFrame};
 ghost use Rattle.sv_model.specs.declared.input.Input.TheVariants.{Ask, Packet as PacketInput};
+ghost use Rattle.sv_host.specs.Clients.{HasAsked, KeepsAll};
 ghost use Rattle.sv_host.specs.Group.{Comes};
 ghost use Rattle.sv_host.specs.Parked.{clients_of, IsFull};
 ghost use Rattle.sv_host.specs.Peers.{came_of};
@@ -15,6 +16,7 @@ ghost use Rattle.sv_host.specs.Heard.{input_of};
 ghost use Rattle.sv_host.specs.Stops.{IsTold};
 ghost use Rattle.sv_host.specs.declared.group.Asker.TheVariants.{Client as ClientAsker, Command, Nobody};
 ghost use Rattle.sv_host.specs.declared.packets.Packets.TheVariants.{All};
+ghost use Rattle.sv_host.specs.declared.parked.ParkedClient.{ParkedClient};
 
 use crate::fault::Stop;
 use crate::group::{Asker, Came};
@@ -50,6 +52,8 @@ pub fn ask(
     ensures stands { IfSome result (λ came. IfSome (held_at server.new.connections from.place)
         (λ held. held.state ≡ Waiting client (is_head request.method) request.close token false)) }
     ensures came { IfSome result (λ came. came ≡ record { input = Ask token request; asker = ClientAsker from.place token; packets = All }) }
+    ensures clients { KeepsAll (clients_of server.old.parked) (clients_of server.new.parked) }
+    ensures asked { IfSome result (λ came. HasAsked (clients_of server.new.parked) came.input) }
 {
     let Lifted { place, socket } = from;
     if !server.parked.add(ParkedClient { token, place }) {
@@ -83,7 +87,9 @@ pub fn refuse(
     client: Client,
     fault: RequestFault,
     head_only: bool,
-) {
+)
+    ensures { server.new.parked ≡ server.old.parked }
+{
     let Lifted { place, socket } = from;
     let mut client = client;
     server.text.clear();
@@ -109,7 +115,8 @@ fn tell(server: &Server, socket: &mut Socket, byte: u8) {
 
 /// Keeps the connection of a node for what it sends behind its packet, which is to be given to the node here.
 fn receive(server: &mut Server, from: Lifted, packet: Packet, rest: Vec<u8>) -> Option<Came>
-    ensures { result ≡ Some (record { input = PacketInput packet; asker = Nobody; packets = All }) }
+    ensures came { result ≡ Some (record { input = PacketInput packet; asker = Nobody; packets = All }) }
+    ensures clients { server.new.parked ≡ server.old.parked }
 {
     let Lifted { place, socket } = from;
     let peer = Peer {
@@ -126,7 +133,8 @@ fn receive(server: &mut Server, from: Lifted, packet: Packet, rest: Vec<u8>) -> 
 
 /// The same of a node whose packets are taken; one of another is a packet that is lost, and its connection is closed.
 fn take_packet(server: &mut Server, from: Lifted, packet: Packet, rest: Vec<u8>) -> Option<Came>
-    ensures { result ≡ came_of server.old.peers packet }
+    ensures came { result ≡ came_of server.old.peers packet }
+    ensures clients { server.new.parked ≡ server.old.parked }
 {
     let node = packet.sender();
     if server.peers.takes(node) {
@@ -142,7 +150,8 @@ fn take_packet(server: &mut Server, from: Lifted, packet: Packet, rest: Vec<u8>)
 
 /// Keeps whoever gave a command for the answer to it.
 fn obey(server: &mut Server, from: Lifted, input: Input, packets: Packets) -> Option<Came>
-    ensures { result ≡ Some (record { input = input; asker = Command from.place; packets = packets }) }
+    ensures came { result ≡ Some (record { input = input; asker = Command from.place; packets = packets }) }
+    ensures clients { server.new.parked ≡ server.old.parked }
 {
     let Lifted { place, socket } = from;
     server.connections.begin(place, socket, State::Ordering);
@@ -164,6 +173,8 @@ pub fn take_frame(
     ensures comes { (number : ℕ) → IfOk result (λ came. IfSome came (λ came. Comes from.place number came)) }
     ensures input { IfOk result (λ came. option_map (λ came. came.input) came ≡ input_of server.old.peers frame) }
     ensures told { IfErr result (λ stop. (frame ≡ HaltFrame) × IsTold server.new stop) }
+    ensures clients { server.new.parked ≡ server.old.parked }
+    ensures asked { (clients : List ParkedClient) → IfOk result (λ came. IfSome came (λ came. HasAsked clients came.input)) }
 {
     match frame {
         Frame::Peer(packet) => Ok(take_packet(server, from, packet, rest)),

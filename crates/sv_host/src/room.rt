@@ -3,6 +3,7 @@
 ghost use Rattle.std.specs.Prelude.{◌≡◌, ◌≤◌, ◌<◌, ◌+◌, cond, length, slice_set, IsTrue};
 ghost use Rattle.sv_core.specs.Waiting.{awaited};
 ghost use Rattle.sv_node.specs.Node.{durable_of, engine_of, setting_of, state_of};
+ghost use Rattle.sv_host.specs.Clients.{GathersFor};
 ghost use Rattle.sv_host.specs.Parked.{clients_of};
 ghost use Rattle.sv_host.specs.Room.{awaited_by, count_in, counted, has_room, left_of, may_come, room_behind, room_of, KeepsOne};
 ghost use Rattle.sv_host.specs.Group.{inputs_of, IsRising};
@@ -75,6 +76,7 @@ impl Server {
     ) -> bool
         requires { IsRising group.old }
         ensures gathered { HasGathered group.old group.new }
+        ensures clients { GathersFor group.old group.new (clients_of self.old.parked) (clients_of self.new.parked) }
         ensures stays { IsTrue result → inputs_of group.new ≡ inputs_of group.old }
         ensures kept { KeepsOne (awaited_by (E.meaning (engine_of node.now)) (setting_of node.now) (durable_of node.now)) at room.old group.old room.new
             group.new result }
@@ -94,6 +96,7 @@ impl Server {
     pub fn keep_shares<E: Engine, D: Disk>(&mut self, node: &Node<E, D>, group: &mut Group)
         requires { IsRising group.old }
         ensures gathered { HasGathered group.old group.new }
+        ensures clients { GathersFor group.old group.new (clients_of self.old.parked) (clients_of self.new.parked) }
         ensures few { length (clients_of self.old.parked) ≤ HOME_LIMIT → inputs_of group.new ≡ inputs_of group.old }
         ensures kept { HOME_LIMIT < length (clients_of self.old.parked) → inputs_of group.new
             ≡ left_of (awaited_by (E.meaning (engine_of node.now)) (setting_of node.now) (durable_of node.now)) (room_of (state_of node.now).parked)

@@ -1,8 +1,10 @@
 //! What comes on one connection.
 
 ghost use Rattle.std.specs.Prelude.{◌≡◌, false, IfOk, IfErr, IfSome};
+ghost use Rattle.sv_host.specs.Clients.{HasAsked, KeepsAll};
 ghost use Rattle.sv_host.specs.Group.{Comes};
 ghost use Rattle.sv_host.specs.Heard.{IsHeardOf};
+ghost use Rattle.sv_host.specs.Parked.{clients_of};
 ghost use Rattle.sv_host.specs.Serve.{Brings, IsHeard, StaysAt, Takes, came_in, is_more};
 ghost use Rattle.sv_host.specs.Stops.{IsTold};
 
@@ -46,6 +48,8 @@ fn take(
 ) -> Result<Progress, Stop>
     ensures brings { IfOk result (λ progress. Brings place token progress) }
     ensures told { IfErr result (IsTold server.new) }
+    ensures clients { KeepsAll (clients_of server.old.parked) (clients_of server.new.parked) }
+    ensures asked { IfOk result (λ progress. IfSome (came_in progress) (λ came. HasAsked (clients_of server.new.parked) came.input)) }
     ensures takes { IfOk result (λ progress. Takes server.old.peers server.old.connections.greets «open».state piece.now token progress) }
     ensures stays { IfOk result (λ progress. StaysAt server.old.connections.greets «open».state piece.now place server.new progress) }
 {
@@ -102,7 +106,9 @@ fn look<'a>(socket: &mut Socket, piece: &'a mut [u8; PIECE]) -> Result<&'a [u8],
 }
 
 /// Does with a connection on which nothing has come what is to be done.
-fn keep_or_leave(server: &mut Server, place: usize, open: Open, missing: Missing) {
+fn keep_or_leave(server: &mut Server, place: usize, open: Open, missing: Missing)
+    ensures { server.new.parked ≡ server.old.parked }
+{
     match missing {
         Missing::Yet => server.connections.keep_in_time(place, open),
         Missing::ForEver => server.connections.leave(place),
@@ -120,6 +126,8 @@ fn listen_once(
     ensures brings { IfOk result (λ progress. Brings place token progress) }
     ensures heard { IfOk result (λ progress. IsHeard token progress) }
     ensures told { IfErr result (IsTold server.new) }
+    ensures clients { KeepsAll (clients_of server.old.parked) (clients_of server.new.parked) }
+    ensures asked { IfOk result (λ progress. IfSome (came_in progress) (λ came. HasAsked (clients_of server.new.parked) came.input)) }
 {
     let mut open = open;
     match look(&mut open.socket, piece) {
@@ -142,6 +150,8 @@ fn go_on_with(
     ensures brings { IfOk result (λ progress. Brings place token progress) }
     ensures heard { IfOk result (λ progress. IsHeard token progress) }
     ensures told { IfErr result (IsTold server.new) }
+    ensures clients { KeepsAll (clients_of server.old.parked) (clients_of server.new.parked) }
+    ensures asked { IfOk result (λ progress. IfSome (came_in progress) (λ came. HasAsked (clients_of server.new.parked) came.input)) }
 {
     match open.state.turn() {
         Turn::Serve => take(server, place, open, &[], token),
@@ -164,6 +174,8 @@ pub fn serve(
     ensures comes { IfOk result (λ came. IfSome came (λ came. Comes place token came)) }
     ensures heard { IfOk result (λ came. IfSome came (λ came. IsHeardOf token came.input)) }
     ensures told { IfErr result (IsTold server.new) }
+    ensures clients { KeepsAll (clients_of server.old.parked) (clients_of server.new.parked) }
+    ensures asked { IfOk result (λ came. IfSome came (λ came. HasAsked (clients_of server.new.parked) came.input)) }
 {
     for _ in 0..PIECES {
         let Some(open) = server.connections.take(place) else {
@@ -190,6 +202,8 @@ pub fn serve_newcomer(
     ensures comes { IfOk result (λ came. IfSome came (λ came. Comes place token came)) }
     ensures heard { IfOk result (λ came. IfSome came (λ came. IsHeardOf token came.input)) }
     ensures told { IfErr result (IsTold server.new) }
+    ensures clients { KeepsAll (clients_of server.old.parked) (clients_of server.new.parked) }
+    ensures asked { IfOk result (λ came. IfSome came (λ came. HasAsked (clients_of server.new.parked) came.input)) }
 {
     match listen_once(server, place, open, piece, token)? {
         Progress::More => serve(server, place, piece, token),

@@ -100,6 +100,7 @@ impl Server {
         ensures secrets { last_of self.new.secrets ≡ last_of self.old.secrets }
         ensures time { self.new.time ≡ self.old.time }
         ensures ticked { self.new.ticked ≡ self.old.ticked }
+        ensures clients { self.new.parked ≡ self.old.parked }
     {
         let (way, seconds) = match set {
             ClockSet::No => return,
@@ -115,6 +116,7 @@ impl Server {
     pub fn now(&mut self, machine: &HostRuntime) -> Time
         ensures time { result ≡ self.new.time }
         ensures never_back { steady_of self.old.time ≤ steady_of self.new.time }
+        ensures clients { self.new.parked ≡ self.old.parked }
         ensures secrets { last_of self.new.secrets ≡ last_of self.old.secrets }
         ensures ticked { self.new.ticked ≡ self.old.ticked }
     {
@@ -160,6 +162,7 @@ impl Server {
     pub fn moment(&mut self, machine: &HostRuntime) -> Result<Moment, Stop>
         ensures time { IfOk result (λ m. (m.now ≡ seconds_of self.new.time) × (m.steady ≡ steady_of self.new.time)) }
         ensures never_back { steady_of self.old.time ≤ steady_of self.new.time }
+        ensures clients { self.new.parked ≡ self.old.parked }
         ensures secret { Draws (last_of self.old.secrets) (secret_in result) (last_of self.new.secrets) }
     {
         let time = self.now(machine);

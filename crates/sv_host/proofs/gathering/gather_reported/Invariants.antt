@@ -1,7 +1,13 @@
+use Rattle.sv_host.specs.Clients.{GathersFor}
 use Rattle.sv_host.specs.Group.{HasMore}
+use Rattle.sv_host.specs.Parked.{clients_of}
 use Rattle.sv_host.specs.Serving.{HasGathered}
 use Rattle.sv_host.proofs.gathering.gather_reported.Given as goal
 
--- no group has been given to the node meanwhile, and what was gathered stands behind what was there
+-- no group has been given to the node meanwhile, what was gathered stands behind what was there, and has its clients
 abbrev pub invariant-loop-place : goal.invariant-loop-place
-invariant-loop-place l = record { gathered : HasGathered l.initial.group l.group; more : HasMore l.initial.group l.group }
+invariant-loop-place l = record {
+  gathered : HasGathered l.initial.group l.group;
+  more : HasMore l.initial.group l.group;
+  clients : GathersFor l.initial.group l.group (clients_of l.initial.server.parked) (clients_of l.server.parked);
+}

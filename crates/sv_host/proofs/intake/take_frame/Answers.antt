@@ -20,21 +20,21 @@ input_if false came = refl
 
 pub returns-in-Peer-clause-comes : goal.returns-in-Peer-clause-comes
 returns-in-Peer-clause-comes c = λ number.
-    subst (λ (o : Option Came). IfSome o (λ came. Comes c.args.from.place number came)) (sym c.take_packet.ensures)
+    subst (λ (o : Option Came). IfSome o (λ came. Comes c.args.from.place number came)) (sym c.take_packet.ensures.came)
     (comes_if c.args.from.place number (takes c.args.server.now.peers (sender c.in-Peer.packet)) _
     (record { within = subst (λ f. IsFrame f) c.in-Peer.is c.requires; above = λ low below. tt; asked = (refl, refl) }))
 
 pub returns-in-Peer-clause-input : goal.returns-in-Peer-clause-input
 returns-in-Peer-clause-input c =
-    ap (option_map (λ (came : Came). came.input)) c.take_packet.ensures ∙ input_if (takes c.args.server.now.peers (sender c.in-Peer.packet)) _
+    ap (option_map (λ (came : Came). came.input)) c.take_packet.ensures.came ∙ input_if (takes c.args.server.now.peers (sender c.in-Peer.packet)) _
     ∙ sym (ap (input_of c.args.server.now.peers) c.in-Peer.is)
 
 pub returns-in-Move-clause-comes : goal.returns-in-Move-clause-comes
 returns-in-Move-clause-comes c = λ number.
-    subst (λ (o : Option Came). IfSome o (λ came. Comes c.args.from.place number came)) (sym c.obey.ensures)
+    subst (λ (o : Option Came). IfSome o (λ came. Comes c.args.from.place number came)) (sym c.obey.ensures.came)
     (record { within = tt; above = λ low below. tt; asked = (refl, refl) })
 
 pub returns-in-Tick-clause-comes : goal.returns-in-Tick-clause-comes
 returns-in-Tick-clause-comes c = λ number.
-    subst (λ (o : Option Came). IfSome o (λ came. Comes c.args.from.place number came)) (sym c.obey-in-Tick.ensures)
+    subst (λ (o : Option Came). IfSome o (λ came. Comes c.args.from.place number came)) (sym c.obey-in-Tick.ensures.came)
     (record { within = tt; above = λ low below. tt; asked = (refl, refl) })

@@ -1,6 +1,8 @@
 use Rattle.std.proofs.Common.{◌≡◌}
+use Rattle.sv_host.specs.Clients.{GathersFor}
 use Rattle.sv_host.specs.Group.{inputs_of}
 use Rattle.sv_host.specs.Held.{others_in}
+use Rattle.sv_host.specs.Parked.{clients_of}
 use Rattle.sv_host.specs.Serving.{HasGathered}
 use Rattle.sv_host.proofs.server.Server.hold_wants.Given as goal
 
@@ -8,5 +10,6 @@ use Rattle.sv_host.proofs.server.Server.hold_wants.Given as goal
 abbrev pub invariant-loop-done : goal.invariant-loop-done
 invariant-loop-done l = record {
   gathered : HasGathered l.initial.group l.group;
+  clients : GathersFor l.initial.group l.group (clients_of l.initial.self.parked) (clients_of l.self.parked);
   others : others_in (inputs_of l.group) ≡ others_in (inputs_of l.initial.group);
 }

@@ -3,6 +3,7 @@ use Rattle.std.specs.Prelude.{remove}
 use Rattle.sv_node.specs.Node.{durable_of, engine_of, setting_of}
 use Rattle.sv_host.specs.Group.{inputs_of}
 use Rattle.sv_host.specs.Room.{awaited_by}
+use Rattle.sv_host.proofs.AskedLemmas.{gathers_on}
 use Rattle.sv_host.proofs.RoomLemmas.{kept_on, one_less}
 use Rattle.sv_host.proofs.server.Server.keep_shares.Goals.{then-keep_one, else-keep_one}
 use Rattle.sv_host.proofs.server.Server.keep_shares.Goals as goal
@@ -14,6 +15,7 @@ loop-done-preserved g c =
     let before = c.loop-done.invariant in
     let one = c.keep_one.ensures.kept in
     let more = c.keep_one.ensures.gathered in
+    let clients = gathers_on _ _ _ _ _ _ before.gathered.before before.clients c.keep_one.ensures.clients in
     let is = inputs_of c.loop-done.group in
     let new = inputs_of c.keep_one.new.group in
     let at = c.loop-done.at in
@@ -28,6 +30,7 @@ loop-done-preserved g c =
           let same = ap (λ xs. length xs) (one.inputs ∙ ap (λ (b : Bool). cond b is (remove is at)) is_b) in
           record {
             gathered = record { rising = more.rising; before = more.before ∙ before.gathered.before };
+            clients = clients;
             kept = on (to ∙ ap (λ (b : Bool). cond b (suc at) at) (sym is_b));
             long = omega (arith, same, to, before.long);
             at = omega (arith, to, before.at);
@@ -38,6 +41,7 @@ loop-done-preserved g c =
           let less = ap (λ xs. length xs) (one.inputs ∙ ap (λ (b : Bool). cond b is (remove is at)) is_b) in
           record {
             gathered = record { rising = more.rising; before = more.before ∙ before.gathered.before };
+            clients = clients;
             kept = on (to ∙ ap (λ (b : Bool). cond b (suc at) at) (sym is_b));
             long = omega (arith, less, one_less is at within, to, before.long);
             at = omega (arith, to, before.at);

@@ -1,6 +1,8 @@
 use Rattle.std.proofs.Common.{◌≡◌, ◌≤◌, ◌+◌, length}
 use Rattle.sv_node.specs.Node.{durable_of, engine_of, setting_of}
+use Rattle.sv_host.specs.Clients.{GathersFor}
 use Rattle.sv_host.specs.Group.{inputs_of}
+use Rattle.sv_host.specs.Parked.{clients_of}
 use Rattle.sv_host.specs.Room.{awaited_by, left_of}
 use Rattle.sv_host.specs.Serving.{HasGathered}
 use Rattle.sv_host.proofs.RoomLemmas.{left_from}
@@ -10,6 +12,7 @@ use Rattle.sv_host.proofs.server.Server.keep_shares.Given as goal
 abbrev pub invariant-loop-done : goal.invariant-loop-done
 invariant-loop-done g l = record {
   gathered : HasGathered l.initial.group l.group;
+  clients : GathersFor l.initial.group l.group (clients_of l.initial.self.parked) (clients_of l.self.parked);
   kept : left_from (awaited_by (g.E.Engine.meaning (engine_of l.node)) (setting_of l.node) (durable_of l.node)) l.at l.room (inputs_of l.group)
       ≡ left_of (awaited_by (g.E.Engine.meaning (engine_of l.node)) (setting_of l.node) (durable_of l.node)) l.initial.room (inputs_of l.initial.group);
   long : length (inputs_of l.group) + l._done ≡ l.at + length (inputs_of l.initial.group);

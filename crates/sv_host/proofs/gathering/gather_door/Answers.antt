@@ -1,0 +1,15 @@
+use Rattle.std.proofs.Common.{ap, ◌∙◌}
+use Rattle.sv_host.specs.Parked.{clients_of}
+use Rattle.sv_host.proofs.AskedLemmas.{gathers_through}
+use Rattle.sv_host.proofs.GatherLemmas.{more_on}
+use Rattle.sv_host.proofs.gathering.gather_door.Goals as goal
+
+pub returns-in_err-take_in-clause-clients : goal.returns-in_err-take_in-clause-clients
+returns-in_err-take_in-clause-clients c = gathers_through _ _ _ _ _ _ _ c.loop.invariant.gathered.before (ap (λ p. clients_of p) c.admit.ensures) c.loop.invariant.clients c.take_in.ensures.clients
+
+pub loop-preserved : goal.loop-preserved
+loop-preserved c = record {
+  gathered = record { rising = c.take_in.ensures.gathered.rising; before = c.take_in.ensures.gathered.before ∙ c.loop.invariant.gathered.before };
+  more = more_on c.loop.invariant.more c.take_in.ensures.more;
+  clients = gathers_through _ _ _ _ _ _ _ c.loop.invariant.gathered.before (ap (λ p. clients_of p) c.admit.ensures) c.loop.invariant.clients c.take_in.ensures.clients;
+}

@@ -1,0 +1,29 @@
+use Rattle.std.proofs.Common.{ap, refl, ◌∙◌}
+use Rattle.sv_host.specs.Parked.{clients_of}
+use Rattle.sv_host.specs.declared.server.Server.{Server}
+use Rattle.sv_host.proofs.AskedLemmas.{gathers_is, gathers_on}
+use Rattle.sv_host.proofs.GatherLemmas.{more_on}
+use Rattle.sv_host.proofs.gathering.gather_some.Goals.{else-loop-test, then-loop-test+in_ok-gather_one+else-not-branch+then-is_full}
+use Rattle.sv_host.proofs.gathering.gather_some.Goals as goal
+
+pub returns-in_err-gather_one-clause-clients : goal.returns-in_err-gather_one-clause-clients
+returns-in_err-gather_one-clause-clients c = gathers_on _ _ _ _ _ _ c.loop.invariant.gathered.before c.loop.invariant.clients c.gather_one.ensures.clients
+
+pub returns-then-not-branch-clause-clients : goal.returns-then-not-branch-clause-clients
+returns-then-not-branch-clause-clients c = gathers_on _ _ _ _ _ _ c.loop.invariant.gathered.before c.loop.invariant.clients c.gather_one.ensures.clients
+
+pub loop-preserved : goal.loop-preserved
+loop-preserved c = record {
+  gathered = record { rising = c.gather_one.ensures.gathered.rising; before = c.gather_one.ensures.gathered.before ∙ c.loop.invariant.gathered.before };
+  more = more_on c.loop.invariant.more c.gather_one.ensures.more;
+  clients = gathers_on _ _ _ _ _ _ c.loop.invariant.gathered.before c.loop.invariant.clients c.gather_one.ensures.clients;
+}
+
+pub returns-clause-clients : goal.returns-clause-clients
+returns-clause-clients c =
+    elim c.loop-test.branch [
+      | else-loop-test w ↦ gathers_is _ _ _ _ _ _ w.group-is (ap (λ (s : Server). clients_of s.parked) w.server-is) c.loop.invariant.clients
+      | then-loop-test+in_ok-gather_one+else-not-branch+then-is_full w ↦
+          gathers_is _ _ _ _ _ _ w.group-is (ap (λ (s : Server). clients_of s.parked) w.server-is)
+          (gathers_on _ _ _ _ _ _ c.loop.invariant.gathered.before c.loop.invariant.clients w.gather_one.ensures.clients)
+    ]
