@@ -15,5 +15,7 @@ pub mod HoldingLemmas
 pub mod ServingLemmas
 pub mod NudgeLemmas
 pub mod TakeLemmas
+pub mod WaitLemmas
 pub mod ClientLemmas
 pub mod AskedLemmas
+pub mod TellingLemmas
