@@ -19,3 +19,4 @@ pub mod WaitLemmas
 pub mod ClientLemmas
 pub mod AskedLemmas
 pub mod TellingLemmas
+pub mod HavingLemmas

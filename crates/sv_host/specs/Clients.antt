@@ -14,6 +14,8 @@ use Rattle.sv_model.specs.declared.key.Moment.{Moment}
 use Rattle.sv_model.specs.declared.node.Parked.{Parked}
 use Rattle.sv_model.specs.declared.output.Output.{Output}
 use Rattle.sv_model.specs.declared.output.Output.TheVariants.{Answer, Refuse, Send, Moved, MoveRefused}
+use Rattle.sv_node.specs.Node.{state_of}
+use Rattle.sv_node.specs.declared.node.Node.{Node}
 
 -- a client waits under this number
 abbrev pub Has : ℕ → List ParkedClient → Type 0
@@ -100,3 +102,9 @@ pub record GathersFor (group next : Group) (old new : List ParkedClient) : Type 
   pub kept : (token : ℕ) → token ≤ before_of group → Has token old → Has token new
   pub asked : AskedFor old (inputs_of group) → AskedFor new (inputs_of next)
   pub ways : HaveWays (inputs_of group) (ways_of group) → HaveWays (inputs_of next) (ways_of next)
+
+-- each request that waits at the node has its client, and so has each that is to be given to it
+pub record HaveClients {E D : Type 0} (waiters : List ParkedClient) (node : Node E D) (group : Group) : Type 0 where
+  pub waiting : WaitFor 0 (before_of group) waiters (state_of node).parked
+  pub asked : AskedFor waiters (inputs_of group)
+  pub ways : HaveWays (inputs_of group) (ways_of group)

@@ -1,7 +1,9 @@
 -- What stands before each call by which a node may be given what was gathered, and what holds behind it.
-use Rattle.std.specs.Prelude.{◌≡◌, ℕ, List, Result, IsTrue}
+use Rattle.std.specs.Prelude.{◌≡◌, ℕ, List, Result, IsTrue, OnOk}
+use Rattle.sv_host.specs.Clients.{HaveClients}
 use Rattle.sv_host.specs.declared.group.Group.{Group}
 use Rattle.sv_host.specs.Group.{IsRising, before_of}
+use Rattle.sv_host.specs.declared.parked.ParkedClient.{ParkedClient}
 use Rattle.sv_journal.specs.Journal.{disk_a, disk_b}
 use Rattle.sv_model.specs.Engine.{EngineMeaning}
 use Rattle.sv_node.specs.History.{HasEnded, HasGone}
@@ -9,22 +11,24 @@ use Rattle.sv_node.specs.Moments.{RunsWithoutLoss}
 use Rattle.sv_node.specs.Node.{IsNode, engine_of, journal_of}
 use Rattle.sv_node.specs.declared.node.Node.{Node}
 
--- a node that may be given what was gathered
+-- a node that may be given what was gathered, beside the clients that wait
 pub record IsServing {E D : Type 0} (fit : E → Type 0) (tells : D → Type 0) (seen : D → List ℕ) (may_leave : D → List ℕ → Type 0)
-    (node : Node E D) (group : Group) : Type 0 where
+    (waiters : List ParkedClient) (node : Node E D) (group : Group) : Type 0 where
   pub valid : IsNode fit tells seen may_leave node
   pub live : IsTrue (journal_of node).live
   pub rising : IsRising group
+  pub clients : HaveClients waiters node group
 
--- by what came of it: some groups were given to the node, and what is gathered from now on comes behind them
+-- by what came of it: some groups were given to the node, and what is gathered from now on comes behind them; these clients wait then
 pub record HasServed {E D T F : Type 0} (meaning : E → EngineMeaning) (heard : E → List (List ℕ)) (fit : E → Type 0) (tells : D → Type 0)
     (seen : D → List ℕ) (may_leave : D → List ℕ → Type 0) (moment : D → ℕ) (left_since : D → ℕ → List ℕ → Type 0)
-    (old : Node E D) (group : Group) (new : Node E D) (next : Group) (answer : Result T F) : Type 0 where
+    (old : Node E D) (group : Group) (waiters : List ParkedClient) (new : Node E D) (next : Group) (answer : Result T F) : Type 0 where
   pub valid : IsNode fit tells seen may_leave new
   pub rising : IsRising next
   pub gone : HasGone meaning heard tells may_leave (before_of group) (before_of next) old new answer
   -- and a stop at any moment loses nothing
   pub runs : RunsWithoutLoss meaning tells seen may_leave moment left_since (before_of group) old new
+  pub clients : OnOk answer (HaveClients waiters new next)
 
 -- none was given to it: what has come was gathered
 pub record HasGathered (group next : Group) : Type 0 where

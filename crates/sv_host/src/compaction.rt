@@ -4,8 +4,9 @@ ghost use Rattle.std.specs.Prelude.{IsTrue, IfErr, OnOk, ℕ, ◌≡◌, ◌⊎�
 ghost use Rattle.sv_node.specs.Call.{compaction_ends};
 ghost use Rattle.sv_node.specs.History.{HasGone};
 ghost use Rattle.sv_node.specs.Moments.{RunsWithoutLoss};
-ghost use Rattle.sv_node.specs.Node.{IsNode, journal_of};
+ghost use Rattle.sv_node.specs.Node.{IsNode, journal_of, state_of};
 ghost use Rattle.sv_journal.specs.declared.journal_fault.JournalFault.TheVariants.{Device, Failed};
+ghost use Rattle.sv_host.specs.Parked.{clients_of};
 ghost use Rattle.sv_host.specs.Serving.{IsServing, HasServed};
 ghost use Rattle.sv_host.specs.Stops.{HasFailed};
 ghost use Rattle.sv_host.specs.declared.fault.HostFault.TheVariants.{Device as HostDevice};
@@ -46,6 +47,8 @@ fn write_anew<E: Engine, D: Disk>(
     ensures stops { IfErr result (HasFailed node.new) }
     ensures gone { (low : ℕ) → HasGone E.meaning E.heard D.tells D.may_leave low low node.old node.new result }
     ensures runs { (low : ℕ) → RunsWithoutLoss E.meaning D.tells D.seen D.may_leave D.moment D.left_since low node.old node.new }
+    ensures waiting { state_of node.new ≡ state_of node.old }
+    ensures clients { server.new.parked ≡ server.old.parked }
 {
     match node.compact() {
         Ok(()) => {
@@ -72,6 +75,8 @@ pub fn renew<E: Engine, D: Disk>(server: &mut Server, node: &mut Node<E, D>) -> 
     ensures stops { IfErr result (HasFailed node.new) }
     ensures gone { (low : ℕ) → HasGone E.meaning E.heard D.tells D.may_leave low low node.old node.new result }
     ensures runs { (low : ℕ) → RunsWithoutLoss E.meaning D.tells D.seen D.may_leave D.moment D.left_since low node.old node.new }
+    ensures waiting { state_of node.new ≡ state_of node.old }
+    ensures clients { server.new.parked ≡ server.old.parked }
 {
     if node.restored() == 0 {
         return Ok(());
@@ -88,6 +93,8 @@ fn compact<E: Engine, D: Disk>(server: &mut Server, node: &mut Node<E, D>) -> Re
     ensures stops { IfErr result (HasFailed node.new) }
     ensures gone { (low : ℕ) → HasGone E.meaning E.heard D.tells D.may_leave low low node.old node.new result }
     ensures runs { (low : ℕ) → RunsWithoutLoss E.meaning D.tells D.seen D.may_leave D.moment D.left_since low node.old node.new }
+    ensures waiting { state_of node.new ≡ state_of node.old }
+    ensures clients { server.new.parked ≡ server.old.parked }
 {
     let len = node.journal_len();
     server.connections.report.measure(len);
@@ -103,9 +110,9 @@ pub fn compact_in_turn<E: Engine, D: Disk>(
     node: &mut Node<E, D>,
     group: &mut Group,
 ) -> Result<(), Stop>
-    requires { IsServing E.valid D.tells D.seen D.may_leave node.old group.old }
+    requires { IsServing E.valid D.tells D.seen D.may_leave (clients_of server.old.parked) node.old group.old }
     ensures stops { IfErr result (HasFailed node.new) }
-    ensures served { HasServed E.meaning E.heard E.valid D.tells D.seen D.may_leave D.moment D.left_since node.old group.old node.new group.new result }
+    ensures served { HasServed E.meaning E.heard E.valid D.tells D.seen D.may_leave D.moment D.left_since node.old group.old (clients_of server.new.parked) node.new group.new result }
 {
     compact(server, node)
 }

@@ -1,10 +1,12 @@
 //! A node's turns: what has come on its connections is gathered, given to the node together, and handed out.
 
-ghost use Rattle.std.specs.Prelude.{IsTrue};
+ghost use Rattle.std.specs.Prelude.{◌≡◌, [], IsTrue};
 ghost use Rattle.sv_node.specs.History.{HasEnded};
 ghost use Rattle.sv_node.specs.Moments.{RunsWithoutLoss};
-ghost use Rattle.sv_node.specs.Node.{IsNode, journal_of};
+ghost use Rattle.sv_node.specs.Node.{IsNode, journal_of, state_of};
+ghost use Rattle.sv_host.specs.Clients.{GathersFor};
 ghost use Rattle.sv_host.specs.Group.{IsRising};
+ghost use Rattle.sv_host.specs.Parked.{clients_of};
 ghost use Rattle.sv_host.specs.Serving.{IsServing, HasServed, HasGathered};
 
 use crate::compaction::compact_in_turn;
@@ -26,8 +28,8 @@ fn wait_on<E: Engine, D: Disk>(
     node: &mut Node<E, D>,
     group: &mut Group,
 ) -> Result<(), Stop>
-    requires { IsServing E.valid D.tells D.seen D.may_leave node.old group.old }
-    ensures { HasServed E.meaning E.heard E.valid D.tells D.seen D.may_leave D.moment D.left_since node.old group.old node.new group.new result }
+    requires { IsServing E.valid D.tells D.seen D.may_leave (clients_of server.old.parked) node.old group.old }
+    ensures { HasServed E.meaning E.heard E.valid D.tells D.seen D.may_leave D.moment D.left_since node.old group.old (clients_of server.new.parked) node.new group.new result }
 {
     ask_again(machine, server, node, group)?;
     expire(machine, server, node, group)
@@ -40,8 +42,8 @@ fn keep_time<E: Engine, D: Disk>(
     node: &mut Node<E, D>,
     group: &mut Group,
 ) -> Result<(), Stop>
-    requires { IsServing E.valid D.tells D.seen D.may_leave node.old group.old }
-    ensures { HasServed E.meaning E.heard E.valid D.tells D.seen D.may_leave D.moment D.left_since node.old group.old node.new group.new result }
+    requires { IsServing E.valid D.tells D.seen D.may_leave (clients_of server.old.parked) node.old group.old }
+    ensures { HasServed E.meaning E.heard E.valid D.tells D.seen D.may_leave D.moment D.left_since node.old group.old (clients_of server.new.parked) node.new group.new result }
 {
     server.await_by(node.parked());
     tick(machine, server, node, group)?;
@@ -55,8 +57,8 @@ fn look_after<E: Engine, D: Disk>(
     node: &mut Node<E, D>,
     group: &mut Group,
 ) -> Result<(), Stop>
-    requires { IsServing E.valid D.tells D.seen D.may_leave node.old group.old }
-    ensures { HasServed E.meaning E.heard E.valid D.tells D.seen D.may_leave D.moment D.left_since node.old group.old node.new group.new result }
+    requires { IsServing E.valid D.tells D.seen D.may_leave (clients_of server.old.parked) node.old group.old }
+    ensures { HasServed E.meaning E.heard E.valid D.tells D.seen D.may_leave D.moment D.left_since node.old group.old (clients_of server.new.parked) node.new group.new result }
 {
     settle(machine, server, node, group)?;
     compact_in_turn(server, node, group)
@@ -69,8 +71,8 @@ fn end_turn<E: Engine, D: Disk>(
     node: &mut Node<E, D>,
     group: &mut Group,
 ) -> Result<(), Stop>
-    requires { IsServing E.valid D.tells D.seen D.may_leave node.old group.old }
-    ensures { HasServed E.meaning E.heard E.valid D.tells D.seen D.may_leave D.moment D.left_since node.old group.old node.new group.new result }
+    requires { IsServing E.valid D.tells D.seen D.may_leave (clients_of server.old.parked) node.old group.old }
+    ensures { HasServed E.meaning E.heard E.valid D.tells D.seen D.may_leave D.moment D.left_since node.old group.old (clients_of server.new.parked) node.new group.new result }
 {
     // A request whose session has come is served before the time is looked at: else it might be past its deadline by then.
     look_after(machine, server, node, group)?;
@@ -86,7 +88,8 @@ fn gather_own<E: Engine, D: Disk>(
     group: &mut Group,
 ) -> Result<(), Stop>
     requires { IsRising group.old }
-    ensures { HasGathered group.old group.new }
+    ensures gathered { HasGathered group.old group.new }
+    ensures clients { GathersFor group.old group.new (clients_of server.old.parked) (clients_of server.new.parked) }
 {
     server.keep_shares(node, group);
     let now = server.held_time(machine);
@@ -102,8 +105,8 @@ fn step_some<E: Engine, D: Disk>(
     node: &mut Node<E, D>,
     group: &mut Group,
 ) -> Result<(), Stop>
-    requires { IsServing E.valid D.tells D.seen D.may_leave node.old group.old }
-    ensures { HasServed E.meaning E.heard E.valid D.tells D.seen D.may_leave D.moment D.left_since node.old group.old node.new group.new result }
+    requires { IsServing E.valid D.tells D.seen D.may_leave (clients_of server.old.parked) node.old group.old }
+    ensures { HasServed E.meaning E.heard E.valid D.tells D.seen D.may_leave D.moment D.left_since node.old group.old (clients_of server.new.parked) node.new group.new result }
 {
     if group.is_empty() {
         return Ok(());
@@ -121,8 +124,8 @@ fn step_gathered<E: Engine, D: Disk>(
     node: &mut Node<E, D>,
     group: &mut Group,
 ) -> Result<(), Stop>
-    requires { IsServing E.valid D.tells D.seen D.may_leave node.old group.old }
-    ensures { HasServed E.meaning E.heard E.valid D.tells D.seen D.may_leave D.moment D.left_since node.old group.old node.new group.new result }
+    requires { IsServing E.valid D.tells D.seen D.may_leave (clients_of server.old.parked) node.old group.old }
+    ensures { HasServed E.meaning E.heard E.valid D.tells D.seen D.may_leave D.moment D.left_since node.old group.old (clients_of server.new.parked) node.new group.new result }
 {
     match gather_own(machine, server, node, group) {
         Ok(()) => step_some(machine, server, node, group),
@@ -138,8 +141,8 @@ fn finish_turn<E: Engine, D: Disk>(
     group: &mut Group,
     gathered: Result<(), Stop>,
 ) -> Result<(), Stop>
-    requires { IsServing E.valid D.tells D.seen D.may_leave node.old group.old }
-    ensures { HasServed E.meaning E.heard E.valid D.tells D.seen D.may_leave D.moment D.left_since node.old group.old node.new group.new result }
+    requires { IsServing E.valid D.tells D.seen D.may_leave (clients_of server.old.parked) node.old group.old }
+    ensures { HasServed E.meaning E.heard E.valid D.tells D.seen D.may_leave D.moment D.left_since node.old group.old (clients_of server.new.parked) node.new group.new result }
 {
     step_gathered(machine, server, node, group)?;
     match gathered {
@@ -154,7 +157,9 @@ fn wait<E, D: Disk>(
     server: &mut Server,
     node: &Node<E, D>,
     acceptor: &mut Acceptor,
-) {
+)
+    ensures { server.new.parked ≡ server.old.parked }
+{
     server.count_kept_in_time(node);
     server.tell_operator(machine);
     let most = server.patience(machine);
@@ -174,8 +179,8 @@ fn take_turn<E: Engine, D: Disk>(
     group: &mut Group,
     acceptor: &mut Acceptor,
 ) -> Result<(), Stop>
-    requires { IsServing E.valid D.tells D.seen D.may_leave node.old group.old }
-    ensures { HasServed E.meaning E.heard E.valid D.tells D.seen D.may_leave D.moment D.left_since node.old group.old node.new group.new result }
+    requires { IsServing E.valid D.tells D.seen D.may_leave (clients_of server.old.parked) node.old group.old }
+    ensures { HasServed E.meaning E.heard E.valid D.tells D.seen D.may_leave D.moment D.left_since node.old group.old (clients_of server.new.parked) node.new group.new result }
 {
     wait(machine, server, node, acceptor);
     let gathered = gather(machine, server, group, acceptor);
@@ -191,6 +196,7 @@ pub fn run<E: Engine, D: Disk>(
 ) -> Stop
     requires valid { IsNode E.valid D.tells D.seen D.may_leave node.old }
     requires live { IsTrue (journal_of node.old).live }
+    requires nobody_waits { (state_of node.old).parked ≡ [] }
     ensures valid { IsNode E.valid D.tells D.seen D.may_leave node.new }
     ensures ended { HasEnded E.meaning E.heard D.tells D.may_leave node.old node.new }
     ensures runs { RunsWithoutLoss E.meaning D.tells D.seen D.may_leave D.moment D.left_since 0 node.old node.new }

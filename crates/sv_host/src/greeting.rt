@@ -55,6 +55,7 @@ fn homes_of<E, D: Disk>(node: &Node<E, D>) -> u8 {
 /// Greets another node.
 fn greet(machine: &HostRuntime, server: &mut Server, to: u8, addr: SocketAddr)
     requires { IsNode to }
+    ensures { server.new.parked ≡ server.old.parked }
 {
     let time = server.time;
     if let Some(greeting) = server.peers.greeting(to, time) {
@@ -75,7 +76,9 @@ pub fn greet_in_time<E, D: Disk>(
     machine: &HostRuntime,
     server: &mut Server,
     node: &Node<E, D>,
-) -> Option<HostFault> {
+) -> Option<HostFault>
+    ensures { server.new.parked ≡ server.old.parked }
+{
     if server.peers.is_due(server.time.steady_seconds()) {
         server.peers.serve(homes_of(node));
         for to in 0..NODE_LIMIT {

@@ -98,6 +98,7 @@ impl Group {
         ensures number { number_of result ≡ 0 }
         ensures before { before_of result ≡ 0 }
         ensures empty { inputs_of result ≡ [] }
+        ensures nobody { ways_of result ≡ [] }
     {
         Group {
             inputs: Vec::new(alloc),
@@ -229,6 +230,7 @@ impl Group {
         ensures inputs { result.0.items ≡ inputs_of self.old }
         ensures ways { result.1.items ≡ ways_of self.old }
         ensures empty { inputs_of self.new ≡ [] }
+        ensures nobody { ways_of self.new ≡ [] }
         ensures before { before_of self.new ≡ number_of self.old }
         ensures number { number_of self.new ≡ number_of self.old }
         ensures rising { IsRising self.new }

@@ -1,11 +1,11 @@
 //! A node on its machine, from its start to its end.
 
-ghost use Rattle.std.specs.Prelude.{◌≡◌, IfOk, IfErr, IsTrue};
+ghost use Rattle.std.specs.Prelude.{◌≡◌, [], IfOk, IfErr, IsTrue};
 ghost use Rattle.sv_model.specs.NodeState.{Durable};
 ghost use Rattle.sv_model.specs.Ranges.{IsSetting};
 ghost use Rattle.sv_node.specs.History.{HasEnded, IsLife};
 ghost use Rattle.sv_node.specs.Moments.{LivesWithoutLoss, RunsWithoutLoss};
-ghost use Rattle.sv_node.specs.Node.{IsNode, journal_of};
+ghost use Rattle.sv_node.specs.Node.{IsNode, journal_of, state_of};
 ghost use Rattle.sv_node.specs.Opened.{LeavesStart, StartsWithoutLoss};
 ghost use Rattle.sv_node.specs.Stops.{Restores};
 ghost use Rattle.sv_host.specs.Secrets.{first_by, last_of};
@@ -132,6 +132,7 @@ fn serve_ready<E: Engine, D: Disk>(
 ) -> Option<HostFault>
     requires valid { IsNode E.valid D.tells D.seen D.may_leave node.old }
     requires live { IsTrue (journal_of node.old).live }
+    requires nobody_waits { (state_of node.old).parked ≡ [] }
     ensures valid { IsNode E.valid D.tells D.seen D.may_leave node.new }
     ensures ended { HasEnded E.meaning E.heard D.tells D.may_leave node.old node.new }
     ensures runs { RunsWithoutLoss E.meaning D.tells D.seen D.may_leave D.moment D.left_since 0 node.old node.new }
@@ -154,6 +155,7 @@ fn serve_all<E: Engine, D: Disk>(
 ) -> Option<HostFault>
     requires valid { IsNode E.valid D.tells D.seen D.may_leave node.old }
     requires live { IsTrue (journal_of node.old).live }
+    requires nobody_waits { (state_of node.old).parked ≡ [] }
     ensures valid { IsNode E.valid D.tells D.seen D.may_leave node.new }
     ensures ended { HasEnded E.meaning E.heard D.tells D.may_leave node.old node.new }
     ensures runs { RunsWithoutLoss E.meaning D.tells D.seen D.may_leave D.moment D.left_since 0 node.old node.new }
@@ -181,6 +183,7 @@ fn live<E: Engine, D: Disk>(
 ) -> Ended<E, D>
     requires valid { IsNode E.valid D.tells D.seen D.may_leave node }
     requires live { IsTrue (journal_of node).live }
+    requires nobody_waits { (state_of node).parked ≡ [] }
     ensures { HasLived E.meaning E.heard E.valid D.tells D.seen D.may_leave D.moment D.left_since node result.engine result.a result.b }
 {
     let mut node = node;

@@ -4,8 +4,10 @@ ghost use Rattle.std.specs.Prelude.{◌≡◌, ◌≢◌, ◌≤◌, ◌<◌, []
 ghost use Rattle.sv_model.specs.Ranges.{IsInput};
 ghost use Rattle.sv_node.specs.History.{IsAbove};
 ghost use Rattle.sv_node.specs.Node.{setting_of, state_of};
+ghost use Rattle.sv_host.specs.Clients.{GathersFor};
 ghost use Rattle.sv_host.specs.Group.{inputs_of, IsRising};
 ghost use Rattle.sv_host.specs.Nudges.{input_of, moment_of, second_of, HasNudge, HasNudges, IsInTime, IsSettled, IsTold};
+ghost use Rattle.sv_host.specs.Parked.{clients_of};
 ghost use Rattle.sv_host.specs.Secrets.{last_of};
 ghost use Rattle.sv_host.specs.Serving.{IsServing, HasServed, HasGathered};
 ghost use Rattle.sv_host.specs.Stops.{IsSpent, LacksSecrets};
@@ -125,6 +127,7 @@ fn add_nudge(
 ) -> Result<bool, Stop>
     requires { IsRising group.old }
     ensures gathered { HasGathered group.old group.new }
+    ensures clients { GathersFor group.old group.new (clients_of server.old.parked) (clients_of server.new.parked) }
     ensures added { IfOk result (λ added. IsTrue added → HasNudge nudge (steady_of server.old.time) group.old group.new) }
     ensures never_back { steady_of server.old.time ≤ steady_of server.new.time }
     ensures stops { IfErr result (LacksSecrets (last_of server.new.secrets)) }
@@ -142,6 +145,7 @@ fn add_nudges(
 ) -> Result<bool, Stop>
     requires { IsRising group.old }
     ensures gathered { HasGathered group.old group.new }
+    ensures clients { GathersFor group.old group.new (clients_of server.old.parked) (clients_of server.new.parked) }
     ensures added { IfOk result (λ added. IsTrue added → HasNudges nudges.nudge (steady_of server.old.time) nudges.count group.old group.new) }
     ensures stops { IfErr result (LacksSecrets (last_of server.new.secrets)) }
 {
@@ -162,6 +166,7 @@ pub fn add_pokes(
 ) -> Result<(), Stop>
     requires { IsRising group.old }
     ensures gathered { HasGathered group.old group.new }
+    ensures clients { GathersFor group.old group.new (clients_of server.old.parked) (clients_of server.new.parked) }
     ensures stops { IfErr result (LacksSecrets (last_of server.new.secrets)) }
 {
     let pokes = Nudges {
@@ -183,8 +188,8 @@ fn tell<E: Engine, D: Disk>(
     group: &mut Group,
     nudges: Nudges,
 ) -> Result<Taken, Stop>
-    requires { IsServing E.valid D.tells D.seen D.may_leave node.old group.old }
-    ensures served { HasServed E.meaning E.heard E.valid D.tells D.seen D.may_leave D.moment D.left_since node.old group.old node.new group.new result }
+    requires { IsServing E.valid D.tells D.seen D.may_leave (clients_of server.old.parked) node.old group.old }
+    ensures served { HasServed E.meaning E.heard E.valid D.tells D.seen D.may_leave D.moment D.left_since node.old group.old (clients_of server.new.parked) node.new group.new result }
     ensures told { IfOk result (λ taken. taken ≢ Refused → IsTold E.meaning E.heard D.failed nudges.nudge (steady_of server.old.time) nudges.count node.old
         group.old node.new taken) }
     ensures emptied { IfOk result (λ _. inputs_of group.new ≡ []) }
@@ -208,8 +213,8 @@ pub fn settle<E: Engine, D: Disk>(
     node: &mut Node<E, D>,
     group: &mut Group,
 ) -> Result<bool, Stop>
-    requires { IsServing E.valid D.tells D.seen D.may_leave node.old group.old }
-    ensures served { HasServed E.meaning E.heard E.valid D.tells D.seen D.may_leave D.moment D.left_since node.old group.old node.new group.new result }
+    requires { IsServing E.valid D.tells D.seen D.may_leave (clients_of server.old.parked) node.old group.old }
+    ensures served { HasServed E.meaning E.heard E.valid D.tells D.seen D.may_leave D.moment D.left_since node.old group.old (clients_of server.new.parked) node.new group.new result }
     ensures settled { inputs_of group.old ≡ [] → IfOk result (λ settled. IsTrue settled → IsSettled (state_of node.new)) }
     ensures stops { IfErr result (IsSpent server.new) }
 {
@@ -281,8 +286,8 @@ fn tick_all<E: Engine, D: Disk>(
     group: &mut Group,
     ticks: Nudges,
 ) -> Result<Ticked, Stop>
-    requires { IsServing E.valid D.tells D.seen D.may_leave node.old group.old }
-    ensures served { HasServed E.meaning E.heard E.valid D.tells D.seen D.may_leave D.moment D.left_since node.old group.old node.new group.new result }
+    requires { IsServing E.valid D.tells D.seen D.may_leave (clients_of server.old.parked) node.old group.old }
+    ensures served { HasServed E.meaning E.heard E.valid D.tells D.seen D.may_leave D.moment D.left_since node.old group.old (clients_of server.new.parked) node.new group.new result }
     ensures in_time { ticks.nudge ≢ Poke → 0 < ticks.count → IfOk result (λ ticked. ticked ≢ TickedRefused → IsInTime (setting_of node.new)
         (second_of ticks.nudge (steady_of server.old.time)) (state_of node.new)) }
     ensures stops { IfErr result (IsSpent server.new) }
@@ -304,8 +309,8 @@ fn end_waiting<E: Engine, D: Disk>(
     ticked: Ticked,
     second: u64,
 ) -> Result<Ticked, Stop>
-    requires { IsServing E.valid D.tells D.seen D.may_leave node.old group.old }
-    ensures served { HasServed E.meaning E.heard E.valid D.tells D.seen D.may_leave D.moment D.left_since node.old group.old node.new group.new result }
+    requires { IsServing E.valid D.tells D.seen D.may_leave (clients_of server.old.parked) node.old group.old }
+    ensures served { HasServed E.meaning E.heard E.valid D.tells D.seen D.may_leave D.moment D.left_since node.old group.old (clients_of server.new.parked) node.new group.new result }
     ensures in_time { ticked ≡ TickedRefused → IfOk result (λ ticked. ticked ≢ TickedRefused → IsInTime (setting_of node.new) second (state_of node.new)) }
     ensures same { ticked ≢ TickedRefused → (result ≡ Ok ticked) × (node.new ≡ node.old) }
     ensures stops { IfErr result (IsSpent server.new) }
@@ -323,8 +328,8 @@ fn tick_once<E: Engine, D: Disk>(
     node: &mut Node<E, D>,
     group: &mut Group,
 ) -> Result<Ticked, Stop>
-    requires { IsServing E.valid D.tells D.seen D.may_leave node.old group.old }
-    ensures served { HasServed E.meaning E.heard E.valid D.tells D.seen D.may_leave D.moment D.left_since node.old group.old node.new group.new result }
+    requires { IsServing E.valid D.tells D.seen D.may_leave (clients_of server.old.parked) node.old group.old }
+    ensures served { HasServed E.meaning E.heard E.valid D.tells D.seen D.may_leave D.moment D.left_since node.old group.old (clients_of server.new.parked) node.new group.new result }
     ensures in_time { IfOk result (λ ticked. ticked ≢ TickedRefused → IsInTime (setting_of node.new) (steady_of server.old.time) (state_of node.new)) }
     ensures stops { IfErr result (IsSpent server.new) }
 {
@@ -341,8 +346,8 @@ pub fn tick<E: Engine, D: Disk>(
     node: &mut Node<E, D>,
     group: &mut Group,
 ) -> Result<bool, Stop>
-    requires { IsServing E.valid D.tells D.seen D.may_leave node.old group.old }
-    ensures served { HasServed E.meaning E.heard E.valid D.tells D.seen D.may_leave D.moment D.left_since node.old group.old node.new group.new result }
+    requires { IsServing E.valid D.tells D.seen D.may_leave (clients_of server.old.parked) node.old group.old }
+    ensures served { HasServed E.meaning E.heard E.valid D.tells D.seen D.may_leave D.moment D.left_since node.old group.old (clients_of server.new.parked) node.new group.new result }
     ensures in_time { IsFalse server.old.is_spared → server.old.ticked < steady_of server.old.time → IfOk result (λ done. IsTrue done → IsInTime
         (setting_of node.new) (steady_of server.old.time) (state_of node.new)) }
     ensures stops { IfErr result (IsSpent server.new) }
@@ -366,8 +371,8 @@ pub fn ask_again<E: Engine, D: Disk>(
     node: &mut Node<E, D>,
     group: &mut Group,
 ) -> Result<(), Stop>
-    requires { IsServing E.valid D.tells D.seen D.may_leave node.old group.old }
-    ensures served { HasServed E.meaning E.heard E.valid D.tells D.seen D.may_leave D.moment D.left_since node.old group.old node.new group.new result }
+    requires { IsServing E.valid D.tells D.seen D.may_leave (clients_of server.old.parked) node.old group.old }
+    ensures served { HasServed E.meaning E.heard E.valid D.tells D.seen D.may_leave D.moment D.left_since node.old group.old (clients_of server.new.parked) node.new group.new result }
     ensures stops { IfErr result (IsSpent server.new) }
 {
     let now = server.time.steady;
@@ -389,8 +394,8 @@ fn end_some<E: Engine, D: Disk>(
     node: &mut Node<E, D>,
     group: &mut Group,
 ) -> Result<(), Stop>
-    requires { IsServing E.valid D.tells D.seen D.may_leave node.old group.old }
-    ensures served { HasServed E.meaning E.heard E.valid D.tells D.seen D.may_leave D.moment D.left_since node.old group.old node.new group.new result }
+    requires { IsServing E.valid D.tells D.seen D.may_leave (clients_of server.old.parked) node.old group.old }
+    ensures served { HasServed E.meaning E.heard E.valid D.tells D.seen D.may_leave D.moment D.left_since node.old group.old (clients_of server.new.parked) node.new group.new result }
     ensures stops { IfErr result (IsSpent server.new) }
 {
     match tick_all(machine, server, node, group, MORE_TICKS) {
@@ -409,8 +414,8 @@ pub fn expire<E: Engine, D: Disk>(
     node: &mut Node<E, D>,
     group: &mut Group,
 ) -> Result<(), Stop>
-    requires { IsServing E.valid D.tells D.seen D.may_leave node.old group.old }
-    ensures served { HasServed E.meaning E.heard E.valid D.tells D.seen D.may_leave D.moment D.left_since node.old group.old node.new group.new result }
+    requires { IsServing E.valid D.tells D.seen D.may_leave (clients_of server.old.parked) node.old group.old }
+    ensures served { HasServed E.meaning E.heard E.valid D.tells D.seen D.may_leave D.moment D.left_since node.old group.old (clients_of server.new.parked) node.new group.new result }
     ensures stops { IfErr result (IsSpent server.new) }
 {
     let begun = steady(machine);

@@ -3,6 +3,7 @@
 ghost use Rattle.std.specs.Prelude.{◌≡◌, ◌≤◌, ◌<◌, [], IfErr, IfOk, IsFalse, IsTrue};
 ghost use Rattle.sv_host.specs.Group.{inputs_of};
 ghost use Rattle.sv_host.specs.HandingOut.{IsHandedOut};
+ghost use Rattle.sv_host.specs.Parked.{clients_of};
 ghost use Rattle.sv_host.specs.Secrets.{last_of, secret_in, Draws};
 ghost use Rattle.sv_host.specs.Serving.{IsServing, HasServed};
 ghost use Rattle.sv_host.specs.Stops.{IsLost};
@@ -146,6 +147,7 @@ impl Server {
         ensures same { IsFalse result → self.new.ticked ≡ self.old.ticked }
         ensures none { IsFalse self.old.is_spared → IsFalse result → steady_of self.new.time ≤ self.new.ticked }
         ensures never_back { steady_of self.old.time ≤ steady_of self.new.time }
+        ensures clients { self.new.parked ≡ self.old.parked }
     {
         if self.is_spared {
             return false;
@@ -175,7 +177,9 @@ impl Server {
     }
 
     /// The journal was written anew; its lengths in bytes.
-    pub fn was_compacted(&mut self, before: u64, after: u64) {
+    pub fn was_compacted(&mut self, before: u64, after: u64)
+        ensures { self.new.parked ≡ self.old.parked }
+    {
         self.compacted = after;
         self.connections.report.measure(after);
         self.connections
@@ -184,7 +188,9 @@ impl Server {
     }
 
     /// Counts what the node keeps, for the figures: the keys that it knows, and the bytes of its journal.
-    pub fn count_kept<E, D: Disk>(&mut self, node: &Node<E, D>) {
+    pub fn count_kept<E, D: Disk>(&mut self, node: &Node<E, D>)
+        ensures { self.new.parked ≡ self.old.parked }
+    {
         let Census {
             active,
             sent,
@@ -204,7 +210,9 @@ impl Server {
     }
 
     /// The same where the figures are about to be written.
-    pub fn count_kept_in_time<E, D: Disk>(&mut self, node: &Node<E, D>) {
+    pub fn count_kept_in_time<E, D: Disk>(&mut self, node: &Node<E, D>)
+        ensures { self.new.parked ≡ self.old.parked }
+    {
         if self.connections.report.wants_census() {
             self.count_kept(node);
         }
@@ -239,7 +247,9 @@ impl Server {
     }
 
     /// These requests wait at the node, as time passes.
-    pub fn await_by(&mut self, parked: &[Parked]) {
+    pub fn await_by(&mut self, parked: &[Parked])
+        ensures { self.new.parked ≡ self.old.parked }
+    {
         if self.connections.report.is_logging() {
             self.awaited.look(parked);
         }
@@ -268,7 +278,9 @@ impl Server {
     }
 
     /// Writes what is to be told to the operator.
-    pub fn tell_operator(&mut self, machine: &HostRuntime) {
+    pub fn tell_operator(&mut self, machine: &HostRuntime)
+        ensures { self.new.parked ≡ self.old.parked }
+    {
         let (waiting, open) = (self.parked.len(), self.connections.len());
         self.connections.report.turn(machine, waiting, open);
     }
@@ -280,8 +292,8 @@ impl Server {
         node: &mut Node<E, D>,
         group: &mut Group,
     ) -> Result<Taken, Stop>
-        requires { IsServing E.valid D.tells D.seen D.may_leave node.old group.old }
-        ensures served { HasServed E.meaning E.heard E.valid D.tells D.seen D.may_leave D.moment D.left_since node.old group.old node.new group.new result }
+        requires { IsServing E.valid D.tells D.seen D.may_leave (clients_of self.old.parked) node.old group.old }
+        ensures served { HasServed E.meaning E.heard E.valid D.tells D.seen D.may_leave D.moment D.left_since node.old group.old (clients_of self.new.parked) node.new group.new result }
         ensures told { IsHandedOut E.meaning E.heard D.failed node.old node.new group.old self.old self.new result }
         ensures emptied { inputs_of group.new ≡ [] }
         ensures stops { IfErr result IsLost }

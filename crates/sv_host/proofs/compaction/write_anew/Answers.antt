@@ -1,4 +1,5 @@
 use Rattle.sv_node.proofs.MomentLemmas.{compaction_runs}
+use Rattle.sv_host.proofs.HavingLemmas.{same_waiting}
 use Rattle.sv_host.proofs.LifeLemmas.{compaction_done, compaction_refused}
 use Rattle.sv_host.proofs.StopLemmas.{compaction_stops}
 use Rattle.sv_host.proofs.compaction.write_anew.Goals as goal
@@ -36,3 +37,9 @@ returns-in-Err-clause-runs g c = λ low.
     let d = g.D.Disk in
     compaction_runs e.meaning e.heard d.tells d.seen d.may_leave d.moment d.left_since d.failed c.args.node.now c.compact.new.self c.requires.live (c.requires.valid.stored c.requires.live) _ low
     c.in-Err.ensures.compaction
+
+pub returns-in-Ok-clause-waiting : goal.returns-in-Ok-clause-waiting
+returns-in-Ok-clause-waiting g c = same_waiting c.in-Ok.ensures.compaction
+
+pub returns-in-Err-clause-waiting : goal.returns-in-Err-clause-waiting
+returns-in-Err-clause-waiting g c = same_waiting c.in-Err.ensures.compaction

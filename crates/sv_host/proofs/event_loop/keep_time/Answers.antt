@@ -1,5 +1,10 @@
-use Rattle.sv_host.proofs.ServingLemmas.{serves_on, served_then}
+use Rattle.std.proofs.Common.{ap}
+use Rattle.sv_host.specs.Parked.{clients_of}
+use Rattle.sv_host.proofs.ServingLemmas.{serves_on, serves_same, served_then}
 use Rattle.sv_host.proofs.event_loop.keep_time.Goals as goal
+
+pub tick-requires : goal.tick-requires
+tick-requires g c = serves_same (ap (λ p. clients_of p) c.await_by.ensures) c.requires
 
 pub wait_on-requires : goal.wait_on-requires
 wait_on-requires g c = serves_on c.in_ok-tick.was c.tick.ensures.served

@@ -1,12 +1,21 @@
-use Rattle.std.proofs.Common.{Err, inl, arith}
+use Rattle.std.proofs.Common.{ap, Err, inl, refl, arith}
 use Rattle.std.specs.Prelude.{⊤}
 use Rattle.sv_host.specs.Group.{before_of}
+use Rattle.sv_host.specs.Parked.{clients_of}
+use Rattle.sv_host.proofs.HavingLemmas.{have_nobody, have_same}
 use Rattle.sv_node.proofs.HistoryLemmas.{goes_nowhere, goes_join, gone_join}
 use Rattle.sv_node.proofs.MomentLemmas.{runs_join, runs_nowhere}
 use Rattle.sv_host.proofs.event_loop.run.Goals as goal
 
 pub take_turn-requires : goal.take_turn-requires
-take_turn-requires g c = record { valid = c.loop.invariant.valid; live = c.loop.invariant.goes.live; rising = c.loop.invariant.rising }
+take_turn-requires g c =
+    let l = c.loop in
+    record {
+      valid = l.invariant.valid;
+      live = l.invariant.goes.live;
+      rising = l.invariant.rising;
+      clients = have_same (clients_of l.server.parked) _ l.node l.node l.group refl (ap (λ p. clients_of p) c.greet_in_time.ensures) l.invariant.clients;
+    }
 
 pub returns-in-Err-clause-ended : goal.returns-in-Err-clause-ended
 returns-in-Err-clause-ended g c =
@@ -24,6 +33,7 @@ loop-preserved g c =
     record {
       valid = c.take_turn.ensures.valid;
       rising = c.take_turn.ensures.rising;
+      clients = c.in_default-take_turn.ensures.clients;
       goes = goes_join e.meaning e.heard d.tells d.may_leave d.moment d.left_since 0 (before_of l.group) (before_of c.take_turn.new.group) c.args.node.now l.node c.take_turn.new.node l.invariant.goes c.in_default-take_turn.ensures.gone;
       runs = runs_join e.meaning e.heard d.tells d.seen d.may_leave d.moment d.left_since 0 (before_of l.group) (before_of c.take_turn.new.group) c.args.node.now l.node c.take_turn.new.node l.invariant.goes l.invariant.runs
           c.take_turn.ensures.runs;
@@ -36,6 +46,7 @@ loop-init g c =
     record {
       valid = c.requires.valid;
       rising = c.new-group.ensures.rising;
+      clients = have_nobody (clients_of c.args.server.now.parked) c.args.node.now c.new-group.result c.requires.nobody_waits c.new-group.ensures.empty c.new-group.ensures.nobody;
       goes = goes_nowhere e.meaning e.heard d.tells d.may_leave d.moment d.left_since 0 (before_of c.new-group.result) c.args.node.now (omega arith) c.requires.live;
       runs = runs_nowhere e.meaning e.heard d.tells d.seen d.may_leave d.moment d.left_since 0 c.args.node.now;
     }

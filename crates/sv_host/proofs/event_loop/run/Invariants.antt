@@ -1,4 +1,6 @@
+use Rattle.sv_host.specs.Clients.{HaveClients}
 use Rattle.sv_host.specs.Group.{before_of, IsRising}
+use Rattle.sv_host.specs.Parked.{clients_of}
 use Rattle.sv_node.specs.History.{GoesOn}
 use Rattle.sv_node.specs.Moments.{RunsWithoutLoss}
 use Rattle.sv_node.specs.Node.{IsNode}
@@ -9,6 +11,7 @@ abbrev pub invariant-loop : goal.invariant-loop
 invariant-loop g l = record {
   valid : IsNode g.E.Engine.valid g.D.Disk.tells g.D.Disk.seen g.D.Disk.may_leave l.node;
   rising : IsRising l.group;
+  clients : HaveClients (clients_of l.server.parked) l.node l.group;
   goes : GoesOn g.E.Engine.meaning g.E.Engine.heard g.D.Disk.tells 0 (before_of l.group) l.initial.node l.node;
   runs : RunsWithoutLoss g.E.Engine.meaning g.D.Disk.tells g.D.Disk.seen g.D.Disk.may_leave g.D.Disk.moment g.D.Disk.left_since 0 l.initial.node l.node;
 }

@@ -1,8 +1,11 @@
-use Rattle.sv_host.proofs.ServingLemmas.{gathered_then, served_nothing}
+use Rattle.sv_host.proofs.ServingLemmas.{gathered_then, served_nothing, serves_gathered}
 use Rattle.sv_host.proofs.event_loop.step_gathered.Goals as goal
 
+pub step_some-requires : goal.step_some-requires
+step_some-requires g c = serves_gathered c.requires c.gather_own.ensures.gathered c.gather_own.ensures.clients
+
 pub returns-in-Ok : goal.returns-in-Ok
-returns-in-Ok g c = gathered_then c.gather_own.ensures c.step_some.ensures
+returns-in-Ok g c = gathered_then c.gather_own.ensures.gathered c.step_some.ensures
 
 pub returns-in-Err : goal.returns-in-Err
-returns-in-Err g c = served_nothing _ c.requires c.gather_own.ensures
+returns-in-Err g c = served_nothing _ c.requires c.gather_own.ensures.gathered c.gather_own.ensures.clients

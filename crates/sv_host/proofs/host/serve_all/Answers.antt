@@ -1,5 +1,6 @@
-use Rattle.std.proofs.Common.{Err}
+use Rattle.std.proofs.Common.{Err, ap, ◌∙◌}
 use Rattle.std.specs.Prelude.{⊤}
+use Rattle.sv_model.specs.NodeState.{Node as State}
 use Rattle.sv_node.proofs.HistoryLemmas.{gone_join}
 use Rattle.sv_node.proofs.MomentLemmas.{runs_join}
 use Rattle.sv_host.proofs.host.serve_all.Goals as goal
@@ -25,3 +26,6 @@ returns-in-Ok-clause-runs g c =
 
 pub returns-in-Err-clause-runs : goal.returns-in-Err-clause-runs
 returns-in-Err-clause-runs g c = c.renew.ensures.runs 0
+
+pub serve_ready-requires-clause-nobody_waits : goal.serve_ready-requires-clause-nobody_waits
+serve_ready-requires-clause-nobody_waits g c = ap (λ (n : State). n.parked) c.in-Ok.ensures.waiting ∙ c.requires.nobody_waits

@@ -1,5 +1,7 @@
 use Rattle.std.proofs.Common.{◌≤◌}
+use Rattle.sv_host.specs.Clients.{GathersFor}
 use Rattle.sv_host.specs.Nudges.{HasNudges}
+use Rattle.sv_host.specs.Parked.{clients_of}
 use Rattle.sv_host.specs.Serving.{HasGathered}
 use Rattle.sv_host.specs.Time.{steady_of}
 use Rattle.sv_host.proofs.nudges.add_nudges.Given as goal
@@ -9,5 +11,6 @@ abbrev pub invariant-loop-done : goal.invariant-loop-done
 invariant-loop-done l = record {
   gathered : HasGathered l.initial.group l.group;
   has : HasNudges l.nudges.nudge (steady_of l.initial.server.time) l._done l.initial.group l.group;
+  clients : GathersFor l.initial.group l.group (clients_of l.initial.server.parked) (clients_of l.server.parked);
   later : steady_of l.initial.server.time ≤ steady_of l.server.time;
 }

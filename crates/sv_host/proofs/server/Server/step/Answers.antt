@@ -13,6 +13,7 @@ use Rattle.sv_node.specs.GroupCalls.{all_given}
 use Rattle.sv_node.specs.History.{RiseIn, numbers_in}
 use Rattle.sv_node.specs.Node.{engine_of}
 use Rattle.sv_node.proofs.MomentLemmas.{group_runs}
+use Rattle.sv_host.proofs.HavingLemmas.{have_group}
 use Rattle.sv_host.proofs.LifeLemmas.{group_served}
 use Rattle.sv_host.proofs.SendLemmas.{of_answers}
 use Rattle.sv_host.proofs.server.Server.step.Goals as goal
@@ -31,6 +32,7 @@ returns-clause-served g c =
     let d = g.D.Disk in
     let t = c.take-inputs.ensures in
     let rising = c.requires.rising in
+    let start = record c.end_write.new.self { connections = c.look_at_clock.new.self } in
     record {
       valid = c.step_all-answers.ensures.valid;
       rising = t.rising;
@@ -41,6 +43,12 @@ returns-clause-served g c =
       runs = group_runs e.meaning e.heard d.tells d.seen d.may_leave d.moment d.left_since d.failed c.args.node.now c.step_all-answers.new.self c.requires.live (c.requires.valid.stored c.requires.live)
           c.take-inputs.result.0.items c.args.group.now.before (subst (λ (xs : List (Moment × Input)). RiseIn c.args.group.now.before (all_given xs)) (sym t.inputs) rising.rises)
           (with_list (λ a. map (with_list vec_items) a.items) c.step_all-answers.result) c.step_all-answers.ensures.group;
+      clients = have_group e.meaning e.heard d.failed c.args.node.now c.step_all-answers.new.self c.args.group.now c.take-inputs.new.self rising c.args.self.now start c.hand_out.new.self (seconds_of start.time)
+          (ap (λ p. clients_of p) c.end_write.ensures) c.requires.clients t.before t.empty t.nobody c.step_all-answers.result c.hand_out.result
+          (subst (λ (xs : List (Moment × Input)). GroupEnds e.meaning e.heard d.failed c.args.node.now xs (with_list (λ a. map (with_list vec_items) a.items) c.step_all-answers.result) c.step_all-answers.new.self)
+          t.inputs c.step_all-answers.ensures.group.ends)
+          (subst (λ (ways : List Way). HandsOutGroup ways c.step_all-answers.result c.hand_out.result (seconds_of start.time) start c.hand_out.new.self) (c.as_slice.ensures.value ∙ t.ways) c.hand_out.ensures.told)
+          c.hand_out.ensures.goes_on;
     }
 
 -- what the node gives is handed out

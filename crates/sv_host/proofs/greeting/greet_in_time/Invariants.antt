@@ -1,0 +1,6 @@
+use Rattle.std.proofs.Common.{◌≡◌}
+use Rattle.sv_host.proofs.greeting.greet_in_time.Given as goal
+
+-- nobody waits less
+abbrev pub invariant-loop-to : goal.invariant-loop-to
+invariant-loop-to g l = l.server.parked ≡ l.initial.server.parked
