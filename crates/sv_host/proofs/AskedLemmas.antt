@@ -1,6 +1,6 @@
 -- What is gathered has its clients: as one more comes, as one is left out, and one behind the other.
-use Rattle.std.proofs.Common.{◌≡◌, ◌≢◌, ℕ, zero, suc, ◌<◌, ◌≤◌, Bool, true, false, List, [], ◌∷◌, ◌++◌, Option, Some, None, arith, refl, sym, ap, subst, ◌∙◌}
-use Rattle.std.specs.Prelude.{⊤, IsTrue, IsFalse, remove, slice_get}
+use Rattle.std.proofs.Common.{◌≡◌, ℕ, zero, suc, ◌<◌, ◌≤◌, Bool, true, false, List, [], ◌∷◌, ◌++◌, Option, Some, None, arith, refl, sym, ap, subst, ◌∙◌}
+use Rattle.std.specs.Prelude.{IsTrue, IsFalse, remove, slice_get}
 use Rattle.sv_host.specs.declared.group.Asker.{Asker}
 use Rattle.sv_host.specs.declared.group.Asker.TheVariants.{Client, Command, Nobody}
 use Rattle.sv_host.specs.declared.group.Came.{Came}
@@ -8,10 +8,10 @@ use Rattle.sv_host.specs.declared.group.Group.{Group}
 use Rattle.sv_host.specs.declared.group.Way.{Way}
 use Rattle.sv_host.specs.declared.packets.Packets.{Packets}
 use Rattle.sv_host.specs.declared.parked.ParkedClient.{ParkedClient}
-use Rattle.sv_host.specs.Clients.{AskedFor, GathersFor, Has, HasAsked, HaveWays, IsAskUnder, KeepsAll, MayAsk, refused_of}
+use Rattle.sv_host.specs.Clients.{AskedFor, GathersFor, Has, HasAsked, HaveWays, KeepsAll, MayAsk, refused_of}
 use Rattle.sv_host.specs.Group.{Comes, HasOneMore, IsAskedBy, IsRising, IsSame, before_of, inputs_of, number_of, request_in, request_of, ways_of}
 use Rattle.sv_host.specs.Parked.{without}
-use Rattle.sv_host.proofs.ClientLemmas.{has_more, has_new, others_kept}
+use Rattle.sv_host.proofs.ClientLemmas.{others_kept}
 use Rattle.sv_model.specs.declared.input.Input.{Input}
 use Rattle.sv_model.specs.declared.input.Input.TheVariants as input
 use Rattle.sv_model.specs.declared.key.Moment.{Moment}

@@ -1,5 +1,5 @@
 -- Clients that are kept.
-use Rattle.std.proofs.Common.{◌≡◌, ◌≢◌, ℕ, ◌<◌, Bool, true, false, cond, count_by, position, swap_remove, Option, Some, None, List, [], ◌∷◌, ◌++◌, length, get_or, arith, refl, ap, subst, ◌∙◌, eqb-true, eq-eqb, ne_eqb}
+use Rattle.std.proofs.Common.{◌≡◌, ◌≢◌, ℕ, Bool, cond, position, Option, Some, None, List, [], ◌∷◌, ◌++◌, get_or, arith, refl, ap, eqb-true, eq-eqb, ne_eqb}
 use Rattle.std.proofs.lemmas.List.Quantifiers.{position-Some}
 use Rattle.std.proofs.lemmas.List.Sums.{sum_by-swap_remove, sum_by_push}
 use Rattle.sv_host.specs.Clients.{Has}

@@ -1,12 +1,11 @@
 -- Each request that waits at a node has its client: as more is gathered, and behind a group.
-use Rattle.std.proofs.Common.{◌≡◌, ℕ, ◌+◌, ◌≤◌, List, [], map, Vec, vec_items, Global, Result, Ok, Err, arith, refl, sym, ap, subst, ◌∙◌}
+use Rattle.std.proofs.Common.{◌≡◌, ℕ, ◌+◌, List, [], map, Vec, vec_items, Global, Result, Ok, Err, arith, sym, ap, subst}
 use Rattle.std.specs.Prelude.{IfErr, OnOk, false}
-use Rattle.sv_host.specs.declared.group.Asker.{Asker}
 use Rattle.sv_host.specs.declared.group.Group.{Group}
 use Rattle.sv_host.specs.declared.group.Way.{Way}
 use Rattle.sv_host.specs.declared.parked.ParkedClient.{ParkedClient}
 use Rattle.sv_host.specs.declared.server.Server.{Server}
-use Rattle.sv_host.specs.Clients.{AskedFor, GathersFor, Has, HaveClients, HaveWays, Wait, WaitFor}
+use Rattle.sv_host.specs.Clients.{AskedFor, GathersFor, Has, HaveClients, HaveWays, WaitFor}
 use Rattle.sv_host.specs.Group.{IsRising, before_of, inputs_of, number_of, ways_of}
 use Rattle.sv_host.specs.HandingOut.{HandsOutGroup, RefusesAll, way_at}
 use Rattle.sv_host.specs.Parked.{clients_of}

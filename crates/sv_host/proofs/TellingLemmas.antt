@@ -1,17 +1,16 @@
 -- Who goes on waiting when what a group has put out is handed to whom it is for: whoever is told nothing of it.
-use Rattle.std.proofs.Common.{◌≡◌, ◌≢◌, ℕ, zero, suc, ◌+◌, ◌<◌, ◌≤◌, List, [], ◌∷◌, map, Vec, vec_items, Result, Ok, Err, Option, Some, None, arith, refl, sym, ap, subst, ◌∙◌}
-use Rattle.std.specs.Prelude.{⊤, slice_get}
-use Rattle.std.specs.List.{AllByRecursion}
+use Rattle.std.proofs.Common.{◌≡◌, ◌≢◌, ℕ, zero, suc, ◌+◌, ◌<◌, ◌≤◌, List, [], ◌∷◌, map, Vec, vec_items, Result, Ok, Err, arith, sym, ap, subst, ◌∙◌}
+use Rattle.std.specs.Prelude.{⊤}
 use Rattle.std.specs.declared.alloc.Global.{Global}
 use Rattle.sv_host.specs.declared.group.Asker.{Asker}
 use Rattle.sv_host.specs.declared.group.Asker.TheVariants.{Client, Command, Nobody}
 use Rattle.sv_host.specs.declared.group.Way.{Way}
 use Rattle.sv_host.specs.declared.parked.ParkedClient.{ParkedClient}
 use Rattle.sv_host.specs.declared.server.Server.{Server}
-use Rattle.sv_host.specs.Clients.{AreForOthers, AskedFor, Has, HasAsked, HaveWays, IsAskUnder, IsForOthers, KeepsOthers, MayAsk, Wait, WaitFor, refused_of}
+use Rattle.sv_host.specs.Clients.{AskedFor, Has, HasAsked, HaveWays, IsForOthers, KeepsOthers, MayAsk, WaitFor, refused_of}
 use Rattle.sv_host.specs.HandingOut.{Concludes, ConcludesRefused, HandsOn, HandsOnAll, HandsOut, HandsOutFrom, RefusesAll, way_at}
 use Rattle.sv_host.specs.Parked.{clients_of, without}
-use Rattle.sv_host.proofs.AskedLemmas.{asked_between, not_lower, not_lower_all, refused_keeps}
+use Rattle.sv_host.proofs.AskedLemmas.{asked_between, not_lower, refused_keeps}
 use Rattle.sv_host.proofs.ClientLemmas.{others_kept}
 use Rattle.sv_host.proofs.WaitLemmas.{step_keeps, step_waits, wait_below, wait_map}
 use Rattle.sv_model.specs.declared.input.Input.{Input}
@@ -22,8 +21,6 @@ use Rattle.sv_model.specs.declared.node.Setting.{Setting}
 use Rattle.sv_model.specs.declared.output.Output.{Output}
 use Rattle.sv_model.specs.declared.output.Output.TheVariants.{Answer, Refuse, Send, Moved, MoveRefused}
 use Rattle.sv_model.specs.declared.site.StepFault.{StepFault}
-use Rattle.sv_model.specs.declared.site.StepFault.TheVariants as step
-use Rattle.sv_model.specs.Decision.{left}
 use Rattle.sv_model.specs.Engine.{EngineMeaning}
 use Rattle.sv_model.specs.Node.{decided}
 use Rattle.sv_model.specs.NodeState.{Node as State}

@@ -1,7 +1,6 @@
 -- Who waits at a node behind a step, and to whom the step tells something: to nobody who goes on waiting.
-use Rattle.std.proofs.Common.{◌≡◌, ◌≢◌, ℕ, ◌+◌, ◌<◌, ◌≤◌, ◌||◌, ◌==◌, Bool, true, false, cond, not, nat_le, Option, Some, None, List, [], ◌∷◌, ◌++◌, map, length, filter, filter_map, flat_map, arith, refl, ap}
+use Rattle.std.proofs.Common.{◌≡◌, ◌≢◌, ℕ, ◌<◌, ◌≤◌, ◌||◌, ◌==◌, Bool, true, false, cond, not, nat_le, Option, Some, None, List, [], ◌∷◌, ◌++◌, map, length, filter, filter_map, flat_map, arith, refl, ap}
 use Rattle.std.specs.Prelude.{⊤}
-use Rattle.std.specs.List.{AllByRecursion}
 use Rattle.std.specs.FinMap.{entries}
 use Rattle.std.proofs.lemmas.Bool.{cond_both}
 use Rattle.sv_model.specs.declared.input.Input.{Input}
@@ -27,13 +26,13 @@ use Rattle.sv_model.specs.declared.state.KeyState.TheVariants.{Active, Sent, Gon
 use Rattle.sv_model.specs.declared.state.TheConstants.{PARK_LIMIT}
 use Rattle.sv_model.specs.Decision.{Decision, idle, with_record}
 use Rattle.sv_model.specs.Engine.{EngineMeaning}
-use Rattle.sv_model.specs.Migration.{hands_over, is_ours, is_wanted, move_refused, no_if_unmade, on_ack, on_grant, on_move, on_no, on_ours, on_packet, on_want, says_no, takes_over}
+use Rattle.sv_model.specs.Migration.{hands_over, is_ours, is_wanted, move_refused, no_if_unmade, on_ack, on_grant, on_move, on_no, on_ours, on_packet, on_want, takes_over}
 use Rattle.sv_model.specs.Node.{decided}
 use Rattle.sv_model.specs.NodeState.{Durable, Node, epoch_in, is_crowded, is_dead, is_settled, is_unmade, known, lacks_room, last_number}
 use Rattle.sv_model.specs.Serving.{answer_of, answered_unless, no_birth, refused, served}
 use Rattle.sv_model.specs.Time.{deadlines, grant_again, is_late, is_quiet, on_tick, wants_again}
-use Rattle.sv_model.specs.Waiting.{first_of, on_ask, on_named, on_poke, others, parks, serve_first, serve_parked, waits, wants, without}
-use Rattle.sv_host.specs.Clients.{AreForOthers, Has, HasAsked, IsForOthers, KeepsOthers, Wait, WaitFor}
+use Rattle.sv_model.specs.Waiting.{first_of, on_ask, others, parks, serve_first, serve_parked, waits, wants, without}
+use Rattle.sv_host.specs.Clients.{AreForOthers, Has, HasAsked, KeepsOthers, Wait, WaitFor}
 use Rattle.sv_node.specs.History.{IsAbove, number_in}
 use Rattle.sv_host.specs.declared.parked.ParkedClient.{ParkedClient}
 

@@ -1,4 +1,4 @@
-use Rattle.std.proofs.Common.{ap, refl, ◌∙◌}
+use Rattle.std.proofs.Common.{ap, ◌∙◌}
 use Rattle.sv_host.specs.Parked.{clients_of}
 use Rattle.sv_host.specs.declared.server.Server.{Server}
 use Rattle.sv_host.proofs.AskedLemmas.{gathers_is, gathers_on}
