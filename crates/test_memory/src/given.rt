@@ -7,7 +7,6 @@ use sv_model::{
     Attributes, Cookie, Field, Key, Param, Request, Response, Secret, Sequence, Session, Text,
     plain_type,
 };
-use sv_servlet::{Call, RequestAttributes};
 
 /// The first session of node 0.
 pub const KEY: Key = Key { home: 0, serial: 1 };
@@ -139,28 +138,4 @@ pub fn field(alloc: Global) -> Result<Field, AllocError> {
         Err(_) => return Err(AllocError),
     };
     Ok(Field { name, value })
-}
-
-/// A call for `/a` of the context `/shop`, with this query.
-pub fn call<'a>(
-    method: &'a Method,
-    query: Option<&'a str>,
-    params: &'a [Param],
-    attributes: &'a RequestAttributes,
-) -> Call<'a> {
-    Call {
-        method,
-        request_uri: "/shop/a",
-        context_path: "/shop",
-        servlet_path: "/a",
-        path_info: None,
-        query,
-        params,
-        fields: &[],
-        cookies: &[],
-        body: b"",
-        settings: &[],
-        attributes,
-        resume: 0,
-    }
 }

@@ -15,7 +15,7 @@ use sv_dispatch::{Ended, Hosted, Stage, run};
 use sv_mapping::{Dispatcher, Dispatchers, FilterMapping, FilterTarget, Mappings, Pattern};
 use sv_model::{Param, Sequence, Text};
 use sv_samples::{Includer, Stamp};
-use sv_servlet::{Filter, GenericFilter, GenericServlet, Reply, RequestAttributes, Servlet};
+use sv_servlet::{Call, Filter, GenericFilter, GenericServlet, Reply, RequestAttributes, Servlet};
 use sv_session::SessionEdit;
 use sv_web::Web;
 
@@ -137,6 +137,29 @@ fn params(alloc: Global) -> Result<Sequence<Param>, AllocError> {
     Ok(params)
 }
 
+/// A call for `/a` of the context `/shop`.
+fn call<'a>(
+    method: &'a Method,
+    params: &'a [Param],
+    attributes: &'a RequestAttributes,
+) -> Call<'a> {
+    Call {
+        method,
+        request_uri: "/shop/a",
+        context_path: "/shop",
+        servlet_path: "/a",
+        path_info: None,
+        query: None,
+        params,
+        fields: &[],
+        cookies: &[],
+        body: b"",
+        settings: &[],
+        attributes,
+        resume: 0,
+    }
+}
+
 /// Dispatches a request for `/a`, with another edit and another reply.
 fn dispatch<S: Servlet, F: Filter>(
     alloc: Global,
@@ -151,11 +174,7 @@ fn dispatch<S: Servlet, F: Filter>(
     stage.reply = reply;
     let method = Method::GET;
     let attributes = RequestAttributes::new(alloc);
-    run(
-        alloc,
-        stage,
-        given::call(&method, None, params, &attributes),
-    )
+    run(alloc, stage, call(&method, params, &attributes))
 }
 
 /// How it ended, and the reply.

@@ -15,7 +15,28 @@ use sv_web::{HttpServlet, Web};
 
 type Shown = Result<String, Unshown>;
 
-const QUERY: Option<&str> = Some("user=ann");
+/// A call for `/a` of the context `/shop`.
+fn call<'a>(
+    method: &'a Method,
+    params: &'a [Param],
+    attributes: &'a RequestAttributes,
+) -> Call<'a> {
+    Call {
+        method,
+        request_uri: "/shop/a",
+        context_path: "/shop",
+        servlet_path: "/a",
+        path_info: None,
+        query: Some("user=ann"),
+        params,
+        fields: &[],
+        cookies: &[],
+        body: b"",
+        settings: &[],
+        attributes,
+        resume: 0,
+    }
+}
 
 /// The reply's body, and how many events there are.
 fn told(alloc: Global, edit: SessionEdit, reply: Reply) -> Result<String, AllocError> {
@@ -43,11 +64,7 @@ fn serve<S: Servlet>(
     let mut edit = SessionEdit::begin(alloc, held, 0, 600, given::NOW, fresh);
     let mut reply = Reply::new(alloc);
     let method = Method::GET;
-    match servlet.service(
-        &given::call(&method, QUERY, params, attributes),
-        &mut edit,
-        &mut reply,
-    ) {
+    match servlet.service(&call(&method, params, attributes), &mut edit, &mut reply) {
         Ok(_) => told(alloc, edit, reply),
         Err(AllocError) => Err(AllocError),
     }
@@ -116,7 +133,7 @@ fn filter<F: Filter>(
     let method = Method::GET;
     match around(
         filter,
-        &given::call(&method, QUERY, &[], attributes),
+        &call(&method, &[], attributes),
         &mut edit,
         &mut reply,
     ) {
