@@ -17,3 +17,4 @@ pub mod ReplacingLemmas
 pub mod Appending
 pub mod Compacting
 pub mod Laying
+pub mod FrontLemmas

@@ -1,7 +1,7 @@
 pub mod Disk
 pub mod Past
 pub mod MemoryDisk
-pub mod FileDisk
+pub mod RawFile
 pub mod Format
 pub mod Commit
 pub mod Ahead

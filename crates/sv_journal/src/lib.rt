@@ -2,8 +2,8 @@
 //!
 //! This is the floor below the node. Its contracts cite `specs/Disk.antt` (what a stop may leave of a disk
 //! between two syncs) and `specs/Format.antt` (which bytes stand for which entries), and speak of every moment of a
-//! call. A disk tells what its bytes are or tells nothing: `MemoryDisk` tells all, `FileDisk` nothing, and a contract
-//! claims something only of disks that tell.
+//! call. A disk tells what its bytes are or tells nothing, and a contract claims something only of disks that tell:
+//! `MemoryDisk` does, and `OnFile` over a `RawFile` that does, which the system's file doesn't.
 //!
 //! The entries are kept on one of the two disks. A compaction writes those that are still needed to the other one,
 //! with the next generation, and the disk of the greater generation is the one that is read.
@@ -24,6 +24,7 @@ mod limits;
 mod memory_disk;
 mod not_opened;
 mod opening;
+mod raw_file;
 mod reading;
 mod replacing;
 mod shut;
@@ -33,9 +34,10 @@ mod walk;
 
 pub use batch::Batch;
 pub use disk::{Device, Disk};
-pub use file_disk::{FileDisk, FileFault, IfMissing};
+pub use file_disk::{FileDisk, FileFault, IfMissing, OnFile};
 pub use journal::Journal;
 pub use journal_fault::JournalFault;
 pub use limits::{FILE_LIMIT, PAYLOAD_LIMIT};
 pub use memory_disk::{DiskCall, MemoryDisk};
 pub use not_opened::NotOpened;
+pub use raw_file::RawFile;
