@@ -36,7 +36,7 @@ module _ (m : Meanings) (c : Cluster) (number : ℕ) (all : (n boot : ℕ) → c
   happens_far w e j = behind m c w Far e (record {
     still = j;
     whole_by = λ call is r. record { far = inside_far w.places call.node (record { up = true; node = left (decision m c w call) }) (omega (arith, r.inside, all call.node (durable_at w call.node).boot)) j.far };
-    cut_by = λ call is r. record { far = inside_far w.places call.node (stopped (decision m c w call).durable) (omega (arith, r.inside, all call.node (durable_at w call.node).boot)) j.far };
+    torn_by = λ call is r. record { far = inside_far w.places call.node (stopped (decision m c w call).durable) (omega (arith, r.inside, all call.node (durable_at w call.node).boot)) j.far };
     silent_by = λ call is r. record { far = inside_far w.places call.node (record { up = true; node = left (decision m c w call) }) (omega (arith, r.inside, all call.node (durable_at w call.node).boot)) j.far };
     halt_by = λ n asked _. record { far = alike_far w.places n (stopped (durable_at w n)) refl j.far };
     boots_by = λ n p may none same. record { far = alike_far w.places n p (ap (λ (d : Durable). d.next) same ∙ start_next (setting_of c n ((durable_at w n).boot + 1)) (durable_at w n)) j.far };

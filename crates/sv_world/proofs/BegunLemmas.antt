@@ -17,15 +17,15 @@ use Rattle.sv_world.specs.declared.event.WorldEvent.{WorldEvent}
 use Rattle.sv_world.specs.declared.line.Line.{Line}
 use Rattle.sv_world.specs.declared.rules.Rules.{Rules}
 use Rattle.sv_world.specs.Rules.{setting_by}
-use Rattle.sv_world.specs.declared.seat.Seat.{Seat}
+use Rattle.sv_world.specs.declared.slot.Slot.{Slot}
 use Rattle.sv_world.specs.declared.world.World.{World as Nodes}
 use Rattle.sv_world.specs.Headline.{IsHeadline}
 use Rattle.sv_world.specs.Journals.{HaveFitted}
-use Rattle.sv_world.specs.Seat.{IsSeat, RunsOver, durable_of, engine_in, engine_by, place_of, place_by}
+use Rattle.sv_world.specs.Slot.{IsSlot, RunsOver, durable_of, engine_in, engine_by, place_of, place_by}
 use Rattle.sv_world.specs.World.{Cluster, steady, setting_of, stopped, nothing_happened, run}
 use Rattle.sv_world.specs.Worlds.{rules_in, place_in, meant_in, noted_in, world_of, size_of, cluster_of, meanings_of, heard_of, IsWorld}
 use Rattle.sv_world.specs.Happened.{AllAlike, AreMade, AreBack, restarts}
-use Rattle.sv_world.specs.Making.{IsIdle, IsUntouched, AreSeated, HaveBegun, AreOf}
+use Rattle.sv_world.specs.Making.{IsIdle, IsUntouched, AreFilled, HaveBegun, AreOf}
 use Rattle.sv_world.specs.Planned.{IsPlanned, Ran}
 use Rattle.sv_world.proofs.HappenedLemmas.{told_there}
 use Rattle.sv_world.proofs.MakingLemmas.{all_some}
@@ -40,27 +40,27 @@ ok_both (Ok x) P Q R f p q = f x p q
 ok_both (Err e) P Q R f p q = tt
 
 module _ {E : Type 0} where
-  abbrev pub engine_seen : Option (Seat E) → Option E
+  abbrev pub engine_seen : Option (Slot E) → Option E
   engine_seen None = None
   engine_seen (Some s) = engine_in s
 
-  pub at_place : (seats : List (Seat E)) (engines : List E) → map engine_in seats ≡ map Some engines → (n : ℕ) → engine_seen (slice_get seats n) ≡ slice_get engines n
+  pub at_place : (slots : List (Slot E)) (engines : List E) → map engine_in slots ≡ map Some engines → (n : ℕ) → engine_seen (slice_get slots n) ≡ slice_get engines n
   at_place [] [] h n = refl
   at_place [] (e ∷ es) h n = absurd (let no : [] ≡ Some e ∷ map Some es = h in cc)
   at_place (s ∷ ss) [] h n = absurd (let no : engine_in s ∷ map engine_in ss ≡ [] = h in cc)
   at_place (s ∷ ss) (e ∷ es) h zero = let both : engine_in s ∷ map engine_in ss ≡ Some e ∷ map Some es = h in cc
   at_place (s ∷ ss) (e ∷ es) h (suc n) = at_place ss es (let both : engine_in s ∷ map engine_in ss ≡ Some e ∷ map Some es = h in cc) n
 
-  meant_is : (meaning : E → EngineMeaning) (o : Option (Seat E)) → meant_in meaning o ≡ option_map meaning (engine_seen o)
+  meant_is : (meaning : E → EngineMeaning) (o : Option (Slot E)) → meant_in meaning o ≡ option_map meaning (engine_seen o)
   meant_is meaning None = refl
   meant_is meaning (Some s) = refl
 
-  noted_is : (noted : E → List (List ℕ)) (o : Option (Seat E)) → noted_in noted o ≡ option_map noted (engine_seen o)
+  noted_is : (noted : E → List (List ℕ)) (o : Option (Slot E)) → noted_in noted o ≡ option_map noted (engine_seen o)
   noted_is noted None = refl
   noted_is noted (Some s) = refl
 
-  number_is : (seats : List (Seat E)) (engines : List E) → map engine_in seats ≡ map Some engines → length seats ≡ length engines
-  number_is seats engines h = sym (length-map seats engine_in) ∙ ap length h ∙ length-map engines Some
+  number_is : (slots : List (Slot E)) (engines : List E) → map engine_in slots ≡ map Some engines → length slots ≡ length engines
+  number_is slots engines h = sym (length-map slots engine_in) ∙ ap length h ∙ length-map engines Some
 
   alike_at : (meaning : E → EngineMeaning) (m : EngineMeaning) (engines : List E) → AllAlike meaning m engines → (n : ℕ) → n < length engines → option_map meaning (slice_get engines n) ≡ Some m
   alike_at meaning m engines all n less = subst (λ (o : Option E). IfSome o (λ e. meaning e ≡ m) → option_map meaning o ≡ Some m) (sym (slice_get-get_or engines n (head engines less) less)) (λ h. ap Some h) (all_some (λ e. meaning e ≡ m) engines all n)
@@ -70,76 +70,76 @@ module _ {E : Type 0} where
       head (x ∷ xs) less = x
 
   module _ (fit : E → Type 0) where
-    seat_engine : (s : Seat E) → IsSeat fit s → is_some (engine_in s) ≡ true
-    seat_engine s h = by_core s.core s.idle h.either
+    slot_engine : (s : Slot E) → IsSlot fit s → is_some (engine_in s) ≡ true
+    slot_engine s h = by_core s.core s.idle h.either
       where
         by_core : (core : Option (Core E)) (idle : Option E) → is_some idle ≡ is_none core → is_some (engine_by core idle) ≡ true
         by_core None idle is = is
         by_core (Some c) idle is = refl
 
-    pub all_engines : (seats : List (Seat E)) → All (λ s. IsSeat fit s) seats → All (λ s. is_some (engine_in s) ≡ true) seats
-    all_engines seats all k d less = seat_engine _ (all k d less)
+    pub all_engines : (slots : List (Slot E)) → All (λ s. IsSlot fit s) slots → All (λ s. is_some (engine_in s) ≡ true) slots
+    all_engines slots all k d less = slot_engine _ (all k d less)
 
-    seen_fit : (o : Option (Seat E)) → IfSome o (λ s. IsSeat fit s) → IfSome (engine_seen o) fit
+    seen_fit : (o : Option (Slot E)) → IfSome o (λ s. IsSlot fit s) → IfSome (engine_seen o) fit
     seen_fit None h = tt
     seen_fit (Some s) h = h.engine
 
-    idle_seat : (s : Seat E) → IsIdle s → IfSome (engine_in s) fit → IsSeat fit s
-    idle_seat s h engine = record {
+    idle_slot : (s : Slot E) → IsIdle s → IfSome (engine_in s) fit → IsSlot fit s
+    idle_slot s h engine = record {
       engine = engine;
       fit = subst (λ (rs : List Record). AllFit s.setting Blank blank rs) (sym h.journal) tt;
       runs = subst (λ (core : Option (Core E)). IfSome core (λ c. RunsOver s.setting (durable_of s) c)) (sym h.core) tt;
       either = h.idle ∙ sym (ap is_none h.core);
     }
 
-    idle_fit : (o : Option (Seat E)) → IfSome o IsIdle → IfSome (engine_seen o) fit → IfSome o (λ s. IsSeat fit s)
+    idle_fit : (o : Option (Slot E)) → IfSome o IsIdle → IfSome (engine_seen o) fit → IfSome o (λ s. IsSlot fit s)
     idle_fit None h e = tt
-    idle_fit (Some s) h e = idle_seat s h e
+    idle_fit (Some s) h e = idle_slot s h e
 
-    -- engines in their seats are a world
-    pub seated_world : (w : Nodes E) (rules : Rules) (engines : List E) → AreSeated (length engines) rules engines w.seats.items → All fit engines → 0 < length engines → length engines ≤ 8 → IsWorld fit w
-    seated_world w rules engines h all some few =
-        let number = number_is w.seats.items engines h.engines_in in
+    -- engines in their slots are a world
+    pub filled_world : (w : Nodes E) (rules : Rules) (engines : List E) → AreFilled (length engines) rules engines w.slots.items → All fit engines → 0 < length engines → length engines ≤ 8 → IsWorld fit w
+    filled_world w rules engines h all some few =
+        let number = number_is w.slots.items engines h.engines_in in
         record {
-          seats = all_by (λ s. IsSeat fit s) w.seats.items (λ k. idle_fit (slice_get w.seats.items k) (all_some IsIdle w.seats.items h.idle k) (subst (λ o. IfSome o fit) (sym (at_place w.seats.items engines h.engines_in k)) (all_some fit engines all k)));
+          slots = all_by (λ s. IsSlot fit s) w.slots.items (λ k. idle_fit (slice_get w.slots.items k) (all_some IsIdle w.slots.items h.idle k) (subst (λ o. IfSome o fit) (sym (at_place w.slots.items engines h.engines_in k)) (all_some fit engines all k)));
           settings = λ n less. record { own = ap (λ (s : Setting). s.node) (h.settings n less); told = subst (λ (s : Setting). n < s.nodes) (sym (h.settings n less)) (omega (arith, number, less)) };
           some = omega (arith, number);
           few = omega (arith, number);
         }
 
-  idle_place : (s : Seat E) → IsIdle s → place_of s ≡ stopped blank
+  idle_place : (s : Slot E) → IsIdle s → place_of s ≡ stopped blank
   idle_place s h = ap (λ (core : Option (Core E)). place_by core (durable_of s)) h.core ∙ ap (λ (rs : List Record). stopped (replayed blank rs)) h.journal
 
-  place_is : (o : Option (Seat E)) → IfSome o IsIdle → place_in o ≡ stopped blank
+  place_is : (o : Option (Slot E)) → IfSome o IsIdle → place_in o ≡ stopped blank
   place_is None h = refl
   place_is (Some s) h = idle_place s h
 
   module _ (meaning : E → EngineMeaning) (noted : E → List (List ℕ)) where
-    meanings_are : (w : Nodes E) (engines : List E) → map engine_in w.seats.items ≡ map Some engines → (n : ℕ) → meanings_of meaning w n ≡ option_map meaning (slice_get engines n)
-    meanings_are w engines h n = meant_is meaning (slice_get w.seats.items n) ∙ ap (option_map meaning) (at_place w.seats.items engines h n)
+    meanings_are : (w : Nodes E) (engines : List E) → map engine_in w.slots.items ≡ map Some engines → (n : ℕ) → meanings_of meaning w n ≡ option_map meaning (slice_get engines n)
+    meanings_are w engines h n = meant_is meaning (slice_get w.slots.items n) ∙ ap (option_map meaning) (at_place w.slots.items engines h n)
 
-    heard_are : (w : Nodes E) (engines : List E) → map engine_in w.seats.items ≡ map Some engines → (n : ℕ) → heard_of noted w n ≡ option_map noted (slice_get engines n)
-    heard_are w engines h n = noted_is noted (slice_get w.seats.items n) ∙ ap (option_map noted) (at_place w.seats.items engines h n)
+    heard_are : (w : Nodes E) (engines : List E) → map engine_in w.slots.items ≡ map Some engines → (n : ℕ) → heard_of noted w n ≡ option_map noted (slice_get engines n)
+    heard_are w engines h n = noted_is noted (slice_get w.slots.items n) ∙ ap (option_map noted) (at_place w.slots.items engines h n)
 
     -- the engines of a world's nodes are those of a world before it
     pub are_of : (fit : E → Type 0) (old new : Nodes E) (engines : List E) → size_of new ≡ size_of old → meanings_of meaning new ≡ meanings_of meaning old → heard_of noted new ≡ heard_of noted old
-        → All (λ s. IsSeat fit s) new.seats.items → map Some engines ≡ map engine_in new.seats.items → AreOf meaning noted fit old engines
+        → All (λ s. IsSlot fit s) new.slots.items → map Some engines ≡ map engine_in new.slots.items → AreOf meaning noted fit old engines
     are_of fit old new engines size meanings heard all is = record {
-      valid = all_by fit engines (λ k. subst (λ o. IfSome o fit) (at_place new.seats.items engines (sym is) k) (seen_fit fit (slice_get new.seats.items k) (all_some (λ s. IsSeat fit s) new.seats.items all k)));
-      number = sym (number_is new.seats.items engines (sym is)) ∙ size;
+      valid = all_by fit engines (λ k. subst (λ o. IfSome o fit) (at_place new.slots.items engines (sym is) k) (seen_fit fit (slice_get new.slots.items k) (all_some (λ s. IsSlot fit s) new.slots.items all k)));
+      number = sym (number_is new.slots.items engines (sym is)) ∙ size;
       meanings = λ n. sym (meanings_are new engines (sym is) n) ∙ (λ i. meanings i n);
       heard = λ n. sym (heard_are new engines (sym is) n) ∙ (λ i. heard i n);
     }
 
-    module _ (w : Nodes E) (rules : Rules) (engines : List E) (h : AreSeated (length engines) rules engines w.seats.items) where
+    module _ (w : Nodes E) (rules : Rules) (engines : List E) (h : AreFilled (length engines) rules engines w.slots.items) where
       size_is : size_of w ≡ length engines
-      size_is = number_is w.seats.items engines h.engines_in
+      size_is = number_is w.slots.items engines h.engines_in
 
       settings_are : (n boot : ℕ) → n < length engines → setting_of (cluster_of w) n boot ≡ setting_by rules n (length engines)
       settings_are n boot less = ap (λ (s : Setting). setting_by (rules_in s) n s.nodes) (h.settings n (omega (arith, size_is, less)))
 
       nothing : IsUntouched w → world_of w ≡ nothing_happened
-      nothing u = λ i. record { places = λ n. place_is (slice_get w.seats.items n) (all_some IsIdle w.seats.items h.idle n) i; packets = u.packets i; trace = u.trace i }
+      nothing u = λ i. record { places = λ n. place_is (slice_get w.slots.items n) (all_some IsIdle w.slots.items h.idle n) i; packets = u.packets i; trace = u.trace i }
 
       -- nothing has happened to them
       pub at_rest : IsUntouched w → AreMade meaning noted engines rules [] w
@@ -167,7 +167,7 @@ module _ {E : Type 0} where
       pub back : (fit : E → Type 0) (engines' : List E) → AreOf meaning noted fit w engines' → AreBack meaning noted fit engines engines'
       back fit engines' a = record {
         valid = a.valid;
-        number = a.number ∙ number_is w.seats.items engines h.engines_in;
+        number = a.number ∙ number_is w.slots.items engines h.engines_in;
         meanings = λ n. a.meanings n ∙ meanings_are w engines h.engines_in n;
         heard = λ n. a.heard n ∙ heard_are w engines h.engines_in n;
       }
@@ -194,7 +194,7 @@ module _ {E : Type 0} where
         plan = made_plan;
         world = a.world m alike
             ∙ run_on (always m) (always m) (cluster_of w) (steady (length engines) rules) (planned_there meaning noted (always m) (steady (length engines) rules) w made_plan) events nothing_happened
-            (λ n boot told le. record { meaning = refl; setting = a.settings n boot (let less = told_there w.seats.items n told in omega (arith, a.size, less)) })
+            (λ n boot told le. record { meaning = refl; setting = a.settings n boot (let less = told_there w.slots.items n told in omega (arith, a.size, less)) })
             ∙ ap (run (always m) (steady (length engines) rules) nothing_happened) (sym a.each);
       }
 

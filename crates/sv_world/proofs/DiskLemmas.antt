@@ -322,9 +322,9 @@ module _ (m : Meanings) (touches : AllTouchOnlyHanded m) (c : Cluster) (w : Worl
     torn_behind_by call own ends asks shows None is gives l = torn_before call (own false) ends asks shows (l ∙ ap (λ d. quiet (kept d)) gives)
     torn_behind_by call own ends asks shows (Some r) is gives l =
         let h = heading_by set at_node.node.durable i in
-        let cut : Done = record { place = stopped decision.durable; effect = quiet_at h decision.entry decision.commit } in
-        does m c w n call a (Torn n at i true) cut (own true) (λ _. tt)
-        (torn_by_event true ∙ ap (done_by w (Torn n at i true) n) (cond-true (is_some decision.entry) cut (halted h at_node.node.durable) (ap is_some is)))
+        let torn_done : Done = record { place = stopped decision.durable; effect = quiet_at h decision.entry decision.commit } in
+        does m c w n call a (Torn n at i true) torn_done (own true) (λ _. tt)
+        (torn_by_event true ∙ ap (done_by w (Torn n at i true) n) (cond-true (is_some decision.entry) torn_done (halted h at_node.node.durable) (ap is_some is)))
         (λ j. record { up = sym ends j; node = sym (node_in l) j }) (sym (puts_in l)) (sym asks) (sym shows)
 
     torn_behind : (call : Call) → ((kept_too : Bool) → Own m c w n call a (Torn n at i kept_too ∷ [])) → runs_behind at_node.up call ≡ false → asked_at n at_node.node.durable call ≡ option_to_list (asked_with i) → shown_at n at_node.node.durable call a ≡ []

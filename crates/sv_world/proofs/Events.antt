@@ -18,7 +18,7 @@ use Rattle.sv_world.specs.declared.event.WorldEvent.TheVariants.{Ask, Deliver, P
 use Rattle.sv_world.specs.Rolling.{start_in}
 use Rattle.sv_world.specs.Sent.{may_come}
 use Rattle.sv_world.specs.declared.call.Call.{Call}
-use Rattle.sv_world.specs.World.{Cluster, Place, World, durable_at, stopped, started, items, call_of, decision, token_of_call, is_unused, is_there, is_ready, whole, cut, silent, becomes, halt, record_of_start, boots, is_spent, steps, tears, hushes, starts, happens, run}
+use Rattle.sv_world.specs.World.{Cluster, Place, World, durable_at, stopped, started, items, call_of, decision, token_of_call, is_unused, is_there, is_ready, whole, torn, silent, becomes, halt, record_of_start, boots, is_spent, steps, tears, silences, starts, happens, run}
 use Rattle.sv_world.proofs.SentLemmas.{sent_in}
 
 -- a packet that is given was sent
@@ -66,7 +66,7 @@ pub record MayStart (c : Cluster) (w : World) (e : WorldEvent) (n : ℕ) : Type 
 pub record Behind (m : Meanings) (c : Cluster) (w : World) (e : WorldEvent) (P : World → Type 0) : Type 0 where
   pub still : P w
   pub whole_by : (call : Call) → call_of w.packets e ≡ Some call → IsReady c w call → P (whole c w e call (decision m c w call))
-  pub cut_by : (call : Call) → call_of w.packets e ≡ Some call → IsReady c w call → P (cut c w e call (decision m c w call))
+  pub torn_by : (call : Call) → call_of w.packets e ≡ Some call → IsReady c w call → P (torn c w e call (decision m c w call))
   pub silent_by : (call : Call) → call_of w.packets e ≡ Some call → IsReady c w call → P (silent c w e call (decision m c w call))
   pub halt_by : (n : ℕ) (asked : Option Token) → is_unused (asked_of (items w.trace)) asked ≡ true → P (halt w e n asked)
   pub boots_by : (n : ℕ) (p : Place) → MayStart c w e n → p.node.parked ≡ [] → p.node.durable ≡ applied (record_of_start c w n) (durable_at w n) → P (becomes w e n p (Some (record_of_start c w n)) None)
@@ -76,19 +76,19 @@ module _ (m : Meanings) (c : Cluster) (w : World) (P : World → Type 0) where
   stepped e None is h = h.still
   stepped e (Some call) is h = cond_both (is_ready c w call) (whole c w e call (decision m c w call)) w P (λ t. h.whole_by call is (readies c w call t)) (λ _. h.still)
 
-  torn : (e : WorldEvent) (kept : Bool) (call : Option Call) → call_of w.packets e ≡ call → Behind m c w e P → P (tears m c w e kept call)
-  torn e kept None is h = h.still
-  torn e kept (Some call) is h =
+  tears_behind : (e : WorldEvent) (kept : Bool) (call : Option Call) → call_of w.packets e ≡ call → Behind m c w e P → P (tears m c w e kept call)
+  tears_behind e kept None is h = h.still
+  tears_behind e kept (Some call) is h =
       let d = decision m c w call in
-      let cuts = cut c w e call d in
+      let left = torn c w e call d in
       let halts = halt w e call.node (token_of_call c w call) in
-      cond_both (is_ready c w call) (cond (kept && is_some d.entry) cuts halts) w P
-      (λ t. let r = readies c w call t in cond_both (kept && is_some d.entry) cuts halts P (λ _. h.cut_by call is r) (λ _. h.halt_by call.node (token_of_call c w call) r.unused))
+      cond_both (is_ready c w call) (cond (kept && is_some d.entry) left halts) w P
+      (λ t. let r = readies c w call t in cond_both (kept && is_some d.entry) left halts P (λ _. h.torn_by call is r) (λ _. h.halt_by call.node (token_of_call c w call) r.unused))
       (λ _. h.still)
 
-  hushed : (e : WorldEvent) (call : Option Call) → call_of w.packets e ≡ call → Behind m c w e P → P (hushes m c w e call)
-  hushed e None is h = h.still
-  hushed e (Some call) is h = cond_both (is_ready c w call) (silent c w e call (decision m c w call)) w P (λ t. h.silent_by call is (readies c w call t)) (λ _. h.still)
+  silences_behind : (e : WorldEvent) (call : Option Call) → call_of w.packets e ≡ call → Behind m c w e P → P (silences m c w e call)
+  silences_behind e None is h = h.still
+  silences_behind e (Some call) is h = cond_both (is_ready c w call) (silent c w e call (decision m c w call)) w P (λ t. h.silent_by call is (readies c w call t)) (λ _. h.still)
 
   start : (e : WorldEvent) (n : ℕ) (kept : Bool) (place : Durable → Place) → start_in e ≡ Some n → ((d : Durable) → (place d).node.parked ≡ []) → ((d : Durable) → (place d).node.durable ≡ d) → Behind m c w e P → P (starts c w e n kept place)
   start e n kept place of none same h =
@@ -108,8 +108,8 @@ module _ (m : Meanings) (c : Cluster) (w : World) (P : World → Type 0) where
   behind (Poke n moment) h = stepped (Poke n moment) (call_of w.packets (Poke n moment)) refl h
   behind (Tick n moment) h = stepped (Tick n moment) (call_of w.packets (Tick n moment)) refl h
   behind (Move n moment k to) h = stepped (Move n moment k to) (call_of w.packets (Move n moment k to)) refl h
-  behind (Torn n moment given kept) h = torn (Torn n moment given kept) kept (call_of w.packets (Torn n moment given kept)) refl h
-  behind (Silent n moment given) h = hushed (Silent n moment given) (call_of w.packets (Silent n moment given)) refl h
+  behind (Torn n moment given kept) h = tears_behind (Torn n moment given kept) kept (call_of w.packets (Torn n moment given kept)) refl h
+  behind (Silent n moment given) h = silences_behind (Silent n moment given) (call_of w.packets (Silent n moment given)) refl h
   behind (Crash n) h = cond_both (is_there c n (durable_at w n).boot && (w.places n).up) (halt w (Crash n) n None) w P (λ _. h.halt_by n None refl) (λ _. h.still)
   behind (Restart n) h = start (Restart n) n true started refl (λ d. refl) (λ d. refl) h
   behind (TornRestart n kept) h = start (TornRestart n kept) n kept stopped refl (λ d. refl) (λ d. refl) h

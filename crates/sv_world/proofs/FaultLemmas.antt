@@ -7,7 +7,7 @@ use Rattle.sv_world.specs.declared.event.WorldEvent.{WorldEvent}
 use Rattle.sv_world.specs.declared.event.WorldEvent.TheVariants.{Ask, Deliver, Poke, Tick, Move, Crash, Torn, Silent, Restart, TornRestart}
 use Rattle.sv_world.specs.declared.line.Line.{Line}
 use Rattle.sv_world.specs.declared.call.Call.{Call}
-use Rattle.sv_world.specs.World.{Cluster, World, durable_at, stopped, started, items, whole, cut, silent, halt, call_of, is_unused, is_ready, decision, steps, tears, hushes, boots, happens, token_of_call, is_there, is_spent, starts, Place}
+use Rattle.sv_world.specs.World.{Cluster, World, durable_at, stopped, started, items, whole, torn, silent, halt, call_of, is_unused, is_ready, decision, steps, tears, silences, boots, happens, token_of_call, is_there, is_spent, starts, Place}
 use Rattle.sv_world.specs.declared.fault.WorldFault.{WorldFault}
 use Rattle.sv_world.specs.declared.fault.WorldFault.TheVariants.{NoNode, Running, NotRunning, NoPacket, TokenUsed}
 use Rattle.sv_world.specs.Sent.{may_come}
@@ -80,11 +80,11 @@ module _ (m : Meanings) (c : Cluster) (w : World) where
   tears_still e kept None f h = refl
   tears_still e kept (Some call) f h =
       let d = decision m c w call in
-      ap (λ t. cond t (cond (kept && is_some d.entry) (cut c w e call d) (halt w e call.node (token_of_call c w call))) w) (step_none (is_there c call.node (durable_at w call.node).boot) (up call) (sent call) (unused call) f h)
+      ap (λ t. cond t (cond (kept && is_some d.entry) (torn c w e call d) (halt w e call.node (token_of_call c w call))) w) (step_none (is_there c call.node (durable_at w call.node).boot) (up call) (sent call) (unused call) f h)
 
-  hushes_still : (e : WorldEvent) (call : Option Call) (f : WorldFault) → call_fault c w call ≡ Some f → hushes m c w e call ≡ w
-  hushes_still e None f h = refl
-  hushes_still e (Some call) f h = ap (λ t. cond t (silent c w e call (decision m c w call)) w) (step_none (is_there c call.node (durable_at w call.node).boot) (up call) (sent call) (unused call) f h)
+  silences_still : (e : WorldEvent) (call : Option Call) (f : WorldFault) → call_fault c w call ≡ Some f → silences m c w e call ≡ w
+  silences_still e None f h = refl
+  silences_still e (Some call) f h = ap (λ t. cond t (silent c w e call (decision m c w call)) w) (step_none (is_there c call.node (durable_at w call.node).boot) (up call) (sent call) (unused call) f h)
 
   starts_still : (e : WorldEvent) (n : ℕ) (kept : Bool) (place : Durable → Place) (f : WorldFault) → start_fault (is_there c n ((durable_at w n).boot + 1)) (w.places n).up ≡ Some f → starts c w e n kept place ≡ w
   starts_still e n kept place f h = ap (λ t. cond t (cond (kept && not (is_spent w n)) (boots c w e n place) (halt w e n None)) w) (start_none (is_there c n ((durable_at w n).boot + 1)) (w.places n).up f h)
@@ -96,7 +96,7 @@ module _ (m : Meanings) (c : Cluster) (w : World) where
   still (Tick n moment) f h = steps_still (Tick n moment) (call_of w.packets (Tick n moment)) f h
   still (Move n moment k to) f h = steps_still (Move n moment k to) (call_of w.packets (Move n moment k to)) f h
   still (Torn n moment given kept) f h = tears_still (Torn n moment given kept) kept (call_of w.packets (Torn n moment given kept)) f h
-  still (Silent n moment given) f h = hushes_still (Silent n moment given) (call_of w.packets (Silent n moment given)) f h
+  still (Silent n moment given) f h = silences_still (Silent n moment given) (call_of w.packets (Silent n moment given)) f h
   still (Crash n) f h = ap (λ t. cond t (halt w (Crash n) n None) w) (stop_none (is_there c n (durable_at w n).boot) (w.places n).up f h)
   still (Restart n) f h = starts_still (Restart n) n true started f h
   still (TornRestart n kept) f h = starts_still (TornRestart n kept) n kept stopped f h
@@ -109,14 +109,14 @@ module _ (m : Meanings) (c : Cluster) (w : World) where
   tears_add e kept None h = absurd (let no : Some NoPacket ≡ None = h in cc)
   tears_add e kept (Some call) h =
       let d = decision m c w call in
-      let cuts = cut c w e call d in
+      let left = torn c w e call d in
       let halts = halt w e call.node (token_of_call c w call) in
-      if_so (is_ready c w call) (cond (kept && is_some d.entry) cuts halts) w w e (step_goes (is_there c call.node (durable_at w call.node).boot) (up call) (sent call) (unused call) h)
-      (either (kept && is_some d.entry) cuts halts w e (record { line = _; event = refl; trace = refl }) (record { line = _; event = refl; trace = refl }))
+      if_so (is_ready c w call) (cond (kept && is_some d.entry) left halts) w w e (step_goes (is_there c call.node (durable_at w call.node).boot) (up call) (sent call) (unused call) h)
+      (either (kept && is_some d.entry) left halts w e (record { line = _; event = refl; trace = refl }) (record { line = _; event = refl; trace = refl }))
 
-  hushes_add : (e : WorldEvent) (call : Option Call) → call_fault c w call ≡ None → Adds w (hushes m c w e call) e
-  hushes_add e None h = absurd (let no : Some NoPacket ≡ None = h in cc)
-  hushes_add e (Some call) h = if_so (is_ready c w call) (silent c w e call (decision m c w call)) w w e (step_goes (is_there c call.node (durable_at w call.node).boot) (up call) (sent call) (unused call) h) (record { line = _; event = refl; trace = refl })
+  silences_add : (e : WorldEvent) (call : Option Call) → call_fault c w call ≡ None → Adds w (silences m c w e call) e
+  silences_add e None h = absurd (let no : Some NoPacket ≡ None = h in cc)
+  silences_add e (Some call) h = if_so (is_ready c w call) (silent c w e call (decision m c w call)) w w e (step_goes (is_there c call.node (durable_at w call.node).boot) (up call) (sent call) (unused call) h) (record { line = _; event = refl; trace = refl })
 
   starts_add : (e : WorldEvent) (n : ℕ) (kept : Bool) (place : Durable → Place) → start_fault (is_there c n ((durable_at w n).boot + 1)) (w.places n).up ≡ None → Adds w (starts c w e n kept place) e
   starts_add e n kept place h =
@@ -130,7 +130,7 @@ module _ (m : Meanings) (c : Cluster) (w : World) where
   added (Tick n moment) h = steps_add (Tick n moment) (call_of w.packets (Tick n moment)) h
   added (Move n moment k to) h = steps_add (Move n moment k to) (call_of w.packets (Move n moment k to)) h
   added (Torn n moment given kept) h = tears_add (Torn n moment given kept) kept (call_of w.packets (Torn n moment given kept)) h
-  added (Silent n moment given) h = hushes_add (Silent n moment given) (call_of w.packets (Silent n moment given)) h
+  added (Silent n moment given) h = silences_add (Silent n moment given) (call_of w.packets (Silent n moment given)) h
   added (Crash n) h = if_so (is_there c n (durable_at w n).boot && (w.places n).up) (halt w (Crash n) n None) w w (Crash n) (stop_goes (is_there c n (durable_at w n).boot) (w.places n).up h) (record { line = _; event = refl; trace = refl })
   added (Restart n) h = starts_add (Restart n) n true started h
   added (TornRestart n kept) h = starts_add (TornRestart n kept) n kept stopped h

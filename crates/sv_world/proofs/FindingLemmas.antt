@@ -14,10 +14,10 @@ use Rattle.sv_model.specs.Serving.{token_of}
 use Rattle.sv_model.specs.Trace.{asked_by, asked_of}
 use Rattle.sv_core.specs.declared.node.Core.{Core}
 use Rattle.sv_world.specs.declared.line.Line.{Line}
-use Rattle.sv_world.specs.declared.seat.Seat.{Seat}
+use Rattle.sv_world.specs.declared.slot.Slot.{Slot}
 use Rattle.sv_world.specs.Faults.{step_fault, call_fault, start_fault, stop_fault}
 use Rattle.sv_world.specs.Finding.{boot_by, boot_in, started_by, start_in, stop_by, number_in, token_by, step_by, delivery_by}
-use Rattle.sv_world.specs.Seat.{boot_of, durable_of, place_by}
+use Rattle.sv_world.specs.Slot.{boot_of, durable_of, place_by}
 use Rattle.sv_world.specs.Sent.{may_come}
 use Rattle.sv_world.specs.World.{items, is_unused, is_there, setting_of}
 use Rattle.sv_world.specs.Worlds.{place_in, places_by, setting_in, settings_by, state_by, cluster_by, AreSet}
@@ -28,26 +28,26 @@ module _ {E : Type 0} where
   core_steps None d trace n sent number = refl
   core_steps (Some c) d trace n sent number = refl
 
-  seat_steps : (o : Option (Seat E)) (trace : List Line) (n : ℕ) (sent : Bool) (number : Option ℕ)
+  slot_steps : (o : Option (Slot E)) (trace : List Line) (n : ℕ) (sent : Bool) (number : Option ℕ)
       → step_by trace n sent number (boot_in o) ≡ step_fault (is_some o) (place_in o).up sent (is_unused (asked_of (items trace)) (token_by n (place_in o).node.durable.boot number))
-  seat_steps None trace n sent number = refl
-  seat_steps (Some s) trace n sent number = core_steps s.core (durable_of s) trace n sent number
+  slot_steps None trace n sent number = refl
+  slot_steps (Some s) trace n sent number = core_steps s.core (durable_of s) trace n sent number
 
   core_stops : (o : Option (Core E)) (d : Durable) → stop_by (boot_by (boot_of (place_by o d))) ≡ stop_fault true (place_by o d).up
   core_stops None d = refl
   core_stops (Some c) d = refl
 
-  seat_stops : (o : Option (Seat E)) → stop_by (boot_in o) ≡ stop_fault (is_some o) (place_in o).up
-  seat_stops None = refl
-  seat_stops (Some s) = core_stops s.core (durable_of s)
+  slot_stops : (o : Option (Slot E)) → stop_by (boot_in o) ≡ stop_fault (is_some o) (place_in o).up
+  slot_stops None = refl
+  slot_stops (Some s) = core_stops s.core (durable_of s)
 
-module _ {E : Type 0} (seats : List (Seat E)) (set : AreSet seats) where
+module _ {E : Type 0} (slots : List (Slot E)) (set : AreSet slots) where
   -- a node is there where it was told of itself
-  there : (n : ℕ) → is_some (slice_get seats n) ≡ nat_lt n (settings_by seats n).nodes
-  there n = elim (slice_get_cases seats n).1 [ inl found ↦ ap is_some found.2 ∙ sym (lt-ltb n (settings_by seats n).nodes (set n found.1).told) | inr past ↦ ap is_some past.1 ∙ sym (ap (λ (o : Option (Seat E)). nat_lt n (setting_in o).nodes) past.1 ∙ le-ltb n 0 (omega arith)) ]
+  there : (n : ℕ) → is_some (slice_get slots n) ≡ nat_lt n (settings_by slots n).nodes
+  there n = elim (slice_get_cases slots n).1 [ inl found ↦ ap is_some found.2 ∙ sym (lt-ltb n (settings_by slots n).nodes (set n found.1).told) | inr past ↦ ap is_some past.1 ∙ sym (ap (λ (o : Option (Slot E)). nat_lt n (setting_in o).nodes) past.1 ∙ le-ltb n 0 (omega arith)) ]
 
-module _ {E : Type 0} (seats : List (Seat E)) (packets : List Packet) (trace : List Line) (set : AreSet seats) where
-  asked : (n : ℕ) (d : Durable) (input : Input) → token_by n d.boot (number_in input) ≡ asked_by (token_of (setting_of (cluster_by seats) n d.boot) d) input
+module _ {E : Type 0} (slots : List (Slot E)) (packets : List Packet) (trace : List Line) (set : AreSet slots) where
+  asked : (n : ℕ) (d : Durable) (input : Input) → token_by n d.boot (number_in input) ≡ asked_by (token_of (setting_of (cluster_by slots) n d.boot) d) input
   asked n d (Ask token r) = refl
   asked n d (Comes p) = refl
   asked n d Poke = refl
@@ -55,28 +55,28 @@ module _ {E : Type 0} (seats : List (Seat E)) (packets : List Packet) (trace : L
   asked n d (Move k to) = refl
 
   pub steps : (n : ℕ) (moment : Moment) (input : Input)
-      → step_by trace n (may_come packets input) (number_in input) (boot_in (slice_get seats n)) ≡ call_fault (cluster_by seats) (state_by seats packets trace) (Some (record { node = n; moment = moment; input = input }))
+      → step_by trace n (may_come packets input) (number_in input) (boot_in (slice_get slots n)) ≡ call_fault (cluster_by slots) (state_by slots packets trace) (Some (record { node = n; moment = moment; input = input }))
   steps n moment input =
-      let p = places_by seats n in
-      seat_steps (slice_get seats n) trace n (may_come packets input) (number_in input)
-      ∙ ap (λ b. step_fault b p.up (may_come packets input) (is_unused (asked_of (items trace)) (token_by n p.node.durable.boot (number_in input)))) (there seats set n)
-      ∙ ap (λ t. step_fault (nat_lt n (settings_by seats n).nodes) p.up (may_come packets input) (is_unused (asked_of (items trace)) t)) (asked n p.node.durable input)
+      let p = places_by slots n in
+      slot_steps (slice_get slots n) trace n (may_come packets input) (number_in input)
+      ∙ ap (λ b. step_fault b p.up (may_come packets input) (is_unused (asked_of (items trace)) (token_by n p.node.durable.boot (number_in input)))) (there slots set n)
+      ∙ ap (λ t. step_fault (nat_lt n (settings_by slots n).nodes) p.up (may_come packets input) (is_unused (asked_of (items trace)) t)) (asked n p.node.durable input)
 
   pub delivers : (o : Option Packet) (moment : Moment)
-      → delivery_by seats packets trace o ≡ call_fault (cluster_by seats) (state_by seats packets trace) (option_map (λ p. record { node = addressee p; moment = moment; input = Comes p }) o)
+      → delivery_by slots packets trace o ≡ call_fault (cluster_by slots) (state_by slots packets trace) (option_map (λ p. record { node = addressee p; moment = moment; input = Comes p }) o)
   delivers None moment = refl
   delivers (Some p) moment = steps (addressee p) moment (Comes p)
 
-  pub stops : (n : ℕ) → stop_by (boot_in (slice_get seats n)) ≡ stop_fault (is_there (cluster_by seats) n (places_by seats n).node.durable.boot) (places_by seats n).up
-  stops n = seat_stops (slice_get seats n) ∙ ap (λ b. stop_fault b (places_by seats n).up) (there seats set n)
+  pub stops : (n : ℕ) → stop_by (boot_in (slice_get slots n)) ≡ stop_fault (is_there (cluster_by slots) n (places_by slots n).node.durable.boot) (places_by slots n).up
+  stops n = slot_stops (slice_get slots n) ∙ ap (λ b. stop_fault b (places_by slots n).up) (there slots set n)
 
   core_starts : (o : Option (Core E)) (d : Durable) → started_by (boot_of (place_by o d)) ≡ start_fault true (place_by o d).up
   core_starts None d = refl
   core_starts (Some c) d = refl
 
-  seat_starts : (o : Option (Seat E)) → start_in o ≡ start_fault (is_some o) (place_in o).up
-  seat_starts None = refl
-  seat_starts (Some s) = core_starts s.core (durable_of s)
+  slot_starts : (o : Option (Slot E)) → start_in o ≡ start_fault (is_some o) (place_in o).up
+  slot_starts None = refl
+  slot_starts (Some s) = core_starts s.core (durable_of s)
 
-  pub starts : (n boot : ℕ) → start_in (slice_get seats n) ≡ start_fault (is_there (cluster_by seats) n boot) (places_by seats n).up
-  starts n boot = seat_starts (slice_get seats n) ∙ ap (λ b. start_fault b (places_by seats n).up) (there seats set n)
+  pub starts : (n boot : ℕ) → start_in (slice_get slots n) ≡ start_fault (is_there (cluster_by slots) n boot) (places_by slots n).up
+  starts n boot = slot_starts (slice_get slots n) ∙ ap (λ b. start_fault b (places_by slots n).up) (there slots set n)

@@ -18,12 +18,12 @@ use Rattle.sv_world.specs.declared.event.WorldEvent.{WorldEvent}
 use Rattle.sv_world.specs.declared.event.WorldEvent.TheVariants.{Ask, Deliver, Poke, Tick, Move, Crash, Torn, Silent, Restart, TornRestart}
 use Rattle.sv_world.specs.declared.line.Effect.{Effect}
 use Rattle.sv_world.specs.declared.order.Order.{Order}
-use Rattle.sv_world.specs.declared.seat.Seat.{Seat}
+use Rattle.sv_world.specs.declared.slot.Slot.{Slot}
 use Rattle.sv_world.specs.declared.task.Task.{Task}
 use Rattle.sv_world.specs.declared.task.Task.TheVariants as task
 use Rattle.sv_world.specs.declared.world.World.{World as Nodes}
 use Rattle.sv_world.specs.Deed.{Done, deed, number_for, told_by, line_of, quiet_at, heading_at, heading_by, halted, booted}
-use Rattle.sv_world.specs.Seat.{IsSeat, engine_by}
+use Rattle.sv_world.specs.Slot.{IsSlot, engine_by}
 use Rattle.sv_world.specs.Order.{order_of}
 use Rattle.sv_world.specs.World.{Place, set_place, setting_of, stopped, started}
 use Rattle.sv_world.specs.Rules.{setting_by}
@@ -63,25 +63,25 @@ module _ {E : Type 0} (meaning : E → EngineMeaning) where
   engine_means None (Some e) h = (meaning e, refl)
   engine_means None None h = absurd (let no : false ≡ true = h in cc)
 
-  pub means_at : (valid : E → Type 0) (seats : List (Seat E)) → All (λ s. IsSeat valid s) seats → (n : ℕ) → n < length seats → (m : EngineMeaning) × (meanings_by meaning seats n ≡ Some m)
-  means_at valid seats all n less = ⊎_elim
-      (λ (h : (s : Seat E) × (n < length seats) × (slice_get seats n ≡ Some s) × (get_or seats n s ≡ s)).
+  pub means_at : (valid : E → Type 0) (slots : List (Slot E)) → All (λ s. IsSlot valid s) slots → (n : ℕ) → n < length slots → (m : EngineMeaning) × (meanings_by meaning slots n ≡ Some m)
+  means_at valid slots all n less = ⊎_elim
+      (λ (h : (s : Slot E) × (n < length slots) × (slice_get slots n ≡ Some s) × (get_or slots n s ≡ s)).
       let s = h.0 in
-      let is : IsSeat valid s = subst (IsSeat valid) h.3 (all n s less) in
+      let is : IsSlot valid s = subst (IsSlot valid) h.3 (all n s less) in
       let e = engine_means s.core s.idle is.either in
       (e.0, ap (meant_in meaning) h.2 ∙ e.1))
-      (λ (h : (length seats ≤ n) × (slice_get seats n ≡ None)). absurd (omega arith))
-      (slice_get_cases seats n).1
+      (λ (h : (length slots ≤ n) × (slice_get slots n ≡ None)). absurd (omega arith))
+      (slice_get_cases slots n).1
 
 -- ---- settings
 
 module _ {E : Type 0} where
   -- a node that isn't there was told of none
-  pub told_there : (seats : List (Seat E)) (n : ℕ) → n < (settings_by seats n).nodes → n < length seats
-  told_there seats n told = ⊎_elim
-      (λ (h : (s : Seat E) × (n < length seats) × (slice_get seats n ≡ Some s) × (get_or seats n s ≡ s)). h.1)
-      (λ (h : (length seats ≤ n) × (slice_get seats n ≡ None)). let none : n < 0 = subst (λ (o : Option (Seat E)). n < (setting_in o).nodes) h.1 told in absurd (omega (arith, none)))
-      (slice_get_cases seats n).1
+  pub told_there : (slots : List (Slot E)) (n : ℕ) → n < (settings_by slots n).nodes → n < length slots
+  told_there slots n told = ⊎_elim
+      (λ (h : (s : Slot E) × (n < length slots) × (slice_get slots n ≡ Some s) × (get_or slots n s ≡ s)). h.1)
+      (λ (h : (length slots ≤ n) × (slice_get slots n ≡ None)). let none : n < 0 = subst (λ (o : Option (Slot E)). n < (setting_in o).nodes) h.1 told in absurd (omega (arith, none)))
+      (slice_get_cases slots n).1
 
 -- a setting that is a node's own is that of its rules
 pub own_setting : (n : ℕ) (set : Setting) → set.node ≡ n → set ≡ setting_by (rules_in set) n set.nodes
@@ -90,21 +90,21 @@ own_setting n set own = λ i. record { node = own i; nodes = set.nodes; deadline
 -- ---- the numbers of nodes stay
 
 module _ {E : Type 0} (old new : Nodes E) where
-  pub same_cluster : settings_by new.seats.items ≡ settings_by old.seats.items → cluster_of new ≡ cluster_of old
+  pub same_cluster : settings_by new.slots.items ≡ settings_by old.slots.items → cluster_of new ≡ cluster_of old
   same_cluster same = λ i. record { nodes = λ n boot. (same i n).nodes; rules = λ n boot. rules_in (same i n) }
 
-module _ {E : Type 0} (valid : E → Type 0) (old new : Nodes E) (number : length new.seats.items ≡ length old.seats.items) where
-  pub still_world : IsWorld valid old → All (λ s. IsSeat valid s) new.seats.items → settings_by new.seats.items ≡ settings_by old.seats.items → IsWorld valid new
+module _ {E : Type 0} (valid : E → Type 0) (old new : Nodes E) (number : length new.slots.items ≡ length old.slots.items) where
+  pub still_world : IsWorld valid old → All (λ s. IsSlot valid s) new.slots.items → settings_by new.slots.items ≡ settings_by old.slots.items → IsWorld valid new
   still_world w all same = record {
-    seats = all;
+    slots = all;
     settings = λ n less. subst (λ (s : Setting). IsSet n s) (λ i. sym same i n) (w.settings n (omega (arith, number)));
     some = omega (arith, number, w.some);
     few = omega (arith, number, w.few);
   }
 
-module _ {E : Type 0} (meaning : E → EngineMeaning) (noted : E → List (List ℕ)) (old new : Nodes E) (number : length new.seats.items ≡ length old.seats.items) (settings : settings_by new.seats.items ≡ settings_by old.seats.items)
+module _ {E : Type 0} (meaning : E → EngineMeaning) (noted : E → List (List ℕ)) (old new : Nodes E) (number : length new.slots.items ≡ length old.slots.items) (settings : settings_by new.slots.items ≡ settings_by old.slots.items)
     (meanings : meanings_of meaning new ≡ meanings_of meaning old) where
-  pub stays : AreUndone noted old.seats.items new.seats.items → new.packets.items ≡ old.packets.items → new.trace.items ≡ old.trace.items → IsStill meaning noted old new
+  pub stays : AreUndone noted old.slots.items new.slots.items → new.packets.items ≡ old.packets.items → new.trace.items ≡ old.trace.items → IsStill meaning noted old new
   stays undone packets trace = record {
     size = number;
     cluster = same_cluster old new settings;
@@ -119,29 +119,29 @@ option_same f (Some x) h = ap Some (h x)
 
 -- ---- one event
 
-module _ {E : Type 0} (meaning : E → EngineMeaning) (noted : E → List (List ℕ)) (old new : Nodes E) (number : length new.seats.items ≡ length old.seats.items) (settings : settings_by new.seats.items ≡ settings_by old.seats.items)
+module _ {E : Type 0} (meaning : E → EngineMeaning) (noted : E → List (List ℕ)) (old new : Nodes E) (number : length new.slots.items ≡ length old.slots.items) (settings : settings_by new.slots.items ≡ settings_by old.slots.items)
     (meanings : meanings_of meaning new ≡ meanings_of meaning old) (e : WorldEvent) (o : Order) (f : Effect) (goes : Goes (cluster_of old) (world_of old) e o) (inside : o.node < size_of old)
-    (set : IsSet o.node (settings_by old.seats.items o.node)) (means : (m : EngineMeaning) × (meanings_of meaning old o.node ≡ Some m))
-    (done : (m : EngineMeaning) → meanings_of meaning old o.node ≡ Some m → HaveDone noted m old.seats.items new.seats.items o f) where
+    (set : IsSet o.node (settings_by old.slots.items o.node)) (means : (m : EngineMeaning) × (meanings_of meaning old o.node ≡ Some m))
+    (done : (m : EngineMeaning) → meanings_of meaning old o.node ≡ Some m → HaveDone noted m old.slots.items new.slots.items o f) where
   abbrev deeds : EngineMeaning → Done
-  deeds m = deed m (settings_by old.seats.items o.node) (places_by old.seats.items o.node) o.task
+  deeds m = deed m (settings_by old.slots.items o.node) (places_by old.slots.items o.node) o.task
 
   -- the number of the start that the task is of
   abbrev number_now : ℕ
-  number_now = number_for (places_by old.seats.items o.node).node.durable o.task
+  number_now = number_for (places_by old.slots.items o.node).node.durable o.task
 
-  as_set : (m : EngineMeaning) → deeds m ≡ deed m (setting_of (cluster_of old) o.node number_now) (places_by old.seats.items o.node) o.task
-  as_set m = ap (λ s. deed m s (places_by old.seats.items o.node) o.task) (own_setting o.node (settings_by old.seats.items o.node) set.own)
+  as_set : (m : EngineMeaning) → deeds m ≡ deed m (setting_of (cluster_of old) o.node number_now) (places_by old.slots.items o.node) o.task
+  as_set m = ap (λ s. deed m s (places_by old.slots.items o.node) o.task) (own_setting o.node (settings_by old.slots.items o.node) set.own)
 
   at_node : f.heading.node ≡ o.node
-  at_node = ap (λ (x : Effect). x.heading.node) (done means.0 means.1).effect ∙ deed_node means.0 (settings_by old.seats.items o.node) (places_by old.seats.items o.node) o.task ∙ set.own
+  at_node = ap (λ (x : Effect). x.heading.node) (done means.0 means.1).effect ∙ deed_node means.0 (settings_by old.slots.items o.node) (places_by old.slots.items o.node) o.task ∙ set.own
 
   world_is : new.packets.items ≡ old.packets.items ++ sends_in f.outputs → new.trace.items ≡ old.trace.items ++ line_of e f ∷ [] → (m : ℕ → EngineMeaning) → AllMean meaning m old → world_of new ≡ done_at (by_node m) (cluster_of old) (world_of old) e o
   world_is packets trace m all =
       let h = done (m o.node) (all o.node inside) in
-      let is : f ≡ (deed (m o.node) (setting_of (cluster_of old) o.node number_now) (places_by old.seats.items o.node) o.task).effect = h.effect ∙ ap (λ (d : Done). d.effect) (as_set (m o.node)) in
+      let is : f ≡ (deed (m o.node) (setting_of (cluster_of old) o.node number_now) (places_by old.slots.items o.node) o.task).effect = h.effect ∙ ap (λ (d : Done). d.effect) (as_set (m o.node)) in
       λ i. record {
-        places = (h.places ∙ ap (λ (d : Done). set_place (places_by old.seats.items) o.node d.place) (as_set (m o.node))) i;
+        places = (h.places ∙ ap (λ (d : Done). set_place (places_by old.slots.items) o.node d.place) (as_set (m o.node))) i;
         packets = (packets ∙ ap (λ (x : Effect). old.packets.items ++ sends_in x.outputs) is) i;
         trace = (trace ∙ ap (λ (x : Effect). old.trace.items ++ line_of e x ∷ []) is) i;
       }
@@ -176,7 +176,7 @@ module _ {E : Type 0} (meaning : E → EngineMeaning) (noted : E → List (List 
   pub silent_start : o.task ≡ task.Start → heard_of noted new ≡ heard_of noted old
   silent_start is =
       let h = done means.0 means.1 in
-      let told : told_by f ≡ [] = ap told_by h.effect ∙ ap (λ t. told_by (deed means.0 (settings_by old.seats.items o.node) (places_by old.seats.items o.node) t).effect) is ∙ start_silent means.0 (settings_by old.seats.items o.node) (places_by old.seats.items o.node) in
+      let told : told_by f ≡ [] = ap told_by h.effect ∙ ap (λ t. told_by (deed means.0 (settings_by old.slots.items o.node) (places_by old.slots.items o.node) t).effect) is ∙ start_silent means.0 (settings_by old.slots.items o.node) (places_by old.slots.items o.node) in
       let none : (n : ℕ) → option_map (λ x. heard_all means.0 x (told_by f)) (heard_of noted old n) ≡ heard_of noted old n = λ n. option_same _ (heard_of noted old n) (λ x. ap (heard_all means.0 x) told) in
       λ j n. (h.heard n ∙ ap (λ x. cond (n == o.node) x (heard_of noted old n)) (none n) ∙ either_same (n == o.node) (heard_of noted old n)) j
     where
@@ -199,22 +199,22 @@ start_task sent (TornRestart n kept) o h is = absurd (let no : false ≡ true = 
 -- ---- what a node has done, and then the line
 
 -- the lists of a world are those of another
-pub acted_world : {E : Type 0} (valid : E → Type 0) (mid new : Nodes E) → new.seats ≡ mid.seats → IsWorld valid mid → new.seats.items ≡ mid.seats.items → IsWorld valid new
-acted_world valid mid new seats w items = still_world valid mid new (ap length items) w (subst (λ xs. All (λ s. IsSeat valid s) xs) (sym items) w.seats) (ap settings_by items)
+pub acted_world : {E : Type 0} (valid : E → Type 0) (mid new : Nodes E) → new.slots ≡ mid.slots → IsWorld valid mid → new.slots.items ≡ mid.slots.items → IsWorld valid new
+acted_world valid mid new slots w items = still_world valid mid new (ap length items) w (subst (λ xs. All (λ s. IsSlot valid s) xs) (sym items) w.slots) (ap settings_by items)
 
 module _ {E : Type 0} (meaning : E → EngineMeaning) (noted : E → List (List ℕ)) (valid : E → Type 0) (old mid : Nodes E) where
   acted_goes : (e : WorldEvent) (f : Effect) (h : HasActed meaning noted old mid e f) → Goes (cluster_of old) (world_of old) e h.order
   acted_goes e f h = goes (cluster_of old) (world_of old) h.order e h.possible h.asked
 
   module _ (new : Nodes E) (e : WorldEvent) (f : Effect) (w : IsWorld valid old) (h : HasActed meaning noted old mid e f) where
-    pub acted_happened : new.seats.items ≡ mid.seats.items → new.packets.items ≡ mid.packets.items → new.trace.items ≡ mid.trace.items ++ line_of e f ∷ [] → HaveHappened meaning noted old new (e ∷ [])
-    acted_happened seats packets trace =
+    pub acted_happened : new.slots.items ≡ mid.slots.items → new.packets.items ≡ mid.packets.items → new.trace.items ≡ mid.trace.items ++ line_of e f ∷ [] → HaveHappened meaning noted old new (e ∷ [])
+    acted_happened slots packets trace =
         let o = h.order in
         let gone = acted_goes e f h in
-        let inside = told_there old.seats.items o.node gone.there in
-        happened meaning noted old new (ap length seats ∙ h.number) (ap settings_by seats ∙ h.settings) (ap (meanings_by meaning) seats ∙ h.meanings) e o f gone inside
-        (w.settings o.node inside) (means_at meaning valid old.seats.items w.seats o.node inside)
-        (λ m is. subst (λ xs. HaveDone noted m old.seats.items xs o f) (sym seats) (h.done m is))
+        let inside = told_there old.slots.items o.node gone.there in
+        happened meaning noted old new (ap length slots ∙ h.number) (ap settings_by slots ∙ h.settings) (ap (meanings_by meaning) slots ∙ h.meanings) e o f gone inside
+        (w.settings o.node inside) (means_at meaning valid old.slots.items w.slots o.node inside)
+        (λ m is. subst (λ xs. HaveDone noted m old.slots.items xs o f) (sym slots) (h.done m is))
         (packets ∙ h.packets) (trace ∙ ap (λ ls. ls ++ line_of e f ∷ []) h.trace)
 
   module _ (e : WorldEvent) (f : Effect) (w : IsWorld valid old) (h : HasActed meaning noted old mid e f) where
@@ -222,6 +222,6 @@ module _ {E : Type 0} (meaning : E → EngineMeaning) (noted : E → List (List 
     acted_silent start =
         let o = h.order in
         let gone = acted_goes e f h in
-        let inside = told_there old.seats.items o.node gone.there in
-        silent_start meaning noted old mid h.number h.settings h.meanings e o f gone inside (w.settings o.node inside) (means_at meaning valid old.seats.items w.seats o.node inside) h.done
+        let inside = told_there old.slots.items o.node gone.there in
+        silent_start meaning noted old mid h.number h.settings h.meanings e o f gone inside (w.settings o.node inside) (means_at meaning valid old.slots.items w.slots o.node inside) h.done
         (start_task old.packets.items e o start h.asked)

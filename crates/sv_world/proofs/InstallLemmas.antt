@@ -12,25 +12,25 @@ use Rattle.sv_model.specs.Replay.{blank}
 use Rattle.sv_world.specs.declared.installing.InstallFault.{InstallFault}
 use Rattle.sv_world.specs.declared.installing.InstallFault.TheVariants.{NoNode, NotTold, Running}
 use Rattle.sv_world.specs.declared.rules.Rules.{Rules}
-use Rattle.sv_world.specs.declared.seat.Seat.{Seat}
+use Rattle.sv_world.specs.declared.slot.Slot.{Slot}
 use Rattle.sv_world.specs.declared.world.World.{World as Nodes}
 use Rattle.sv_world.specs.Rules.{setting_by}
-use Rattle.sv_world.specs.Seat.{IsSeat, RunsOver, place_of, engine_in, engine_by, durable_of, boot_of}
+use Rattle.sv_world.specs.Slot.{IsSlot, RunsOver, place_of, engine_in, engine_by, durable_of, boot_of}
 use Rattle.sv_world.specs.World.{Cluster, Place, World, setting_of, run, nothing_happened}
 use Rattle.sv_world.specs.Worlds.{rules_in, place_in, settings_by, world_of, size_of, cluster_of, meanings_of, IsSet, AreSet}
 use Rattle.sv_world.specs.Happened.{events_in}
 use Rattle.sv_world.specs.Planned.{since, Ran, changed_behind, meanings_behind, cluster_behind, last_of, fault_in, fault_by, IsCause, AreInstalled}
 use Rattle.sv_world.proofs.PlanLemmas.{Same, AreThere, there_by, run_so_far}
-use Rattle.sv_world.proofs.SeatLemmas.{none_by}
+use Rattle.sv_world.proofs.SlotLemmas.{none_by}
 
 -- ---- one node
 
-module _ {E : Type 0} (old new : Seat E) (down : (place_of old).up ≡ false) (core : new.core ≡ old.core) (journal : new.journal.items ≡ old.journal.items) where
+module _ {E : Type 0} (old new : Slot E) (down : (place_of old).up ≡ false) (core : new.core ≡ old.core) (journal : new.journal.items ≡ old.journal.items) where
   none : old.core ≡ None
   none = none_by old.core (durable_of old) down
 
-  pub set_seat : (valid : E → Type 0) (engine : E) → valid engine → new.idle ≡ Some engine → AllFit new.setting Blank blank old.journal.items → IsSeat valid new
-  set_seat valid engine is idle fit = record {
+  pub set_slot : (valid : E → Type 0) (engine : E) → valid engine → new.idle ≡ Some engine → AllFit new.setting Blank blank old.journal.items → IsSlot valid new
+  set_slot valid engine is idle fit = record {
     engine = subst (λ (o : Option E). IfSome o valid) (sym (ap (λ c. engine_by c new.idle) (core ∙ none) ∙ idle)) is;
     fit = subst (AllFit new.setting Blank blank) (sym journal) fit;
     runs = subst (λ x. IfSome x (λ c. RunsOver new.setting (durable_of new) c)) (sym (core ∙ none)) tt;
@@ -50,7 +50,7 @@ running_by p none = by p.up refl none
     by false is h = refl
 
 module _ {E : Type 0} where
-  pub ready_by : (n nodes : ℕ) (o : Option (Seat E)) → fault_by n nodes o ≡ None → (n < nodes) × ((place_in o).up ≡ false)
+  pub ready_by : (n nodes : ℕ) (o : Option (Slot E)) → fault_by n nodes o ≡ None → (n < nodes) × ((place_in o).up ≡ false)
   ready_by n nodes None h = absurd (let no : Some NoNode ≡ None = h in cc)
   ready_by n nodes (Some s) h =
       let by : Bool → Option InstallFault = λ b. cond b (Some NotTold) (fault_in (boot_of (place_of s))) in
@@ -59,11 +59,11 @@ module _ {E : Type 0} where
       (λ (past : nodes ≤ n). absurd (let no : Some NotTold ≡ None = sym (ap by (le-leb nodes n past)) ∙ h in cc))
       (cases_lt n nodes)
 
-  pub there_by_fault : (n nodes : ℕ) (seats : List (Seat E)) → fault_by n nodes (slice_get seats n) ≡ None → n < length seats
-  there_by_fault n nodes seats h = ⊎_elim
-      (λ (found : (s : Seat E) × (n < length seats) × (slice_get seats n ≡ Some s) × (get_or seats n s ≡ s)). found.1)
-      (λ (past : (length seats ≤ n) × (slice_get seats n ≡ None)). absurd (let no : Some NoNode ≡ None = sym (ap (fault_by n nodes) past.1) ∙ h in cc))
-      (slice_get_cases seats n).1
+  pub there_by_fault : (n nodes : ℕ) (slots : List (Slot E)) → fault_by n nodes (slice_get slots n) ≡ None → n < length slots
+  there_by_fault n nodes slots h = ⊎_elim
+      (λ (found : (s : Slot E) × (n < length slots) × (slice_get slots n ≡ Some s) × (get_or slots n s ≡ s)). found.1)
+      (λ (past : (length slots ≤ n) × (slice_get slots n ≡ None)). absurd (let no : Some NoNode ≡ None = sym (ap (fault_by n nodes) past.1) ∙ h in cc))
+      (slice_get_cases slots n).1
 
 -- ---- the plan behind a start
 
@@ -89,13 +89,13 @@ module _ {A : Type 0} (n last : ℕ) (v : A) (plan : ℕ → ℕ → A) (x boot 
 -- ---- a world
 
 module _ {E : Type 0} (meaning : E → EngineMeaning) (noted : E → List (List ℕ)) (old new : Nodes E) (n nodes : ℕ) (rules : Rules) (engine : E) (size : size_of new ≡ size_of old) (there : n < size_of old) (less : n < nodes)
-    (world : world_of new ≡ world_of old) (installed : AreInstalled meaning noted (setting_by rules n nodes) engine old.seats.items new.seats.items) where
+    (world : world_of new ≡ world_of old) (installed : AreInstalled meaning noted (setting_by rules n nodes) engine old.slots.items new.slots.items) where
   abbrev given : Setting
   given = setting_by rules n nodes
 
-  pub all_set : AreSet old.seats.items → AreSet new.seats.items
+  pub all_set : AreSet old.slots.items → AreSet new.slots.items
   all_set set x inside = subst (IsSet x) (sym (installed.settings x))
-      (by_number (IsSet x) x n given (settings_by old.seats.items x) (λ e. record { own = sym e; told = omega (arith, e, less) }) (λ _. set x (omega (arith, size, inside))))
+      (by_number (IsSet x) x n given (settings_by old.slots.items x) (λ e. record { own = sym e; told = omega (arith, e, less) }) (λ _. set x (omega (arith, size, inside))))
 
   module _ (down : ((world_of old).places n).up ≡ false) (touches : TouchesOnlyHanded (meaning engine)) (m : Meanings) (c : Cluster) (r : Ran meaning m c old) where
     abbrev last : ℕ
@@ -135,7 +135,7 @@ module _ {E : Type 0} (meaning : E → EngineMeaning) (noted : E → List (List 
 
     settings_now : (x boot : ℕ) → x < size_of old → since (world_of old) x ≤ boot → setting_of (cluster_of new) x boot ≡ setting_of c' x boot
     settings_now x boot inside le = ap (λ (s : Setting). setting_by (rules_in s) x s.nodes) (installed.settings x)
-        ∙ by_number (λ (s : Setting). setting_by (rules_in s) x s.nodes ≡ setting_of c' x boot) x n given (settings_by old.seats.items x)
+        ∙ by_number (λ (s : Setting). setting_by (rules_in s) x s.nodes ≡ setting_of c' x boot) x n given (settings_by old.slots.items x)
         (λ e. let more : last < boot = (let since_n : since (world_of old) n ≤ boot = subst (λ y. since (world_of old) y ≤ boot) e le in omega (arith, since_n, next)) in
         λ i. setting_by (sym (as_now n last rules c.rules x boot e more) i) x (sym (as_now n last nodes c.nodes x boot e more) i))
         (λ e. r.plan.settings x boot inside le ∙ (same_before x boot (λ same. absurd (e same))).setting)
@@ -157,7 +157,7 @@ module _ {E : Type 0} (meaning : E → EngineMeaning) (noted : E → List (List 
     }
 
 -- nothing was done
-module _ {E : Type 0} (meaning : E → EngineMeaning) (old new : Nodes E) (size : size_of new ≡ size_of old) (world : world_of new ≡ world_of old) (settings : settings_by new.seats.items ≡ settings_by old.seats.items)
+module _ {E : Type 0} (meaning : E → EngineMeaning) (old new : Nodes E) (size : size_of new ≡ size_of old) (world : world_of new ≡ world_of old) (settings : settings_by new.slots.items ≡ settings_by old.slots.items)
     (meanings : meanings_of meaning new ≡ meanings_of meaning old) where
   pub still_ran : (m : Meanings) (c : Cluster) → Ran meaning m c old → Ran meaning m c new
   still_ran m c r =

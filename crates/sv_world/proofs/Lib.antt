@@ -47,7 +47,7 @@ pub mod PlanLemmas
 pub mod HappenedLemmas
 pub mod RanLemmas
 pub mod ActingLemmas
-pub mod SeatLemmas
+pub mod SlotLemmas
 pub mod InstallLemmas
 pub mod MakingLemmas
 pub mod BegunLemmas

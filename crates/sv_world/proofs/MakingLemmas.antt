@@ -6,10 +6,10 @@ use Rattle.std.proofs.lemmas.Bool.{cases_eq}
 use Rattle.std.proofs.lemmas.List.{map-append, drop-drop}
 use Rattle.sv_world.specs.declared.rules.Rules.{Rules}
 use Rattle.sv_world.specs.Rules.{setting_by}
-use Rattle.sv_world.specs.declared.seat.Seat.{Seat}
-use Rattle.sv_world.specs.Seat.{engine_in, engine_by}
+use Rattle.sv_world.specs.declared.slot.Slot.{Slot}
+use Rattle.sv_world.specs.Slot.{engine_in, engine_by}
 use Rattle.sv_world.specs.Worlds.{setting_in, settings_by}
-use Rattle.sv_world.specs.Making.{IsIdle, AreSeated}
+use Rattle.sv_world.specs.Making.{IsIdle, AreFilled}
 
 module _ {X : Type 0} where
   -- the first of a list, and the rest
@@ -48,30 +48,30 @@ module _ {X : Type 0} where
 
 module _ {E : Type 0} where
   -- one more node
-  pub one_seated : (nodes : ℕ) (rules : Rules) (engines : List E) (seats : List (Seat E)) (e : E) (s : Seat E) → AreSeated nodes rules engines seats → s.idle ≡ Some e → s.core ≡ None → s.journal.items ≡ []
-      → s.setting ≡ setting_by rules (length seats) nodes → AreSeated nodes rules (engines ++ e ∷ []) (seats ++ s ∷ [])
-  one_seated nodes rules engines seats e s h idle core journal set =
+  pub one_filled : (nodes : ℕ) (rules : Rules) (engines : List E) (slots : List (Slot E)) (e : E) (s : Slot E) → AreFilled nodes rules engines slots → s.idle ≡ Some e → s.core ≡ None → s.journal.items ≡ []
+      → s.setting ≡ setting_by rules (length slots) nodes → AreFilled nodes rules (engines ++ e ∷ []) (slots ++ s ∷ [])
+  one_filled nodes rules engines slots e s h idle core journal set =
       let engine : engine_in s ≡ Some e = engine_idle s e core idle in
       record {
-        engines_in = map-append engine_in seats (s ∷ []) ∙ (λ i. h.engines_in i ++ engine i ∷ []) ∙ sym (map-append Some engines (e ∷ []));
-        idle = all_push IsIdle seats s h.idle (record { core = core; journal = journal; idle = ap is_some idle });
+        engines_in = map-append engine_in slots (s ∷ []) ∙ (λ i. h.engines_in i ++ engine i ∷ []) ∙ sym (map-append Some engines (e ∷ []));
+        idle = all_push IsIdle slots s h.idle (record { core = core; journal = journal; idle = ap is_some idle });
         settings = λ n less. ⊎_elim
-            (λ (last : n ≡ length seats). ap (λ k. settings_by (seats ++ s ∷ []) k) last ∙ ap setting_in (push_last seats s) ∙ set ∙ ap (λ k. setting_by rules k nodes) (sym last))
-            (λ (before : n ≢ length seats). let below : n < length seats = omega (arith, length-append seats (s ∷ [])) in push_get setting_in seats s n below ∙ h.settings n below)
-            (cases_eq n (length seats));
+            (λ (last : n ≡ length slots). ap (λ k. settings_by (slots ++ s ∷ []) k) last ∙ ap setting_in (push_last slots s) ∙ set ∙ ap (λ k. setting_by rules k nodes) (sym last))
+            (λ (before : n ≢ length slots). let below : n < length slots = omega (arith, length-append slots (s ∷ [])) in push_get setting_in slots s n below ∙ h.settings n below)
+            (cases_eq n (length slots));
       }
     where
-      engine_idle : (s : Seat E) (e : E) → s.core ≡ None → s.idle ≡ Some e → engine_in s ≡ Some e
+      engine_idle : (s : Slot E) (e : E) → s.core ≡ None → s.idle ≡ Some e → engine_in s ≡ Some e
       engine_idle s e core idle = ap (λ c. engine_by c s.idle) core ∙ idle
 
   -- one more engine
-  pub one_taken : (seats : List (Seat E)) (i : ℕ) (rest : List (Seat E)) (s : Seat E) (behind : List (Seat E)) (engines : List E) (e : E) → rest ≡ drop i seats → rest ≡ s ∷ behind
-      → map Some engines ≡ map engine_in (take i seats) → Some e ≡ engine_in s → map Some (engines ++ e ∷ []) ≡ map engine_in (take (i + 1) seats)
-  one_taken seats i rest s behind engines e at is so here =
-      map-append Some engines (e ∷ []) ∙ (λ j. so j ++ here j ∷ []) ∙ sym (map-append engine_in (take i seats) (s ∷ [])) ∙ ap (map engine_in) (sym (more_taken seats i rest s behind at is))
+  pub one_taken : (slots : List (Slot E)) (i : ℕ) (rest : List (Slot E)) (s : Slot E) (behind : List (Slot E)) (engines : List E) (e : E) → rest ≡ drop i slots → rest ≡ s ∷ behind
+      → map Some engines ≡ map engine_in (take i slots) → Some e ≡ engine_in s → map Some (engines ++ e ∷ []) ≡ map engine_in (take (i + 1) slots)
+  one_taken slots i rest s behind engines e at is so here =
+      map-append Some engines (e ∷ []) ∙ (λ j. so j ++ here j ∷ []) ∙ sym (map-append engine_in (take i slots) (s ∷ [])) ∙ ap (map engine_in) (sym (more_taken slots i rest s behind at is))
 
   -- that node has an engine
-  pub has_engine : (seats : List (Seat E)) (i : ℕ) (rest : List (Seat E)) (s : Seat E) (behind : List (Seat E)) → rest ≡ drop i seats → rest ≡ s ∷ behind → All (λ s. is_some (engine_in s) ≡ true) seats → engine_in s ≡ None → ⊥
+  pub has_engine : (slots : List (Slot E)) (i : ℕ) (rest : List (Slot E)) (s : Slot E) (behind : List (Slot E)) → rest ≡ drop i slots → rest ≡ s ∷ behind → All (λ s. is_some (engine_in s) ≡ true) slots → engine_in s ≡ None → ⊥
   has_engine [] zero rest s behind at is all none = absurd (let no : [] ≡ s ∷ behind = sym at ∙ is in cc)
   has_engine [] (suc i) rest s behind at is all none = absurd (let no : [] ≡ s ∷ behind = sym at ∙ is in cc)
   has_engine (z ∷ zs) zero rest s behind at is all none =

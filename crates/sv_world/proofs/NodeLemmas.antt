@@ -5,12 +5,12 @@ use Rattle.std.specs.Option.{option_map}
 use Rattle.std.proofs.lemmas.Bool.{cases_eq, ne_eqb, eq-eqb, eqb-true}
 use Rattle.sv_model.specs.Engine.{EngineMeaning, heard_all}
 use Rattle.sv_world.specs.declared.line.Effect.{Effect}
-use Rattle.sv_world.specs.declared.seat.Seat.{Seat}
+use Rattle.sv_world.specs.declared.slot.Slot.{Slot}
 use Rattle.sv_world.specs.declared.task.Task.{Task}
 use Rattle.sv_world.specs.Deed.{deed, told_by, Done}
 use Rattle.sv_model.specs.declared.node.Setting.{Setting}
 use Rattle.sv_world.specs.Planned.{AreInstalled}
-use Rattle.sv_world.specs.Seat.{HasDone, IsUndone, engine_in, heard_in}
+use Rattle.sv_world.specs.Slot.{HasDone, IsUndone, engine_in, heard_in}
 use Rattle.sv_world.specs.Worlds.{place_in, setting_in, noted_in, meant_in, places_by, settings_by, heard_by, meanings_by}
 use Rattle.sv_world.specs.Happened.{HaveDone, AreUndone}
 
@@ -51,37 +51,37 @@ at_number : {A : Type 0} (at : ℕ → A) (g : A → A) (i n : ℕ) (b : Bool) (
 at_number at g i n true a is h = h ∙ ap (λ k. g (at k)) (sym (eqb-true i n is))
 at_number at g i n false a is h = refl
 
-module _ {E : Type 0} (seats : List (Seat E)) (n : ℕ) (old new : Seat E) (less : n < length seats) (there : slice_get seats n ≡ Some old) where
-  pub settings_same : new.setting ≡ old.setting → settings_by (slice_set seats n new) ≡ settings_by seats
-  settings_same is = same setting_in seats n old new less there is
+module _ {E : Type 0} (slots : List (Slot E)) (n : ℕ) (old new : Slot E) (less : n < length slots) (there : slice_get slots n ≡ Some old) where
+  pub settings_same : new.setting ≡ old.setting → settings_by (slice_set slots n new) ≡ settings_by slots
+  settings_same is = same setting_in slots n old new less there is
 
-  pub meanings_same : (meaning : E → EngineMeaning) → meant_in meaning (Some new) ≡ meant_in meaning (Some old) → meanings_by meaning (slice_set seats n new) ≡ meanings_by meaning seats
-  meanings_same meaning is = same (meant_in meaning) seats n old new less there is
+  pub meanings_same : (meaning : E → EngineMeaning) → meant_in meaning (Some new) ≡ meant_in meaning (Some old) → meanings_by meaning (slice_set slots n new) ≡ meanings_by meaning slots
+  meanings_same meaning is = same (meant_in meaning) slots n old new less there is
 
-  pub undone : (noted : E → List (List ℕ)) → IsUndone noted old new → AreUndone noted seats (slice_set seats n new)
-  undone noted h = record { places = same place_in seats n old new less there h.place; heard = same (noted_in noted) seats n old new less there h.heard }
+  pub undone : (noted : E → List (List ℕ)) → IsUndone noted old new → AreUndone noted slots (slice_set slots n new)
+  undone noted h = record { places = same place_in slots n old new less there h.place; heard = same (noted_in noted) slots n old new less there h.heard }
 
-  pub done : (noted : E → List (List ℕ)) (m : EngineMeaning) (task : Task) (f : Effect) → HasDone noted m old new task f → HaveDone noted m seats (slice_set seats n new) (record { node = n; task = task }) f
+  pub done : (noted : E → List (List ℕ)) (m : EngineMeaning) (task : Task) (f : Effect) → HasDone noted m old new task f → HaveDone noted m slots (slice_set slots n new) (record { node = n; task = task }) f
   done noted m task f h =
-      let deeds : deed m old.setting (place_in (Some old)) task ≡ deed m (settings_by seats n) (places_by seats n) task = λ i. deed m (setting_in (sym there i)) (place_in (sym there i)) task in
+      let deeds : deed m old.setting (place_in (Some old)) task ≡ deed m (settings_by slots n) (places_by slots n) task = λ i. deed m (setting_in (sym there i)) (place_in (sym there i)) task in
       let listen = option_map (λ (x : List (List ℕ)). heard_all m x (told_by f)) in
       record {
-        places = λ j x. (changed place_in seats n new less x ∙ ap (λ p. cond (x == n) p (places_by seats x)) (h.place ∙ ap (λ (d : Done). d.place) deeds)) j;
+        places = λ j x. (changed place_in slots n new less x ∙ ap (λ p. cond (x == n) p (places_by slots x)) (h.place ∙ ap (λ (d : Done). d.place) deeds)) j;
         effect = h.effect ∙ ap (λ (d : Done). d.effect) deeds;
-        heard = λ x. changed (noted_in noted) seats n new less x ∙ at_number (heard_by noted seats) listen x n (x == n) (heard_in noted new) refl (h.heard ∙ ap (λ o. listen (noted_in noted o)) (sym there));
+        heard = λ x. changed (noted_in noted) slots n new less x ∙ at_number (heard_by noted slots) listen x n (x == n) (heard_in noted new) refl (h.heard ∙ ap (λ o. listen (noted_in noted o)) (sym there));
       }
 
-module _ {E : Type 0} (meaning : E → EngineMeaning) (noted : E → List (List ℕ)) (seats : List (Seat E)) (n : ℕ) (old new : Seat E) (less : n < length seats) (there : slice_get seats n ≡ Some old) where
+module _ {E : Type 0} (meaning : E → EngineMeaning) (noted : E → List (List ℕ)) (slots : List (Slot E)) (n : ℕ) (old new : Slot E) (less : n < length slots) (there : slice_get slots n ≡ Some old) where
   -- it has another engine and another setting
-  pub installed : (set : Setting) (engine : E) → set.node ≡ n → new.setting ≡ set → engine_in new ≡ Some engine → AreInstalled meaning noted set engine seats (slice_set seats n new)
+  pub installed : (set : Setting) (engine : E) → set.node ≡ n → new.setting ≡ set → engine_in new ≡ Some engine → AreInstalled meaning noted set engine slots (slice_set slots n new)
   installed set engine own is has = record {
-    settings = λ x. changed setting_in seats n new less x ∙ (λ i. cond (x == sym own i) (is i) (settings_by seats x));
-    meanings = λ x. changed (meant_in meaning) seats n new less x ∙ (λ i. cond (x == sym own i) (option_map meaning (has i)) (meanings_by meaning seats x));
-    heard = λ x. changed (noted_in noted) seats n new less x ∙ (λ i. cond (x == sym own i) (option_map noted (has i)) (heard_by noted seats x));
+    settings = λ x. changed setting_in slots n new less x ∙ (λ i. cond (x == sym own i) (is i) (settings_by slots x));
+    meanings = λ x. changed (meant_in meaning) slots n new less x ∙ (λ i. cond (x == sym own i) (option_map meaning (has i)) (meanings_by meaning slots x));
+    heard = λ x. changed (noted_in noted) slots n new less x ∙ (λ i. cond (x == sym own i) (option_map noted (has i)) (heard_by noted slots x));
   }
 
-  pub places_same : place_in (Some new) ≡ place_in (Some old) → places_by (slice_set seats n new) ≡ places_by seats
-  places_same is = same place_in seats n old new less there is
+  pub places_same : place_in (Some new) ≡ place_in (Some old) → places_by (slice_set slots n new) ≡ places_by slots
+  places_same is = same place_in slots n old new less there is
 
 -- an answer's clause, at what it answers
 pub ok_then : {T F : Type 0} (r : Result T F) (P Q : T → Type 0) → ((x : T) → P x → Q x) → IfOk r P → IfOk r Q

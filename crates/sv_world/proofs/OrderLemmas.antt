@@ -22,7 +22,7 @@ use Rattle.sv_world.specs.Deed.{Done, deed, wants_up, number_for, line_of, quiet
 use Rattle.sv_world.specs.Faults.{call_fault, start_fault, fault_of}
 use Rattle.sv_world.specs.Order.{whole_order, torn_order, silent_order, order_of}
 use Rattle.sv_world.specs.Sent.{may_come}
-use Rattle.sv_world.specs.World.{Cluster, Place, World, set_place, setting_of, durable_at, stopped, started, items, call_of, decision, token_of_call, is_unused, is_there, is_ready, is_spent, whole, cut, silent, becomes, halt, boots, steps, tears, hushes, starts, happens}
+use Rattle.sv_world.specs.World.{Cluster, Place, World, set_place, setting_of, durable_at, stopped, started, items, call_of, decision, token_of_call, is_unused, is_there, is_ready, is_spent, whole, torn, silent, becomes, halt, boots, steps, tears, silences, starts, happens}
 use Rattle.sv_world.proofs.FaultLemmas.{step_goes, start_goes, stop_goes}
 
 -- a world in which this was done at a node
@@ -67,12 +67,12 @@ module _ (c : Cluster) (w : World) (e : WorldEvent) where
   tears_go m kept call h =
       let d = decision m c w call in
       let heading = heading_by (setting_of c call.node (durable_at w call.node).boot) (durable_at w call.node) call.input in
-      cond-true (is_ready c w call) (cond (kept && is_some d.entry) (cut c w e call d) (halt w e call.node (token_of_call c w call))) w (ready call h)
-      ∙ split call.node (kept && is_some d.entry) (cut c w e call d) (halt w e call.node (token_of_call c w call)) (record { place = stopped d.durable; effect = quiet_at heading d.entry d.commit }) (halted heading (durable_at w call.node))
-      (λ i. record (cut c w e call d) { packets = sym (append-nil w.packets) i }) (quiet call.node (durable_at w call.node).boot (stopped (durable_at w call.node)) None (token_of_call c w call))
+      cond-true (is_ready c w call) (cond (kept && is_some d.entry) (torn c w e call d) (halt w e call.node (token_of_call c w call))) w (ready call h)
+      ∙ split call.node (kept && is_some d.entry) (torn c w e call d) (halt w e call.node (token_of_call c w call)) (record { place = stopped d.durable; effect = quiet_at heading d.entry d.commit }) (halted heading (durable_at w call.node))
+      (λ i. record (torn c w e call d) { packets = sym (append-nil w.packets) i }) (quiet call.node (durable_at w call.node).boot (stopped (durable_at w call.node)) None (token_of_call c w call))
 
-  hushes_go : (m : Meanings) (call : Call) → call_fault c w (Some call) ≡ None → hushes m c w e (Some call) ≡ done_at m c w e (silent_order call)
-  hushes_go m call h =
+  silences_go : (m : Meanings) (call : Call) → call_fault c w (Some call) ≡ None → silences m c w e (Some call) ≡ done_at m c w e (silent_order call)
+  silences_go m call h =
       let d = decision m c w call in
       cond-true (is_ready c w call) (silent c w e call d) w (ready call h) ∙ (λ i. record (silent c w e call d) { packets = sym (append-nil w.packets) i })
 
@@ -98,9 +98,9 @@ module _ (c : Cluster) (w : World) (e : WorldEvent) where
   torn_goes o kept None is fault order = absurd (let no : Some NoPacket ≡ None = fault in cc)
   torn_goes o kept (Some call) is fault order = subst (Goes c w e) (same_Some (torn_order kept call) o order) (record { happens = λ m. is m ∙ tears_go m kept call fault; there = (there_up call fault).0; up = (there_up call fault).1 })
 
-  silent_goes : (o : Order) (call : Option Call) → ((m : Meanings) → happens m c w e ≡ hushes m c w e call) → call_fault c w call ≡ None → option_map silent_order call ≡ Some o → Goes c w e o
+  silent_goes : (o : Order) (call : Option Call) → ((m : Meanings) → happens m c w e ≡ silences m c w e call) → call_fault c w call ≡ None → option_map silent_order call ≡ Some o → Goes c w e o
   silent_goes o None is fault order = absurd (let no : Some NoPacket ≡ None = fault in cc)
-  silent_goes o (Some call) is fault order = subst (Goes c w e) (same_Some (silent_order call) o order) (record { happens = λ m. is m ∙ hushes_go m call fault; there = (there_up call fault).0; up = (there_up call fault).1 })
+  silent_goes o (Some call) is fault order = subst (Goes c w e) (same_Some (silent_order call) o order) (record { happens = λ m. is m ∙ silences_go m call fault; there = (there_up call fault).0; up = (there_up call fault).1 })
 
   start_goes_by : (n : ℕ) (kept : Bool) (place : Durable → Place) (t : Task) → wants_up t ≡ false → number_for (durable_at w n) t ≡ (durable_at w n).boot + 1 → ((m : Meanings) → happens m c w e ≡ starts c w e n kept place)
       → ((m : Meanings) → done_by w e n (start_by (next_setting n) (durable_at w n) kept place) ≡ done_at m c w e (record { node = n; task = t })) → start_fault (there_next n) (w.places n).up ≡ None → Goes c w e (record { node = n; task = t })

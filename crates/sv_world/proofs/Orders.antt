@@ -25,7 +25,7 @@ use Rattle.sv_world.specs.Headline.{request_in, request_of, WasAsked, AllServed}
 use Rattle.sv_world.specs.declared.line.Line.{Line}
 use Rattle.sv_world.specs.declared.call.Call.{Call}
 use Rattle.sv_world.specs.Sane.{store_of}
-use Rattle.sv_world.specs.World.{KnowsAll, Cluster, Place, World, set_place, durable_at, stopped, nothing_happened, items, commits_in, whole, cut, silent, call_of, is_unused, decision, happens, item_at, token_of_call, setting_of}
+use Rattle.sv_world.specs.World.{KnowsAll, Cluster, Place, World, set_place, durable_at, stopped, nothing_happened, items, commits_in, whole, torn, silent, call_of, is_unused, decision, happens, item_at, token_of_call, setting_of}
 use Rattle.sv_world.specs.Waits.{Waits}
 use Rattle.sv_world.proofs.Keys.{in_left, in_right}
 use Rattle.sv_world.proofs.Arrivals.{one_if, token_self, asked_snoc, arrival_snoc, arrival_new, items_snoc}
@@ -107,8 +107,8 @@ module _ (m : Meanings) (c : Cluster) where
       lined m (set_place w.places call.node (record { up = true; node = left d })) (w.packets ++ sends_in d.outputs) w.trace _
       (whole_waits m w.places w.packets (commits_in w) _ _ (grows m w _ j) call.node d r.up (patient_at w call _ (brought w.packets e call is) refl r knows inv j))
 
-  cut_waiting : (w : World) (e : WorldEvent) (call : Call) → call_of w.packets e ≡ Some call → IsReady c w call → KnowsAll m c w → Inv m c w → Waiting m w → Waiting m (cut c w e call (decision m c w call))
-  cut_waiting w e call is r knows inv j =
+  torn_waiting : (w : World) (e : WorldEvent) (call : Call) → call_of w.packets e ≡ Some call → IsReady c w call → KnowsAll m c w → Inv m c w → Waiting m w → Waiting m (torn c w e call (decision m c w call))
+  torn_waiting w e call is r knows inv j =
       let d = decision m c w call in
       let p = patient_at w call _ (brought w.packets e call is) refl r knows inv j in
       lined m (set_place w.places call.node (stopped d.durable)) w.packets w.trace _
@@ -124,7 +124,7 @@ module _ (m : Meanings) (c : Cluster) where
   happens_waits w e knows inv j = behind m c w (Waiting m) e (record {
     still = j;
     whole_by = λ call is r. whole_waiting w e call is r knows inv j;
-    cut_by = λ call is r. cut_waiting w e call is r knows inv j;
+    torn_by = λ call is r. torn_waiting w e call is r knows inv j;
     silent_by = λ call is r. silent_waiting w e call is r knows inv j;
     halt_by = λ n asked _. lined m (set_place w.places n (stopped (durable_at w n))) w.packets w.trace _ (stop_waits m w.places w.packets (commits_in w) _ _ (grows m w _ j) n (durable_at w n) None refl tt tt);
     boots_by = λ n p may none same. lined m (set_place w.places n p) w.packets w.trace _ (boot_waits m w.places w.packets (commits_in w) _ _ (grows m w _ j) n p none (ap (λ (d : Durable). d.boot) same ∙ start_boot (setting_of c n ((durable_at w n).boot + 1)) (durable_at w n)));

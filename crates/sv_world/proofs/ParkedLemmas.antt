@@ -87,7 +87,7 @@ module _ (m : Meanings) (touches : AllTouchOnlyHanded m) (c : Cluster) where
       behind m c w (AreQueued c) e (record {
         still = j;
         whole_by = λ call is r. record { at = steps call r };
-        cut_by = λ call is r. record { at = empties call.node (stopped (decision m c w call).durable) refl };
+        torn_by = λ call is r. record { at = empties call.node (stopped (decision m c w call).durable) refl };
         silent_by = λ call is r. record { at = steps call r };
         halt_by = λ n asked _. record { at = empties n (stopped (durable_at w n)) refl };
         boots_by = λ n p may none same. record { at = empties n p none };

@@ -65,7 +65,7 @@ module _ (m : Meanings) (c : Cluster) where
   happens_later w e = behind m c w (λ v. Later w.places v.places) e (record {
     still = later_still w.places;
     whole_by = λ call is r. let p : Place = record { up = true; node = left (decision m c w call) } in let s = step_later (w.places call.node) p r.up (boot_kept m c w call) in later_at w.places call.node p s.0 s.1;
-    cut_by = λ call is r. let p = stopped (decision m c w call).durable in let s = step_later (w.places call.node) p r.up (boot_kept m c w call) in later_at w.places call.node p s.0 s.1;
+    torn_by = λ call is r. let p = stopped (decision m c w call).durable in let s = step_later (w.places call.node) p r.up (boot_kept m c w call) in later_at w.places call.node p s.0 s.1;
     silent_by = λ call is r. let p : Place = record { up = true; node = left (decision m c w call) } in let s = step_later (w.places call.node) p r.up (boot_kept m c w call) in later_at w.places call.node p s.0 s.1;
     halt_by = λ n asked _. later_at w.places n (stopped (durable_at w n)) (since_below (w.places n)) (omega arith);
     boots_by = λ n p may none same.

@@ -86,8 +86,8 @@ module _ {E : Type 0} (meaning : E → EngineMeaning) (noted : E → List (List 
   planned_there m c w plan n boot =
       let now = since (world_of w) n in
       let here : n < c.nodes n boot → n < size_of w = λ told. ⊎_elim (λ (less : n < size_of w). less) (λ (past : size_of w ≤ n). let none = plan.beyond n boot past in absurd (omega (arith, told, none))) (cases_lt n (size_of w)) in
-      there_by n (settings_by w.seats.items n).nodes (c.nodes n boot)
-      (λ told. plan.inside n boot (told_there w.seats.items n told))
+      there_by n (settings_by w.slots.items n).nodes (c.nodes n boot)
+      (λ told. plan.inside n boot (told_there w.slots.items n told))
       (λ told. let less = here told in subst (λ (s : Setting). n < s.nodes) (sym (plan.settings n now less (omega arith))) (plan.inside n now less))
 
   module _ (m : Meanings) (c : Cluster) (old new : Nodes E) (es : List WorldEvent) (h : HaveHappened meaning noted old new es) (r : Ran meaning m c old) where
@@ -97,7 +97,7 @@ module _ {E : Type 0} (meaning : E → EngineMeaning) (noted : E → List (List 
 
     same_from : FromNowOn (by_node now) m (cluster_of old) c (planned_there m c old r.plan) (world_of old)
     same_from n boot told le =
-        let less = told_there old.seats.items n told in
+        let less = told_there old.slots.items n told in
         record {
           meaning = same_Some (now n) (m n boot) (sym (r.plan.meanings n (since (world_of old) n) less (omega arith)) ∙ r.plan.meanings n boot less le);
           setting = r.plan.settings n boot less le;

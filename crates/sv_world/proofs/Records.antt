@@ -84,7 +84,7 @@ module _ (m : Meanings) (touches : AllTouchOnlyHanded m) (c : Cluster) (wide : R
   happens_kept w e inv j = behind m c w (Kept wide) e (record {
     still = j;
     whole_by = λ call is r. grows wide w call.node (record { up = true; node = left (decision m c w call) }) _ _ refl (sound_at m touches c w call inv r).applies (fits_at w call) j;
-    cut_by = λ call is r. grows wide w call.node (stopped (decision m c w call).durable) _ w.packets refl (sound_at m touches c w call inv r).applies (fits_at w call) j;
+    torn_by = λ call is r. grows wide w call.node (stopped (decision m c w call).durable) _ w.packets refl (sound_at m touches c w call inv r).applies (fits_at w call) j;
     silent_by = λ call is r. grows wide w call.node (record { up = true; node = left (decision m c w call) }) _ w.packets refl (sound_at m touches c w call inv r).applies (fits_at w call) j;
     halt_by = λ n asked _. grows wide w n (stopped (durable_at w n)) _ w.packets refl refl (λ stage. tt) j;
     boots_by = λ n p may none same. grows wide w n p _ w.packets refl same (if_wider n ((durable_at w n).boot + 1) (durable_at w n) (Some (boot_record (setting_of c n ((durable_at w n).boot + 1)) (durable_at w n))) (start_fits (setting_of c n ((durable_at w n).boot + 1)) (durable_at w n))) j;

@@ -83,7 +83,7 @@ module _ (m : Meanings) (c : Cluster) where
   happens_rolls w e turn j = behind m c w Rolled e (record {
     still = j;
     whole_by = λ call is r. record { rolls = same_rolls w.places call.node (record { up = true; node = left (decision m c w call) }) j.rolls (step_boot w call) (λ _. r.up) (λ none. absurd (omega (arith, none, step_boot w call, (j.rolls.starts call.node).0 r.up))) };
-    cut_by = λ call is r. record { rolls = same_rolls w.places call.node (stopped (decision m c w call).durable) j.rolls (step_boot w call) (λ _. r.up) (λ none. absurd (omega (arith, none, step_boot w call, (j.rolls.starts call.node).0 r.up))) };
+    torn_by = λ call is r. record { rolls = same_rolls w.places call.node (stopped (decision m c w call).durable) j.rolls (step_boot w call) (λ _. r.up) (λ none. absurd (omega (arith, none, step_boot w call, (j.rolls.starts call.node).0 r.up))) };
     silent_by = λ call is r. record { rolls = same_rolls w.places call.node (record { up = true; node = left (decision m c w call) }) j.rolls (step_boot w call) (λ _. r.up) (λ none. absurd (omega (arith, none, step_boot w call, (j.rolls.starts call.node).0 r.up))) };
     halt_by = λ n asked _. record { rolls = same_rolls w.places n (stopped (durable_at w n)) j.rolls refl (λ up. absurd (let no : false ≡ true = up in cc)) (j.rolls.starts n).1 };
     boots_by = λ n p may none same.

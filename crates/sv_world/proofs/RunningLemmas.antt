@@ -116,7 +116,7 @@ module _ (m : Meanings) (c : Cluster) where
   happens_grows w e = behind m c w (Grows w) e (record {
     still = none_more w w refl;
     whole_by = λ call is r. record { more = sends_in (decision m c w call).outputs; is = refl };
-    cut_by = λ call is r. record { more = []; is = sym (append-nil w.packets) };
+    torn_by = λ call is r. record { more = []; is = sym (append-nil w.packets) };
     silent_by = λ call is r. record { more = []; is = sym (append-nil w.packets) };
     halt_by = λ n asked _. record { more = []; is = sym (append-nil w.packets) };
     boots_by = λ n p may none same. record { more = []; is = sym (append-nil w.packets) };

@@ -32,7 +32,7 @@ use Rattle.sv_world.specs.Life.{Life, Unborn}
 use Rattle.sv_world.specs.declared.event.WorldEvent.{WorldEvent}
 use Rattle.sv_world.specs.declared.line.Line.{Line}
 use Rattle.sv_world.specs.declared.call.Call.{Call}
-use Rattle.sv_world.specs.World.{Cluster, Place, World, set_place, durable_at, stopped, nothing_happened, items, commits_in, openings_of, whole, cut, silent, becomes, decision, happens, run, item_at, record_of_start, quiet_line, commit_with, token_of_call, setting_of}
+use Rattle.sv_world.specs.World.{Cluster, Place, World, set_place, durable_at, stopped, nothing_happened, items, commits_in, openings_of, whole, torn, silent, becomes, decision, happens, run, item_at, record_of_start, quiet_line, commit_with, token_of_call, setting_of}
 use Rattle.sv_world.specs.Sane.{Sane, acked, store_of}
 use Rattle.sv_world.specs.Headline.{states, IsLiveAt, IsOpening, IsLive, granted, opened}
 use Rattle.sv_model.specs.Node.{decided}
@@ -82,8 +82,8 @@ whole_keeps m c w e call d s =
     let l = lives_packets (keys_of (disks_of (set_place w.places n p))) w.packets _ _ (sends_in d.outputs) (s.just _ r) (record { each = a.lives }) in
     inv_by m c (set_place w.places n p) (w.packets ++ sends_in d.outputs) w.trace _ (record { lives = l.each; unmade = a.unmade; made = a.made; lawful = a.lawful; counts = a.counts; own = a.own; full = a.full })
 
-cut_keeps : (m : Meanings) (c : Cluster) (w : World) (e : WorldEvent) (call : Call) (d : Decision) → SoundAt m c w call.node d → Inv m c (cut c w e call d)
-cut_keeps m c w e call d s = inv_by m c (set_place w.places call.node (stopped d.durable)) w.packets w.trace _ (s.durable _ (redisk w.places call.node (stopped d.durable)))
+torn_keeps : (m : Meanings) (c : Cluster) (w : World) (e : WorldEvent) (call : Call) (d : Decision) → SoundAt m c w call.node d → Inv m c (torn c w e call d)
+torn_keeps m c w e call d s = inv_by m c (set_place w.places call.node (stopped d.durable)) w.packets w.trace _ (s.durable _ (redisk w.places call.node (stopped d.durable)))
 
 -- a node knows what it knew, and keeps what it kept; it may begin to forget its own keys
 record IsAlike (n : ℕ) (old new : Durable) : Type 0 where
@@ -174,7 +174,7 @@ module _ (m : Meanings) (touches : AllTouchOnlyHanded m) (c : Cluster) where
   happens_keeps w e j = behind m c w (Inv m c) e (record {
     still = j;
     whole_by = λ call is r. whole_keeps m c w e call (decision m c w call) (sound_at w call j r);
-    cut_by = λ call is r. cut_keeps m c w e call (decision m c w call) (sound_at w call j r);
+    torn_by = λ call is r. torn_keeps m c w e call (decision m c w call) (sound_at w call j r);
     silent_by = λ call is r. silent_keeps m c w e call (decision m c w call) (sound_at w call j r) j;
     halt_by = λ n asked _. alike_keeps m c w e n (stopped (durable_at w n)) None asked refl (same_alike n (durable_at w n) (durable_at w n) refl) j;
     boots_by = λ n p may none same. alike_keeps m c w e n p (Some (record_of_start c w n)) None (start_opens c w n) (subst (IsAlike n (durable_at w n)) (sym same) (start_alike m c w n j)) j;

@@ -17,7 +17,7 @@ use Rattle.sv_model.specs.Membership.{with_last}
 use Rattle.sv_world.specs.declared.event.WorldEvent.{WorldEvent}
 use Rattle.sv_world.specs.declared.line.Line.{Line}
 use Rattle.sv_world.specs.declared.call.Call.{Call}
-use Rattle.sv_world.specs.World.{Cluster, Place, World, set_place, durable_at, stopped, nothing_happened, items, commits_in, whole, cut, silent, becomes, commit_with, is_unused, decision, happens, run, item_at, token_of_call, record_of_start, setting_of}
+use Rattle.sv_world.specs.World.{Cluster, Place, World, set_place, durable_at, stopped, nothing_happened, items, commits_in, whole, torn, silent, becomes, commit_with, is_unused, decision, happens, run, item_at, token_of_call, record_of_start, setting_of}
 use Rattle.sv_world.specs.Waits.{boot_of}
 use Rattle.sv_world.proofs.Arrivals.{one_if, token_same, times_more, times_one, asked_snoc, items_snoc}
 use Rattle.sv_world.proofs.Waiting.{by_node}
@@ -97,8 +97,8 @@ module _ (m : Meanings) (c : Cluster) where
       (λ t here. omega (arith, h.count t, ap (λ b. waiting t n b d.parked) h.boot, times_one t (token_of_call c w call)))
       (λ t ne. outside w call t ne) _ j
 
-  cut_spent : (w : World) (e : WorldEvent) (call : Call) → is_unused (asked_of (items w.trace)) (token_of_call c w call) ≡ true → Spent w → Spent (cut c w e call (decision m c w call))
-  cut_spent w e call unused j =
+  torn_spent : (w : World) (e : WorldEvent) (call : Call) → is_unused (asked_of (items w.trace)) (token_of_call c w call) ≡ true → Spent w → Spent (torn c w e call (decision m c w call))
+  torn_spent w e call unused j =
       let d = decision m c w call in
       let h = thrifty_at w call in
       grows w call.node (stopped d.durable) _ unused
@@ -121,7 +121,7 @@ module _ (m : Meanings) (c : Cluster) where
   happens_spent w e j = behind m c w Spent e (record {
     still = j;
     whole_by = λ call is r. whole_spent w e call r.unused j;
-    cut_by = λ call is r. cut_spent w e call r.unused j;
+    torn_by = λ call is r. torn_spent w e call r.unused j;
     silent_by = λ call is r. silent_spent w e call r.unused j;
     halt_by = λ n asked unused. becomes_spent w e n (stopped (durable_at w n)) None asked refl unused j;
     boots_by = λ n p may none same. becomes_spent w e n p (Some (record_of_start c w n)) None none refl j;

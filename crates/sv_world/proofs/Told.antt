@@ -70,7 +70,7 @@ module _ (m : Meanings) (touches : AllTouchOnlyHanded m) (c : Cluster) where
   happens_answers w e inv h = behind m c w (Answering m) e (record {
     still = h;
     whole_by = λ call is r. whole_answers w e call (sound_at m touches c w call inv r) h;
-    cut_by = λ call is r. record { lines = more (IsAnswered m) m w _ h.lines (record { replies = refl; refused = refl }) };
+    torn_by = λ call is r. record { lines = more (IsAnswered m) m w _ h.lines (record { replies = refl; refused = refl }) };
     silent_by = λ call is r. quiet_answers m w e call.node _ _ _ _ h;
     halt_by = λ n asked _. quiet_answers m w e n _ _ _ _ h;
     boots_by = λ n p may none same. quiet_answers m w e n _ _ _ _ h;
@@ -80,7 +80,7 @@ module _ (m : Meanings) (touches : AllTouchOnlyHanded m) (c : Cluster) where
   happens_tells w e inv h = behind m c w (Telling m) e (record {
     still = h;
     whole_by = λ call is r. whole_tells w e call (sound_at m touches c w call inv r) h;
-    cut_by = λ call is r. record { lines = more (IsToldLine m) m w _ h.lines (record { events = refl; mark = refl }) };
+    torn_by = λ call is r. record { lines = more (IsToldLine m) m w _ h.lines (record { events = refl; mark = refl }) };
     silent_by = λ call is r. quiet_tells m w e call.node _ _ _ _ h;
     halt_by = λ n asked _. quiet_tells m w e n _ _ _ _ h;
     boots_by = λ n p may none same. quiet_tells m w e n _ _ _ _ h;

@@ -147,8 +147,8 @@ pub record Patient (m : Meanings) (places : ℕ → Place) (ps : List Packet) (c
   pub served : AreServed asked d.commit
 
 -- a step of which nothing leaves its node
-abbrev hushed : Decision → Decision
-hushed d = record d { commit = commit_with d.entry d.commit; events = []; mark = None; outputs = [] }
+abbrev silenced : Decision → Decision
+silenced d = record d { commit = commit_with d.entry d.commit; events = []; mark = None; outputs = [] }
 
 at_set : (places : ℕ → Place) (n : ℕ) (x : Place) → set_place places n x n ≡ x
 at_set places n x = cond-true (n == n) x (places n) (eq-eqb n n refl)
@@ -225,7 +225,7 @@ module _ (m : Meanings) (places : ℕ → Place) (ps : List Packet) (cs : List C
   pub silent_waits : (d : Decision) → (places n).up ≡ true → Patient m places ps cs arr asked n d → Waits m (set_place places n (record { up = true; node = left d })) ps (with_last cs (commit_with d.entry d.commit)) arr asked
   silent_waits d up s =
       subst (λ xs. Waits m (set_place places n (record { up = true; node = left d })) xs (with_last cs (commit_with d.entry d.commit)) arr asked) (append-nil ps)
-      (whole_waits (hushed d) up (record {
+      (whole_waits (silenced d) up (record {
         parked = s.parked;
         next_want = s.next_want;
         boot = s.boot;

@@ -21,9 +21,9 @@ use Rattle.sv_core.specs.Core as core
 use Rattle.sv_core.specs.Decision.{entry_in}
 use Rattle.sv_world.specs.declared.line.Effect.{Effect}
 use Rattle.sv_world.specs.declared.line.Heading.{Heading}
-use Rattle.sv_world.specs.declared.begin.BootPlan.{BootPlan}
+use Rattle.sv_world.specs.declared.core_start.BootPlan.{BootPlan}
 use Rattle.sv_world.specs.declared.plan.Plan.{Plan}
-use Rattle.sv_world.specs.declared.cutting.Rest.{Rest}
+use Rattle.sv_world.specs.declared.core_torn.Rest.{Rest}
 use Rattle.sv_world.specs.Deed.{Done, traced_of, whole_at, quiet_at, start_by}
 use Rattle.sv_world.specs.World.{stopped, started, commit_with}
 use Rattle.sv_world.specs.Traced.{traced_in}

@@ -10,8 +10,8 @@ use Rattle.sv_model.specs.Trace.{asked_of}
 use Rattle.sv_world.specs.declared.fault.WorldFault.{WorldFault}
 use Rattle.sv_world.specs.declared.fault.WorldFault.TheVariants.{NoNode, Running, NotRunning, NoPacket, TokenUsed}
 use Rattle.sv_world.specs.declared.line.Line.{Line}
-use Rattle.sv_world.specs.declared.seat.Seat.{Seat}
-use Rattle.sv_world.specs.Seat.{place_of, boot_of}
+use Rattle.sv_world.specs.declared.slot.Slot.{Slot}
+use Rattle.sv_world.specs.Slot.{place_of, boot_of}
 use Rattle.sv_world.specs.Sent.{may_come}
 use Rattle.sv_world.specs.World.{items, is_unused}
 
@@ -21,7 +21,7 @@ boot_by None = Err NotRunning
 boot_by (Some boot) = Ok boot
 
 -- the same of a node that may not be there
-abbrev pub boot_in : {E : Type 0} → Option (Seat E) → Result ℕ WorldFault
+abbrev pub boot_in : {E : Type 0} → Option (Slot E) → Result ℕ WorldFault
 boot_in None = Err NoNode
 boot_in (Some s) = boot_by (boot_of (place_of s))
 
@@ -30,7 +30,7 @@ abbrev pub started_by : Option ℕ → Option WorldFault
 started_by None = None
 started_by (Some boot) = Some Running
 
-abbrev pub start_in : {E : Type 0} → Option (Seat E) → Option WorldFault
+abbrev pub start_in : {E : Type 0} → Option (Slot E) → Option WorldFault
 start_in None = Some NoNode
 start_in (Some s) = started_by (boot_of (place_of s))
 
@@ -57,6 +57,6 @@ step_by trace node sent number (Ok boot) =
 step_by trace node sent number (Err fault) = Some fault
 
 -- why a packet can't be delivered, if it is one
-abbrev pub delivery_by : {E : Type 0} → List (Seat E) → List Packet → List Line → Option Packet → Option WorldFault
-delivery_by seats packets trace None = Some NoPacket
-delivery_by seats packets trace (Some p) = step_by trace (addressee p) (may_come packets (input.Packet p)) None (boot_in (slice_get seats (addressee p)))
+abbrev pub delivery_by : {E : Type 0} → List (Slot E) → List Packet → List Line → Option Packet → Option WorldFault
+delivery_by slots packets trace None = Some NoPacket
+delivery_by slots packets trace (Some p) = step_by trace (addressee p) (may_come packets (input.Packet p)) None (boot_in (slice_get slots (addressee p)))

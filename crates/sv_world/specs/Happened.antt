@@ -17,7 +17,7 @@ use Rattle.sv_world.specs.declared.line.Effect.{Effect}
 use Rattle.sv_world.specs.declared.line.Line.{Line}
 use Rattle.sv_world.specs.declared.order.Order.{Order}
 use Rattle.sv_world.specs.declared.running.RunFault.{RunFault}
-use Rattle.sv_world.specs.declared.seat.Seat.{Seat}
+use Rattle.sv_world.specs.declared.slot.Slot.{Slot}
 use Rattle.sv_world.specs.declared.world.World.{World as Nodes}
 use Rattle.sv_world.specs.Deed.{deed, told_by}
 use Rattle.sv_world.specs.Faults.{fault_of}
@@ -28,13 +28,13 @@ use Rattle.sv_world.specs.Worlds.{places_by, settings_by, heard_by, world_of, si
 -- ---- a task
 
 -- a node has done a task, whose engine means `m`; all others are as they were
-pub record HaveDone {E : Type 0} (noted : E → List (List ℕ)) (m : EngineMeaning) (old new : List (Seat E)) (o : Order) (f : Effect) : Type 0 where
+pub record HaveDone {E : Type 0} (noted : E → List (List ℕ)) (m : EngineMeaning) (old new : List (Slot E)) (o : Order) (f : Effect) : Type 0 where
   pub places : places_by new ≡ set_place (places_by old) o.node (deed m (settings_by old o.node) (places_by old o.node) o.task).place
   pub effect : f ≡ (deed m (settings_by old o.node) (places_by old o.node) o.task).effect
   pub heard : (x : ℕ) → heard_by noted new x ≡ cond (x == o.node) (option_map (λ h. heard_all m h (told_by f)) (heard_by noted old x)) (heard_by noted old x)
 
 -- no node has done anything
-pub record AreUndone {E : Type 0} (noted : E → List (List ℕ)) (old new : List (Seat E)) : Type 0 where
+pub record AreUndone {E : Type 0} (noted : E → List (List ℕ)) (old new : List (Slot E)) : Type 0 where
   pub places : places_by new ≡ places_by old
   pub heard : heard_by noted new ≡ heard_by noted old
 
@@ -74,9 +74,9 @@ pub record HasActed {E : Type 0} (meaning : E → EngineMeaning) (noted : E → 
   pub order : Order
   pub asked : order_of (world_of old).packets e ≡ Some order
   pub number : size_of new ≡ size_of old
-  pub settings : settings_by new.seats.items ≡ settings_by old.seats.items
+  pub settings : settings_by new.slots.items ≡ settings_by old.slots.items
   pub meanings : meanings_of meaning new ≡ meanings_of meaning old
-  pub done : (m : EngineMeaning) → meanings_of meaning old order.node ≡ Some m → HaveDone noted m old.seats.items new.seats.items order f
+  pub done : (m : EngineMeaning) → meanings_of meaning old order.node ≡ Some m → HaveDone noted m old.slots.items new.slots.items order f
   pub packets : (world_of new).packets ≡ (world_of old).packets ++ sends_in f.outputs
   pub trace : (world_of new).trace ≡ (world_of old).trace
 

@@ -3,25 +3,25 @@ use Rattle.std.specs.Prelude.{◌≡◌, ℕ, ◌<◌, true, is_some, Some, None
 use Rattle.std.specs.List.{All}
 use Rattle.std.specs.Option.{option_map}
 use Rattle.sv_model.specs.Engine.{EngineMeaning}
-use Rattle.sv_world.specs.declared.seat.Seat.{Seat}
+use Rattle.sv_world.specs.declared.slot.Slot.{Slot}
 use Rattle.sv_world.specs.declared.rules.Rules.{Rules}
 use Rattle.sv_world.specs.Rules.{setting_by}
 use Rattle.sv_world.specs.declared.world.World.{World as Nodes}
-use Rattle.sv_world.specs.Seat.{engine_in}
+use Rattle.sv_world.specs.Slot.{engine_in}
 use Rattle.sv_world.specs.Worlds.{settings_by, size_of, meanings_of, heard_of}
 use Rattle.sv_world.specs.Happened.{HaveHappened, restarts}
 
 -- it has yet to start
-pub record IsIdle {E : Type 0} (s : Seat E) : Type 0 where
+pub record IsIdle {E : Type 0} (s : Slot E) : Type 0 where
   pub core : s.core ≡ None
   pub journal : s.journal.items ≡ []
   pub idle : is_some s.idle ≡ true
 
 -- nodes that have yet to start, each with the engine of its number
-pub record AreSeated {E : Type 0} (nodes : ℕ) (rules : Rules) (engines : List E) (seats : List (Seat E)) : Type 0 where
-  pub engines_in : map engine_in seats ≡ map Some engines
-  pub idle : All IsIdle seats
-  pub settings : (n : ℕ) → n < length seats → settings_by seats n ≡ setting_by rules n nodes
+pub record AreFilled {E : Type 0} (nodes : ℕ) (rules : Rules) (engines : List E) (slots : List (Slot E)) : Type 0 where
+  pub engines_in : map engine_in slots ≡ map Some engines
+  pub idle : All IsIdle slots
+  pub settings : (n : ℕ) → n < length slots → settings_by slots n ≡ setting_by rules n nodes
 
 -- nothing has happened
 pub record IsUntouched {E : Type 0} (w : Nodes E) : Type 0 where

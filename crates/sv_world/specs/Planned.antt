@@ -6,9 +6,9 @@ use Rattle.sv_model.specs.Engine.{EngineMeaning}
 use Rattle.sv_world.specs.declared.installing.InstallFault.{InstallFault}
 use Rattle.sv_world.specs.declared.installing.InstallFault.TheVariants.{NoNode, NotTold, Running}
 use Rattle.sv_world.specs.declared.rules.Rules.{Rules}
-use Rattle.sv_world.specs.declared.seat.Seat.{Seat}
+use Rattle.sv_world.specs.declared.slot.Slot.{Slot}
 use Rattle.sv_world.specs.declared.world.World.{World as Nodes}
-use Rattle.sv_world.specs.Seat.{place_of, boot_of}
+use Rattle.sv_world.specs.Slot.{place_of, boot_of}
 use Rattle.sv_world.specs.World.{Cluster, Place, World, setting_of, nothing_happened, run}
 use Rattle.sv_world.specs.Worlds.{settings_by, meanings_by, heard_by, world_of, size_of, cluster_of, meanings_of}
 use Rattle.sv_world.specs.Happened.{events_in}
@@ -56,7 +56,7 @@ abbrev pub fault_in : Option ℕ → Option InstallFault
 fault_in None = None
 fault_in (Some boot) = Some Running
 
-abbrev pub fault_by : {E : Type 0} → ℕ → ℕ → Option (Seat E) → Option InstallFault
+abbrev pub fault_by : {E : Type 0} → ℕ → ℕ → Option (Slot E) → Option InstallFault
 fault_by n nodes None = Some NoNode
 fault_by n nodes (Some s) = cond (nat_le nodes n) (Some NotTold) (fault_in (boot_of (place_of s)))
 
@@ -66,7 +66,7 @@ IsCause None fault = ⊤
 IsCause (Some f) fault = fault ≡ f
 
 -- a node has this engine and this setting, and all else is as it was
-pub record AreInstalled {E : Type 0} (meaning : E → EngineMeaning) (noted : E → List (List ℕ)) (set : Setting) (engine : E) (old new : List (Seat E)) : Type 0 where
+pub record AreInstalled {E : Type 0} (meaning : E → EngineMeaning) (noted : E → List (List ℕ)) (set : Setting) (engine : E) (old new : List (Slot E)) : Type 0 where
   pub settings : (x : ℕ) → settings_by new x ≡ cond (x == set.node) set (settings_by old x)
   pub meanings : (x : ℕ) → meanings_by meaning new x ≡ cond (x == set.node) (Some (meaning engine)) (meanings_by meaning old x)
   pub heard : (x : ℕ) → heard_by noted new x ≡ cond (x == set.node) (Some (noted engine)) (heard_by noted old x)

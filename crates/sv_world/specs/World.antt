@@ -4,7 +4,7 @@
 -- stop leaves of a step, what a step does of which nothing leaves its node, what a start does, and that a packet is one that
 -- was sent. Each clause is a sentence or two:
 --     a step           its record is durable, listeners are told, its packets are sent        `whole`
---     a torn step      cut behind its record, or before it; the node stops                    `cut`, `halt`
+--     a torn step      cut behind its record, or before it; the node stops                    `torn`, `halt`
 --     a silent step    its record is durable, nobody is told, nothing is sent; it runs on     `silent`
 --     a stop           what isn't durable is gone                                             `halt`
 --     a start          one record, under the next boot number                                 `boots`
@@ -197,8 +197,8 @@ whole c w e call d =
     }
 
 -- a step that a stop cuts behind its record
-abbrev pub cut : Cluster → World → WorldEvent → Call → Decision → World
-cut c w e call d =
+abbrev pub torn : Cluster → World → WorldEvent → Call → Decision → World
+torn c w e call d =
     record {
       places = set_place w.places call.node (stopped d.durable);
       packets = w.packets;
@@ -253,13 +253,13 @@ abbrev pub tears : Meanings → Cluster → World → WorldEvent → Bool → Op
 tears m c w e kept None = w
 tears m c w e kept (Some call) =
     let d = decision m c w call in
-    cond (is_ready c w call) (cond (kept && is_some d.entry) (cut c w e call d) (halt w e call.node (token_of_call c w call))) w
+    cond (is_ready c w call) (cond (kept && is_some d.entry) (torn c w e call d) (halt w e call.node (token_of_call c w call))) w
 
 -- a step of which nothing leaves its node; the node runs on. So several steps that are made durable at once, behind which a
 -- stop falls before anything of them has left, are as many silent steps and a stop.
-abbrev pub hushes : Meanings → Cluster → World → WorldEvent → Option Call → World
-hushes m c w e None = w
-hushes m c w e (Some call) = cond (is_ready c w call) (silent c w e call (decision m c w call)) w
+abbrev pub silences : Meanings → Cluster → World → WorldEvent → Option Call → World
+silences m c w e None = w
+silences m c w e (Some call) = cond (is_ready c w call) (silent c w e call (decision m c w call)) w
 
 -- a start, that leaves the node running (`started`) or stopped, with its record or without
 abbrev pub starts : Cluster → World → WorldEvent → ℕ → Bool → (Durable → Place) → World
@@ -275,7 +275,7 @@ happens m c w (Poke n moment) = steps m c w (Poke n moment) (call_of w.packets (
 happens m c w (Tick n moment) = steps m c w (Tick n moment) (call_of w.packets (Tick n moment))
 happens m c w (Move n moment k to) = steps m c w (Move n moment k to) (call_of w.packets (Move n moment k to))
 happens m c w (Torn n moment given kept) = tears m c w (Torn n moment given kept) kept (call_of w.packets (Torn n moment given kept))
-happens m c w (Silent n moment given) = hushes m c w (Silent n moment given) (call_of w.packets (Silent n moment given))
+happens m c w (Silent n moment given) = silences m c w (Silent n moment given) (call_of w.packets (Silent n moment given))
 happens m c w (Crash n) = cond (is_there c n (durable_at w n).boot && (w.places n).up) (halt w (Crash n) n None) w
 happens m c w (Restart n) = starts c w (Restart n) n true started
 happens m c w (TornRestart n kept) = starts c w (TornRestart n kept) n kept stopped

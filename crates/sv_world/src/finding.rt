@@ -9,17 +9,17 @@ ghost use Rattle.sv_world.specs.Worlds.{state_by, cluster_by, AreSet};
 use crate::event::WorldEvent;
 use crate::fault::WorldFault;
 use crate::line::Line;
-use crate::seat::Seat;
 use crate::sent::{may_come, was_sent};
+use crate::slot::Slot;
 use crate::used::is_unused;
 use sv_model::{Input, Packet, Token};
 
 /// The number of a node's last start, where it is there and runs.
-fn boot_at<E>(seats: &[Seat<E>], node: u8) -> Result<u64, WorldFault>
-    ensures { result ≡ boot_in (slice_get seats.now node) }
+fn boot_at<E>(slots: &[Slot<E>], node: u8) -> Result<u64, WorldFault>
+    ensures { result ≡ boot_in (slice_get slots.now node) }
 {
-    match seats.get(usize::from(node)) {
-        Some(seat) => match seat.boot() {
+    match slots.get(usize::from(node)) {
+        Some(slot) => match slot.boot() {
             Some(boot) => Ok(boot),
             None => Err(WorldFault::NotRunning),
         },
@@ -28,11 +28,11 @@ fn boot_at<E>(seats: &[Seat<E>], node: u8) -> Result<u64, WorldFault>
 }
 
 /// Why a node can't start.
-fn start_fault<E>(seats: &[Seat<E>], node: u8) -> Option<WorldFault>
-    ensures { result ≡ start_in (slice_get seats.now node) }
+fn start_fault<E>(slots: &[Slot<E>], node: u8) -> Option<WorldFault>
+    ensures { result ≡ start_in (slice_get slots.now node) }
 {
-    match seats.get(usize::from(node)) {
-        Some(seat) => match seat.boot() {
+    match slots.get(usize::from(node)) {
+        Some(slot) => match slot.boot() {
             Some(_) => Some(WorldFault::Running),
             None => None,
         },
@@ -41,10 +41,10 @@ fn start_fault<E>(seats: &[Seat<E>], node: u8) -> Option<WorldFault>
 }
 
 /// Why a node can't stop.
-fn stop_fault<E>(seats: &[Seat<E>], node: u8) -> Option<WorldFault>
-    ensures { result ≡ stop_by (boot_in (slice_get seats.now node)) }
+fn stop_fault<E>(slots: &[Slot<E>], node: u8) -> Option<WorldFault>
+    ensures { result ≡ stop_by (boot_in (slice_get slots.now node)) }
 {
-    match boot_at(seats, node) {
+    match boot_at(slots, node) {
         Ok(_) => None,
         Err(fault) => Some(fault),
     }
@@ -72,15 +72,15 @@ fn number_in(input: &Input) -> Option<u64>
 
 /// Why a node can't take a step, at a packet that was `sent` or at no packet, with a request of this number or with none.
 fn step_fault<E>(
-    seats: &[Seat<E>],
+    slots: &[Slot<E>],
     trace: &[Line],
     node: u8,
     sent: bool,
     number: Option<u64>,
 ) -> Option<WorldFault>
-    ensures { result ≡ step_by trace.now node sent number (boot_in (slice_get seats.now node)) }
+    ensures { result ≡ step_by trace.now node sent number (boot_in (slice_get slots.now node)) }
 {
-    let boot = match boot_at(seats, node) {
+    let boot = match boot_at(slots, node) {
         Ok(boot) => boot,
         Err(fault) => return Some(fault),
     };
@@ -95,16 +95,16 @@ fn step_fault<E>(
 
 /// Why the packet at a place can't be delivered.
 fn delivery_fault<E>(
-    seats: &[Seat<E>],
+    slots: &[Slot<E>],
     packets: &[Packet],
     trace: &[Line],
     place: usize,
 ) -> Option<WorldFault>
-    ensures { result ≡ delivery_by seats.now packets.now trace.now (slice_get packets.now place) }
+    ensures { result ≡ delivery_by slots.now packets.now trace.now (slice_get packets.now place) }
 {
     match packets.get(place) {
         Some(packet) => step_fault(
-            seats,
+            slots,
             trace,
             packet.addressee(),
             was_sent(packets, packet),
@@ -116,16 +116,16 @@ fn delivery_fault<E>(
 
 /// Why a node can't take a step at an input that an event names.
 fn given_fault<E>(
-    seats: &[Seat<E>],
+    slots: &[Slot<E>],
     packets: &[Packet],
     trace: &[Line],
     node: u8,
     input: &Input,
 ) -> Option<WorldFault>
-    ensures { result ≡ step_by trace.now node (may_come packets.now input.now) (number_in input.now) (boot_in (slice_get seats.now node)) }
+    ensures { result ≡ step_by trace.now node (may_come packets.now input.now) (number_in input.now) (boot_in (slice_get slots.now node)) }
 {
     step_fault(
-        seats,
+        slots,
         trace,
         node,
         may_come(packets, input),
@@ -135,32 +135,32 @@ fn given_fault<E>(
 
 /// The first fault of an event, in the order of their numbers, at nodes that were told of themselves.
 pub fn fault_of<E>(
-    seats: &[Seat<E>],
+    slots: &[Slot<E>],
     packets: &[Packet],
     trace: &[Line],
     event: &WorldEvent,
 ) -> Option<WorldFault>
-    ensures { AreSet seats.now → result ≡ fault_of (cluster_by seats.now) (state_by seats.now packets.now trace.now) event.now }
+    ensures { AreSet slots.now → result ≡ fault_of (cluster_by slots.now) (state_by slots.now packets.now trace.now) event.now }
 {
     match *event {
-        WorldEvent::Ask { node, token, .. } => step_fault(seats, trace, node, true, Some(token)),
-        WorldEvent::Deliver { place, .. } => delivery_fault(seats, packets, trace, place),
+        WorldEvent::Ask { node, token, .. } => step_fault(slots, trace, node, true, Some(token)),
+        WorldEvent::Deliver { place, .. } => delivery_fault(slots, packets, trace, place),
         WorldEvent::Poke { node, .. }
         | WorldEvent::Tick { node, .. }
-        | WorldEvent::Move { node, .. } => step_fault(seats, trace, node, true, None),
+        | WorldEvent::Move { node, .. } => step_fault(slots, trace, node, true, None),
         WorldEvent::Torn {
             node,
             ref input,
             ..
-        } => given_fault(seats, packets, trace, node, input),
+        } => given_fault(slots, packets, trace, node, input),
         WorldEvent::Silent {
             node,
             ref input,
             ..
-        } => given_fault(seats, packets, trace, node, input),
-        WorldEvent::Crash(node) => stop_fault(seats, node),
+        } => given_fault(slots, packets, trace, node, input),
+        WorldEvent::Crash(node) => stop_fault(slots, node),
         WorldEvent::Restart(node) | WorldEvent::TornRestart { node, .. } => {
-            start_fault(seats, node)
+            start_fault(slots, node)
         }
     }
 }

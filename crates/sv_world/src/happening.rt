@@ -15,7 +15,7 @@ use crate::fault::WorldFault;
 use crate::finding::fault_of;
 use crate::line::{Effect, Line};
 use crate::order::order_for;
-use crate::seats::perform_at;
+use crate::perform_at::perform_at;
 use crate::world::World;
 use sv_model::Engine;
 
@@ -32,12 +32,12 @@ impl<E: Engine + Drop> World<E> {
         ensures room { OnOk result (vec_len self.new.trace < vec_capacity self.new.trace) }
         ensures refused { IfErr result (λ f. IsRefused E.meaning E.heard self.old self.new event.now f) }
     {
-        if let Some(fault) = fault_of(&self.seats, &self.packets, &self.trace, event) {
+        if let Some(fault) = fault_of(&self.slots, &self.packets, &self.trace, event) {
             return Err(fault);
         }
         self.trace.try_reserve(1)?;
         let order = order_for(self.alloc, &self.packets, event)?;
-        Ok(perform_at(&mut self.seats, self.alloc, &mut self.packets, order)?)
+        Ok(perform_at(&mut self.slots, self.alloc, &mut self.packets, order)?)
     }
 
     /// An event, where it can happen.

@@ -5,12 +5,12 @@ ghost use Rattle.std.specs.List.{All};
 ghost use Rattle.sv_model.specs.Container.{Meanings};
 ghost use Rattle.sv_world.specs.Happened.{AreUndone};
 ghost use Rattle.sv_world.specs.Planned.{AreInstalled, fault_by, meanings_behind, cluster_behind};
-ghost use Rattle.sv_world.specs.Seat.{IsSeat, place_of, engine_in};
+ghost use Rattle.sv_world.specs.Slot.{IsSlot, place_of, engine_in};
 ghost use Rattle.sv_world.specs.World.{Cluster};
 ghost use Rattle.sv_world.specs.Worlds.{places_by, settings_by, meanings_by};
 
 use crate::rules::Rules;
-use crate::seat::Seat;
+use crate::slot::Slot;
 use crate::world::World;
 use std::alloc::Global;
 use sv_core::{ApplyFault, Core, Unrecovered};
@@ -58,14 +58,14 @@ impl<E> Uninstalled<E> {
     }
 }
 
-impl<E: Engine + Drop> Seat<E> {
+impl<E: Engine + Drop> Slot<E> {
     /// Gets another engine and another setting for its next start, with which it could open its records, and gives the engine
     /// back that it had. After a fault it is as it was.
     fn install(&mut self, alloc: Global, setting: Setting, engine: E) -> Result<E, Unrecovered<E>>
-        requires seat { IsSeat E.valid self.old }
+        requires slot { IsSlot E.valid self.old }
         requires down { (place_of self.old).up ≡ false }
         requires valid { E.valid engine }
-        ensures seat { IsSeat E.valid self.new }
+        ensures slot { IsSlot E.valid self.new }
         ensures place { place_of self.new ≡ place_of self.old }
         ensures setting { OnOk result (self.new.setting ≡ setting) }
         ensures engine { OnOk result (engine_in self.new ≡ Some engine) }
@@ -85,16 +85,16 @@ impl<E: Engine + Drop> Seat<E> {
 }
 
 /// Why a node can't get something else.
-fn fault_of<E>(seats: &[Seat<E>], node: u8, nodes: u8) -> Option<InstallFault>
-    ensures { result ≡ fault_by node nodes (slice_get seats.now node) }
+fn fault_of<E>(slots: &[Slot<E>], node: u8, nodes: u8) -> Option<InstallFault>
+    ensures { result ≡ fault_by node nodes (slice_get slots.now node) }
 {
-    let Some(seat) = seats.get(usize::from(node)) else {
+    let Some(slot) = slots.get(usize::from(node)) else {
         return Some(InstallFault::NoNode);
     };
     if nodes <= node {
         return Some(InstallFault::NotTold);
     }
-    match seat.boot() {
+    match slot.boot() {
         Some(_) => Some(InstallFault::Running),
         None => None,
     }
@@ -102,26 +102,26 @@ fn fault_of<E>(seats: &[Seat<E>], node: u8, nodes: u8) -> Option<InstallFault>
 
 /// One of the nodes, which is stopped, gets another engine and another setting. After a fault all are as they were.
 fn install_at<E: Engine + Drop>(
-    seats: &mut Vec<Seat<E>>,
+    slots: &mut Vec<Slot<E>>,
     alloc: Global,
     setting: Setting,
     engine: E,
 ) -> Result<E, Uninstalled<E>>
-    requires seats { All (λ s. IsSeat E.valid s) seats.old.items }
-    requires there { setting.node < length seats.old.items }
-    requires down { (places_by seats.old.items setting.node).up ≡ false }
+    requires slots { All (λ s. IsSlot E.valid s) slots.old.items }
+    requires there { setting.node < length slots.old.items }
+    requires down { (places_by slots.old.items setting.node).up ≡ false }
     requires valid { E.valid engine }
-    ensures seats { All (λ s. IsSeat E.valid s) seats.new.items }
-    ensures number { length seats.new.items ≡ length seats.old.items }
-    ensures places { places_by seats.new.items ≡ places_by seats.old.items }
-    ensures installed { OnOk result (AreInstalled E.meaning E.heard setting engine seats.old.items seats.new.items) }
-    ensures had { IfOk result (λ e. meanings_by E.meaning seats.old.items setting.node ≡ Some (E.meaning e)) }
-    ensures undone { OnErr result (AreUndone E.heard seats.old.items seats.new.items) }
-    ensures settings { OnErr result (settings_by seats.new.items ≡ settings_by seats.old.items) }
-    ensures meanings { OnErr result (meanings_by E.meaning seats.new.items ≡ meanings_by E.meaning seats.old.items) }
+    ensures slots { All (λ s. IsSlot E.valid s) slots.new.items }
+    ensures number { length slots.new.items ≡ length slots.old.items }
+    ensures places { places_by slots.new.items ≡ places_by slots.old.items }
+    ensures installed { OnOk result (AreInstalled E.meaning E.heard setting engine slots.old.items slots.new.items) }
+    ensures had { IfOk result (λ e. meanings_by E.meaning slots.old.items setting.node ≡ Some (E.meaning e)) }
+    ensures undone { OnErr result (AreUndone E.heard slots.old.items slots.new.items) }
+    ensures settings { OnErr result (settings_by slots.new.items ≡ settings_by slots.old.items) }
+    ensures meanings { OnErr result (meanings_by E.meaning slots.new.items ≡ meanings_by E.meaning slots.old.items) }
     ensures back { IfErr result (λ u. u.engine ≡ engine) }
 {
-    match seats[usize::from(setting.node)].install(alloc, setting, engine) {
+    match slots[usize::from(setting.node)].install(alloc, setting, engine) {
         Ok(had) => Ok(had),
         Err(unrecovered) => Err(Uninstalled::of(unrecovered)),
     }
@@ -148,8 +148,8 @@ impl<E: Engine + Drop> World<E> {
         requires valid { E.valid engine }
         ensures world { IsWorld E.valid self.new }
         ensures nothing { world_of self.new ≡ world_of self.old }
-        ensures possible { OnOk result (fault_by node nodes (slice_get self.old.seats.items node) ≡ None) }
-        ensures cause { IfErr result (λ u. IsCause (fault_by node nodes (slice_get self.old.seats.items node)) u.fault) }
+        ensures possible { OnOk result (fault_by node nodes (slice_get self.old.slots.items node) ≡ None) }
+        ensures cause { IfErr result (λ u. IsCause (fault_by node nodes (slice_get self.old.slots.items node)) u.fault) }
         ensures ran { OnOk result ((m : Meanings) (c : Cluster) → Ran E.meaning m c self.old
             → Ran E.meaning (meanings_behind node (last_of self.old node) (E.meaning engine) m) (cluster_behind node (last_of self.old node) nodes rules c) self.new) }
         ensures heard { OnOk result ((x : ℕ) → heard_of E.heard self.new x ≡ cond (x == node) (Some (E.heard engine)) (heard_of E.heard self.old x)) }
@@ -158,11 +158,11 @@ impl<E: Engine + Drop> World<E> {
         ensures unchanged { OnErr result ((m : Meanings) (c : Cluster) → Ran E.meaning m c self.old → Ran E.meaning m c self.new) }
         ensures back { IfErr result (λ u. u.engine ≡ engine) }
     {
-        if let Some(fault) = fault_of(&self.seats, node, nodes) {
+        if let Some(fault) = fault_of(&self.slots, node, nodes) {
             return Err(Uninstalled { engine, fault });
         }
         install_at(
-            &mut self.seats,
+            &mut self.slots,
             self.alloc,
             rules.setting(node, nodes),
             engine,

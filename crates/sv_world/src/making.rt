@@ -11,9 +11,9 @@ ghost use Rattle.sv_world.specs.World.{steady};
 
 use crate::event::WorldEvent;
 use crate::fault::WorldFault;
+use crate::filling::{fill_slots, take_engines};
 use crate::rules::Rules;
-use crate::seat::Seat;
-use crate::seating::{seat_all, unseat_all};
+use crate::slot::Slot;
 use crate::world::World;
 use std::alloc::Global;
 use sv_model::Engine;
@@ -28,7 +28,7 @@ impl<E: Engine + Drop> World<E> {
     ghost use Rattle.sv_world.specs.Worlds.{world_of, size_of, meanings_of, heard_of, IsWorld};
     ghost use Rattle.sv_world.specs.Happened.{HaveHappened, AreMade, AreBack, AllAlike, restarts};
     ghost use Rattle.sv_world.specs.Planned.{Ran};
-    ghost use Rattle.sv_world.specs.Making.{HaveBegun, IsUntouched, AreOf, AreSeated};
+    ghost use Rattle.sv_world.specs.Making.{HaveBegun, IsUntouched, AreOf, AreFilled};
 
     /// Starts each node, by number, up to the first for which memory is refused.
     fn start_all(&mut self, nodes: u8) -> Result<(), WorldFault>
@@ -56,63 +56,63 @@ impl<E: Engine + Drop> World<E> {
         ensures back { OnErr result (AreOf E.meaning E.heard E.valid self.old engines.new.items) }
     {
         if let Err(fault) = self.start_all(nodes) {
-            unseat_all(&mut self.seats, engines);
+            take_engines(&mut self.slots, engines);
             return Err(fault);
         }
         Ok(())
     }
 
     /// Nodes to which nothing has happened.
-    fn of(alloc: Global, seats: Vec<Seat<E>>) -> World<E>
-        ensures seats { result.seats ≡ seats }
+    fn of(alloc: Global, slots: Vec<Slot<E>>) -> World<E>
+        ensures slots { result.slots ≡ slots }
         ensures untouched { IsUntouched result }
     {
         World {
             alloc,
-            seats,
+            slots,
             packets: Vec::new(alloc),
             trace: Vec::new(alloc),
         }
     }
 
-    /// Seats the engines, and starts no node.
-    fn seated_at_rest(
+    /// Puts the engines into slots, and starts no node.
+    fn filled_at_rest(
         alloc: Global,
         mut engines: Vec<E>,
-        mut seats: Vec<Seat<E>>,
+        mut slots: Vec<Slot<E>>,
         rules: Rules,
     ) -> World<E>
         requires some { 0 < length engines.items }
         requires few { length engines.items ≤ 8 }
         requires valid { All (λ e. E.valid e) engines.items }
-        requires empty { seats.items ≡ [] }
-        requires room { vec_len engines ≤ vec_capacity seats }
+        requires empty { slots.items ≡ [] }
+        requires room { vec_len engines ≤ vec_capacity slots }
         ensures world { IsWorld E.valid result }
         ensures made { AreMade E.meaning E.heard engines.items rules [] result }
     {
-        seat_all(alloc, &mut engines, rules, &mut seats);
-        World::of(alloc, seats)
+        fill_slots(alloc, &mut engines, rules, &mut slots);
+        World::of(alloc, slots)
     }
 
-    /// Seats the engines, and starts all nodes.
-    fn seated(
+    /// Puts the engines into slots, and starts all nodes.
+    fn filled(
         alloc: Global,
         mut engines: Vec<E>,
-        mut seats: Vec<Seat<E>>,
+        mut slots: Vec<Slot<E>>,
         rules: Rules,
     ) -> Result<World<E>, Unmade<E>>
         requires some { 0 < length engines.items }
         requires few { length engines.items ≤ 8 }
         requires valid { All (λ e. E.valid e) engines.items }
-        requires empty { seats.items ≡ [] }
-        requires room { vec_len engines ≤ vec_capacity seats }
+        requires empty { slots.items ≡ [] }
+        requires room { vec_len engines ≤ vec_capacity slots }
         ensures world { IfOk result (λ w. IsWorld E.valid w) }
         ensures started { IfOk result (λ w. AreMade E.meaning E.heard engines.items rules (restarts (length engines.items)) w) }
         ensures back { IfErr result (λ u. AreBack E.meaning E.heard E.valid engines.items u.engines.items) }
     {
         let nodes = engines.len() as u8;
-        seat_all(alloc, &mut engines, rules, &mut seats);
-        let mut world = World::of(alloc, seats);
+        fill_slots(alloc, &mut engines, rules, &mut slots);
+        let mut world = World::of(alloc, slots);
         match world.begin(nodes, &mut engines) {
             Ok(()) => Ok(world),
             Err(_) => Err(Unmade { engines }),
@@ -131,7 +131,7 @@ impl<E: Engine + Drop> World<E> {
         ensures back { IfErr result (λ u. AreBack E.meaning E.heard E.valid engines.items u.engines.items) }
     {
         match Vec::with_capacity(alloc, engines.len()) {
-            Ok(seats) => Ok(World::seated_at_rest(alloc, engines, seats, rules)),
+            Ok(slots) => Ok(World::filled_at_rest(alloc, engines, slots, rules)),
             Err(_) => Err(Unmade { engines }),
         }
     }
@@ -151,7 +151,7 @@ impl<E: Engine + Drop> World<E> {
         ensures back { IfErr result (λ u. AreBack E.meaning E.heard E.valid engines.items u.engines.items) }
     {
         match Vec::with_capacity(alloc, engines.len()) {
-            Ok(seats) => World::seated(alloc, engines, seats, rules),
+            Ok(slots) => World::filled(alloc, engines, slots, rules),
             Err(_) => Err(Unmade { engines }),
         }
     }

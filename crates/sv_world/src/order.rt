@@ -67,7 +67,7 @@ fn silent(call: Call) -> Order
 }
 
 /// The whole step that is asked for, where there is one.
-fn stepped(call: Option<Call>) -> Option<Order>
+fn whole_if(call: Option<Call>) -> Option<Order>
     ensures { result ≡ option_map whole_order call }
 {
     match call {
@@ -76,8 +76,8 @@ fn stepped(call: Option<Call>) -> Option<Order>
     }
 }
 
-/// The step that is asked for and cut, where there is one.
-fn cut(call: Option<Call>, kept: bool) -> Option<Order>
+/// The step that is asked for and torn, where there is one.
+fn torn_if(call: Option<Call>, kept: bool) -> Option<Order>
     ensures { result ≡ option_map (torn_order kept) call }
 {
     match call {
@@ -87,7 +87,7 @@ fn cut(call: Option<Call>, kept: bool) -> Option<Order>
 }
 
 /// The step that is asked for and of which nothing leaves the node, where there is one.
-fn hushed(call: Option<Call>) -> Option<Order>
+fn silent_if(call: Option<Call>) -> Option<Order>
     ensures { result ≡ option_map silent_order call }
 {
     match call {
@@ -109,9 +109,9 @@ fn order_of(
         | WorldEvent::Deliver { .. }
         | WorldEvent::Poke { .. }
         | WorldEvent::Tick { .. }
-        | WorldEvent::Move { .. } => Ok(stepped(call_of(alloc, packets, event)?)),
-        WorldEvent::Torn { kept, .. } => Ok(cut(call_of(alloc, packets, event)?, kept)),
-        WorldEvent::Silent { .. } => Ok(hushed(call_of(alloc, packets, event)?)),
+        | WorldEvent::Move { .. } => Ok(whole_if(call_of(alloc, packets, event)?)),
+        WorldEvent::Torn { kept, .. } => Ok(torn_if(call_of(alloc, packets, event)?, kept)),
+        WorldEvent::Silent { .. } => Ok(silent_if(call_of(alloc, packets, event)?)),
         WorldEvent::Crash(node) => Ok(Some(Order {
             node,
             task: Task::Stop,

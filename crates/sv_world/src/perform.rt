@@ -4,22 +4,22 @@ ghost use Rattle.std.specs.Prelude.{◌≡◌, ◌++◌, IsTrue, [], None, Some,
 ghost use Rattle.sv_model.specs.Engine.{EngineMeaning};
 ghost use Rattle.sv_model.specs.Outputs.{sends_in};
 ghost use Rattle.sv_world.specs.Deed.{wants_up, heading_at, quiet_at};
-ghost use Rattle.sv_world.specs.Seat.{IsSeat, HasDone, IsUndone, place_of, engine_in, meaning_in};
+ghost use Rattle.sv_world.specs.Slot.{IsSlot, HasDone, IsUndone, place_of, engine_in, meaning_in};
 ghost use Rattle.sv_world.specs.World.{stopped};
 
 use crate::line::Effect;
-use crate::seat::Seat;
+use crate::slot::Slot;
 use crate::task::Task;
 use std::alloc::Global;
 use sv_core::Memory;
 use sv_model::{Engine, Packet};
 
-impl<E: Engine + Drop> Seat<E> {
+impl<E: Engine + Drop> Slot<E> {
     /// Stops, and what isn't durable is gone.
     fn halt(&mut self, alloc: Global) -> Effect
-        requires seat { IsSeat E.valid self.old }
+        requires slot { IsSlot E.valid self.old }
         requires up { IsTrue (place_of self.old).up }
-        ensures seat { IsSeat E.valid self.new }
+        ensures slot { IsSlot E.valid self.new }
         ensures setting { self.new.setting ≡ self.old.setting }
         ensures engine { engine_in self.new ≡ engine_in self.old }
         ensures place { place_of self.new ≡ stopped (place_of self.old).node.durable }
@@ -37,9 +37,9 @@ impl<E: Engine + Drop> Seat<E> {
         packets: &mut Vec<Packet>,
         task: Task,
     ) -> Result<Effect, Memory>
-        requires seat { IsSeat E.valid self.old }
+        requires slot { IsSlot E.valid self.old }
         requires up { (place_of self.old).up ≡ wants_up task }
-        ensures seat { IsSeat E.valid self.new }
+        ensures slot { IsSlot E.valid self.new }
         ensures setting { self.new.setting ≡ self.old.setting }
         ensures meaning { meaning_in E.meaning self.new ≡ meaning_in E.meaning self.old }
         ensures done { IfOk result (λ f. (m : EngineMeaning) → meaning_in E.meaning self.old ≡ Some m → HasDone E.heard m self.old self.new task f) }
@@ -48,13 +48,13 @@ impl<E: Engine + Drop> Seat<E> {
         ensures unsent { OnErr result (packets.new.items ≡ packets.old.items) }
     {
         match task {
-            Task::Step { moment, input } => self.step(alloc, packets, moment, input),
+            Task::Step { moment, input } => self.whole_step(alloc, packets, moment, input),
             Task::Torn {
                 moment,
                 input,
                 kept,
-            } => self.tear(alloc, moment, input, kept),
-            Task::Silent { moment, input } => self.hush(alloc, moment, input),
+            } => self.torn_step(alloc, moment, input, kept),
+            Task::Silent { moment, input } => self.silent_step(alloc, moment, input),
             Task::Stop => Ok(self.halt(alloc)),
             Task::Start => self.start(alloc, true, true),
             Task::TornStart { kept } => self.start(alloc, kept, false),

@@ -1,21 +1,21 @@
 //! A core over what is durable.
 
 ghost use Rattle.std.specs.Prelude.{◌≡◌, false, OnOk, OnErr};
-ghost use Rattle.sv_world.specs.Seat.{IsSeat, place_of, engine_in};
+ghost use Rattle.sv_world.specs.Slot.{IsSlot, place_of, engine_in};
 ghost use Rattle.sv_world.specs.World.{started};
 
-use crate::seat::Seat;
+use crate::slot::Slot;
 use std::alloc::Global;
 use sv_core::{Core, Memory};
 use sv_model::Engine;
 
-impl<E: Engine + Drop> Seat<E> {
+impl<E: Engine + Drop> Slot<E> {
     /// Puts its engine over what is durable; its boot number is still that of its last start. After want of memory it is as
     /// it was.
     pub fn raise(&mut self, alloc: Global) -> Result<(), Memory>
-        requires seat { IsSeat E.valid self.old }
+        requires slot { IsSlot E.valid self.old }
         requires down { (place_of self.old).up ≡ false }
-        ensures seat { IsSeat E.valid self.new }
+        ensures slot { IsSlot E.valid self.new }
         ensures setting { self.new.setting ≡ self.old.setting }
         ensures engine { engine_in self.new ≡ engine_in self.old }
         ensures place { OnOk result (place_of self.new ≡ started (place_of self.old).node.durable) }
@@ -30,7 +30,7 @@ impl<E: Engine + Drop> Seat<E> {
                 Ok(())
             }
             Err(refused) => {
-                // the records of a seat fit, so what was refused is memory
+                // the records of a slot fit, so what was refused is memory
                 self.idle = Some(refused.engine);
                 Err(Memory)
             }

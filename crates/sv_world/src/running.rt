@@ -35,7 +35,7 @@ impl<E: Engine + Drop> World<E> {
         requires { IsWorld E.valid self.now }
         ensures { result ≡ refusal (fault_of (cluster_of self.now) (world_of self.now) event.now) }
     {
-        match fault_of(&self.seats, &self.packets, &self.trace, event) {
+        match fault_of(&self.slots, &self.packets, &self.trace, event) {
             Some(fault) => fault,
             None => WorldFault::Memory,
         }

@@ -3,7 +3,7 @@
 ghost use Rattle.std.specs.Prelude.{◌≡◌};
 
 use crate::line::Line;
-use crate::seat::Seat;
+use crate::slot::Slot;
 use std::alloc::Global;
 use sv_model::Packet;
 
@@ -11,7 +11,7 @@ use sv_model::Packet;
 #[derive(Drop)]
 pub struct World<E> {
     pub(crate) alloc: Global,
-    pub(crate) seats: Vec<Seat<E>>,
+    pub(crate) slots: Vec<Slot<E>>,
     /// All packets that were ever sent, the first at 0.
     pub(crate) packets: Vec<Packet>,
     pub(crate) trace: Vec<Line>,

@@ -2,71 +2,71 @@ use Rattle.std.proofs.Common.{◌<◌, length, sym, ap, ◌∙◌, refl}
 use Rattle.std.specs.Option.{option_map}
 use Rattle.std.proofs.lemmas.Option.{slice_get_read}
 use Rattle.std.proofs.lemmas.List.Elements.{All-set}
-use Rattle.sv_world.specs.Seat.{IsSeat}
+use Rattle.sv_world.specs.Slot.{IsSlot}
 use Rattle.sv_world.specs.Worlds.{meant_in}
 use Rattle.sv_world.proofs.NodeLemmas.{installed, places_same, settings_same, meanings_same, undone}
 use Rattle.sv_world.proofs.installing.install_at.Goals as goal
 
-pub returns-in-Ok-clause-seats : goal.returns-in-Ok-clause-seats
-returns-in-Ok-clause-seats g c =
-    rw c.from.ensures (All-set (IsSeat g.E.Engine.valid) c.args.seats.now.items c.args.setting.node c.install.new.self c.install.ensures.seat c.requires.seats)
+pub returns-in-Ok-clause-slots : goal.returns-in-Ok-clause-slots
+returns-in-Ok-clause-slots g c =
+    rw c.from.ensures (All-set (IsSlot g.E.Engine.valid) c.args.slots.now.items c.args.setting.node c.install.new.self c.install.ensures.slot c.requires.slots)
 
 pub returns-in-Ok-clause-places : goal.returns-in-Ok-clause-places
 returns-in-Ok-clause-places g c =
-    let seats = c.args.seats.now.items in
+    let slots = c.args.slots.now.items in
     let old = c.index_mut.result.now in
-    let less : c.from.result < length seats = rw c.from.ensures c.requires.there in
-    let there = slice_get_read seats (length seats) c.from.result old refl less c.index_mut.ensures.value in
-    places_same g.E.Engine.meaning g.E.Engine.heard seats c.from.result old c.install.new.self less there c.install.ensures.place
+    let less : c.from.result < length slots = rw c.from.ensures c.requires.there in
+    let there = slice_get_read slots (length slots) c.from.result old refl less c.index_mut.ensures.value in
+    places_same g.E.Engine.meaning g.E.Engine.heard slots c.from.result old c.install.new.self less there c.install.ensures.place
 
-pub returns-in-Err-clause-seats : goal.returns-in-Err-clause-seats
-returns-in-Err-clause-seats g c =
-    rw c.from.ensures (All-set (IsSeat g.E.Engine.valid) c.args.seats.now.items c.args.setting.node c.install.new.self c.install.ensures.seat c.requires.seats)
+pub returns-in-Err-clause-slots : goal.returns-in-Err-clause-slots
+returns-in-Err-clause-slots g c =
+    rw c.from.ensures (All-set (IsSlot g.E.Engine.valid) c.args.slots.now.items c.args.setting.node c.install.new.self c.install.ensures.slot c.requires.slots)
 
 pub returns-in-Err-clause-places : goal.returns-in-Err-clause-places
 returns-in-Err-clause-places g c =
-    let seats = c.args.seats.now.items in
+    let slots = c.args.slots.now.items in
     let old = c.index_mut.result.now in
-    let less : c.from.result < length seats = rw c.from.ensures c.requires.there in
-    let there = slice_get_read seats (length seats) c.from.result old refl less c.index_mut.ensures.value in
-    places_same g.E.Engine.meaning g.E.Engine.heard seats c.from.result old c.install.new.self less there c.install.ensures.place
+    let less : c.from.result < length slots = rw c.from.ensures c.requires.there in
+    let there = slice_get_read slots (length slots) c.from.result old refl less c.index_mut.ensures.value in
+    places_same g.E.Engine.meaning g.E.Engine.heard slots c.from.result old c.install.new.self less there c.install.ensures.place
 
 pub returns-in-Ok-clause-installed : goal.returns-in-Ok-clause-installed
 returns-in-Ok-clause-installed g c =
-    let seats = c.args.seats.now.items in
+    let slots = c.args.slots.now.items in
     let old = c.index_mut.result.now in
-    let less : c.from.result < length seats = rw c.from.ensures c.requires.there in
-    let there = slice_get_read seats (length seats) c.from.result old refl less c.index_mut.ensures.value in
-    installed g.E.Engine.meaning g.E.Engine.heard seats c.from.result old c.install.new.self less there c.args.setting c.args.engine (sym c.from.ensures) c.in-Ok.ensures.setting c.in-Ok.ensures.engine
+    let less : c.from.result < length slots = rw c.from.ensures c.requires.there in
+    let there = slice_get_read slots (length slots) c.from.result old refl less c.index_mut.ensures.value in
+    installed g.E.Engine.meaning g.E.Engine.heard slots c.from.result old c.install.new.self less there c.args.setting c.args.engine (sym c.from.ensures) c.in-Ok.ensures.setting c.in-Ok.ensures.engine
 
 pub returns-in-Ok-clause-had : goal.returns-in-Ok-clause-had
 returns-in-Ok-clause-had g c =
-    let seats = c.args.seats.now.items in
+    let slots = c.args.slots.now.items in
     let old = c.index_mut.result.now in
-    let less : c.args.setting.node < length seats = c.requires.there in
-    let there = slice_get_read seats (length seats) c.args.setting.node old refl less (rw c.from.ensures at c.index_mut.ensures.value) in
+    let less : c.args.setting.node < length slots = c.requires.there in
+    let there = slice_get_read slots (length slots) c.args.setting.node old refl less (rw c.from.ensures at c.index_mut.ensures.value) in
     ap (meant_in g.E.Engine.meaning) there ∙ ap (option_map g.E.Engine.meaning) c.in-Ok.ensures.had
 
 pub returns-in-Err-clause-undone : goal.returns-in-Err-clause-undone
 returns-in-Err-clause-undone g c =
-    let seats = c.args.seats.now.items in
+    let slots = c.args.slots.now.items in
     let old = c.index_mut.result.now in
-    let less : c.from.result < length seats = rw c.from.ensures c.requires.there in
-    let there = slice_get_read seats (length seats) c.from.result old refl less c.index_mut.ensures.value in
-    undone seats c.from.result old c.install.new.self less there g.E.Engine.heard (record { place = c.install.ensures.place; heard = ap (option_map g.E.Engine.heard) c.in-Err.ensures.kept })
+    let less : c.from.result < length slots = rw c.from.ensures c.requires.there in
+    let there = slice_get_read slots (length slots) c.from.result old refl less c.index_mut.ensures.value in
+    undone slots c.from.result old c.install.new.self less there g.E.Engine.heard (record { place = c.install.ensures.place; heard = ap (option_map g.E.Engine.heard) c.in-Err.ensures.kept })
 
 pub returns-in-Err-clause-settings : goal.returns-in-Err-clause-settings
 returns-in-Err-clause-settings g c =
-    let seats = c.args.seats.now.items in
+    let slots = c.args.slots.now.items in
     let old = c.index_mut.result.now in
-    let less : c.from.result < length seats = rw c.from.ensures c.requires.there in
-    let there = slice_get_read seats (length seats) c.from.result old refl less c.index_mut.ensures.value in
-    settings_same seats c.from.result old c.install.new.self less there c.in-Err.ensures.same
+    let less : c.from.result < length slots = rw c.from.ensures c.requires.there in
+    let there = slice_get_read slots (length slots) c.from.result old refl less c.index_mut.ensures.value in
+    settings_same slots c.from.result old c.install.new.self less there c.in-Err.ensures.same
 
 pub returns-in-Err-clause-meanings : goal.returns-in-Err-clause-meanings
 returns-in-Err-clause-meanings g c =
-    let seats = c.args.seats.now.items in
+    let slots = c.args.slots.now.items in
     let old = c.index_mut.result.now in
-    let less : c.from.result < length seats = rw c.from.ensures c.requires.there in
-    let there = slice_get_read seats (length seats) c.from.result old refl less c.index_mut.ensures.value in
-    meanings_same seats c.from.result old c.install.new.self less there g.E.Engine.meaning (ap (option_map g.E.Engine.meaning) c.in-Err.ensures.kept)
+    let less : c.from.result < length slots = rw c.from.ensures c.requires.there in
+    let there = slice_get_read slots (length slots) c.from.result old refl less c.index_mut.ensures.value in
+    meanings_same slots c.from.result old c.install.new.self less there g.E.Engine.meaning (ap (option_map g.E.Engine.meaning) c.in-Err.ensures.kept)

@@ -2,7 +2,7 @@ use Rattle.std.proofs.Common.{◌≡◌, ◌<◌, ℕ, false, Option, None, List
 use Rattle.std.specs.Prelude.{slice_get}
 use Rattle.sv_model.specs.declared.node.Setting.{Setting}
 use Rattle.sv_world.specs.declared.installing.InstallFault.{InstallFault}
-use Rattle.sv_world.specs.declared.seat.Seat.{Seat}
+use Rattle.sv_world.specs.declared.slot.Slot.{Slot}
 use Rattle.sv_world.specs.declared.world.World.{World as Nodes}
 use Rattle.sv_world.specs.Planned.{AreInstalled, fault_by}
 use Rattle.sv_world.specs.Rules.{setting_by}
@@ -12,43 +12,43 @@ use Rattle.sv_world.proofs.InstallLemmas.{ready_by, there_by_fault, all_set, ins
 use Rattle.sv_world.proofs.world.World.install.Goals as goal
 
 -- the fault that was looked for is that of the world
-none_at : {E : Type 0} (xs seats : List (Seat E)) (n nodes : ℕ) (r : Option InstallFault) → xs ≡ seats → r ≡ fault_by n nodes (slice_get xs n) → r ≡ None → fault_by n nodes (slice_get seats n) ≡ None
-none_at xs seats n nodes r same is none = ap (λ ys. fault_by n nodes (slice_get ys n)) (sym same) ∙ sym is ∙ none
+none_at : {E : Type 0} (xs slots : List (Slot E)) (n nodes : ℕ) (r : Option InstallFault) → xs ≡ slots → r ≡ fault_by n nodes (slice_get xs n) → r ≡ None → fault_by n nodes (slice_get slots n) ≡ None
+none_at xs slots n nodes r same is none = ap (λ ys. fault_by n nodes (slice_get ys n)) (sym same) ∙ sym is ∙ none
 
 pub install_at-requires-clause-there : goal.install_at-requires-clause-there
 install_at-requires-clause-there g c =
     let old = c.args.self.now in
     let node = c.args.node in
     let nodes = c.args.nodes in
-    let none = none_at c.deref.result.now old.seats.items node nodes c.fault_of.result c.deref.ensures.value c.fault_of.ensures c.in_default.is in
-    subst (λ (s : Setting). s.node < length old.seats.items) (sym c.setting.ensures) (there_by_fault node nodes old.seats.items none)
+    let none = none_at c.deref.result.now old.slots.items node nodes c.fault_of.result c.deref.ensures.value c.fault_of.ensures c.in_default.is in
+    subst (λ (s : Setting). s.node < length old.slots.items) (sym c.setting.ensures) (there_by_fault node nodes old.slots.items none)
 
 pub install_at-requires-clause-down : goal.install_at-requires-clause-down
 install_at-requires-clause-down g c =
     let old = c.args.self.now in
     let node = c.args.node in
     let nodes = c.args.nodes in
-    let none = none_at c.deref.result.now old.seats.items node nodes c.fault_of.result c.deref.ensures.value c.fault_of.ensures c.in_default.is in
-    subst (λ (s : Setting). (places_by old.seats.items s.node).up ≡ false) (sym c.setting.ensures) (ready_by node nodes (slice_get old.seats.items node) none).1
+    let none = none_at c.deref.result.now old.slots.items node nodes c.fault_of.result c.deref.ensures.value c.fault_of.ensures c.in_default.is in
+    subst (λ (s : Setting). (places_by old.slots.items s.node).up ≡ false) (sym c.setting.ensures) (ready_by node nodes (slice_get old.slots.items node) none).1
 
 pub returns-clause-world : goal.returns-clause-world
 returns-clause-world g c =
     let old = c.args.self.now in
     let node = c.args.node in
     let nodes = c.args.nodes in
-    let none = none_at c.deref.result.now old.seats.items node nodes c.fault_of.result c.deref.ensures.value c.fault_of.ensures c.in_default.is in
-    let new : Nodes g.row.E.Denot = record { alloc = old.alloc; seats = c.install_at.new.seats; packets = old.packets; trace = old.trace } in
+    let none = none_at c.deref.result.now old.slots.items node nodes c.fault_of.result c.deref.ensures.value c.fault_of.ensures c.in_default.is in
+    let new : Nodes g.row.E.Denot = record { alloc = old.alloc; slots = c.install_at.new.slots; packets = old.packets; trace = old.trace } in
     let is = c.install_at.ensures in
     let world : world_of new ≡ world_of old = λ i. record { places = is.places i; packets = old.packets.items; trace = old.trace.items } in
-    let there = there_by_fault node nodes old.seats.items none in
-    let ready = ready_by node nodes (slice_get old.seats.items node) none in
-    let set : (h : AreInstalled g.E.Engine.meaning g.E.Engine.heard c.setting.result c.args.engine old.seats.items new.seats.items) → AreInstalled g.E.Engine.meaning g.E.Engine.heard (setting_by c.args.rules node nodes) c.args.engine old.seats.items new.seats.items =
-    λ h. subst (λ (s : Setting). AreInstalled g.E.Engine.meaning g.E.Engine.heard s c.args.engine old.seats.items new.seats.items) c.setting.ensures h in
-    let sets : AreSet new.seats.items = ok_or_err c.install_at.result
+    let there = there_by_fault node nodes old.slots.items none in
+    let ready = ready_by node nodes (slice_get old.slots.items node) none in
+    let set : (h : AreInstalled g.E.Engine.meaning g.E.Engine.heard c.setting.result c.args.engine old.slots.items new.slots.items) → AreInstalled g.E.Engine.meaning g.E.Engine.heard (setting_by c.args.rules node nodes) c.args.engine old.slots.items new.slots.items =
+    λ h. subst (λ (s : Setting). AreInstalled g.E.Engine.meaning g.E.Engine.heard s c.args.engine old.slots.items new.slots.items) c.setting.ensures h in
+    let sets : AreSet new.slots.items = ok_or_err c.install_at.result
     (λ h. all_set g.E.Engine.meaning g.E.Engine.heard old new node nodes c.args.rules c.args.engine is.number there ready.0 world (set h) c.requires.world.settings)
-    (λ h. subst (λ s. (x : ℕ) → x < length new.seats.items → IsSet x (s x)) (sym h) (λ x inside. c.requires.world.settings x (omega (arith, is.number, inside))))
+    (λ h. subst (λ s. (x : ℕ) → x < length new.slots.items → IsSet x (s x)) (sym h) (λ x inside. c.requires.world.settings x (omega (arith, is.number, inside))))
     is.installed is.settings in
-    record { seats = is.seats; settings = sets; some = omega (arith, is.number, c.requires.world.some); few = omega (arith, is.number, c.requires.world.few) }
+    record { slots = is.slots; settings = sets; some = omega (arith, is.number, c.requires.world.some); few = omega (arith, is.number, c.requires.world.few) }
 
 pub returns-clause-nothing : goal.returns-clause-nothing
 returns-clause-nothing g c =
@@ -59,7 +59,7 @@ returns-clause-possible g c =
     let old = c.args.self.now in
     let node = c.args.node in
     let nodes = c.args.nodes in
-    let none = none_at c.deref.result.now old.seats.items node nodes c.fault_of.result c.deref.ensures.value c.fault_of.ensures c.in_default.is in
+    let none = none_at c.deref.result.now old.slots.items node nodes c.fault_of.result c.deref.ensures.value c.fault_of.ensures c.in_default.is in
     ok_all c.install_at.result none
 
 pub returns-clause-cause : goal.returns-clause-cause
@@ -67,7 +67,7 @@ returns-clause-cause g c =
     let old = c.args.self.now in
     let node = c.args.node in
     let nodes = c.args.nodes in
-    let none = none_at c.deref.result.now old.seats.items node nodes c.fault_of.result c.deref.ensures.value c.fault_of.ensures c.in_default.is in
+    let none = none_at c.deref.result.now old.slots.items node nodes c.fault_of.result c.deref.ensures.value c.fault_of.ensures c.in_default.is in
     err_all c.install_at.result _ (λ u. no_cause _ u.fault none)
 
 pub returns-clause-ran : goal.returns-clause-ran
@@ -75,14 +75,14 @@ returns-clause-ran g c =
     let old = c.args.self.now in
     let node = c.args.node in
     let nodes = c.args.nodes in
-    let none = none_at c.deref.result.now old.seats.items node nodes c.fault_of.result c.deref.ensures.value c.fault_of.ensures c.in_default.is in
-    let new : Nodes g.row.E.Denot = record { alloc = old.alloc; seats = c.install_at.new.seats; packets = old.packets; trace = old.trace } in
+    let none = none_at c.deref.result.now old.slots.items node nodes c.fault_of.result c.deref.ensures.value c.fault_of.ensures c.in_default.is in
+    let new : Nodes g.row.E.Denot = record { alloc = old.alloc; slots = c.install_at.new.slots; packets = old.packets; trace = old.trace } in
     let is = c.install_at.ensures in
     let world : world_of new ≡ world_of old = λ i. record { places = is.places i; packets = old.packets.items; trace = old.trace.items } in
-    let there = there_by_fault node nodes old.seats.items none in
-    let ready = ready_by node nodes (slice_get old.seats.items node) none in
-    let set : (h : AreInstalled g.E.Engine.meaning g.E.Engine.heard c.setting.result c.args.engine old.seats.items new.seats.items) → AreInstalled g.E.Engine.meaning g.E.Engine.heard (setting_by c.args.rules node nodes) c.args.engine old.seats.items new.seats.items =
-    λ h. subst (λ (s : Setting). AreInstalled g.E.Engine.meaning g.E.Engine.heard s c.args.engine old.seats.items new.seats.items) c.setting.ensures h in
+    let there = there_by_fault node nodes old.slots.items none in
+    let ready = ready_by node nodes (slice_get old.slots.items node) none in
+    let set : (h : AreInstalled g.E.Engine.meaning g.E.Engine.heard c.setting.result c.args.engine old.slots.items new.slots.items) → AreInstalled g.E.Engine.meaning g.E.Engine.heard (setting_by c.args.rules node nodes) c.args.engine old.slots.items new.slots.items =
+    λ h. subst (λ (s : Setting). AreInstalled g.E.Engine.meaning g.E.Engine.heard s c.args.engine old.slots.items new.slots.items) c.setting.ensures h in
     ok_map c.install_at.result
     (λ h m k r. installed_ran g.E.Engine.meaning g.E.Engine.heard old new node nodes c.args.rules c.args.engine is.number there ready.0 world (set h) ready.1 (g.met.E.Engine.untouched c.args.engine c.requires.valid) m k r)
     is.installed
@@ -92,12 +92,12 @@ returns-clause-heard g c =
     let old = c.args.self.now in
     let node = c.args.node in
     let nodes = c.args.nodes in
-    let none = none_at c.deref.result.now old.seats.items node nodes c.fault_of.result c.deref.ensures.value c.fault_of.ensures c.in_default.is in
-    let new : Nodes g.row.E.Denot = record { alloc = old.alloc; seats = c.install_at.new.seats; packets = old.packets; trace = old.trace } in
+    let none = none_at c.deref.result.now old.slots.items node nodes c.fault_of.result c.deref.ensures.value c.fault_of.ensures c.in_default.is in
+    let new : Nodes g.row.E.Denot = record { alloc = old.alloc; slots = c.install_at.new.slots; packets = old.packets; trace = old.trace } in
     let is = c.install_at.ensures in
     let world : world_of new ≡ world_of old = λ i. record { places = is.places i; packets = old.packets.items; trace = old.trace.items } in
-    let set : (h : AreInstalled g.E.Engine.meaning g.E.Engine.heard c.setting.result c.args.engine old.seats.items new.seats.items) → AreInstalled g.E.Engine.meaning g.E.Engine.heard (setting_by c.args.rules node nodes) c.args.engine old.seats.items new.seats.items =
-    λ h. subst (λ (s : Setting). AreInstalled g.E.Engine.meaning g.E.Engine.heard s c.args.engine old.seats.items new.seats.items) c.setting.ensures h in
+    let set : (h : AreInstalled g.E.Engine.meaning g.E.Engine.heard c.setting.result c.args.engine old.slots.items new.slots.items) → AreInstalled g.E.Engine.meaning g.E.Engine.heard (setting_by c.args.rules node nodes) c.args.engine old.slots.items new.slots.items =
+    λ h. subst (λ (s : Setting). AreInstalled g.E.Engine.meaning g.E.Engine.heard s c.args.engine old.slots.items new.slots.items) c.setting.ensures h in
     ok_map c.install_at.result (λ h. (set h).heard) is.installed
 
 pub returns-clause-still : goal.returns-clause-still
@@ -105,8 +105,8 @@ returns-clause-still g c =
     let old = c.args.self.now in
     let node = c.args.node in
     let nodes = c.args.nodes in
-    let none = none_at c.deref.result.now old.seats.items node nodes c.fault_of.result c.deref.ensures.value c.fault_of.ensures c.in_default.is in
-    let new : Nodes g.row.E.Denot = record { alloc = old.alloc; seats = c.install_at.new.seats; packets = old.packets; trace = old.trace } in
+    let none = none_at c.deref.result.now old.slots.items node nodes c.fault_of.result c.deref.ensures.value c.fault_of.ensures c.in_default.is in
+    let new : Nodes g.row.E.Denot = record { alloc = old.alloc; slots = c.install_at.new.slots; packets = old.packets; trace = old.trace } in
     let is = c.install_at.ensures in
     let world : world_of new ≡ world_of old = λ i. record { places = is.places i; packets = old.packets.items; trace = old.trace.items } in
     err_map c.install_at.result
@@ -118,8 +118,8 @@ returns-clause-unchanged g c =
     let old = c.args.self.now in
     let node = c.args.node in
     let nodes = c.args.nodes in
-    let none = none_at c.deref.result.now old.seats.items node nodes c.fault_of.result c.deref.ensures.value c.fault_of.ensures c.in_default.is in
-    let new : Nodes g.row.E.Denot = record { alloc = old.alloc; seats = c.install_at.new.seats; packets = old.packets; trace = old.trace } in
+    let none = none_at c.deref.result.now old.slots.items node nodes c.fault_of.result c.deref.ensures.value c.fault_of.ensures c.in_default.is in
+    let new : Nodes g.row.E.Denot = record { alloc = old.alloc; slots = c.install_at.new.slots; packets = old.packets; trace = old.trace } in
     let is = c.install_at.ensures in
     let world : world_of new ≡ world_of old = λ i. record { places = is.places i; packets = old.packets.items; trace = old.trace.items } in
     err_map c.install_at.result

@@ -1,5 +1,0 @@
-use Rattle.std.proofs.Common.{rules}
-use Rattle.sv_world.proofs.seat.Seat.perform.Goals as goal
-
-pub returns-in-Silent-clause-done : goal.returns-in-Silent-clause-done
-returns-in-Silent-clause-done g c = search rules

@@ -1,0 +1,5 @@
+use Rattle.std.proofs.Common.{rules}
+use Rattle.sv_world.proofs.slot.Slot.perform.Goals as goal
+
+pub returns-in-Silent-clause-done : goal.returns-in-Silent-clause-done
+returns-in-Silent-clause-done g c = search rules

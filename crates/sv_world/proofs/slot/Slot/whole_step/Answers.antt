@@ -1,0 +1,12 @@
+use Rattle.std.proofs.Common.{Some, refl}
+use Rattle.std.proofs.lemmas.Result.{IfOk-weaker}
+use Rattle.sv_world.proofs.SlotLemmas.{setting_at, step_done}
+use Rattle.sv_world.proofs.slot.Slot.whole_step.Goals as goal
+
+pub returns-clause-done : goal.returns-clause-done
+returns-clause-done g c =
+    let old = c.args.self.now in
+    IfOk-weaker c.whole_step.result _ _ (λ f acted.
+    step_done g.E.Engine.meaning g.E.Engine.heard old c.in-Some.core c.in-Some.is (setting_at old c.in-Some.core c.in-Some.is g.E.Engine.valid c.requires.slot)
+    (record { setting = c.args.self.now.setting; journal = c.whole_step.new.journal; core = Some c.whole_step.new.core; idle = c.args.self.now.idle })
+    c.whole_step.new.core refl c.args.moment c.args.input c.heading_by-heading.result f c.heading_by-heading.ensures acted) c.whole_step.ensures.done
