@@ -8,7 +8,7 @@ use Rattle.sv_model.specs.Replay.{boot_record, applied}
 use Rattle.sv_model.specs.Decision.{left}
 use Rattle.sv_model.specs.Container.{Meanings, AllTouchOnlyHanded}
 use Rattle.sv_world.specs.declared.event.WorldEvent.{WorldEvent}
-use Rattle.sv_world.specs.World.{Cluster, Place, World, durable_at, set_place, stopped, setting_of, decision, happens, nothing_happened, KnowsAll, AlwaysKnows}
+use Rattle.sv_world.specs.World.{Cluster, Member, World, durable_at, set_member, stopped, setting_of, decision, happens, nothing_happened, KnowsAll, AlwaysKnows}
 use Rattle.sv_world.specs.Life.{session_of}
 use Rattle.sv_world.specs.Sane.{IsUnmade}
 use Rattle.sv_world.proofs.OneKey.{is_unborn}
@@ -24,28 +24,28 @@ module _ (m : Meanings) (c : Cluster) (number : ℕ) (all : (n boot : ℕ) → c
   record Far (w : World) : Type 0 where
     far : (h : ℕ) → number ≤ h → (durable_at w h).next ≡ 1
 
-  inside_far : (places : ℕ → Place) (n : ℕ) (p : Place) → n < number → ((h : ℕ) → number ≤ h → (places h).node.durable.next ≡ 1)
-      → (h : ℕ) → number ≤ h → (set_place places n p h).node.durable.next ≡ 1
-  inside_far places n p less far h most = by_node (λ y x. number ≤ y → x.node.durable.next ≡ 1) places n p h (λ e le. absurd (omega (arith, e, le, less))) (λ ne le. far h le) most
+  inside_far : (members : ℕ → Member) (n : ℕ) (p : Member) → n < number → ((h : ℕ) → number ≤ h → (members h).node.durable.next ≡ 1)
+      → (h : ℕ) → number ≤ h → (set_member members n p h).node.durable.next ≡ 1
+  inside_far members n p less far h most = by_node (λ y x. number ≤ y → x.node.durable.next ≡ 1) members n p h (λ e le. absurd (omega (arith, e, le, less))) (λ ne le. far h le) most
 
-  alike_far : (places : ℕ → Place) (n : ℕ) (p : Place) → p.node.durable.next ≡ (places n).node.durable.next → ((h : ℕ) → number ≤ h → (places h).node.durable.next ≡ 1)
-      → (h : ℕ) → number ≤ h → (set_place places n p h).node.durable.next ≡ 1
-  alike_far places n p same far h most = by_node (λ y x. number ≤ y → x.node.durable.next ≡ 1) places n p h (λ e le. same ∙ far n (omega (arith, e, le))) (λ ne le. far h le) most
+  alike_far : (members : ℕ → Member) (n : ℕ) (p : Member) → p.node.durable.next ≡ (members n).node.durable.next → ((h : ℕ) → number ≤ h → (members h).node.durable.next ≡ 1)
+      → (h : ℕ) → number ≤ h → (set_member members n p h).node.durable.next ≡ 1
+  alike_far members n p same far h most = by_node (λ y x. number ≤ y → x.node.durable.next ≡ 1) members n p h (λ e le. same ∙ far n (omega (arith, e, le))) (λ ne le. far h le) most
 
   happens_far : (w : World) (e : WorldEvent) → Far w → Far (happens m c w e)
   happens_far w e j = behind m c w Far e (record {
     still = j;
-    whole_by = λ call is r. record { far = inside_far w.places call.node (record { up = true; node = left (decision m c w call) }) (omega (arith, r.inside, all call.node (durable_at w call.node).boot)) j.far };
-    torn_by = λ call is r. record { far = inside_far w.places call.node (stopped (decision m c w call).durable) (omega (arith, r.inside, all call.node (durable_at w call.node).boot)) j.far };
-    silent_by = λ call is r. record { far = inside_far w.places call.node (record { up = true; node = left (decision m c w call) }) (omega (arith, r.inside, all call.node (durable_at w call.node).boot)) j.far };
-    halt_by = λ n asked _. record { far = alike_far w.places n (stopped (durable_at w n)) refl j.far };
-    boots_by = λ n p may none same. record { far = alike_far w.places n p (ap (λ (d : Durable). d.next) same ∙ start_next (setting_of c n ((durable_at w n).boot + 1)) (durable_at w n)) j.far };
+    whole_by = λ call is r. record { far = inside_far w.members call.node (record { up = true; node = left (decision m c w call) }) (omega (arith, r.inside, all call.node (durable_at w call.node).boot)) j.far };
+    torn_by = λ call is r. record { far = inside_far w.members call.node (stopped (decision m c w call).durable) (omega (arith, r.inside, all call.node (durable_at w call.node).boot)) j.far };
+    silent_by = λ call is r. record { far = inside_far w.members call.node (record { up = true; node = left (decision m c w call) }) (omega (arith, r.inside, all call.node (durable_at w call.node).boot)) j.far };
+    halt_by = λ n asked _. record { far = alike_far w.members n (stopped (durable_at w n)) refl j.far };
+    boots_by = λ n p may none same. record { far = alike_far w.members n p (ap (λ (d : Durable). d.next) same ∙ start_next (setting_of c n ((durable_at w n).boot + 1)) (durable_at w n)) j.far };
   })
 
   far_knows : (w : World) → Inv m c w → Far w → KnowsAll m c w
   far_knows w inv j x k up le =
       let l = inv.sane.lives k in
-      let never : IsUnmade (disks_of w.places) k = ⊎_elim (λ (l : 0 < k.serial). inl (omega (arith, l, j.far k.home (omega (arith, le, all x (durable_at w x).boot))))) (λ (z : k.serial ≤ 0). inr (omega (arith, z))) (cases_lt 0 k.serial) in
+      let never : IsUnmade (disks_of w.members) k = ⊎_elim (λ (l : 0 < k.serial). inl (omega (arith, l, j.far k.home (omega (arith, le, all x (durable_at w x).boot))))) (λ (z : k.serial ≤ 0). inr (omega (arith, z))) (cases_lt 0 k.serial) in
       l.map ∙ ap session_of (is_unborn l.phase _ l.stands (λ x. inv.sane.unmade x k never))
 
   module _ (touches : AllTouchOnlyHanded m) where

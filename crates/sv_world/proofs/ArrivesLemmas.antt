@@ -30,7 +30,7 @@ use Rattle.sv_world.specs.declared.event.WorldEvent.TheVariants.{Deliver, Tick}
 use Rattle.sv_world.specs.declared.call.Call.{Call}
 use Rattle.sv_world.specs.Headline.{states}
 use Rattle.sv_world.specs.Life.{Away, Life, Stands}
-use Rattle.sv_world.specs.World.{Cluster, Place, World, durable_at, decision, happens}
+use Rattle.sv_world.specs.World.{Cluster, Member, World, durable_at, decision, happens}
 use Rattle.sv_world.specs.Progress.{setting_at, told_at, Runs, HasRoomAt, IsOff, HasArrived}
 use Rattle.sv_world.proofs.Keys.{in_right, set_here}
 use Rattle.sv_world.proofs.OneKey.{below_epoch}
@@ -105,7 +105,7 @@ module _ (m : Meanings) (c : Cluster) where
       → HasPlace (Grant n to k e s) (length w.packets) (happens m c w (Tick n moment)).packets
   tick_places w moment n k e s to r off =
       let call : Call = record { node = n; moment = moment; input = input.Tick } in
-      let nd = (w.places n).node in
+      let nd = (w.members n).node in
       let set = setting_at c w n in
       subst (λ (x : World). HasPlace (Grant n to k e s) (length w.packets) x.packets) (sym (stepped_by m c w (Tick n moment) call (ready_by c w call r refl refl)))
       (place_behind (Grant n to k e s) w.packets (sends_in (on_tick set nd moment.now moment.steady).outputs)
@@ -142,7 +142,7 @@ module _ (m : Meanings) (c : Cluster) where
   delivered_acks v moment place n k e s to r inside apart at made room =
       delivery m c (λ (x : World). HasPlace (Ack to n k e) (length v.packets) x.packets) v moment place (Grant n to k e s) r at
       (place_behind (Ack to n k e) v.packets (sends_in (decision m c v (record { node = to; moment = moment; input = input.Packet (Grant n to k e s) })).outputs)
-      (packet_acks (m to (durable_at v to).boot) (setting_at c v to) (v.places to).node moment n k e s apart inside made room))
+      (packet_acks (m to (durable_at v to).boot) (setting_at c v to) (v.members to).node moment n k e s apart inside made room))
 
   -- an unmade key is known nowhere
   pub none_made : (v : World) (to : ℕ) (k : Key) → Inv m c v → is_unmade (setting_at c v to) (durable_at v to) k ≡ true → (x : ℕ) → states v k x ≡ None
@@ -171,7 +171,7 @@ module _ (m : Meanings) (c : Cluster) where
       → IsOff v k n e s to → states (happens m c v (Deliver moment place)) k n ≡ Some (Gone e)
   delivered_ends v moment place n k e s to r inside apart at off =
       let call : Call = record { node = n; moment = moment; input = input.Packet (Ack to n k e) } in
-      let place' : Place = record { up = true; node = left (decision m c v call) } in
+      let member' : Member = record { up = true; node = left (decision m c v call) } in
       delivery m c (λ (x : World). states x k n ≡ Some (Gone e)) v moment place (Ack to n k e) r at
-      (by_node (λ y z. y ≡ n → known z.node.durable k ≡ Some (Gone e)) v.places n place' n
-      (λ _ _. ack_ends (setting_at c v n) (v.places n).node moment (m n (durable_at v n).boot) k e s to (states v k n) apart inside refl off) (λ ne _. absurd (ne refl)) refl)
+      (by_node (λ y z. y ≡ n → known z.node.durable k ≡ Some (Gone e)) v.members n member' n
+      (λ _ _. ack_ends (setting_at c v n) (v.members n).node moment (m n (durable_at v n).boot) k e s to (states v k n) apart inside refl off) (λ ne _. absurd (ne refl)) refl)

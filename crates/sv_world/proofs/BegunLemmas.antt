@@ -21,9 +21,9 @@ use Rattle.sv_world.specs.declared.slot.Slot.{Slot}
 use Rattle.sv_world.specs.declared.world.World.{World as Nodes}
 use Rattle.sv_world.specs.Headline.{IsHeadline}
 use Rattle.sv_world.specs.Journals.{HaveFitted}
-use Rattle.sv_world.specs.Slot.{IsSlot, RunsOver, durable_of, engine_in, engine_by, place_of, place_by}
+use Rattle.sv_world.specs.Slot.{IsSlot, RunsOver, durable_of, engine_in, engine_by, member_of, member_by}
 use Rattle.sv_world.specs.World.{Cluster, steady, setting_of, stopped, nothing_happened, run}
-use Rattle.sv_world.specs.Worlds.{rules_in, place_in, meant_in, noted_in, world_of, size_of, cluster_of, meanings_of, heard_of, IsWorld}
+use Rattle.sv_world.specs.Worlds.{rules_in, member_in, meant_in, noted_in, world_of, size_of, cluster_of, meanings_of, heard_of, IsWorld}
 use Rattle.sv_world.specs.Happened.{AllAlike, AreMade, AreBack, restarts}
 use Rattle.sv_world.specs.Making.{IsIdle, IsUntouched, AreFilled, HaveBegun, AreOf}
 use Rattle.sv_world.specs.Planned.{IsPlanned, Ran}
@@ -107,12 +107,12 @@ module _ {E : Type 0} where
           few = omega (arith, number);
         }
 
-  idle_place : (s : Slot E) → IsIdle s → place_of s ≡ stopped blank
-  idle_place s h = ap (λ (core : Option (Core E)). place_by core (durable_of s)) h.core ∙ ap (λ (rs : List Record). stopped (replayed blank rs)) h.journal
+  idle_member : (s : Slot E) → IsIdle s → member_of s ≡ stopped blank
+  idle_member s h = ap (λ (core : Option (Core E)). member_by core (durable_of s)) h.core ∙ ap (λ (rs : List Record). stopped (replayed blank rs)) h.journal
 
-  place_is : (o : Option (Slot E)) → IfSome o IsIdle → place_in o ≡ stopped blank
-  place_is None h = refl
-  place_is (Some s) h = idle_place s h
+  member_is : (o : Option (Slot E)) → IfSome o IsIdle → member_in o ≡ stopped blank
+  member_is None h = refl
+  member_is (Some s) h = idle_member s h
 
   module _ (meaning : E → EngineMeaning) (noted : E → List (List ℕ)) where
     meanings_are : (w : Nodes E) (engines : List E) → map engine_in w.slots.items ≡ map Some engines → (n : ℕ) → meanings_of meaning w n ≡ option_map meaning (slice_get engines n)
@@ -139,7 +139,7 @@ module _ {E : Type 0} where
       settings_are n boot less = ap (λ (s : Setting). setting_by (rules_in s) n s.nodes) (h.settings n (omega (arith, size_is, less)))
 
       nothing : IsUntouched w → world_of w ≡ nothing_happened
-      nothing u = λ i. record { places = λ n. place_is (slice_get w.slots.items n) (all_some IsIdle w.slots.items h.idle n) i; packets = u.packets i; trace = u.trace i }
+      nothing u = λ i. record { members = λ n. member_is (slice_get w.slots.items n) (all_some IsIdle w.slots.items h.idle n) i; packets = u.packets i; trace = u.trace i }
 
       -- nothing has happened to them
       pub at_rest : IsUntouched w → AreMade meaning noted engines rules [] w

@@ -42,7 +42,7 @@ use Rattle.sv_world.specs.Order.{whole_order, torn_order, silent_order, order_of
 use Rattle.sv_world.specs.Rolling.{start_in, IsTurn, AreInTurn}
 use Rattle.sv_world.specs.Starts.{number_of}
 use Rattle.sv_world.specs.Sent.{may_come, same_packet}
-use Rattle.sv_world.specs.World.{Cluster, Place, World, steady, setting_of, set_place, stopped, started, items, item_at, is_there, is_unused, call_of, happens, run, nothing_happened}
+use Rattle.sv_world.specs.World.{Cluster, Member, World, steady, setting_of, set_member, stopped, started, items, item_at, is_there, is_unused, call_of, happens, run, nothing_happened}
 use Rattle.sv_world.proofs.DiskOrder.{asked_in, asked_at, IsDown, IsFresh, Orderly, behind_boot, step_fresh, stays_orderly, comes_new}
 use Rattle.sv_world.proofs.HeadlineLemmas.{kept as kept_fit, headline}
 use Rattle.sv_world.proofs.OrderLemmas.{done_by, goes}
@@ -75,11 +75,11 @@ in_sent p (q ∷ ps) i = ⊎_elim
     (λ (there : In p ps). ap (λ b. same_packet p q || b) (in_sent p ps there) ∙ or_right (same_packet p q))
     i
 
-place_of : (p : Packet) (ps : List Packet) → In p ps → (k : ℕ) × (slice_get ps k ≡ Some p)
-place_of p [] i = absurd i
-place_of p (q ∷ ps) i = ⊎_elim
+member_of : (p : Packet) (ps : List Packet) → In p ps → (k : ℕ) × (slice_get ps k ≡ Some p)
+member_of p [] i = absurd i
+member_of p (q ∷ ps) i = ⊎_elim
     (λ (here : q ≡ p). (zero, ap Some here))
-    (λ (there : In p ps). let r = place_of p ps there in (suc r.0, r.1))
+    (λ (there : In p ps). let r = member_of p ps there in (suc r.0, r.1))
     i
 
 comes : (ps : List Packet) (i : Input) → WasSent ps i → may_come ps i ≡ true
@@ -119,8 +119,8 @@ shown_more : (trace : List Line) (l : Line) → flat_map shown_by (trace ++ l �
 shown_more trace l = flat_map-append shown_by trace (l ∷ []) ∙ ap (λ s. flat_map shown_by trace ++ s) (append-nil (shown_by l))
 
 module _ (m : Meanings) (c : Cluster) (w : World) (n : ℕ) (call : Call) (a : After) where
-  abbrev here : Place
-  here = w.places n
+  abbrev here : Member
+  here = w.members n
 
   abbrev made : NodeCall
   made = record { node = n; call = call; after = a }
@@ -135,29 +135,29 @@ module _ (m : Meanings) (c : Cluster) (w : World) (n : ℕ) (call : Call) (a : A
     pub own : Own events
     pub seen : seen_as (run m c w events) ≡ behind (seen_as w) made
     pub asked : asked_of (items (run m c w events).trace) ≡ asked_of (items w.trace) ++ asked_at n here.node.durable call
-    pub turns : InTurnAt c w.places n call → AreInTurn m c w events
+    pub turns : InTurnAt c w.members n call → AreInTurn m c w events
 
   -- an event that starts a node is of an opening
   abbrev Starts : WorldEvent → Type 0
-  Starts e = InTurnAt c w.places n call → IfSome (start_in e) (IsTurn c w.places)
+  Starts e = InTurnAt c w.members n call → IfSome (start_in e) (IsTurn c w.members)
 
   -- what the call leaves of the node
-  abbrev left_place : Place
-  left_place = record { up = runs_behind here.up call; node = a.node }
+  abbrev left_member : Member
+  left_member = record { up = runs_behind here.up call; node = a.node }
 
-  same_place : here ≡ left_place → (x : ℕ) → w.places x ≡ set_place w.places n left_place x
-  same_place is x = ⊎_elim
-      (λ (e : x ≡ n). ap w.places e ∙ is ∙ sym (cond-true (x == n) left_place (w.places x) (eq-eqb x n e)))
-      (λ (e : x ≢ n). sym (cond-false (x == n) left_place (w.places x) (ne_eqb x n e)))
+  same_member : here ≡ left_member → (x : ℕ) → w.members x ≡ set_member w.members n left_member x
+  same_member is x = ⊎_elim
+      (λ (e : x ≡ n). ap w.members e ∙ is ∙ sym (cond-true (x == n) left_member (w.members x) (eq-eqb x n e)))
+      (λ (e : x ≢ n). sym (cond-false (x == n) left_member (w.members x) (ne_eqb x n e)))
       (cases_eq x n)
 
   -- nothing happens
-  still : Own [] → here ≡ left_place → a.outputs ≡ [] → asked_at n here.node.durable call ≡ [] → shown_at n here.node.durable call a ≡ [] → Simulated
-  still own place silent none unseen = record {
+  still : Own [] → here ≡ left_member → a.outputs ≡ [] → asked_at n here.node.durable call ≡ [] → shown_at n here.node.durable call a ≡ [] → Simulated
+  still own member silent none unseen = record {
     events = [];
     own = own;
     seen = λ i. record {
-      places = λ x. same_place place x i;
+      members = λ x. same_member member x i;
       packets = (sym (append-nil w.packets) ∙ ap (λ os. w.packets ++ sends_in os) (sym silent)) i;
       shown = (sym (append-nil (flat_map shown_by w.trace)) ∙ ap (λ s. flat_map shown_by w.trace ++ s) (sym unseen)) i;
     };
@@ -166,13 +166,13 @@ module _ (m : Meanings) (c : Cluster) (w : World) (n : ℕ) (call : Call) (a : A
   }
 
   -- an event happens that does this
-  does : (e : WorldEvent) (d : Done) → Own (e ∷ []) → Starts e → happens m c w e ≡ done_by w e n d → d.place ≡ left_place → d.effect.outputs ≡ a.outputs
+  does : (e : WorldEvent) (d : Done) → Own (e ∷ []) → Starts e → happens m c w e ≡ done_by w e n d → d.member ≡ left_member → d.effect.outputs ≡ a.outputs
       → option_to_list d.effect.heading.asked ≡ asked_at n here.node.durable call → shown_by (line_of e d.effect) ≡ shown_at n here.node.durable call a → Simulated
-  does e d own starts happened place puts asks shows = record {
+  does e d own starts happened member puts asks shows = record {
     events = e ∷ [];
     own = own;
     seen = ap seen_as happened ∙ (λ i. record {
-      places = set_place w.places n (place i);
+      members = set_member w.members n (member i);
       packets = w.packets ++ sends_in (puts i);
       shown = (shown_more w.trace (line_of e d.effect) ∙ ap (λ s. flat_map shown_by w.trace ++ s) shows) i;
     });
@@ -180,7 +180,7 @@ module _ (m : Meanings) (c : Cluster) (w : World) (n : ℕ) (call : Call) (a : A
     turns = λ t. (starts t, tt);
   }
 
--- ---- steps of which nothing leaves their node
+-- ---- silent steps
 
 twice : {A : Type 0} (b : Bool) (x y z : A) → cond b x (cond b y z) ≡ cond b x z
 twice true x y z = refl
@@ -195,67 +195,67 @@ module _ (m : Meanings) (c : Cluster) (n boot : ℕ) (inside : n < c.nodes n boo
   boot_kept node g = (decide_thrifty (always (m n boot)) (steady (c.nodes n boot) (c.rules n boot)) n node g.at g.input).boot
 
   -- a request that comes is new
-  new_by : (w : World) (numbers : List ℕ) → IsFresh (asked_of (items w.trace)) n (w.places n) numbers → (w.places n).up ≡ true → (i : Input) → IsNew numbers i
-      → (o : Option Token) → asked_by (token_of of_node (w.places n).node.durable) i ≡ o → is_unused (asked_of (items w.trace)) o ≡ true
+  new_by : (w : World) (numbers : List ℕ) → IsFresh (asked_of (items w.trace)) n (w.members n) numbers → (w.members n).up ≡ true → (i : Input) → IsNew numbers i
+      → (o : Option Token) → asked_by (token_of of_node (w.members n).node.durable) i ≡ o → is_unused (asked_of (items w.trace)) o ≡ true
   new_by w numbers fresh up i new None is = refl
-  new_by w numbers fresh up i new (Some t) is = eq-eqb (times t (asked_of (items w.trace))) 0 (comes_new (asked_of (items w.trace)) n (w.places n) numbers fresh up i new t is)
+  new_by w numbers fresh up i new (Some t) is = eq-eqb (times t (asked_of (items w.trace))) 0 (comes_new (asked_of (items w.trace)) n (w.members n) numbers fresh up i new t is)
 
   -- what one of them does
   abbrev silent_at : World → Given → Done
-  silent_at w g = deed (m n boot) of_node (w.places n) (task.Silent g.at g.input)
+  silent_at w g = deed (m n boot) of_node (w.members n) (task.Silent g.at g.input)
 
   abbrev one_silent : World → Given → World
   one_silent w g = done_by w (silent_event n g) n (silent_at w g)
 
-  silent_is : (w : World) (numbers : List ℕ) (g : Given) → (w.places n).node.durable.boot ≡ boot → (w.places n).up ≡ true → IsFresh (asked_of (items w.trace)) n (w.places n) numbers → WasSent w.packets g.input → IsNew numbers g.input → happens m c w (silent_event n g) ≡ one_silent w g
+  silent_is : (w : World) (numbers : List ℕ) (g : Given) → (w.members n).node.durable.boot ≡ boot → (w.members n).up ≡ true → IsFresh (asked_of (items w.trace)) n (w.members n) numbers → WasSent w.packets g.input → IsNew numbers g.input → happens m c w (silent_event n g) ≡ one_silent w g
   silent_is w numbers g same up fresh sent new =
       let call : Asked = record { node = n; moment = g.at; input = g.input } in
       (goes c w (silent_order call) (silent_event n g)
-      (no_step_fault (is_there c n (w.places n).node.durable.boot) (w.places n).up (may_come w.packets g.input) (is_unused (asked_of (items w.trace)) (asked_by (token_of of_node (w.places n).node.durable) g.input))
-      (lt-ltb n (c.nodes n (w.places n).node.durable.boot) (subst (λ b. n < c.nodes n b) (sym same) inside)) up (comes w.packets g.input sent) (new_by w numbers fresh up g.input new _ refl)) refl).happens m
-      ∙ ap (λ b. done_by w (silent_event n g) n (deed (m n b) (setting_of c n b) (w.places n) (task.Silent g.at g.input))) same
+      (no_step_fault (is_there c n (w.members n).node.durable.boot) (w.members n).up (may_come w.packets g.input) (is_unused (asked_of (items w.trace)) (asked_by (token_of of_node (w.members n).node.durable) g.input))
+      (lt-ltb n (c.nodes n (w.members n).node.durable.boot) (subst (λ b. n < c.nodes n b) (sym same) inside)) up (comes w.packets g.input sent) (new_by w numbers fresh up g.input new _ refl)) refl).happens m
+      ∙ ap (λ b. done_by w (silent_event n g) n (deed (m n b) (setting_of c n b) (w.members n) (task.Silent g.at g.input))) same
 
   -- what all of them make of a world
   pub record Silenced (w v : World) (gs : List Given) : Type 0 where
-    pub places : (x : ℕ) → v.places x ≡ set_place w.places n (record { up = true; node = node_behind (m n boot) of_node (w.places n).node gs }) x
+    pub members : (x : ℕ) → v.members x ≡ set_member w.members n (record { up = true; node = node_behind (m n boot) of_node (w.members n).node gs }) x
     pub packets : v.packets ≡ w.packets
     pub shown : flat_map shown_by v.trace ≡ flat_map shown_by w.trace
-    pub asked : asked_of (items v.trace) ≡ asked_of (items w.trace) ++ asked_in n (w.places n).node.durable.boot gs
+    pub asked : asked_of (items v.trace) ≡ asked_of (items w.trace) ++ asked_in n (w.members n).node.durable.boot gs
 
-  at_own : (places : ℕ → Place) (p : Place) → set_place places n p n ≡ p
-  at_own places p = cond-true (n == n) p (places n) (eq-eqb n n refl)
+  at_own : (members : ℕ → Member) (p : Member) → set_member members n p n ≡ p
+  at_own members p = cond-true (n == n) p (members n) (eq-eqb n n refl)
 
-  silenced : (w : World) (numbers : List ℕ) (gs : List Given) → (w.places n).node.durable.boot ≡ boot → (w.places n).up ≡ true → IsFresh (asked_of (items w.trace)) n (w.places n) numbers → AllCome w.packets numbers gs → Silenced w (run m c w (map (silent_event n) gs)) gs
+  silenced : (w : World) (numbers : List ℕ) (gs : List Given) → (w.members n).node.durable.boot ≡ boot → (w.members n).up ≡ true → IsFresh (asked_of (items w.trace)) n (w.members n) numbers → AllCome w.packets numbers gs → Silenced w (run m c w (map (silent_event n) gs)) gs
   silenced w numbers [] same up fresh all = record {
-    places = λ x. ⊎_elim
-        (λ (e : x ≡ n). ap w.places e ∙ (λ j. record { up = up j; node = (w.places n).node }) ∙ sym (cond-true (x == n) (record { up = true; node = (w.places n).node }) (w.places x) (eq-eqb x n e)))
-        (λ (e : x ≢ n). sym (cond-false (x == n) (record { up = true; node = (w.places n).node }) (w.places x) (ne_eqb x n e)))
+    members = λ x. ⊎_elim
+        (λ (e : x ≡ n). ap w.members e ∙ (λ j. record { up = up j; node = (w.members n).node }) ∙ sym (cond-true (x == n) (record { up = true; node = (w.members n).node }) (w.members x) (eq-eqb x n e)))
+        (λ (e : x ≢ n). sym (cond-false (x == n) (record { up = true; node = (w.members n).node }) (w.members x) (ne_eqb x n e)))
         (cases_eq x n);
     packets = refl;
     shown = refl;
     asked = sym (append-nil (asked_of (items w.trace)));
   }
   silenced w numbers (g ∷ gs) same up fresh all =
-      let node = (w.places n).node in
+      let node = (w.members n).node in
       let d = decided (m n boot) of_node node g.at g.input in
-      let p : Place = record { up = true; node = left d } in
+      let p : Member = record { up = true; node = left d } in
       let v = one_silent w g in
       let l = line_of (silent_event n g) (silent_at w g).effect in
       let es = map (silent_event n) gs in
       let is : happens m c w (silent_event n g) ≡ v = silent_is w numbers g same up fresh all.0.0 all.0.1 in
-      let here : v.places n ≡ p = at_own w.places p in
+      let here : v.members n ≡ p = at_own w.members p in
       let asked_v : asked_of (items v.trace) ≡ asked_of (items w.trace) ++ option_to_list (asked_by (token_of of_node node.durable) g.input) = asked_more w.trace l in
-      let fresh_v : IsFresh (asked_of (items v.trace)) n (v.places n) (with_number g.input numbers) =
-      subst (λ (ts : List Token). IsFresh ts n (v.places n) (with_number g.input numbers)) (sym asked_v)
-      (subst (λ (q : Place). IsFresh (asked_of (items w.trace) ++ option_to_list (asked_by (token_of of_node node.durable) g.input)) n q (with_number g.input numbers)) (sym here)
-      (λ _. step_fresh (m n boot) (c.nodes n boot) (c.rules n boot) n (w.places n) (carried_out d) (asked_of (items w.trace)) numbers g.at g.input (up, refl) fresh)) in
+      let fresh_v : IsFresh (asked_of (items v.trace)) n (v.members n) (with_number g.input numbers) =
+      subst (λ (ts : List Token). IsFresh ts n (v.members n) (with_number g.input numbers)) (sym asked_v)
+      (subst (λ (q : Member). IsFresh (asked_of (items w.trace) ++ option_to_list (asked_by (token_of of_node node.durable) g.input)) n q (with_number g.input numbers)) (sym here)
+      (λ _. step_fresh (m n boot) (c.nodes n boot) (c.rules n boot) n (w.members n) (carried_out d) (asked_of (items w.trace)) numbers g.at g.input (up, refl) fresh)) in
       let all_v : AllCome v.packets (with_number g.input numbers) gs = subst (λ ps. AllCome ps (with_number g.input numbers) gs) (sym (append-nil w.packets)) all.1 in
-      let number : (v.places n).node.durable.boot ≡ node.durable.boot = ap (λ (q : Place). q.node.durable.boot) here ∙ boot_kept node g in
-      let rest = silenced v (with_number g.input numbers) gs (number ∙ same) (ap (λ (q : Place). q.up) here) fresh_v all_v in
+      let number : (v.members n).node.durable.boot ≡ node.durable.boot = ap (λ (q : Member). q.node.durable.boot) here ∙ boot_kept node g in
+      let rest = silenced v (with_number g.input numbers) gs (number ∙ same) (ap (λ (q : Member). q.up) here) fresh_v all_v in
       record {
-        places = λ x. ap (λ u. (run m c u es).places x) is ∙ rest.places x
-            ∙ ap (λ (q : Place). set_place v.places n (record { up = true; node = node_behind (m n boot) of_node q.node gs }) x) here
-            ∙ twice (x == n) (record { up = true; node = node_behind (m n boot) of_node (left d) gs }) p (w.places x);
+        members = λ x. ap (λ u. (run m c u es).members x) is ∙ rest.members x
+            ∙ ap (λ (q : Member). set_member v.members n (record { up = true; node = node_behind (m n boot) of_node q.node gs }) x) here
+            ∙ twice (x == n) (record { up = true; node = node_behind (m n boot) of_node (left d) gs }) p (w.members x);
         packets = ap (λ u. (run m c u es).packets) is ∙ rest.packets ∙ append-nil w.packets;
         shown = ap (λ u. flat_map shown_by (run m c u es).trace) is ∙ rest.shown ∙ shown_more w.trace l ∙ append-nil (flat_map shown_by w.trace);
         asked = ap (λ u. asked_of (items (run m c u es).trace)) is ∙ rest.asked ∙ (λ j. asked_v j ++ asked_in n (number j) gs)
@@ -264,9 +264,9 @@ module _ (m : Meanings) (c : Cluster) (n boot : ℕ) (inside : n < c.nodes n boo
 
 -- ---- a step
 
-module _ (m : Meanings) (touches : AllTouchOnlyHanded m) (c : Cluster) (w : World) (n : ℕ) (inside : n < c.nodes n (w.places n).node.durable.boot) where
-  abbrev at_node : Place
-  at_node = w.places n
+module _ (m : Meanings) (touches : AllTouchOnlyHanded m) (c : Cluster) (w : World) (n : ℕ) (inside : n < c.nodes n (w.members n).node.durable.boot) where
+  abbrev at_node : Member
+  at_node = w.members n
 
   -- the number of its last start, with what it was started with
   abbrev boot : ℕ
@@ -300,7 +300,7 @@ module _ (m : Meanings) (touches : AllTouchOnlyHanded m) (c : Cluster) (w : Worl
     whole_by : (e : WorldEvent) → Own m c w n (Step at i Finished) a (e ∷ []) → call_of w.packets e ≡ Some (step_of at i) → fault_of c w e ≡ call_fault c w (call_of w.packets e) → order_of w.packets e ≡ option_map whole_order (call_of w.packets e)
         → start_in e ≡ None → is_own n i ≡ true → a ≡ carried_out decision → Simulated m c w n (Step at i Finished) a
     whole_by e of_call call fault order none own d =
-        does m c w n (Step at i Finished) a e (deed means set at_node (task.Step at i)) of_call (λ _. subst (λ o. IfSome o (IsTurn c w.places)) (sym none) tt)
+        does m c w n (Step at i Finished) a e (deed means set at_node (task.Step at i)) of_call (λ _. subst (λ o. IfSome o (IsTurn c w.members)) (sym none) tt)
         ((goes c w (whole_order (step_of at i)) e (fault ∙ ready at i (call_of w.packets e) call up sent unused) (order ∙ ap (option_map whole_order) call)).happens m)
         (λ j. record { up = sym up j; node = sym (node_in d) j }) (sym (puts_in d)) refl
         ((λ j. record { node = n; boot = at_node.node.durable.boot; outputs = sym (puts_in d) j; told = sym (tells_in d) j } ∷ [])
@@ -322,7 +322,7 @@ module _ (m : Meanings) (touches : AllTouchOnlyHanded m) (c : Cluster) (w : Worl
     torn_behind_by call own ends asks shows None is gives l = torn_before call (own false) ends asks shows (l ∙ ap (λ d. quiet (kept d)) gives)
     torn_behind_by call own ends asks shows (Some r) is gives l =
         let h = heading_by set at_node.node.durable i in
-        let torn_done : Done = record { place = stopped decision.durable; effect = quiet_at h decision.entry decision.commit } in
+        let torn_done : Done = record { member = stopped decision.durable; effect = quiet_at h decision.entry decision.commit } in
         does m c w n call a (Torn n at i true) torn_done (own true) (λ _. tt)
         (torn_by_event true ∙ ap (done_by w (Torn n at i true) n) (cond-true (is_some decision.entry) torn_done (halted h at_node.node.durable) (ap is_some is)))
         (λ j. record { up = sym ends j; node = sym (node_in l) j }) (sym (puts_in l)) (sym asks) (sym shows)
@@ -347,7 +347,7 @@ module _ (m : Meanings) (touches : AllTouchOnlyHanded m) (c : Cluster) (w : Worl
   whole_packet : (at : Moment) (p : Packet) (a : After) → at_node.up ≡ true → WasSent w.packets (input.Packet p) → is_unused (asked_of (items w.trace)) (asked_with (input.Packet p)) ≡ true
       → (b : Bool) → (addressee p == n) ≡ b → a ≡ carried_out (decided means set at_node.node at (input.Packet p)) → Simulated m c w n (Step at (input.Packet p) Finished) a
   whole_packet at p a up sent unused true own d =
-      let k = place_of p w.packets sent in
+      let k = member_of p w.packets sent in
       let call : call_of w.packets (Deliver at k.0) ≡ Some (step_of at (input.Packet p)) =
       ap (option_map (λ q. record { node = addressee q; moment = at; input = input.Packet q })) k.1 ∙ (λ j. Some (record { node = eqb-true (addressee p) n own j; moment = at; input = input.Packet p })) in
       whole_by at (input.Packet p) a up sent unused (Deliver at k.0) (of_packet at p (Deliver at k.0 ∷ []) true own (k.0, k.1, refl)) call refl refl refl own d
@@ -399,19 +399,19 @@ module _ (m : Meanings) (touches : AllTouchOnlyHanded m) (c : Cluster) (w : Worl
       let v = run m c w es in
       let s = silenced m c n boot inside w numbers gs refl up fresh all in
       let behind_them = node_behind means set at_node.node gs in
-      let q : Place = record { up = true; node = behind_them } in
-      let here : v.places n ≡ q = s.places n ∙ at_own m c n boot inside w.places q in
-      let number : (v.places n).node.durable.boot ≡ boot = ap (λ (p : Place). p.node.durable.boot) here ∙ behind_boot means (c.nodes n boot) (c.rules n boot) n at_node a at_node.node gs in
-      let down : Done = halted (heading_at set (v.places n).node.durable None) (v.places n).node.durable in
+      let q : Member = record { up = true; node = behind_them } in
+      let here : v.members n ≡ q = s.members n ∙ at_own m c n boot inside w.members q in
+      let number : (v.members n).node.durable.boot ≡ boot = ap (λ (p : Member). p.node.durable.boot) here ∙ behind_boot means (c.nodes n boot) (c.rules n boot) n at_node a at_node.node gs in
+      let down : Done = halted (heading_at set (v.members n).node.durable None) (v.members n).node.durable in
       let l = line_of (Crash n) down.effect in
       let crash : run m c w (es ++ Crash n ∷ []) ≡ done_by v (Crash n) n down =
-      sym (run_more m c w es (Crash n ∷ [])) ∙ (goes c v (record { node = n; task = task.Stop }) (Crash n) (no_stop_fault (is_there c n (v.places n).node.durable.boot) (v.places n).up (there_still (sym number)) (ap (λ (p : Place). p.up) here)) refl).happens m in
+      sym (run_more m c w es (Crash n ∷ [])) ∙ (goes c v (record { node = n; task = task.Stop }) (Crash n) (no_stop_fault (is_there c n (v.members n).node.durable.boot) (v.members n).up (there_still (sym number)) (ap (λ (p : Member). p.up) here)) refl).happens m in
       record {
         events = es ++ Crash n ∷ [];
         own = refl;
         seen = ap seen_as crash ∙ (λ j. record {
-          places = λ x. (ap (λ (p : Place). cond (x == n) (stopped p.node.durable) (v.places x)) here ∙ ap (cond (x == n) (stopped behind_them.durable)) (s.places x)
-              ∙ twice (x == n) (stopped behind_them.durable) q (w.places x) ∙ (λ k. cond (x == n) (record { up = false; node = sym (node_in d) k }) (w.places x))) j;
+          members = λ x. (ap (λ (p : Member). cond (x == n) (stopped p.node.durable) (v.members x)) here ∙ ap (cond (x == n) (stopped behind_them.durable)) (s.members x)
+              ∙ twice (x == n) (stopped behind_them.durable) q (w.members x) ∙ (λ k. cond (x == n) (record { up = false; node = sym (node_in d) k }) (w.members x))) j;
           packets = (append-nil v.packets ∙ s.packets ∙ sym (append-nil w.packets) ∙ ap (λ os. w.packets ++ sends_in os) (sym (puts_in d))) j;
           shown = (shown_more v.trace l ∙ append-nil (flat_map shown_by v.trace) ∙ s.shown ∙ sym (append-nil (flat_map shown_by w.trace))) j;
         });
@@ -428,92 +428,92 @@ module _ (m : Meanings) (touches : AllTouchOnlyHanded m) (c : Cluster) (w : Worl
 
 -- ---- a start
 
-module _ (m : Meanings) (c : Cluster) (w : World) (n : ℕ) (inside : n < c.nodes n ((w.places n).node.durable.boot + 1)) where
-  abbrev old_place : Place
-  old_place = w.places n
+module _ (m : Meanings) (c : Cluster) (w : World) (n : ℕ) (inside : n < c.nodes n ((w.members n).node.durable.boot + 1)) where
+  abbrev old_member : Member
+  old_member = w.members n
 
   -- the number of the start that is made, with what it is made with
   abbrev next_boot : ℕ
-  next_boot = old_place.node.durable.boot + 1
+  next_boot = old_member.node.durable.boot + 1
 
   abbrev next_set : Setting
   next_set = setting_of c n next_boot
 
-  start_ready : old_place.up ≡ false → start_fault (is_there c n next_boot) old_place.up ≡ None
-  start_ready down = no_start_fault (is_there c n next_boot) old_place.up (lt-ltb n (c.nodes n next_boot) inside) down
+  start_ready : old_member.up ≡ false → start_fault (is_there c n next_boot) old_member.up ≡ None
+  start_ready down = no_start_fault (is_there c n next_boot) old_member.up (lt-ltb n (c.nodes n next_boot) inside) down
 
   -- its record stands, and the node runs or has stopped again
-  started_by : (e : WorldEvent) (place : Durable → Place) (call : Call) (a : After) → happens m c w e ≡ done_by w e n (start_by next_set old_place.node.durable true place)
-      → Own m c w n call a (e ∷ []) → Starts m c w n call a e → place (restarted next_set old_place.node.durable) ≡ left_place m c w n call a → old_place.node.durable.boot ≢ last_number → a.outputs ≡ []
-      → asked_at n old_place.node.durable call ≡ [] → shown_at n old_place.node.durable call a ≡ [] → Simulated m c w n call a
-  started_by e place call a happened own starts is some silent asks shows =
-      let d = old_place.node.durable in
+  started_by : (e : WorldEvent) (member : Durable → Member) (call : Call) (a : After) → happens m c w e ≡ done_by w e n (start_by next_set old_member.node.durable true member)
+      → Own m c w n call a (e ∷ []) → Starts m c w n call a e → member (restarted next_set old_member.node.durable) ≡ left_member m c w n call a → old_member.node.durable.boot ≢ last_number → a.outputs ≡ []
+      → asked_at n old_member.node.durable call ≡ [] → shown_at n old_member.node.durable call a ≡ [] → Simulated m c w n call a
+  started_by e member call a happened own starts is some silent asks shows =
+      let d = old_member.node.durable in
       let h = heading_at next_set d None in
-      does m c w n call a e (booted next_set h d place) own starts
-      (happened ∙ ap (done_by w e n) (ap (λ b. cond (true && not b) (booted next_set h d place) (halted h d)) (ne_eqb d.boot last_number some)))
+      does m c w n call a e (booted next_set h d member) own starts
+      (happened ∙ ap (done_by w e n) (ap (λ b. cond (true && not b) (booted next_set h d member) (halted h d)) (ne_eqb d.boot last_number some)))
       is (sym silent) (sym asks) (sym shows)
 
   -- no record of it stands
-  halted_by : (e : WorldEvent) (kept_too : Bool) (place : Durable → Place) (call : Call) (a : After) → happens m c w e ≡ done_by w e n (start_by next_set old_place.node.durable kept_too place)
-      → Own m c w n call a (e ∷ []) → Starts m c w n call a e → (kept_too && not (old_place.node.durable.boot == last_number)) ≡ false
-      → stopped old_place.node.durable ≡ left_place m c w n call a → a.outputs ≡ []
-      → asked_at n old_place.node.durable call ≡ [] → shown_at n old_place.node.durable call a ≡ [] → Simulated m c w n call a
-  halted_by e kept_too place call a happened own starts unkept is silent asks shows =
-      let d = old_place.node.durable in
+  halted_by : (e : WorldEvent) (kept_too : Bool) (member : Durable → Member) (call : Call) (a : After) → happens m c w e ≡ done_by w e n (start_by next_set old_member.node.durable kept_too member)
+      → Own m c w n call a (e ∷ []) → Starts m c w n call a e → (kept_too && not (old_member.node.durable.boot == last_number)) ≡ false
+      → stopped old_member.node.durable ≡ left_member m c w n call a → a.outputs ≡ []
+      → asked_at n old_member.node.durable call ≡ [] → shown_at n old_member.node.durable call a ≡ [] → Simulated m c w n call a
+  halted_by e kept_too member call a happened own starts unkept is silent asks shows =
+      let d = old_member.node.durable in
       let h = heading_at next_set d None in
       does m c w n call a e (halted h d) own starts
-      (happened ∙ ap (done_by w e n) (cond-false (kept_too && not (d.boot == last_number)) (booted next_set h d place) (halted h d) unkept))
+      (happened ∙ ap (done_by w e n) (cond-false (kept_too && not (d.boot == last_number)) (booted next_set h d member) (halted h d) unkept))
       is (sym silent) (sym asks) (sym shows)
 
-  restart_goes : old_place.up ≡ false → happens m c w (Restart n) ≡ done_by w (Restart n) n (start_by next_set old_place.node.durable true started)
+  restart_goes : old_member.up ≡ false → happens m c w (Restart n) ≡ done_by w (Restart n) n (start_by next_set old_member.node.durable true started)
   restart_goes down = (goes c w (record { node = n; task = task.Start }) (Restart n) (start_ready down) refl).happens m
 
-  torn_restart_goes : (kept_too : Bool) → old_place.up ≡ false → happens m c w (TornRestart n kept_too) ≡ done_by w (TornRestart n kept_too) n (start_by next_set old_place.node.durable kept_too stopped)
+  torn_restart_goes : (kept_too : Bool) → old_member.up ≡ false → happens m c w (TornRestart n kept_too) ≡ done_by w (TornRestart n kept_too) n (start_by next_set old_member.node.durable kept_too stopped)
   torn_restart_goes kept_too down = (goes c w (record { node = n; task = task.TornStart kept_too }) (TornRestart n kept_too) (start_ready down) refl).happens m
 
-  module _ (a : After) (down : old_place.up ≡ false) (was : IsDown old_place.up old_place.node) where
-    opened : old_place.node.durable.boot ≢ last_number → a ≡ quiet (kept (restarted next_set old_place.node.durable)) → Simulated m c w n (Open Finished) a
+  module _ (a : After) (down : old_member.up ≡ false) (was : IsDown old_member.up old_member.node) where
+    opened : old_member.node.durable.boot ≢ last_number → a ≡ quiet (kept (restarted next_set old_member.node.durable)) → Simulated m c w n (Open Finished) a
     opened some l =
         started_by (Restart n) started (Open Finished) a (restart_goes down) refl (λ t. t) (λ j. record { up = true; node = sym (node_in l) j }) some (puts_in l) refl refl
 
     -- nothing is there but what was durable
-    same_stopped : a ≡ quiet old_place.node → a.node ≡ kept old_place.node.durable
+    same_stopped : a ≡ quiet old_member.node → a.node ≡ kept old_member.node.durable
     same_stopped l = (node_in l) ∙ was down
 
-    open_spent : old_place.node.durable.boot ≡ last_number → a ≡ quiet old_place.node → Simulated m c w n (Open (Refused opening.Damaged)) a
+    open_spent : old_member.node.durable.boot ≡ last_number → a ≡ quiet old_member.node → Simulated m c w n (Open (Refused opening.Damaged)) a
     open_spent last l =
-        halted_by (Restart n) true started (Open (Refused opening.Damaged)) a (restart_goes down) refl (λ t. t) (ap not (eq-eqb old_place.node.durable.boot last_number last))
+        halted_by (Restart n) true started (Open (Refused opening.Damaged)) a (restart_goes down) refl (λ t. t) (ap not (eq-eqb old_member.node.durable.boot last_number last))
         (λ j. record { up = false; node = sym (same_stopped l) j }) (puts_in l) refl refl
 
     -- a stop before its record
-    open_before : (call : Call) → Own m c w n call a (TornRestart n false ∷ []) → Starts m c w n call a (Restart n) → runs_behind old_place.up call ≡ false → asked_at n old_place.node.durable call ≡ [] → shown_at n old_place.node.durable call a ≡ []
-        → a.node ≡ kept old_place.node.durable → a.outputs ≡ [] → Simulated m c w n call a
+    open_before : (call : Call) → Own m c w n call a (TornRestart n false ∷ []) → Starts m c w n call a (Restart n) → runs_behind old_member.up call ≡ false → asked_at n old_member.node.durable call ≡ [] → shown_at n old_member.node.durable call a ≡ []
+        → a.node ≡ kept old_member.node.durable → a.outputs ≡ [] → Simulated m c w n call a
     open_before call own starts ends asks shows is silent =
         halted_by (TornRestart n false) false stopped call a (torn_restart_goes false down) own starts refl (λ j. record { up = sym ends j; node = sym is j }) silent asks shows
 
     -- a stop behind its record
-    open_behind : (call : Call) → Own m c w n call a (TornRestart n true ∷ []) → Starts m c w n call a (Restart n) → runs_behind old_place.up call ≡ false → asked_at n old_place.node.durable call ≡ [] → shown_at n old_place.node.durable call a ≡ []
-        → old_place.node.durable.boot ≢ last_number → a ≡ quiet (kept (restarted next_set old_place.node.durable)) → Simulated m c w n call a
+    open_behind : (call : Call) → Own m c w n call a (TornRestart n true ∷ []) → Starts m c w n call a (Restart n) → runs_behind old_member.up call ≡ false → asked_at n old_member.node.durable call ≡ [] → shown_at n old_member.node.durable call a ≡ []
+        → old_member.node.durable.boot ≢ last_number → a ≡ quiet (kept (restarted next_set old_member.node.durable)) → Simulated m c w n call a
     open_behind call own starts ends asks shows some l =
         started_by (TornRestart n true) stopped call a (torn_restart_goes true down) own starts (λ j. record { up = sym ends j; node = sym (node_in l) j }) some (puts_in l) asks shows
 
-    open_stops : (call : Call) → ((kept_too : Bool) → Own m c w n call a (TornRestart n kept_too ∷ [])) → Starts m c w n call a (Restart n) → runs_behind old_place.up call ≡ false → asked_at n old_place.node.durable call ≡ [] → shown_at n old_place.node.durable call a ≡ []
-        → (a ≡ quiet (kept old_place.node.durable)) ⊎ ((old_place.node.durable.boot ≢ last_number) × (a ≡ quiet (kept (restarted next_set old_place.node.durable)))) → Simulated m c w n call a
+    open_stops : (call : Call) → ((kept_too : Bool) → Own m c w n call a (TornRestart n kept_too ∷ [])) → Starts m c w n call a (Restart n) → runs_behind old_member.up call ≡ false → asked_at n old_member.node.durable call ≡ [] → shown_at n old_member.node.durable call a ≡ []
+        → (a ≡ quiet (kept old_member.node.durable)) ⊎ ((old_member.node.durable.boot ≢ last_number) × (a ≡ quiet (kept (restarted next_set old_member.node.durable)))) → Simulated m c w n call a
     open_stops call own starts ends asks shows l = ⊎_elim
-        (λ (x : a ≡ quiet (kept old_place.node.durable)). open_before call (own false) starts ends asks shows (node_in x) (puts_in x))
-        (λ (x : (old_place.node.durable.boot ≢ last_number) × (a ≡ quiet (kept (restarted next_set old_place.node.durable)))). open_behind call (own true) starts ends asks shows x.0 x.1)
+        (λ (x : a ≡ quiet (kept old_member.node.durable)). open_before call (own false) starts ends asks shows (node_in x) (puts_in x))
+        (λ (x : (old_member.node.durable.boot ≢ last_number) × (a ≡ quiet (kept (restarted next_set old_member.node.durable)))). open_behind call (own true) starts ends asks shows x.0 x.1)
         l
 
 -- ---- each call
 
 module _ (m : Meanings) (touches : AllTouchOnlyHanded m) (c : Cluster) (w : World) (n : ℕ) where
-  abbrev its_place : Place
-  its_place = w.places n
+  abbrev its_member : Member
+  its_member = w.members n
 
   abbrev number : Call → ℕ
-  number call = number_of its_place.node.durable call
+  number call = number_of its_member.node.durable call
 
-  simulated : (numbers : List ℕ) → IsFresh (asked_of (items w.trace)) n its_place numbers → (call : Call) (a : After) → n < c.nodes n (number call) → IsDown its_place.up its_place.node → MayCome w.packets numbers call → Does (m n (number call)) (setting_of c n (number call)) its_place.up its_place.node call a → Simulated m c w n call a
+  simulated : (numbers : List ℕ) → IsFresh (asked_of (items w.trace)) n its_member numbers → (call : Call) (a : After) → n < c.nodes n (number call) → IsDown its_member.up its_member.node → MayCome w.packets numbers call → Does (m n (number call)) (setting_of c n (number call)) its_member.up its_member.node call a → Simulated m c w n call a
   simulated numbers fresh (Open Finished) a inside was comes d = opened m c w n inside a d.0 was d.1 d.2
   simulated numbers fresh (Open (Refused opening.Damaged)) a inside was comes d = open_spent m c w n inside a d.0 was d.1 d.2
   simulated numbers fresh (Open (Refused opening.Full)) a inside was comes d = open_before m c w n inside a d.0 was (Open (Refused opening.Full)) refl (λ t. t) refl refl refl (same_stopped m c w n inside a d.0 was d.1) (puts_in d.1)
@@ -532,9 +532,9 @@ module _ (m : Meanings) (touches : AllTouchOnlyHanded m) (c : Cluster) (w : Worl
   simulated numbers fresh (Compact (Refused journal.Failed)) a inside was comes d = nothing_by m touches c w n inside (Compact (Refused journal.Failed)) a refl refl refl refl d
   simulated numbers fresh (Compact (Refused journal.Full)) a inside was comes d = nothing_by m touches c w n inside (Compact (Refused journal.Full)) a refl refl refl refl d
   simulated numbers fresh (Compact (Refused journal.Memory)) a inside was comes d = nothing_by m touches c w n inside (Compact (Refused journal.Memory)) a refl refl refl refl d
-  simulated numbers fresh (Compact (Refused journal.Device)) a inside was comes d = stops_by m touches c w n inside (Compact (Refused journal.Device)) a (stop_events m touches c w n inside) refl refl refl was d its_place.up refl
-  simulated numbers fresh (Compact Cut) a inside was comes d = stops_by m touches c w n inside (Compact Cut) a (stop_events m touches c w n inside) refl refl refl was d its_place.up refl
-  simulated numbers fresh Stop a inside was comes d = stops_by m touches c w n inside Stop a (stop_events m touches c w n inside) refl refl refl was d its_place.up refl
+  simulated numbers fresh (Compact (Refused journal.Device)) a inside was comes d = stops_by m touches c w n inside (Compact (Refused journal.Device)) a (stop_events m touches c w n inside) refl refl refl was d its_member.up refl
+  simulated numbers fresh (Compact Cut) a inside was comes d = stops_by m touches c w n inside (Compact Cut) a (stop_events m touches c w n inside) refl refl refl was d its_member.up refl
+  simulated numbers fresh Stop a inside was comes d = stops_by m touches c w n inside Stop a (stop_events m touches c w n inside) refl refl refl was d its_member.up refl
 
 -- ---- a list of calls
 
@@ -550,7 +550,7 @@ module _ (m : Meanings) (touches : AllTouchOnlyHanded m) (c : Cluster) where
   turns_more w [] fs a b = b
   turns_more w (e ∷ es) fs a b = (a.0, turns_more (happens m c w e) es fs a.1 b)
 
-  leads : (w : World) (numbers : ℕ → List ℕ) (calls : List NodeCall) → Orderly w.places (asked_of (items w.trace)) numbers → AreCalls m c (seen_as w) numbers calls → Leads w calls
+  leads : (w : World) (numbers : ℕ → List ℕ) (calls : List NodeCall) → Orderly w.members (asked_of (items w.trace)) numbers → AreCalls m c (seen_as w) numbers calls → Leads w calls
   leads w numbers [] o all = record { events = []; own = refl; seen = refl; turns = λ _. tt }
   leads w numbers (l ∷ ls) o all =
       let is : IsCall m c (seen_as w) numbers l = all.0 in
@@ -559,9 +559,9 @@ module _ (m : Meanings) (touches : AllTouchOnlyHanded m) (c : Cluster) where
       let one = simulated m touches c w n (numbers n) (o.fresh n) l.call l.after is.inside (o.down n) is.comes is.does in
       let v = run m c w one.events in
       let more = all_numbers numbers l in
-      let behind_it = stays_orderly (m n boot) (c.nodes n boot) (c.rules n boot) w.places (asked_of (items w.trace)) numbers n l.call l.after is.does o in
-      let orderly : Orderly v.places (asked_of (items v.trace)) more =
-      subst (λ (ts : List Token). Orderly v.places ts more) (sym one.asked) (subst (λ (s : Seen). Orderly s.places (asked_of (items w.trace) ++ asked_at n (w.places n).node.durable l.call) more) (sym one.seen) behind_it) in
+      let behind_it = stays_orderly (m n boot) (c.nodes n boot) (c.rules n boot) w.members (asked_of (items w.trace)) numbers n l.call l.after is.does o in
+      let orderly : Orderly v.members (asked_of (items v.trace)) more =
+      subst (λ (ts : List Token). Orderly v.members ts more) (sym one.asked) (subst (λ (s : Seen). Orderly s.members (asked_of (items w.trace) ++ asked_at n (w.members n).node.durable l.call) more) (sym one.seen) behind_it) in
       let rest = leads v more ls orderly (subst (λ (s : Seen). AreCalls m c s more ls) (sym one.seen) all.1) in
       record {
         events = one.events ++ rest.events;
@@ -572,6 +572,6 @@ module _ (m : Meanings) (touches : AllTouchOnlyHanded m) (c : Cluster) where
 
   pub are_world : (calls : List NodeCall) → AreCalls m c nothing_called (λ _. []) calls → AreWorld m c calls
   are_world calls all =
-      let first : Orderly nothing_happened.places [] (λ _. []) = record { down = λ n off. refl; fresh = λ n up number new. refl; past = λ n boot number less. refl } in
+      let first : Orderly nothing_happened.members [] (λ _. []) = record { down = λ n off. refl; fresh = λ n up number new. refl; past = λ n boot number less. refl } in
       let l = leads nothing_happened (λ _. []) calls first all in
       record { events = l.events; own = l.own; seen = l.seen; headline = headline m touches c l.events; knows = λ t. in_turn m c touches l.events (l.turns t); fit = λ wide within. (kept_fit m touches c wide within l.events).fits }

@@ -25,7 +25,7 @@ use Rattle.sv_world.specs.Disks.{IsNew, with_number, numbers_behind}
 use Rattle.sv_world.specs.Waits.{tok, boot_of}
 use Rattle.sv_world.specs.declared.rules.Rules.{Rules}
 use Rattle.sv_world.specs.Rules.{setting_by}
-use Rattle.sv_world.specs.World.{Place, steady, set_place}
+use Rattle.sv_world.specs.World.{Member, steady, set_member}
 use Rattle.sv_world.proofs.Arrivals.{one_if, times_more}
 use Rattle.sv_world.proofs.Events.{start_boot}
 use Rattle.sv_world.proofs.Thrift.{apart, decide_thrifty}
@@ -49,17 +49,17 @@ abbrev pub IsDown : Bool → Node → Type 0
 IsDown up n = up ≡ false → n ≡ kept n.durable
 
 -- a number that none of these was makes a token that none had
-abbrev pub IsFresh : List Token → ℕ → Place → List ℕ → Type 0
+abbrev pub IsFresh : List Token → ℕ → Member → List ℕ → Type 0
 IsFresh asked n p numbers = p.up ≡ true → (number : ℕ) → (¬ In number numbers) → times (tok n (boot_of p) number) asked ≡ 0
 
 -- no token is of a start to come
-abbrev pub IsPastOf : List Token → ℕ → Place → Type 0
+abbrev pub IsPastOf : List Token → ℕ → Member → Type 0
 IsPastOf asked n p = (boot number : ℕ) → boot_of p < boot → times (tok n boot number) asked ≡ 0
 
-pub record Orderly (places : ℕ → Place) (asked : List Token) (numbers : ℕ → List ℕ) : Type 0 where
-  pub down : (n : ℕ) → IsDown (places n).up (places n).node
-  pub fresh : (n : ℕ) → IsFresh asked n (places n) (numbers n)
-  pub past : (n : ℕ) → IsPastOf asked n (places n)
+pub record Orderly (members : ℕ → Member) (asked : List Token) (numbers : ℕ → List ℕ) : Type 0 where
+  pub down : (n : ℕ) → IsDown (members n).up (members n).node
+  pub fresh : (n : ℕ) → IsFresh asked n (members n) (numbers n)
+  pub past : (n : ℕ) → IsPastOf asked n (members n)
 
 -- ---- tokens
 
@@ -117,7 +117,7 @@ still_none t us vs f g = omega (arith, times_more t us vs, f, g)
 
 -- ---- a call
 
-module _ (m : EngineMeaning) (nodes : ℕ) (rules : Rules) (n : ℕ) (p : Place) (a : After) where
+module _ (m : EngineMeaning) (nodes : ℕ) (rules : Rules) (n : ℕ) (p : Member) (a : After) where
   abbrev set : Setting
   set = setting_by rules n nodes
 
@@ -212,10 +212,10 @@ module _ (m : EngineMeaning) (nodes : ℕ) (rules : Rules) (n : ℕ) (p : Place)
   rises Stop d = kept_boot d
 
   module _ (asked : List Token) (numbers : List ℕ) where
-    abbrev place : Call → Place
-    place call = record { up = runs_behind p.up call; node = a.node }
+    abbrev member : Call → Member
+    member call = record { up = runs_behind p.up call; node = a.node }
 
-    pub stays_past : (call : Call) → Did call → IsPastOf asked n p → IsPastOf (asked ++ asked_at n p.node.durable call) n (place call)
+    pub stays_past : (call : Call) → Did call → IsPastOf asked n p → IsPastOf (asked ++ asked_at n p.node.durable call) n (member call)
     stays_past call d past later number less =
         let le = rises call d in
         still_none (tok n later number) asked (asked_at n p.node.durable call) (past later number (omega (arith, le, less)))
@@ -242,7 +242,7 @@ module _ (m : EngineMeaning) (nodes : ℕ) (rules : Rules) (n : ℕ) (p : Place)
     not_before (input.Move k to) number new = new
 
     abbrev Stays : Call → Type 0
-    Stays call = IsFresh (asked ++ asked_at n p.node.durable call) n (place call) (numbers_behind call numbers)
+    Stays call = IsFresh (asked ++ asked_at n p.node.durable call) n (member call) (numbers_behind call numbers)
 
     -- behind a whole step
     pub step_fresh : (at : Moment) (i : Input) → Did (Step at i Done) → IsFresh asked n p numbers → (number : ℕ) → (¬ In number (with_number i numbers)) → times (tok n new_boot number) (asked ++ option_to_list (asked_by (tok n boot) i)) ≡ 0
@@ -276,41 +276,41 @@ module _ (m : EngineMeaning) (nodes : ℕ) (rules : Rules) (n : ℕ) (p : Place)
 
 -- ---- at all nodes
 
-module _ (m : EngineMeaning) (nodes : ℕ) (rules : Rules) (places : ℕ → Place) (asked : List Token) (numbers : ℕ → List ℕ) (n : ℕ) (call : Call) (a : After) where
-  abbrev here : Place
-  here = places n
+module _ (m : EngineMeaning) (nodes : ℕ) (rules : Rules) (members : ℕ → Member) (asked : List Token) (numbers : ℕ → List ℕ) (n : ℕ) (call : Call) (a : After) where
+  abbrev here : Member
+  here = members n
 
-  abbrev behind : Place
+  abbrev behind : Member
   behind = record { up = runs_behind here.up call; node = a.node }
 
   abbrev more : List Token
   more = asked ++ asked_at n here.node.durable call
 
   -- a fact of the node behind the call, and of each other node as it was, is one of all nodes
-  at_all : (P : ℕ → Place → List ℕ → Type 0) → P n behind (numbers_behind call (numbers n)) → ((x : ℕ) → x ≢ n → P x (places x) (numbers x))
-      → (x : ℕ) → P x (set_place places n behind x) (cond (x == n) (numbers_behind call (numbers x)) (numbers x))
+  at_all : (P : ℕ → Member → List ℕ → Type 0) → P n behind (numbers_behind call (numbers n)) → ((x : ℕ) → x ≢ n → P x (members x) (numbers x))
+      → (x : ℕ) → P x (set_member members n behind x) (cond (x == n) (numbers_behind call (numbers x)) (numbers x))
   at_all P mine others x = ⊎_elim
-      (λ (e : x ≡ n). subst (λ z. P z (set_place places n behind z) (cond (z == n) (numbers_behind call (numbers z)) (numbers z))) (sym e)
-      (subst (λ b. P n (cond b behind (places n)) (cond b (numbers_behind call (numbers n)) (numbers n))) (sym (eq-eqb n n refl)) mine))
-      (λ (e : x ≢ n). subst (λ b. P x (cond b behind (places x)) (cond b (numbers_behind call (numbers x)) (numbers x))) (sym (ne_eqb x n e)) (others x e))
+      (λ (e : x ≡ n). subst (λ z. P z (set_member members n behind z) (cond (z == n) (numbers_behind call (numbers z)) (numbers z))) (sym e)
+      (subst (λ b. P n (cond b behind (members n)) (cond b (numbers_behind call (numbers n)) (numbers n))) (sym (eq-eqb n n refl)) mine))
+      (λ (e : x ≢ n). subst (λ b. P x (cond b behind (members x)) (cond b (numbers_behind call (numbers x)) (numbers x))) (sym (ne_eqb x n e)) (others x e))
       (cases_eq x n)
 
   none_here : (x boot number : ℕ) → x ≢ n → times (tok x boot number) (asked_at n here.node.durable call) ≡ 0
   none_here x boot number e = none_asked (tok x boot number) n here.node.durable (each_differs (tok x boot number) n here.node.durable.boot (λ k. apart (tok x boot number) n here.node.durable.boot k e)) call
 
-  pub stays_orderly : Does m (setting_by rules n nodes) here.up here.node call a → Orderly places asked numbers
-      → Orderly (set_place places n behind) more (λ x. cond (x == n) (numbers_behind call (numbers x)) (numbers x))
+  pub stays_orderly : Does m (setting_by rules n nodes) here.up here.node call a → Orderly members asked numbers
+      → Orderly (set_member members n behind) more (λ x. cond (x == n) (numbers_behind call (numbers x)) (numbers x))
   stays_orderly d o = record {
     down = at_all (λ x p used. IsDown p.up p.node) (stays_down m nodes rules n here a call d (o.down n)) (λ x e. o.down x);
     fresh = at_all (λ x p used. IsFresh more x p used) (stays_fresh m nodes rules n here a asked (numbers n) call d (o.fresh n) (o.past n))
-        (λ x e up number new. still_none (tok x (boot_of (places x)) number) asked (asked_at n here.node.durable call) (o.fresh x up number new) (none_here x (boot_of (places x)) number e));
+        (λ x e up number new. still_none (tok x (boot_of (members x)) number) asked (asked_at n here.node.durable call) (o.fresh x up number new) (none_here x (boot_of (members x)) number e));
     past = at_all (λ x p used. IsPastOf more x p) (stays_past m nodes rules n here a asked (numbers n) call d (o.past n))
         (λ x e boot number less. still_none (tok x boot number) asked (asked_at n here.node.durable call) (o.past x boot number less) (none_here x boot number e));
   }
 
 -- ---- a request that may come has a token of its own
 
-pub comes_new : (asked : List Token) (n : ℕ) (p : Place) (numbers : List ℕ) → IsFresh asked n p numbers → p.up ≡ true → (i : Input) → IsNew numbers i
+pub comes_new : (asked : List Token) (n : ℕ) (p : Member) (numbers : List ℕ) → IsFresh asked n p numbers → p.up ≡ true → (i : Input) → IsNew numbers i
     → (t : Token) → asked_by (tok n (boot_of p)) i ≡ Some t → times t asked ≡ 0
 comes_new asked n p numbers fresh up (input.Ask number r) new t is = subst (λ (u : Token). times u asked ≡ 0) (let same : Some (tok n (boot_of p) number) ≡ Some t = is in cc) (fresh up number new)
 comes_new asked n p numbers fresh up (input.Packet q) new t is = absurd (let no : None ≡ Some t = is in cc)

@@ -26,7 +26,7 @@ use Rattle.sv_model.proofs.KnownLemmas.{next_key}
 use Rattle.sv_world.specs.declared.event.WorldEvent.{WorldEvent}
 use Rattle.sv_world.specs.declared.call.Call.{Call}
 use Rattle.sv_world.specs.Headline.{states}
-use Rattle.sv_world.specs.World.{Cluster, Place, World, durable_at, whole, whole_line, decision, happens, openings_of, commits_in}
+use Rattle.sv_world.specs.World.{Cluster, Member, World, durable_at, whole, whole_line, decision, happens, openings_of, commits_in}
 use Rattle.sv_world.specs.Progress.{IsStep, setting_at, Runs, WasHanded, EpochsRise, StaysAtHand}
 use Rattle.sv_world.proofs.Events.{IsReady}
 use Rattle.sv_world.proofs.Keys.{in_right}
@@ -100,15 +100,15 @@ module _ (m : Meanings) (touches : AllTouchOnlyHanded m) (c : Cluster) where
         own = j.own n;
         some = j.counts n;
         unmade = j.unmade n (next_key n (durable_at w n)) (inl (omega arith));
-        given = active_given m touches c (disks_of w.places) w.packets (openings_of w.trace) (commits_in w) j n (w.places n).node refl;
-        within = active_within m touches c (disks_of w.places) w.packets (openings_of w.trace) (commits_in w) j n (w.places n).node refl;
+        given = active_given m touches c (disks_of w.members) w.packets (openings_of w.trace) (commits_in w) j n (w.members n).node refl;
+        within = active_within m touches c (disks_of w.members) w.packets (openings_of w.trace) (commits_in w) j n (w.members n).node refl;
       }
 
-  pub journal_at : (w : World) (call : Call) → IsJournaled (setting_at c w call.node) (w.places call.node).node (decision m c w call)
-  journal_at w call = journaled (setting_at c w call.node) (w.places call.node).node (m call.node (durable_at w call.node).boot) (touches call.node (durable_at w call.node).boot) call.moment call.input
+  pub journal_at : (w : World) (call : Call) → IsJournaled (setting_at c w call.node) (w.members call.node).node (decision m c w call)
+  journal_at w call = journaled (setting_at c w call.node) (w.members call.node).node (m call.node (durable_at w call.node).boot) (touches call.node (durable_at w call.node).boot) call.moment call.input
 
-  pub queues_at : (w : World) (call : Call) → IsReady c w call → Queues w.packets (setting_at c w call.node) (w.places call.node).node (decision m c w call)
-  queues_at w call r = decide_queues (m call.node (durable_at w call.node).boot) (setting_at c w call.node) (w.places call.node).node call.moment w.packets call.input r.sent
+  pub queues_at : (w : World) (call : Call) → IsReady c w call → Queues w.packets (setting_at c w call.node) (w.members call.node).node (decision m c w call)
+  queues_at w call r = decide_queues (m call.node (durable_at w call.node).boot) (setting_at c w call.node) (w.members call.node).node call.moment w.packets call.input r.sent
 
   -- at the node of the step, by its record
   mine : (w : World) (e : WorldEvent) (call : Call) → Inv m c w → IsReady c w call → (k : Key) (o : Option Record) → (decision m c w call).entry ≡ o
@@ -123,7 +123,7 @@ module _ (m : Meanings) (touches : AllTouchOnlyHanded m) (c : Cluster) where
       let v = whole c w e call d in
       let old = durable_at w n in
       let set = setting_at c w n in
-      let node = (w.places n).node in
+      let node = (w.members n).node in
       let j = journal_at w call in
       let q = queues_at w call r in
       let fits : Fits set Past old entry = subst (λ (o : Option Record). IfSome o (λ x. Fits set Past old x)) is (j.fits Past) in
@@ -160,8 +160,8 @@ module _ (m : Meanings) (touches : AllTouchOnlyHanded m) (c : Cluster) where
       let n = call.node in
       let d = decision m c w call in
       let v = whole c w e call d in
-      let place : Place = record { up = true; node = left d } in
-      by_node (λ y z. Goes c k y w v (known z.node.durable k)) w.places n place x
+      let member : Member = record { up = true; node = left d } in
+      by_node (λ y z. Goes c k y w v (known z.node.durable k)) w.members n member x
       (λ same. subst (λ y. Goes c k y w v (known d.durable k)) (sym same) (mine w e call inv r k d.entry refl))
       (λ _. inl (onward_same (states w k x) (states w k x) refl))
 

@@ -18,7 +18,7 @@ use Rattle.sv_world.specs.declared.event.WorldEvent.TheVariants.{Ask, Deliver, P
 use Rattle.sv_world.specs.Rolling.{start_in}
 use Rattle.sv_world.specs.Sent.{may_come}
 use Rattle.sv_world.specs.declared.call.Call.{Call}
-use Rattle.sv_world.specs.World.{Cluster, Place, World, durable_at, stopped, started, items, call_of, decision, token_of_call, is_unused, is_there, is_ready, whole, torn, silent, becomes, halt, record_of_start, boots, is_spent, steps, tears, silences, starts, happens, run}
+use Rattle.sv_world.specs.World.{Cluster, Member, World, durable_at, stopped, started, items, call_of, decision, token_of_call, is_unused, is_there, is_ready, whole, torn, silent, becomes, halt, record_of_start, boots, is_spent, steps, tears, silences, starts, happens, run}
 use Rattle.sv_world.proofs.SentLemmas.{sent_in}
 
 -- a packet that is given was sent
@@ -39,13 +39,13 @@ came ps (input.Move k to) h = tt
 -- a step that can be taken
 pub record IsReady (c : Cluster) (w : World) (call : Call) : Type 0 where
   pub inside : call.node < c.nodes call.node (durable_at w call.node).boot
-  pub up : (w.places call.node).up ≡ true
+  pub up : (w.members call.node).up ≡ true
   pub sent : IsSentIn w.packets call.input
   pub unused : is_unused (asked_of (items w.trace)) (token_of_call c w call) ≡ true
 
 pub readies : (c : Cluster) (w : World) (call : Call) → is_ready c w call ≡ true → IsReady c w call
 readies c w call h =
-    let up = (w.places call.node).up in
+    let up = (w.members call.node).up in
     let sent = may_come w.packets call.input in
     let unused = is_unused (asked_of (items w.trace)) (token_of_call c w call) in
     let first = and_parts (is_there c call.node (durable_at w call.node).boot) (up && (sent && unused)) h in
@@ -69,7 +69,7 @@ pub record Behind (m : Meanings) (c : Cluster) (w : World) (e : WorldEvent) (P :
   pub torn_by : (call : Call) → call_of w.packets e ≡ Some call → IsReady c w call → P (torn c w e call (decision m c w call))
   pub silent_by : (call : Call) → call_of w.packets e ≡ Some call → IsReady c w call → P (silent c w e call (decision m c w call))
   pub halt_by : (n : ℕ) (asked : Option Token) → is_unused (asked_of (items w.trace)) asked ≡ true → P (halt w e n asked)
-  pub boots_by : (n : ℕ) (p : Place) → MayStart c w e n → p.node.parked ≡ [] → p.node.durable ≡ applied (record_of_start c w n) (durable_at w n) → P (becomes w e n p (Some (record_of_start c w n)) None)
+  pub boots_by : (n : ℕ) (p : Member) → MayStart c w e n → p.node.parked ≡ [] → p.node.durable ≡ applied (record_of_start c w n) (durable_at w n) → P (becomes w e n p (Some (record_of_start c w n)) None)
 
 module _ (m : Meanings) (c : Cluster) (w : World) (P : World → Type 0) where
   stepped : (e : WorldEvent) (call : Option Call) → call_of w.packets e ≡ call → Behind m c w e P → P (steps m c w e call)
@@ -90,15 +90,15 @@ module _ (m : Meanings) (c : Cluster) (w : World) (P : World → Type 0) where
   silences_behind e None is h = h.still
   silences_behind e (Some call) is h = cond_both (is_ready c w call) (silent c w e call (decision m c w call)) w P (λ t. h.silent_by call is (readies c w call t)) (λ _. h.still)
 
-  start : (e : WorldEvent) (n : ℕ) (kept : Bool) (place : Durable → Place) → start_in e ≡ Some n → ((d : Durable) → (place d).node.parked ≡ []) → ((d : Durable) → (place d).node.durable ≡ d) → Behind m c w e P → P (starts c w e n kept place)
-  start e n kept place of none same h =
+  start : (e : WorldEvent) (n : ℕ) (kept : Bool) (member : Durable → Member) → start_in e ≡ Some n → ((d : Durable) → (member d).node.parked ≡ []) → ((d : Durable) → (member d).node.durable ≡ d) → Behind m c w e P → P (starts c w e n kept member)
+  start e n kept member of none same h =
       let there = is_there c n ((durable_at w n).boot + 1) in
       let d = applied (record_of_start c w n) (durable_at w n) in
-      cond_both (there && not (w.places n).up) (cond (kept && not (is_spent w n)) (boots c w e n place) (halt w e n None)) w P
+      cond_both (there && not (w.members n).up) (cond (kept && not (is_spent w n)) (boots c w e n member) (halt w e n None)) w P
       (λ t.
-      let inside : n < c.nodes n ((durable_at w n).boot + 1) = ltb-true n (c.nodes n ((durable_at w n).boot + 1)) (and_parts there (not (w.places n).up) t).0 in
-      cond_both (kept && not (is_spent w n)) (boots c w e n place) (halt w e n None) P
-      (λ _. h.boots_by n (place d) (record { of = of; inside = inside }) (none d) (same d))
+      let inside : n < c.nodes n ((durable_at w n).boot + 1) = ltb-true n (c.nodes n ((durable_at w n).boot + 1)) (and_parts there (not (w.members n).up) t).0 in
+      cond_both (kept && not (is_spent w n)) (boots c w e n member) (halt w e n None) P
+      (λ _. h.boots_by n (member d) (record { of = of; inside = inside }) (none d) (same d))
       (λ _. h.halt_by n None refl))
       (λ _. h.still)
 
@@ -110,7 +110,7 @@ module _ (m : Meanings) (c : Cluster) (w : World) (P : World → Type 0) where
   behind (Move n moment k to) h = stepped (Move n moment k to) (call_of w.packets (Move n moment k to)) refl h
   behind (Torn n moment given kept) h = tears_behind (Torn n moment given kept) kept (call_of w.packets (Torn n moment given kept)) refl h
   behind (Silent n moment given) h = silences_behind (Silent n moment given) (call_of w.packets (Silent n moment given)) refl h
-  behind (Crash n) h = cond_both (is_there c n (durable_at w n).boot && (w.places n).up) (halt w (Crash n) n None) w P (λ _. h.halt_by n None refl) (λ _. h.still)
+  behind (Crash n) h = cond_both (is_there c n (durable_at w n).boot && (w.members n).up) (halt w (Crash n) n None) w P (λ _. h.halt_by n None refl) (λ _. h.still)
   behind (Restart n) h = start (Restart n) n true started refl (λ d. refl) (λ d. refl) h
   behind (TornRestart n kept) h = start (TornRestart n kept) n kept stopped refl (λ d. refl) (λ d. refl) h
 

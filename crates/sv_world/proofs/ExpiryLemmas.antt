@@ -24,7 +24,7 @@ use Rattle.sv_model.proofs.KnownLemmas.{active_kept, kept_known}
 use Rattle.sv_world.specs.declared.event.WorldEvent.{WorldEvent}
 use Rattle.sv_world.specs.declared.event.WorldEvent.TheVariants.{Ask, Deliver, Poke, Tick, Move, Crash, Torn, Silent, Restart, TornRestart}
 use Rattle.sv_world.specs.declared.call.Call.{Call}
-use Rattle.sv_world.specs.World.{Cluster, Place, World, durable_at, decision, happens, run}
+use Rattle.sv_world.specs.World.{Cluster, Member, World, durable_at, decision, happens, run}
 use Rattle.sv_world.specs.Progress.{AreSteps, Runs, HasExpired, NoneExpires, is_tick, ticks_in, TicksEndSessions}
 use Rattle.sv_world.proofs.ArrivesLemmas.{find_in}
 use Rattle.sv_world.proofs.ProgressLemmas.{ready_by, stepped_by}
@@ -148,11 +148,11 @@ no_key (x ∷ ks) k le i = absurd (omega (arith, le))
 module _ (m : Meanings) (c : Cluster) (n now : ℕ) where
   ticked_keys : (w : World) (moment : Moment) → Runs c w n → moment.now ≡ now → Ends (durable_at w n).keys (durable_at (happens m c w (Tick n moment)) n).keys now
   ticked_keys w moment r at =
-      let nd = (w.places n).node in
+      let nd = (w.members n).node in
       let call : Call = record { node = n; moment = moment; input = input.Tick } in
-      let place : Place = record { up = true; node = left (decision m c w call) } in
+      let member : Member = record { up = true; node = left (decision m c w call) } in
       subst (λ (y : World). Ends nd.durable.keys (durable_at y n).keys now) (sym (stepped_by m c w (Tick n moment) call (ready_by c w call r refl refl)))
-      (by_node (λ y z. y ≡ n → Ends nd.durable.keys z.node.durable.keys now) w.places n place n
+      (by_node (λ y z. y ≡ n → Ends nd.durable.keys z.node.durable.keys now) w.members n member n
       (λ _ _. subst (λ t. Ends nd.durable.keys (decision m c w call).durable.keys t) at (expire_ends nd moment.now (first_over moment.now (entries nd.durable.keys)) refl)) (λ ne _. absurd (ne refl)) refl)
 
   abbrev AllIn : World → List Key → Type 0

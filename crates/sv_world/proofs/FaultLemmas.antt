@@ -7,7 +7,7 @@ use Rattle.sv_world.specs.declared.event.WorldEvent.{WorldEvent}
 use Rattle.sv_world.specs.declared.event.WorldEvent.TheVariants.{Ask, Deliver, Poke, Tick, Move, Crash, Torn, Silent, Restart, TornRestart}
 use Rattle.sv_world.specs.declared.line.Line.{Line}
 use Rattle.sv_world.specs.declared.call.Call.{Call}
-use Rattle.sv_world.specs.World.{Cluster, World, durable_at, stopped, started, items, whole, torn, silent, halt, call_of, is_unused, is_ready, decision, steps, tears, silences, boots, happens, token_of_call, is_there, is_spent, starts, Place}
+use Rattle.sv_world.specs.World.{Cluster, World, durable_at, stopped, started, items, whole, torn, silent, halt, call_of, is_unused, is_ready, decision, steps, tears, silences, boots, happens, token_of_call, is_there, is_spent, starts, Member}
 use Rattle.sv_world.specs.declared.fault.WorldFault.{WorldFault}
 use Rattle.sv_world.specs.declared.fault.WorldFault.TheVariants.{NoNode, Running, NotRunning, NoPacket, TokenUsed}
 use Rattle.sv_world.specs.Sent.{may_come}
@@ -64,7 +64,7 @@ either false x y w e g h = h
 module _ (m : Meanings) (c : Cluster) (w : World) where
   -- the four tests of a step
   abbrev up : Call → Bool
-  up call = (w.places call.node).up
+  up call = (w.members call.node).up
 
   abbrev sent : Call → Bool
   sent call = may_come w.packets call.input
@@ -86,8 +86,8 @@ module _ (m : Meanings) (c : Cluster) (w : World) where
   silences_still e None f h = refl
   silences_still e (Some call) f h = ap (λ t. cond t (silent c w e call (decision m c w call)) w) (step_none (is_there c call.node (durable_at w call.node).boot) (up call) (sent call) (unused call) f h)
 
-  starts_still : (e : WorldEvent) (n : ℕ) (kept : Bool) (place : Durable → Place) (f : WorldFault) → start_fault (is_there c n ((durable_at w n).boot + 1)) (w.places n).up ≡ Some f → starts c w e n kept place ≡ w
-  starts_still e n kept place f h = ap (λ t. cond t (cond (kept && not (is_spent w n)) (boots c w e n place) (halt w e n None)) w) (start_none (is_there c n ((durable_at w n).boot + 1)) (w.places n).up f h)
+  starts_still : (e : WorldEvent) (n : ℕ) (kept : Bool) (member : Durable → Member) (f : WorldFault) → start_fault (is_there c n ((durable_at w n).boot + 1)) (w.members n).up ≡ Some f → starts c w e n kept member ≡ w
+  starts_still e n kept member f h = ap (λ t. cond t (cond (kept && not (is_spent w n)) (boots c w e n member) (halt w e n None)) w) (start_none (is_there c n ((durable_at w n).boot + 1)) (w.members n).up f h)
 
   still : (e : WorldEvent) (f : WorldFault) → fault_of c w e ≡ Some f → happens m c w e ≡ w
   still (Ask n moment token r) f h = steps_still (Ask n moment token r) (call_of w.packets (Ask n moment token r)) f h
@@ -97,7 +97,7 @@ module _ (m : Meanings) (c : Cluster) (w : World) where
   still (Move n moment k to) f h = steps_still (Move n moment k to) (call_of w.packets (Move n moment k to)) f h
   still (Torn n moment given kept) f h = tears_still (Torn n moment given kept) kept (call_of w.packets (Torn n moment given kept)) f h
   still (Silent n moment given) f h = silences_still (Silent n moment given) (call_of w.packets (Silent n moment given)) f h
-  still (Crash n) f h = ap (λ t. cond t (halt w (Crash n) n None) w) (stop_none (is_there c n (durable_at w n).boot) (w.places n).up f h)
+  still (Crash n) f h = ap (λ t. cond t (halt w (Crash n) n None) w) (stop_none (is_there c n (durable_at w n).boot) (w.members n).up f h)
   still (Restart n) f h = starts_still (Restart n) n true started f h
   still (TornRestart n kept) f h = starts_still (TornRestart n kept) n kept stopped f h
 
@@ -118,10 +118,10 @@ module _ (m : Meanings) (c : Cluster) (w : World) where
   silences_add e None h = absurd (let no : Some NoPacket ≡ None = h in cc)
   silences_add e (Some call) h = if_so (is_ready c w call) (silent c w e call (decision m c w call)) w w e (step_goes (is_there c call.node (durable_at w call.node).boot) (up call) (sent call) (unused call) h) (record { line = _; event = refl; trace = refl })
 
-  starts_add : (e : WorldEvent) (n : ℕ) (kept : Bool) (place : Durable → Place) → start_fault (is_there c n ((durable_at w n).boot + 1)) (w.places n).up ≡ None → Adds w (starts c w e n kept place) e
-  starts_add e n kept place h =
-      if_so (is_there c n ((durable_at w n).boot + 1) && not (w.places n).up) (cond (kept && not (is_spent w n)) (boots c w e n place) (halt w e n None)) w w e (start_goes (is_there c n ((durable_at w n).boot + 1)) (w.places n).up h)
-      (either (kept && not (is_spent w n)) (boots c w e n place) (halt w e n None) w e (record { line = _; event = refl; trace = refl }) (record { line = _; event = refl; trace = refl }))
+  starts_add : (e : WorldEvent) (n : ℕ) (kept : Bool) (member : Durable → Member) → start_fault (is_there c n ((durable_at w n).boot + 1)) (w.members n).up ≡ None → Adds w (starts c w e n kept member) e
+  starts_add e n kept member h =
+      if_so (is_there c n ((durable_at w n).boot + 1) && not (w.members n).up) (cond (kept && not (is_spent w n)) (boots c w e n member) (halt w e n None)) w w e (start_goes (is_there c n ((durable_at w n).boot + 1)) (w.members n).up h)
+      (either (kept && not (is_spent w n)) (boots c w e n member) (halt w e n None) w e (record { line = _; event = refl; trace = refl }) (record { line = _; event = refl; trace = refl }))
 
   added : (e : WorldEvent) → fault_of c w e ≡ None → Adds w (happens m c w e) e
   added (Ask n moment token r) h = steps_add (Ask n moment token r) (call_of w.packets (Ask n moment token r)) h
@@ -131,7 +131,7 @@ module _ (m : Meanings) (c : Cluster) (w : World) where
   added (Move n moment k to) h = steps_add (Move n moment k to) (call_of w.packets (Move n moment k to)) h
   added (Torn n moment given kept) h = tears_add (Torn n moment given kept) kept (call_of w.packets (Torn n moment given kept)) h
   added (Silent n moment given) h = silences_add (Silent n moment given) (call_of w.packets (Silent n moment given)) h
-  added (Crash n) h = if_so (is_there c n (durable_at w n).boot && (w.places n).up) (halt w (Crash n) n None) w w (Crash n) (stop_goes (is_there c n (durable_at w n).boot) (w.places n).up h) (record { line = _; event = refl; trace = refl })
+  added (Crash n) h = if_so (is_there c n (durable_at w n).boot && (w.members n).up) (halt w (Crash n) n None) w w (Crash n) (stop_goes (is_there c n (durable_at w n).boot) (w.members n).up h) (record { line = _; event = refl; trace = refl })
   added (Restart n) h = starts_add (Restart n) n true started h
   added (TornRestart n kept) h = starts_add (TornRestart n kept) n kept stopped h
 

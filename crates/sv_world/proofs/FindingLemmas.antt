@@ -17,27 +17,27 @@ use Rattle.sv_world.specs.declared.line.Line.{Line}
 use Rattle.sv_world.specs.declared.slot.Slot.{Slot}
 use Rattle.sv_world.specs.Faults.{step_fault, call_fault, start_fault, stop_fault}
 use Rattle.sv_world.specs.Finding.{boot_by, boot_in, started_by, start_in, stop_by, number_in, token_by, step_by, delivery_by}
-use Rattle.sv_world.specs.Slot.{boot_of, durable_of, place_by}
+use Rattle.sv_world.specs.Slot.{boot_of, durable_of, member_by}
 use Rattle.sv_world.specs.Sent.{may_come}
 use Rattle.sv_world.specs.World.{items, is_unused, is_there, setting_of}
-use Rattle.sv_world.specs.Worlds.{place_in, places_by, setting_in, settings_by, state_by, cluster_by, AreSet}
+use Rattle.sv_world.specs.Worlds.{member_in, members_by, setting_in, settings_by, state_by, cluster_by, AreSet}
 
 module _ {E : Type 0} where
   core_steps : (o : Option (Core E)) (d : Durable) (trace : List Line) (n : ℕ) (sent : Bool) (number : Option ℕ)
-      → step_by trace n sent number (boot_by (boot_of (place_by o d))) ≡ step_fault true (place_by o d).up sent (is_unused (asked_of (items trace)) (token_by n (place_by o d).node.durable.boot number))
+      → step_by trace n sent number (boot_by (boot_of (member_by o d))) ≡ step_fault true (member_by o d).up sent (is_unused (asked_of (items trace)) (token_by n (member_by o d).node.durable.boot number))
   core_steps None d trace n sent number = refl
   core_steps (Some c) d trace n sent number = refl
 
   slot_steps : (o : Option (Slot E)) (trace : List Line) (n : ℕ) (sent : Bool) (number : Option ℕ)
-      → step_by trace n sent number (boot_in o) ≡ step_fault (is_some o) (place_in o).up sent (is_unused (asked_of (items trace)) (token_by n (place_in o).node.durable.boot number))
+      → step_by trace n sent number (boot_in o) ≡ step_fault (is_some o) (member_in o).up sent (is_unused (asked_of (items trace)) (token_by n (member_in o).node.durable.boot number))
   slot_steps None trace n sent number = refl
   slot_steps (Some s) trace n sent number = core_steps s.core (durable_of s) trace n sent number
 
-  core_stops : (o : Option (Core E)) (d : Durable) → stop_by (boot_by (boot_of (place_by o d))) ≡ stop_fault true (place_by o d).up
+  core_stops : (o : Option (Core E)) (d : Durable) → stop_by (boot_by (boot_of (member_by o d))) ≡ stop_fault true (member_by o d).up
   core_stops None d = refl
   core_stops (Some c) d = refl
 
-  slot_stops : (o : Option (Slot E)) → stop_by (boot_in o) ≡ stop_fault (is_some o) (place_in o).up
+  slot_stops : (o : Option (Slot E)) → stop_by (boot_in o) ≡ stop_fault (is_some o) (member_in o).up
   slot_stops None = refl
   slot_stops (Some s) = core_stops s.core (durable_of s)
 
@@ -57,7 +57,7 @@ module _ {E : Type 0} (slots : List (Slot E)) (packets : List Packet) (trace : L
   pub steps : (n : ℕ) (moment : Moment) (input : Input)
       → step_by trace n (may_come packets input) (number_in input) (boot_in (slice_get slots n)) ≡ call_fault (cluster_by slots) (state_by slots packets trace) (Some (record { node = n; moment = moment; input = input }))
   steps n moment input =
-      let p = places_by slots n in
+      let p = members_by slots n in
       slot_steps (slice_get slots n) trace n (may_come packets input) (number_in input)
       ∙ ap (λ b. step_fault b p.up (may_come packets input) (is_unused (asked_of (items trace)) (token_by n p.node.durable.boot (number_in input)))) (there slots set n)
       ∙ ap (λ t. step_fault (nat_lt n (settings_by slots n).nodes) p.up (may_come packets input) (is_unused (asked_of (items trace)) t)) (asked n p.node.durable input)
@@ -67,16 +67,16 @@ module _ {E : Type 0} (slots : List (Slot E)) (packets : List Packet) (trace : L
   delivers None moment = refl
   delivers (Some p) moment = steps (addressee p) moment (Comes p)
 
-  pub stops : (n : ℕ) → stop_by (boot_in (slice_get slots n)) ≡ stop_fault (is_there (cluster_by slots) n (places_by slots n).node.durable.boot) (places_by slots n).up
-  stops n = slot_stops (slice_get slots n) ∙ ap (λ b. stop_fault b (places_by slots n).up) (there slots set n)
+  pub stops : (n : ℕ) → stop_by (boot_in (slice_get slots n)) ≡ stop_fault (is_there (cluster_by slots) n (members_by slots n).node.durable.boot) (members_by slots n).up
+  stops n = slot_stops (slice_get slots n) ∙ ap (λ b. stop_fault b (members_by slots n).up) (there slots set n)
 
-  core_starts : (o : Option (Core E)) (d : Durable) → started_by (boot_of (place_by o d)) ≡ start_fault true (place_by o d).up
+  core_starts : (o : Option (Core E)) (d : Durable) → started_by (boot_of (member_by o d)) ≡ start_fault true (member_by o d).up
   core_starts None d = refl
   core_starts (Some c) d = refl
 
-  slot_starts : (o : Option (Slot E)) → start_in o ≡ start_fault (is_some o) (place_in o).up
+  slot_starts : (o : Option (Slot E)) → start_in o ≡ start_fault (is_some o) (member_in o).up
   slot_starts None = refl
   slot_starts (Some s) = core_starts s.core (durable_of s)
 
-  pub starts : (n boot : ℕ) → start_in (slice_get slots n) ≡ start_fault (is_there (cluster_by slots) n boot) (places_by slots n).up
-  starts n boot = slot_starts (slice_get slots n) ∙ ap (λ b. start_fault b (places_by slots n).up) (there slots set n)
+  pub starts : (n boot : ℕ) → start_in (slice_get slots n) ≡ start_fault (is_there (cluster_by slots) n boot) (members_by slots n).up
+  starts n boot = slot_starts (slice_get slots n) ∙ ap (λ b. start_fault b (members_by slots n).up) (there slots set n)

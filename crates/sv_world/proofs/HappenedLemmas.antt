@@ -25,9 +25,9 @@ use Rattle.sv_world.specs.declared.world.World.{World as Nodes}
 use Rattle.sv_world.specs.Deed.{Done, deed, number_for, told_by, line_of, quiet_at, heading_at, heading_by, halted, booted}
 use Rattle.sv_world.specs.Slot.{IsSlot, engine_by}
 use Rattle.sv_world.specs.Order.{order_of}
-use Rattle.sv_world.specs.World.{Place, set_place, setting_of, stopped, started}
+use Rattle.sv_world.specs.World.{Member, set_member, setting_of, stopped, started}
 use Rattle.sv_world.specs.Rules.{setting_by}
-use Rattle.sv_world.specs.Worlds.{rules_in, places_by, setting_in, settings_by, meant_in, meanings_by, world_of, size_of, cluster_of, meanings_of, heard_of, IsSet, IsWorld, AllMean}
+use Rattle.sv_world.specs.Worlds.{rules_in, members_by, setting_in, settings_by, meant_in, meanings_by, world_of, size_of, cluster_of, meanings_of, heard_of, IsSet, IsWorld, AllMean}
 use Rattle.sv_world.specs.Happened.{by_node, HaveDone, AreUndone, HaveHappened, HasActed, IsStill, told_at, is_start}
 use Rattle.sv_world.proofs.OrderLemmas.{Goes, done_at, goes}
 
@@ -37,12 +37,12 @@ node_by : (b : Bool) (x y : Done) (n : ℕ) → x.effect.heading.node ≡ n → 
 node_by true x y n f g = f
 node_by false x y n f g = g
 
-deed_node : (m : EngineMeaning) (set : Setting) (p : Place) (t : Task) → (deed m set p t).effect.heading.node ≡ set.node
+deed_node : (m : EngineMeaning) (set : Setting) (p : Member) (t : Task) → (deed m set p t).effect.heading.node ≡ set.node
 deed_node m set p (task.Step moment input) = refl
 deed_node m set p (task.Torn moment input kept) =
     let d = decided m set p.node moment input in
     let h = heading_by set p.node.durable input in
-    node_by (kept && is_some d.entry) (record { place = stopped d.durable; effect = quiet_at h d.entry d.commit }) (halted h p.node.durable) set.node refl refl
+    node_by (kept && is_some d.entry) (record { member = stopped d.durable; effect = quiet_at h d.entry d.commit }) (halted h p.node.durable) set.node refl refl
 deed_node m set p (task.Silent moment input) = refl
 deed_node m set p task.Stop = refl
 deed_node m set p task.Start = node_by (true && not (p.node.durable.boot == last_number)) (booted set (heading_at set p.node.durable None) p.node.durable started) (halted (heading_at set p.node.durable None) p.node.durable) set.node refl refl
@@ -52,7 +52,7 @@ silent_by : (b : Bool) (x y : Done) → told_by x.effect ≡ [] → told_by y.ef
 silent_by true x y f g = f
 silent_by false x y f g = g
 
-start_silent : (m : EngineMeaning) (set : Setting) (p : Place) → told_by (deed m set p task.Start).effect ≡ []
+start_silent : (m : EngineMeaning) (set : Setting) (p : Member) → told_by (deed m set p task.Start).effect ≡ []
 start_silent m set p = silent_by (true && not (p.node.durable.boot == last_number)) (booted set (heading_at set p.node.durable None) p.node.durable started) (halted (heading_at set p.node.durable None) p.node.durable) refl refl
 
 -- ---- each node has an engine
@@ -108,7 +108,7 @@ module _ {E : Type 0} (meaning : E → EngineMeaning) (noted : E → List (List 
   stays undone packets trace = record {
     size = number;
     cluster = same_cluster old new settings;
-    world = λ i. record { places = undone.places i; packets = packets i; trace = trace i };
+    world = λ i. record { members = undone.members i; packets = packets i; trace = trace i };
     meanings = meanings;
     heard = undone.heard;
   }
@@ -124,24 +124,24 @@ module _ {E : Type 0} (meaning : E → EngineMeaning) (noted : E → List (List 
     (set : IsSet o.node (settings_by old.slots.items o.node)) (means : (m : EngineMeaning) × (meanings_of meaning old o.node ≡ Some m))
     (done : (m : EngineMeaning) → meanings_of meaning old o.node ≡ Some m → HaveDone noted m old.slots.items new.slots.items o f) where
   abbrev deeds : EngineMeaning → Done
-  deeds m = deed m (settings_by old.slots.items o.node) (places_by old.slots.items o.node) o.task
+  deeds m = deed m (settings_by old.slots.items o.node) (members_by old.slots.items o.node) o.task
 
   -- the number of the start that the task is of
   abbrev number_now : ℕ
-  number_now = number_for (places_by old.slots.items o.node).node.durable o.task
+  number_now = number_for (members_by old.slots.items o.node).node.durable o.task
 
-  as_set : (m : EngineMeaning) → deeds m ≡ deed m (setting_of (cluster_of old) o.node number_now) (places_by old.slots.items o.node) o.task
-  as_set m = ap (λ s. deed m s (places_by old.slots.items o.node) o.task) (own_setting o.node (settings_by old.slots.items o.node) set.own)
+  as_set : (m : EngineMeaning) → deeds m ≡ deed m (setting_of (cluster_of old) o.node number_now) (members_by old.slots.items o.node) o.task
+  as_set m = ap (λ s. deed m s (members_by old.slots.items o.node) o.task) (own_setting o.node (settings_by old.slots.items o.node) set.own)
 
   at_node : f.heading.node ≡ o.node
-  at_node = ap (λ (x : Effect). x.heading.node) (done means.0 means.1).effect ∙ deed_node means.0 (settings_by old.slots.items o.node) (places_by old.slots.items o.node) o.task ∙ set.own
+  at_node = ap (λ (x : Effect). x.heading.node) (done means.0 means.1).effect ∙ deed_node means.0 (settings_by old.slots.items o.node) (members_by old.slots.items o.node) o.task ∙ set.own
 
   world_is : new.packets.items ≡ old.packets.items ++ sends_in f.outputs → new.trace.items ≡ old.trace.items ++ line_of e f ∷ [] → (m : ℕ → EngineMeaning) → AllMean meaning m old → world_of new ≡ done_at (by_node m) (cluster_of old) (world_of old) e o
   world_is packets trace m all =
       let h = done (m o.node) (all o.node inside) in
-      let is : f ≡ (deed (m o.node) (setting_of (cluster_of old) o.node number_now) (places_by old.slots.items o.node) o.task).effect = h.effect ∙ ap (λ (d : Done). d.effect) (as_set (m o.node)) in
+      let is : f ≡ (deed (m o.node) (setting_of (cluster_of old) o.node number_now) (members_by old.slots.items o.node) o.task).effect = h.effect ∙ ap (λ (d : Done). d.effect) (as_set (m o.node)) in
       λ i. record {
-        places = (h.places ∙ ap (λ (d : Done). set_place (places_by old.slots.items) o.node d.place) (as_set (m o.node))) i;
+        members = (h.members ∙ ap (λ (d : Done). set_member (members_by old.slots.items) o.node d.member) (as_set (m o.node))) i;
         packets = (packets ∙ ap (λ (x : Effect). old.packets.items ++ sends_in x.outputs) is) i;
         trace = (trace ∙ ap (λ (x : Effect). old.trace.items ++ line_of e x ∷ []) is) i;
       }
@@ -176,7 +176,7 @@ module _ {E : Type 0} (meaning : E → EngineMeaning) (noted : E → List (List 
   pub silent_start : o.task ≡ task.Start → heard_of noted new ≡ heard_of noted old
   silent_start is =
       let h = done means.0 means.1 in
-      let told : told_by f ≡ [] = ap told_by h.effect ∙ ap (λ t. told_by (deed means.0 (settings_by old.slots.items o.node) (places_by old.slots.items o.node) t).effect) is ∙ start_silent means.0 (settings_by old.slots.items o.node) (places_by old.slots.items o.node) in
+      let told : told_by f ≡ [] = ap told_by h.effect ∙ ap (λ t. told_by (deed means.0 (settings_by old.slots.items o.node) (members_by old.slots.items o.node) t).effect) is ∙ start_silent means.0 (settings_by old.slots.items o.node) (members_by old.slots.items o.node) in
       let none : (n : ℕ) → option_map (λ x. heard_all means.0 x (told_by f)) (heard_of noted old n) ≡ heard_of noted old n = λ n. option_same _ (heard_of noted old n) (λ x. ap (heard_all means.0 x) told) in
       λ j n. (h.heard n ∙ ap (λ x. cond (n == o.node) x (heard_of noted old n)) (none n) ∙ either_same (n == o.node) (heard_of noted old n)) j
     where

@@ -15,9 +15,9 @@ use Rattle.sv_world.specs.declared.rules.Rules.{Rules}
 use Rattle.sv_world.specs.declared.slot.Slot.{Slot}
 use Rattle.sv_world.specs.declared.world.World.{World as Nodes}
 use Rattle.sv_world.specs.Rules.{setting_by}
-use Rattle.sv_world.specs.Slot.{IsSlot, RunsOver, place_of, engine_in, engine_by, durable_of, boot_of}
-use Rattle.sv_world.specs.World.{Cluster, Place, World, setting_of, run, nothing_happened}
-use Rattle.sv_world.specs.Worlds.{rules_in, place_in, settings_by, world_of, size_of, cluster_of, meanings_of, IsSet, AreSet}
+use Rattle.sv_world.specs.Slot.{IsSlot, RunsOver, member_of, engine_in, engine_by, durable_of, boot_of}
+use Rattle.sv_world.specs.World.{Cluster, Member, World, setting_of, run, nothing_happened}
+use Rattle.sv_world.specs.Worlds.{rules_in, member_in, settings_by, world_of, size_of, cluster_of, meanings_of, IsSet, AreSet}
 use Rattle.sv_world.specs.Happened.{events_in}
 use Rattle.sv_world.specs.Planned.{since, Ran, changed_behind, meanings_behind, cluster_behind, last_of, fault_in, fault_by, IsCause, AreInstalled}
 use Rattle.sv_world.proofs.PlanLemmas.{Same, AreThere, there_by, run_so_far}
@@ -25,7 +25,7 @@ use Rattle.sv_world.proofs.SlotLemmas.{none_by}
 
 -- ---- one node
 
-module _ {E : Type 0} (old new : Slot E) (down : (place_of old).up ≡ false) (core : new.core ≡ old.core) (journal : new.journal.items ≡ old.journal.items) where
+module _ {E : Type 0} (old new : Slot E) (down : (member_of old).up ≡ false) (core : new.core ≡ old.core) (journal : new.journal.items ≡ old.journal.items) where
   none : old.core ≡ None
   none = none_by old.core (durable_of old) down
 
@@ -42,7 +42,7 @@ module _ {E : Type 0} (old new : Slot E) (down : (place_of old).up ≡ false) (c
 
 -- ---- no fault
 
-running_by : (p : Place) → fault_in (boot_of p) ≡ None → p.up ≡ false
+running_by : (p : Member) → fault_in (boot_of p) ≡ None → p.up ≡ false
 running_by p none = by p.up refl none
   where
     by : (b : Bool) → p.up ≡ b → fault_in (cond b (Some p.node.durable.boot) None) ≡ None → b ≡ false
@@ -50,12 +50,12 @@ running_by p none = by p.up refl none
     by false is h = refl
 
 module _ {E : Type 0} where
-  pub ready_by : (n nodes : ℕ) (o : Option (Slot E)) → fault_by n nodes o ≡ None → (n < nodes) × ((place_in o).up ≡ false)
+  pub ready_by : (n nodes : ℕ) (o : Option (Slot E)) → fault_by n nodes o ≡ None → (n < nodes) × ((member_in o).up ≡ false)
   ready_by n nodes None h = absurd (let no : Some NoNode ≡ None = h in cc)
   ready_by n nodes (Some s) h =
-      let by : Bool → Option InstallFault = λ b. cond b (Some NotTold) (fault_in (boot_of (place_of s))) in
+      let by : Bool → Option InstallFault = λ b. cond b (Some NotTold) (fault_in (boot_of (member_of s))) in
       ⊎_elim
-      (λ (less : n < nodes). (less, running_by (place_of s) (sym (ap by (lt-leb nodes n less)) ∙ h)))
+      (λ (less : n < nodes). (less, running_by (member_of s) (sym (ap by (lt-leb nodes n less)) ∙ h)))
       (λ (past : nodes ≤ n). absurd (let no : Some NotTold ≡ None = sym (ap by (le-leb nodes n past)) ∙ h in cc))
       (cases_lt n nodes)
 
@@ -97,7 +97,7 @@ module _ {E : Type 0} (meaning : E → EngineMeaning) (noted : E → List (List 
   all_set set x inside = subst (IsSet x) (sym (installed.settings x))
       (by_number (IsSet x) x n given (settings_by old.slots.items x) (λ e. record { own = sym e; told = omega (arith, e, less) }) (λ _. set x (omega (arith, size, inside))))
 
-  module _ (down : ((world_of old).places n).up ≡ false) (touches : TouchesOnlyHanded (meaning engine)) (m : Meanings) (c : Cluster) (r : Ran meaning m c old) where
+  module _ (down : ((world_of old).members n).up ≡ false) (touches : TouchesOnlyHanded (meaning engine)) (m : Meanings) (c : Cluster) (r : Ran meaning m c old) where
     abbrev last : ℕ
     last = last_of old n
 
@@ -151,8 +151,8 @@ module _ {E : Type 0} (meaning : E → EngineMeaning) (noted : E → List (List 
       };
       world = world ∙ r.world
           ∙ run_so_far m m' c c' both_there (events_in (world_of old)) nothing_happened
-          (λ x boot le. same_before x boot (λ e. let made : boot ≤ ((world_of old).places x).node.durable.boot = subst (λ (w : World). boot ≤ (w.places x).node.durable.boot) (sym r.world) le in
-          subst (λ y. boot ≤ ((world_of old).places y).node.durable.boot) e made))
+          (λ x boot le. same_before x boot (λ e. let made : boot ≤ ((world_of old).members x).node.durable.boot = subst (λ (w : World). boot ≤ (w.members x).node.durable.boot) (sym r.world) le in
+          subst (λ y. boot ≤ ((world_of old).members y).node.durable.boot) e made))
           ∙ ap (λ w. run m' c' nothing_happened (events_in w)) (sym world);
     }
 

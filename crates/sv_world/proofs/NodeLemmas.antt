@@ -11,7 +11,7 @@ use Rattle.sv_world.specs.Deed.{deed, told_by, Done}
 use Rattle.sv_model.specs.declared.node.Setting.{Setting}
 use Rattle.sv_world.specs.Planned.{AreInstalled}
 use Rattle.sv_world.specs.Slot.{HasDone, IsUndone, engine_in, heard_in}
-use Rattle.sv_world.specs.Worlds.{place_in, setting_in, noted_in, meant_in, places_by, settings_by, heard_by, meanings_by}
+use Rattle.sv_world.specs.Worlds.{member_in, setting_in, noted_in, meant_in, members_by, settings_by, heard_by, meanings_by}
 use Rattle.sv_world.specs.Happened.{HaveDone, AreUndone}
 
 eqb_suc : (a b : ℕ) → (suc a == suc b) ≡ (a == b)
@@ -59,14 +59,14 @@ module _ {E : Type 0} (slots : List (Slot E)) (n : ℕ) (old new : Slot E) (less
   meanings_same meaning is = same (meant_in meaning) slots n old new less there is
 
   pub undone : (noted : E → List (List ℕ)) → IsUndone noted old new → AreUndone noted slots (slice_set slots n new)
-  undone noted h = record { places = same place_in slots n old new less there h.place; heard = same (noted_in noted) slots n old new less there h.heard }
+  undone noted h = record { members = same member_in slots n old new less there h.member; heard = same (noted_in noted) slots n old new less there h.heard }
 
   pub done : (noted : E → List (List ℕ)) (m : EngineMeaning) (task : Task) (f : Effect) → HasDone noted m old new task f → HaveDone noted m slots (slice_set slots n new) (record { node = n; task = task }) f
   done noted m task f h =
-      let deeds : deed m old.setting (place_in (Some old)) task ≡ deed m (settings_by slots n) (places_by slots n) task = λ i. deed m (setting_in (sym there i)) (place_in (sym there i)) task in
+      let deeds : deed m old.setting (member_in (Some old)) task ≡ deed m (settings_by slots n) (members_by slots n) task = λ i. deed m (setting_in (sym there i)) (member_in (sym there i)) task in
       let listen = option_map (λ (x : List (List ℕ)). heard_all m x (told_by f)) in
       record {
-        places = λ j x. (changed place_in slots n new less x ∙ ap (λ p. cond (x == n) p (places_by slots x)) (h.place ∙ ap (λ (d : Done). d.place) deeds)) j;
+        members = λ j x. (changed member_in slots n new less x ∙ ap (λ p. cond (x == n) p (members_by slots x)) (h.member ∙ ap (λ (d : Done). d.member) deeds)) j;
         effect = h.effect ∙ ap (λ (d : Done). d.effect) deeds;
         heard = λ x. changed (noted_in noted) slots n new less x ∙ at_number (heard_by noted slots) listen x n (x == n) (heard_in noted new) refl (h.heard ∙ ap (λ o. listen (noted_in noted o)) (sym there));
       }
@@ -80,8 +80,8 @@ module _ {E : Type 0} (meaning : E → EngineMeaning) (noted : E → List (List 
     heard = λ x. changed (noted_in noted) slots n new less x ∙ (λ i. cond (x == sym own i) (option_map noted (has i)) (heard_by noted slots x));
   }
 
-  pub places_same : place_in (Some new) ≡ place_in (Some old) → places_by (slice_set slots n new) ≡ places_by slots
-  places_same is = same place_in slots n old new less there is
+  pub members_same : member_in (Some new) ≡ member_in (Some old) → members_by (slice_set slots n new) ≡ members_by slots
+  members_same is = same member_in slots n old new less there is
 
 -- an answer's clause, at what it answers
 pub ok_then : {T F : Type 0} (r : Result T F) (P Q : T → Type 0) → ((x : T) → P x → Q x) → IfOk r P → IfOk r Q

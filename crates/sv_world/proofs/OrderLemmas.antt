@@ -22,23 +22,23 @@ use Rattle.sv_world.specs.Deed.{Done, deed, wants_up, number_for, line_of, quiet
 use Rattle.sv_world.specs.Faults.{call_fault, start_fault, fault_of}
 use Rattle.sv_world.specs.Order.{whole_order, torn_order, silent_order, order_of}
 use Rattle.sv_world.specs.Sent.{may_come}
-use Rattle.sv_world.specs.World.{Cluster, Place, World, set_place, setting_of, durable_at, stopped, started, items, call_of, decision, token_of_call, is_unused, is_there, is_ready, is_spent, whole, torn, silent, becomes, halt, boots, steps, tears, silences, starts, happens}
+use Rattle.sv_world.specs.World.{Cluster, Member, World, set_member, setting_of, durable_at, stopped, started, items, call_of, decision, token_of_call, is_unused, is_there, is_ready, is_spent, whole, torn, silent, becomes, halt, boots, steps, tears, silences, starts, happens}
 use Rattle.sv_world.proofs.FaultLemmas.{step_goes, start_goes, stop_goes}
 
 -- a world in which this was done at a node
 abbrev pub done_by : World → WorldEvent → ℕ → Done → World
-done_by w e n d = record { places = set_place w.places n d.place; packets = w.packets ++ sends_in d.effect.outputs; trace = w.trace ++ line_of e d.effect ∷ [] }
+done_by w e n d = record { members = set_member w.members n d.member; packets = w.packets ++ sends_in d.effect.outputs; trace = w.trace ++ line_of e d.effect ∷ [] }
 
 abbrev pub done_at : Meanings → Cluster → World → WorldEvent → Order → World
 done_at m c w e o =
     let boot = number_for (durable_at w o.node) o.task in
-    done_by w e o.node (deed (m o.node boot) (setting_of c o.node boot) (w.places o.node) o.task)
+    done_by w e o.node (deed (m o.node boot) (setting_of c o.node boot) (w.members o.node) o.task)
 
 -- an event that can happen asks for this
 pub record Goes (c : Cluster) (w : World) (e : WorldEvent) (o : Order) : Type 0 where
   pub happens : (m : Meanings) → happens m c w e ≡ done_at m c w e o
   pub there : o.node < c.nodes o.node (number_for (durable_at w o.node) o.task)
-  pub up : (w.places o.node).up ≡ wants_up o.task
+  pub up : (w.members o.node).up ≡ wants_up o.task
 
 not_true : (b : Bool) → not b ≡ true → b ≡ false
 not_true true h = absurd (let no : false ≡ true = h in cc)
@@ -49,16 +49,16 @@ module _ (c : Cluster) (w : World) (e : WorldEvent) where
   split n true x y p q f g = f
   split n false x y p q f g = g
 
-  quiet : (n boot : ℕ) (p : Place) (entry : Option Record) (asked : Option Token) → becomes w e n p entry asked ≡ done_by w e n (record { place = p; effect = quiet_at (heading_at (setting_of c n boot) (durable_at w n) asked) entry None })
+  quiet : (n boot : ℕ) (p : Member) (entry : Option Record) (asked : Option Token) → becomes w e n p entry asked ≡ done_by w e n (record { member = p; effect = quiet_at (heading_at (setting_of c n boot) (durable_at w n) asked) entry None })
   quiet n boot p entry asked = λ i. record (becomes w e n p entry asked) { packets = sym (append-nil w.packets) i }
 
   ready : (call : Call) → call_fault c w (Some call) ≡ None → is_ready c w call ≡ true
-  ready call h = step_goes (is_there c call.node (durable_at w call.node).boot) (w.places call.node).up (may_come w.packets call.input) (is_unused (asked_of (items w.trace)) (token_of_call c w call)) h
+  ready call h = step_goes (is_there c call.node (durable_at w call.node).boot) (w.members call.node).up (may_come w.packets call.input) (is_unused (asked_of (items w.trace)) (token_of_call c w call)) h
 
-  there_up : (call : Call) → call_fault c w (Some call) ≡ None → (call.node < c.nodes call.node (durable_at w call.node).boot) × ((w.places call.node).up ≡ true)
+  there_up : (call : Call) → call_fault c w (Some call) ≡ None → (call.node < c.nodes call.node (durable_at w call.node).boot) × ((w.members call.node).up ≡ true)
   there_up call h =
       let a = and_parts (is_there c call.node (durable_at w call.node).boot) _ (ready call h) in
-      (ltb-true call.node (c.nodes call.node (durable_at w call.node).boot) a.0, (and_parts (w.places call.node).up _ a.1).0)
+      (ltb-true call.node (c.nodes call.node (durable_at w call.node).boot) a.0, (and_parts (w.members call.node).up _ a.1).0)
 
   steps_go : (m : Meanings) (call : Call) → call_fault c w (Some call) ≡ None → steps m c w e (Some call) ≡ done_at m c w e (whole_order call)
   steps_go m call h = cond-true (is_ready c w call) (whole c w e call (decision m c w call)) w (ready call h)
@@ -68,7 +68,7 @@ module _ (c : Cluster) (w : World) (e : WorldEvent) where
       let d = decision m c w call in
       let heading = heading_by (setting_of c call.node (durable_at w call.node).boot) (durable_at w call.node) call.input in
       cond-true (is_ready c w call) (cond (kept && is_some d.entry) (torn c w e call d) (halt w e call.node (token_of_call c w call))) w (ready call h)
-      ∙ split call.node (kept && is_some d.entry) (torn c w e call d) (halt w e call.node (token_of_call c w call)) (record { place = stopped d.durable; effect = quiet_at heading d.entry d.commit }) (halted heading (durable_at w call.node))
+      ∙ split call.node (kept && is_some d.entry) (torn c w e call d) (halt w e call.node (token_of_call c w call)) (record { member = stopped d.durable; effect = quiet_at heading d.entry d.commit }) (halted heading (durable_at w call.node))
       (λ i. record (torn c w e call d) { packets = sym (append-nil w.packets) i }) (quiet call.node (durable_at w call.node).boot (stopped (durable_at w call.node)) None (token_of_call c w call))
 
   silences_go : (m : Meanings) (call : Call) → call_fault c w (Some call) ≡ None → silences m c w e (Some call) ≡ done_at m c w e (silent_order call)
@@ -83,11 +83,11 @@ module _ (c : Cluster) (w : World) (e : WorldEvent) where
   abbrev there_next : ℕ → Bool
   there_next n = is_there c n ((durable_at w n).boot + 1)
 
-  starts_go : (n : ℕ) (kept : Bool) (place : Durable → Place) → start_fault (there_next n) (w.places n).up ≡ None → starts c w e n kept place ≡ done_by w e n (start_by (next_setting n) (durable_at w n) kept place)
-  starts_go n kept place h =
+  starts_go : (n : ℕ) (kept : Bool) (member : Durable → Member) → start_fault (there_next n) (w.members n).up ≡ None → starts c w e n kept member ≡ done_by w e n (start_by (next_setting n) (durable_at w n) kept member)
+  starts_go n kept member h =
       let heading = heading_at (next_setting n) (durable_at w n) None in
-      cond-true (there_next n && not (w.places n).up) (cond (kept && not (is_spent w n)) (boots c w e n place) (halt w e n None)) w (start_goes (there_next n) (w.places n).up h)
-      ∙ split n (kept && not (is_spent w n)) (boots c w e n place) (halt w e n None) (booted (next_setting n) heading (durable_at w n) place) (halted heading (durable_at w n))
+      cond-true (there_next n && not (w.members n).up) (cond (kept && not (is_spent w n)) (boots c w e n member) (halt w e n None)) w (start_goes (there_next n) (w.members n).up h)
+      ∙ split n (kept && not (is_spent w n)) (boots c w e n member) (halt w e n None) (booted (next_setting n) heading (durable_at w n) member) (halted heading (durable_at w n))
       (quiet n ((durable_at w n).boot + 1) _ _ None) (quiet n ((durable_at w n).boot + 1) (stopped (durable_at w n)) None None)
 
   whole_goes : (o : Order) (call : Option Call) → ((m : Meanings) → happens m c w e ≡ steps m c w e call) → call_fault c w call ≡ None → option_map whole_order call ≡ Some o → Goes c w e o
@@ -102,14 +102,14 @@ module _ (c : Cluster) (w : World) (e : WorldEvent) where
   silent_goes o None is fault order = absurd (let no : Some NoPacket ≡ None = fault in cc)
   silent_goes o (Some call) is fault order = subst (Goes c w e) (same_Some (silent_order call) o order) (record { happens = λ m. is m ∙ silences_go m call fault; there = (there_up call fault).0; up = (there_up call fault).1 })
 
-  start_goes_by : (n : ℕ) (kept : Bool) (place : Durable → Place) (t : Task) → wants_up t ≡ false → number_for (durable_at w n) t ≡ (durable_at w n).boot + 1 → ((m : Meanings) → happens m c w e ≡ starts c w e n kept place)
-      → ((m : Meanings) → done_by w e n (start_by (next_setting n) (durable_at w n) kept place) ≡ done_at m c w e (record { node = n; task = t })) → start_fault (there_next n) (w.places n).up ≡ None → Goes c w e (record { node = n; task = t })
-  start_goes_by n kept place t down number is same fault =
-      let a = and_parts (there_next n) (not (w.places n).up) (start_goes (there_next n) (w.places n).up fault) in
+  start_goes_by : (n : ℕ) (kept : Bool) (member : Durable → Member) (t : Task) → wants_up t ≡ false → number_for (durable_at w n) t ≡ (durable_at w n).boot + 1 → ((m : Meanings) → happens m c w e ≡ starts c w e n kept member)
+      → ((m : Meanings) → done_by w e n (start_by (next_setting n) (durable_at w n) kept member) ≡ done_at m c w e (record { node = n; task = t })) → start_fault (there_next n) (w.members n).up ≡ None → Goes c w e (record { node = n; task = t })
+  start_goes_by n kept member t down number is same fault =
+      let a = and_parts (there_next n) (not (w.members n).up) (start_goes (there_next n) (w.members n).up fault) in
       record {
-        happens = λ m. is m ∙ starts_go n kept place fault ∙ same m;
+        happens = λ m. is m ∙ starts_go n kept member fault ∙ same m;
         there = subst (λ boot. n < c.nodes n boot) (sym number) (ltb-true n (c.nodes n ((durable_at w n).boot + 1)) a.0);
-        up = not_true (w.places n).up a.1 ∙ sym down;
+        up = not_true (w.members n).up a.1 ∙ sym down;
       }
 
 module _ (c : Cluster) (w : World) (o : Order) where
@@ -123,10 +123,10 @@ module _ (c : Cluster) (w : World) (o : Order) where
   goes (Silent n moment given) f h = silent_goes c w (Silent n moment given) o (call_of w.packets (Silent n moment given)) (λ m. refl) f h
   goes (Crash n) f h =
       let boot = (durable_at w n).boot in
-      let both = stop_goes (is_there c n boot) (w.places n).up f in
-      let a = and_parts (is_there c n boot) (w.places n).up both in
+      let both = stop_goes (is_there c n boot) (w.members n).up f in
+      let a = and_parts (is_there c n boot) (w.members n).up both in
       subst (Goes c w (Crash n)) (same_Some (record { node = n; task = task.Stop }) o h) (record {
-        happens = λ m. cond-true (is_there c n boot && (w.places n).up) (halt w (Crash n) n None) w both ∙ quiet c w (Crash n) n boot (stopped (durable_at w n)) None None;
+        happens = λ m. cond-true (is_there c n boot && (w.members n).up) (halt w (Crash n) n None) w both ∙ quiet c w (Crash n) n boot (stopped (durable_at w n)) None None;
         there = ltb-true n (c.nodes n boot) a.0;
         up = a.1;
       })

@@ -18,7 +18,7 @@ use Rattle.sv_model.specs.Fitting.{Fits}
 use Rattle.sv_model.specs.Waiting.{without}
 use Rattle.sv_world.specs.declared.event.WorldEvent.{WorldEvent}
 use Rattle.sv_world.specs.declared.call.Call.{Call}
-use Rattle.sv_world.specs.World.{Cluster, Place, World, set_place, nothing_happened, durable_at, stopped, decision, happens, run}
+use Rattle.sv_world.specs.World.{Cluster, Member, World, set_member, nothing_happened, durable_at, stopped, decision, happens, run}
 use Rattle.sv_world.specs.Progress.{IsStep, AreSteps, setting_at}
 use Rattle.sv_world.proofs.EpochLemmas.{ground, journal_at, queues_at}
 use Rattle.sv_world.proofs.Events.{IsReady, behind}
@@ -29,19 +29,19 @@ use Rattle.sv_world.proofs.Runs.{Inv, happens_keeps, at_first}
 use Rattle.sv_world.proofs.Waiting.{by_node}
 
 -- what holds of a request that waits at a node: its node was told of the home of its key, and has given the key where that is its own
-pub record CanAsk (c : Cluster) (n : ℕ) (p : Place) (q : Parked) : Type 0 where
+pub record CanAsk (c : Cluster) (n : ℕ) (p : Member) (q : Parked) : Type 0 where
   pub home : q.key.home < c.nodes n p.node.durable.boot
   pub made : q.key.home ≡ n → q.key.serial < p.node.durable.next
 
-pub record IsQueue (c : Cluster) (n : ℕ) (p : Place) : Type 0 where
+pub record IsQueue (c : Cluster) (n : ℕ) (p : Member) : Type 0 where
   pub rising : AreWants 0 p.node.parked p.node.next_want
   pub asks : (q : Parked) → In q p.node.parked → CanAsk c n p q
 
 -- a record, so that its arguments are found
 pub record AreQueued (c : Cluster) (w : World) : Type 0 where
-  pub at : (n : ℕ) → IsQueue c n (w.places n)
+  pub at : (n : ℕ) → IsQueue c n (w.members n)
 
-empty_queue : (c : Cluster) (n : ℕ) (p : Place) → p.node.parked ≡ [] → IsQueue c n p
+empty_queue : (c : Cluster) (n : ℕ) (p : Member) → p.node.parked ≡ [] → IsQueue c n p
 empty_queue c n p none = record {
   rising = subst (λ ps. AreWants 0 ps p.node.next_want) (sym none) (omega arith);
   asks = λ q i. absurd (subst (In q) none i);
@@ -61,7 +61,7 @@ module _ (m : Meanings) (touches : AllTouchOnlyHanded m) (c : Cluster) where
       let up = next_by (setting_at c w call.node) (durable_at w call.node) (ground m touches c w inv call.node) (decision m c w call).entry (j.fits Past) in
       omega (arith, up, ap (λ (d : Durable). d.next) j.gives)
 
-  step_queue : (w : World) (call : Call) → Inv m c w → IsReady c w call → IsQueue c call.node (w.places call.node) → IsQueue c call.node (record { up = true; node = left (decision m c w call) })
+  step_queue : (w : World) (call : Call) → Inv m c w → IsReady c w call → IsQueue c call.node (w.members call.node) → IsQueue c call.node (record { up = true; node = left (decision m c w call) })
   step_queue w call inv r j =
       let n = call.node in
       let d = decision m c w call in
@@ -71,19 +71,19 @@ module _ (m : Meanings) (touches : AllTouchOnlyHanded m) (c : Cluster) where
       record {
         rising = q.rising j.rising;
         asks = λ p i. ⊎_elim
-            (λ (old : In p (w.places n).node.parked). let h = j.asks p old in record { home = subst (λ b. p.key.home < c.nodes n b) boot h.home; made = λ own. omega (arith, h.made own, next) })
-            (λ (new : (p.want ≡ (w.places n).node.next_want) × IsAsked (setting_at c w n) (durable_at w n) p).
+            (λ (old : In p (w.members n).node.parked). let h = j.asks p old in record { home = subst (λ b. p.key.home < c.nodes n b) boot h.home; made = λ own. omega (arith, h.made own, next) })
+            (λ (new : (p.want ≡ (w.members n).node.next_want) × IsAsked (setting_at c w n) (durable_at w n) p).
             record { home = subst (λ b. p.key.home < c.nodes n b) boot new.1.home; made = λ own. omega (arith, made_below (setting_at c w n) (durable_at w n) p.key new.1.made own, next) })
-            (q.members p i);
+            (q.origins p i);
       }
 
   happens_queued : (w : World) (e : WorldEvent) → Inv m c w → AreQueued c w → AreQueued c (happens m c w e)
   happens_queued w e inv j =
-      let steps : (call : Call) → IsReady c w call → (n : ℕ) → IsQueue c n (set_place w.places call.node (record { up = true; node = left (decision m c w call) }) n) = λ call r n.
-      by_node (IsQueue c) w.places call.node (record { up = true; node = left (decision m c w call) }) n
+      let steps : (call : Call) → IsReady c w call → (n : ℕ) → IsQueue c n (set_member w.members call.node (record { up = true; node = left (decision m c w call) }) n) = λ call r n.
+      by_node (IsQueue c) w.members call.node (record { up = true; node = left (decision m c w call) }) n
       (λ same. subst (λ y. IsQueue c y (record { up = true; node = left (decision m c w call) })) (sym same) (step_queue w call inv r (j.at call.node))) (λ _. j.at n) in
-      let empties : (x : ℕ) (p : Place) → p.node.parked ≡ [] → (n : ℕ) → IsQueue c n (set_place w.places x p n) = λ x p none n.
-      by_node (IsQueue c) w.places x p n (λ _. empty_queue c n p none) (λ _. j.at n) in
+      let empties : (x : ℕ) (p : Member) → p.node.parked ≡ [] → (n : ℕ) → IsQueue c n (set_member w.members x p n) = λ x p none n.
+      by_node (IsQueue c) w.members x p n (λ _. empty_queue c n p none) (λ _. j.at n) in
       behind m c w (AreQueued c) e (record {
         still = j;
         whole_by = λ call is r. record { at = steps call r };
@@ -112,47 +112,47 @@ module _ (m : Meanings) (touches : AllTouchOnlyHanded m) (c : Cluster) where
 
   -- the request waits in each of these worlds
   abbrev pub WaitsOn : ℕ → Parked → World → List WorldEvent → Type 0
-  WaitsOn n p w [] = In p (w.places n).node.parked
-  WaitsOn n p w (e ∷ es) = In p (w.places n).node.parked × WaitsOn n p (happens m c w e) es
+  WaitsOn n p w [] = In p (w.members n).node.parked
+  WaitsOn n p w (e ∷ es) = In p (w.members n).node.parked × WaitsOn n p (happens m c w e) es
 
   -- who waits behind a step waited before it, or has the next want
-  waited : (w : World) (e : WorldEvent) → IsStep e → (n : ℕ) (p : Parked) → In p ((happens m c w e).places n).node.parked → In p (w.places n).node.parked ⊎ (p.want ≡ (w.places n).node.next_want)
-  waited w e s n p = stepping m c (λ v. In p (v.places n).node.parked → In p (w.places n).node.parked ⊎ (p.want ≡ (w.places n).node.next_want)) w e s (λ i. inl i) (λ call is r.
+  waited : (w : World) (e : WorldEvent) → IsStep e → (n : ℕ) (p : Parked) → In p ((happens m c w e).members n).node.parked → In p (w.members n).node.parked ⊎ (p.want ≡ (w.members n).node.next_want)
+  waited w e s n p = stepping m c (λ v. In p (v.members n).node.parked → In p (w.members n).node.parked ⊎ (p.want ≡ (w.members n).node.next_want)) w e s (λ i. inl i) (λ call is r.
       let x = call.node in
       let d = decision m c w call in
       let q = queues_at m touches c w call r in
-      by_node (λ y z. In p z.node.parked → In p (w.places y).node.parked ⊎ (p.want ≡ (w.places y).node.next_want)) w.places x (record { up = true; node = left d }) n
-      (λ same i. subst (λ y. In p (w.places y).node.parked ⊎ (p.want ≡ (w.places y).node.next_want)) (sym same) (⊎_elim
-      (λ (old : In p (w.places x).node.parked). inl old)
-      (λ (new : (p.want ≡ (w.places x).node.next_want) × IsAsked (setting_at c w x) (durable_at w x) p). inr new.0)
-      (q.members p i)))
+      by_node (λ y z. In p z.node.parked → In p (w.members y).node.parked ⊎ (p.want ≡ (w.members y).node.next_want)) w.members x (record { up = true; node = left d }) n
+      (λ same i. subst (λ y. In p (w.members y).node.parked ⊎ (p.want ≡ (w.members y).node.next_want)) (sym same) (⊎_elim
+      (λ (old : In p (w.members x).node.parked). inl old)
+      (λ (new : (p.want ≡ (w.members x).node.next_want) × IsAsked (setting_at c w x) (durable_at w x) p). inr new.0)
+      (q.origins p i)))
       (λ _ i. inl i))
 
-  wants_rise : (w : World) (e : WorldEvent) → IsStep e → (n : ℕ) → (w.places n).node.next_want ≤ ((happens m c w e).places n).node.next_want
-  wants_rise w e s n = stepping m c (λ v. (w.places n).node.next_want ≤ (v.places n).node.next_want) w e s (omega arith) (λ call is r.
+  wants_rise : (w : World) (e : WorldEvent) → IsStep e → (n : ℕ) → (w.members n).node.next_want ≤ ((happens m c w e).members n).node.next_want
+  wants_rise w e s n = stepping m c (λ v. (w.members n).node.next_want ≤ (v.members n).node.next_want) w e s (omega arith) (λ call is r.
       let d = decision m c w call in
       let q = queues_at m touches c w call r in
-      by_node (λ y z. (w.places y).node.next_want ≤ z.node.next_want) w.places call.node (record { up = true; node = left d }) n
-      (λ same. omega (arith, q.up, ap (λ y. (w.places y).node.next_want) same)) (λ _. omega arith))
+      by_node (λ y z. (w.members y).node.next_want ≤ z.node.next_want) w.members call.node (record { up = true; node = left d }) n
+      (λ same. omega (arith, q.up, ap (λ y. (w.members y).node.next_want) same)) (λ _. omega arith))
 
-  pub waits_first : (n : ℕ) (p : Parked) (es : List WorldEvent) (w : World) → WaitsOn n p w es → In p (w.places n).node.parked
+  pub waits_first : (n : ℕ) (p : Parked) (es : List WorldEvent) (w : World) → WaitsOn n p w es → In p (w.members n).node.parked
   waits_first n p [] w h = h
   waits_first n p (e ∷ es) w h = h.0
 
-  pub wants_along : (n : ℕ) (es : List WorldEvent) (w : World) → AreSteps es → (w.places n).node.next_want ≤ ((run m c w es).places n).node.next_want
+  pub wants_along : (n : ℕ) (es : List WorldEvent) (w : World) → AreSteps es → (w.members n).node.next_want ≤ ((run m c w es).members n).node.next_want
   wants_along n [] w s = omega arith
   wants_along n (e ∷ es) w s = omega (arith, wants_rise w e s.0 n, wants_along n es (happens m c w e) s.1)
 
   -- so who waited once and waits at the end waited all the time
-  pub waits_on : (n : ℕ) (p : Parked) (es : List WorldEvent) (w : World) → AreSteps es → p.want < (w.places n).node.next_want → In p ((run m c w es).places n).node.parked → WaitsOn n p w es
+  pub waits_on : (n : ℕ) (p : Parked) (es : List WorldEvent) (w : World) → AreSteps es → p.want < (w.members n).node.next_want → In p ((run m c w es).members n).node.parked → WaitsOn n p w es
   waits_on n p [] w s below i = i
   waits_on n p (e ∷ es) w s below i =
       let v = happens m c w e in
       let on = waits_on n p es v s.1 (omega (arith, below, wants_rise w e s.0 n)) i in
-      let first : In p (v.places n).node.parked = waits_first n p es v on in
-      (⊎_elim (λ (a : In p (w.places n).node.parked). a) (λ (b : p.want ≡ (w.places n).node.next_want). absurd (omega (arith, b, below))) (waited w e s.0 n p first), on)
+      let first : In p (v.members n).node.parked = waits_first n p es v on in
+      (⊎_elim (λ (a : In p (w.members n).node.parked). a) (λ (b : p.want ≡ (w.members n).node.next_want). absurd (omega (arith, b, below))) (waited w e s.0 n p first), on)
 
-  pub waits_last : (n : ℕ) (p : Parked) (es : List WorldEvent) (w : World) → WaitsOn n p w es → In p ((run m c w es).places n).node.parked
+  pub waits_last : (n : ℕ) (p : Parked) (es : List WorldEvent) (w : World) → WaitsOn n p w es → In p ((run m c w es).members n).node.parked
   waits_last n p [] w h = h
   waits_last n p (e ∷ es) w h = waits_last n p es (happens m c w e) h.1
 

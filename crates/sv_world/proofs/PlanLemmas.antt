@@ -19,7 +19,7 @@ use Rattle.sv_world.specs.Faults.{step_fault, call_fault, start_fault, stop_faul
 use Rattle.sv_world.specs.Order.{order_of}
 use Rattle.sv_world.specs.Planned.{since_at, since}
 use Rattle.sv_world.specs.Sent.{may_come}
-use Rattle.sv_world.specs.World.{Cluster, Place, World, durable_at, set_place, stopped, started, setting_of, items, call_of, decision, token_of_call, is_unused, is_there, happens, run}
+use Rattle.sv_world.specs.World.{Cluster, Member, World, durable_at, set_member, stopped, started, setting_of, items, call_of, decision, token_of_call, is_unused, is_there, happens, run}
 use Rattle.sv_world.proofs.Events.{behind, start_boot}
 use Rattle.sv_world.proofs.FaultLemmas.{faulty}
 use Rattle.sv_world.proofs.OrderLemmas.{Goes, done_by, goes, asks}
@@ -28,54 +28,54 @@ use Rattle.sv_world.proofs.Waiting.{by_node}
 
 -- ---- the numbers of starts rise
 
-boot_below : (p : Place) → p.node.durable.boot ≤ since_at p
+boot_below : (p : Member) → p.node.durable.boot ≤ since_at p
 boot_below p = cond_both p.up p.node.durable.boot (p.node.durable.boot + 1) (λ x. p.node.durable.boot ≤ x) (λ _. omega arith) (λ _. omega arith)
 
-since_below : (p : Place) → since_at p ≤ p.node.durable.boot + 1
+since_below : (p : Member) → since_at p ≤ p.node.durable.boot + 1
 since_below p = cond_both p.up p.node.durable.boot (p.node.durable.boot + 1) (λ x. x ≤ p.node.durable.boot + 1) (λ _. omega arith) (λ _. omega arith)
 
-since_up : (p : Place) → p.up ≡ true → since_at p ≡ p.node.durable.boot
+since_up : (p : Member) → p.up ≡ true → since_at p ≡ p.node.durable.boot
 since_up p up = ap (λ b. cond b p.node.durable.boot (p.node.durable.boot + 1)) up
 
-since_down : (p : Place) → p.up ≡ false → since_at p ≡ p.node.durable.boot + 1
+since_down : (p : Member) → p.up ≡ false → since_at p ≡ p.node.durable.boot + 1
 since_down p down = ap (λ b. cond b p.node.durable.boot (p.node.durable.boot + 1)) down
 
-pub record Later (old new : ℕ → Place) : Type 0 where
+pub record Later (old new : ℕ → Member) : Type 0 where
   pub from : (x : ℕ) → since_at (old x) ≤ since_at (new x)
   pub boot : (x : ℕ) → (old x).node.durable.boot ≤ (new x).node.durable.boot
 
-later_still : (places : ℕ → Place) → Later places places
-later_still places = record { from = λ x. omega arith; boot = λ x. omega arith }
+later_still : (members : ℕ → Member) → Later members members
+later_still members = record { from = λ x. omega arith; boot = λ x. omega arith }
 
-later_at : (places : ℕ → Place) (n : ℕ) (p : Place) → since_at (places n) ≤ since_at p → (places n).node.durable.boot ≤ p.node.durable.boot → Later places (set_place places n p)
-later_at places n p more boot = record {
-  from = λ x. by_node (λ y z. since_at (places y) ≤ since_at z) places n p x (λ same. subst (λ y. since_at (places y) ≤ since_at p) (sym same) more) (λ _. omega arith);
-  boot = λ x. by_node (λ y z. (places y).node.durable.boot ≤ z.node.durable.boot) places n p x (λ same. subst (λ y. (places y).node.durable.boot ≤ p.node.durable.boot) (sym same) boot) (λ _. omega arith);
+later_at : (members : ℕ → Member) (n : ℕ) (p : Member) → since_at (members n) ≤ since_at p → (members n).node.durable.boot ≤ p.node.durable.boot → Later members (set_member members n p)
+later_at members n p more boot = record {
+  from = λ x. by_node (λ y z. since_at (members y) ≤ since_at z) members n p x (λ same. subst (λ y. since_at (members y) ≤ since_at p) (sym same) more) (λ _. omega arith);
+  boot = λ x. by_node (λ y z. (members y).node.durable.boot ≤ z.node.durable.boot) members n p x (λ same. subst (λ y. (members y).node.durable.boot ≤ p.node.durable.boot) (sym same) boot) (λ _. omega arith);
 }
 
-later_then : (a b c : ℕ → Place) → Later a b → Later b c → Later a c
+later_then : (a b c : ℕ → Member) → Later a b → Later b c → Later a c
 later_then a b c f g = record { from = λ x. omega (arith, f.from x, g.from x); boot = λ x. omega (arith, f.boot x, g.boot x) }
 
 -- a step leaves its node running, or stops it
-step_later : (old p : Place) → old.up ≡ true → p.node.durable.boot ≡ old.node.durable.boot → (since_at old ≤ since_at p) × (old.node.durable.boot ≤ p.node.durable.boot)
+step_later : (old p : Member) → old.up ≡ true → p.node.durable.boot ≡ old.node.durable.boot → (since_at old ≤ since_at p) × (old.node.durable.boot ≤ p.node.durable.boot)
 step_later old p up same = (omega (arith, since_up old up, boot_below p, same), omega (arith, same))
 
 module _ (m : Meanings) (c : Cluster) where
-  pub happens_later : (w : World) (e : WorldEvent) → Later w.places (happens m c w e).places
-  happens_later w e = behind m c w (λ v. Later w.places v.places) e (record {
-    still = later_still w.places;
-    whole_by = λ call is r. let p : Place = record { up = true; node = left (decision m c w call) } in let s = step_later (w.places call.node) p r.up (boot_kept m c w call) in later_at w.places call.node p s.0 s.1;
-    torn_by = λ call is r. let p = stopped (decision m c w call).durable in let s = step_later (w.places call.node) p r.up (boot_kept m c w call) in later_at w.places call.node p s.0 s.1;
-    silent_by = λ call is r. let p : Place = record { up = true; node = left (decision m c w call) } in let s = step_later (w.places call.node) p r.up (boot_kept m c w call) in later_at w.places call.node p s.0 s.1;
-    halt_by = λ n asked _. later_at w.places n (stopped (durable_at w n)) (since_below (w.places n)) (omega arith);
+  pub happens_later : (w : World) (e : WorldEvent) → Later w.members (happens m c w e).members
+  happens_later w e = behind m c w (λ v. Later w.members v.members) e (record {
+    still = later_still w.members;
+    whole_by = λ call is r. let p : Member = record { up = true; node = left (decision m c w call) } in let s = step_later (w.members call.node) p r.up (boot_kept m c w call) in later_at w.members call.node p s.0 s.1;
+    torn_by = λ call is r. let p = stopped (decision m c w call).durable in let s = step_later (w.members call.node) p r.up (boot_kept m c w call) in later_at w.members call.node p s.0 s.1;
+    silent_by = λ call is r. let p : Member = record { up = true; node = left (decision m c w call) } in let s = step_later (w.members call.node) p r.up (boot_kept m c w call) in later_at w.members call.node p s.0 s.1;
+    halt_by = λ n asked _. later_at w.members n (stopped (durable_at w n)) (since_below (w.members n)) (omega arith);
     boots_by = λ n p may none same.
         let more : p.node.durable.boot ≡ (durable_at w n).boot + 1 = ap (λ (d : Durable). d.boot) same ∙ start_boot (setting_of c n ((durable_at w n).boot + 1)) (durable_at w n) in
-        later_at w.places n p (omega (arith, since_below (w.places n), boot_below p, more)) (omega (arith, more));
+        later_at w.members n p (omega (arith, since_below (w.members n), boot_below p, more)) (omega (arith, more));
   })
 
-  pub run_later : (es : List WorldEvent) (w : World) → Later w.places (run m c w es).places
-  run_later [] w = later_still w.places
-  run_later (e ∷ es) w = later_then w.places (happens m c w e).places (run m c (happens m c w e) es).places (happens_later w e) (run_later es (happens m c w e))
+  pub run_later : (es : List WorldEvent) (w : World) → Later w.members (run m c w es).members
+  run_later [] w = later_still w.members
+  run_later (e ∷ es) w = later_then w.members (happens m c w e).members (run m c (happens m c w e) es).members (happens_later w e) (run_later es (happens m c w e))
 
 -- ---- two plans
 
@@ -98,7 +98,7 @@ either_same : (b : Bool) (x x' y : Done) → (b ≡ true → x ≡ x') → cond 
 either_same true x x' y f = f refl
 either_same false x x' y f = refl
 
-task_since : (p : Place) (t : Task) → p.up ≡ wants_up t → number_for p.node.durable t ≡ since_at p
+task_since : (p : Member) (t : Task) → p.up ≡ wants_up t → number_for p.node.durable t ≡ since_at p
 task_since p (task.Step moment input) up = sym (since_up p up)
 task_since p (task.Torn moment input kept) up = sym (since_up p up)
 task_since p (task.Silent moment input) up = sym (since_up p up)
@@ -106,36 +106,36 @@ task_since p task.Stop up = sym (since_up p up)
 task_since p task.Start down = sym (since_down p down)
 task_since p (task.TornStart kept) down = sym (since_down p down)
 
-own_place : (places : ℕ → Place) (n : ℕ) (p : Place) → (set_place places n p n).node.durable.boot ≡ p.node.durable.boot
-own_place places n p = by_node (λ y z. y ≡ n → z.node.durable.boot ≡ p.node.durable.boot) places n p n (λ _ _. refl) (λ ne same. absurd (ne same)) refl
+own_member : (members : ℕ → Member) (n : ℕ) (p : Member) → (set_member members n p n).node.durable.boot ≡ p.node.durable.boot
+own_member members n p = by_node (λ y z. y ≡ n → z.node.durable.boot ≡ p.node.durable.boot) members n p n (λ _ _. refl) (λ ne same. absurd (ne same)) refl
 
 module _ (m m' : Meanings) (c c' : Cluster) where
   abbrev task_done : World → ℕ → Task → Done
-  task_done w n t = deed (m n (number_for (durable_at w n) t)) (setting_of c n (number_for (durable_at w n) t)) (w.places n) t
+  task_done w n t = deed (m n (number_for (durable_at w n) t)) (setting_of c n (number_for (durable_at w n) t)) (w.members n) t
 
   abbrev task_done' : World → ℕ → Task → Done
-  task_done' w n t = deed (m' n (number_for (durable_at w n) t)) (setting_of c' n (number_for (durable_at w n) t)) (w.places n) t
+  task_done' w n t = deed (m' n (number_for (durable_at w n) t)) (setting_of c' n (number_for (durable_at w n) t)) (w.members n) t
 
   by_start : (w : World) (n : ℕ) (t : Task) → Same m m' c c' n (number_for (durable_at w n) t) → task_done w n t ≡ task_done' w n t
-  by_start w n t s = λ i. deed (s.meaning i) (s.setting i) (w.places n) t
+  by_start w n t s = λ i. deed (s.meaning i) (s.setting i) (w.members n) t
 
   -- a start is as its plan says only where its record stands
-  start_same : (w : World) (n : ℕ) (kept : Bool) (place : Durable → Place) → ((d : Durable) → (place d).node.durable ≡ d)
-      → ((boot : ℕ) → boot ≤ (start_by (setting_of c n ((durable_at w n).boot + 1)) (durable_at w n) kept place).place.node.durable.boot → Same m m' c c' n boot)
-      → start_by (setting_of c n ((durable_at w n).boot + 1)) (durable_at w n) kept place ≡ start_by (setting_of c' n ((durable_at w n).boot + 1)) (durable_at w n) kept place
-  start_same w n kept place gives upto =
+  start_same : (w : World) (n : ℕ) (kept : Bool) (member : Durable → Member) → ((d : Durable) → (member d).node.durable ≡ d)
+      → ((boot : ℕ) → boot ≤ (start_by (setting_of c n ((durable_at w n).boot + 1)) (durable_at w n) kept member).member.node.durable.boot → Same m m' c c' n boot)
+      → start_by (setting_of c n ((durable_at w n).boot + 1)) (durable_at w n) kept member ≡ start_by (setting_of c' n ((durable_at w n).boot + 1)) (durable_at w n) kept member
+  start_same w n kept member gives upto =
       let d = durable_at w n in
       let set = setting_of c n (d.boot + 1) in
       let set' = setting_of c' n (d.boot + 1) in
       let b = kept && not (d.boot == last_number) in
-      either_same b (booted set (heading_at set d None) d place) (booted set' (heading_at set' d None) d place) (halted (heading_at set d None) d) (λ t.
-      let more : (start_by set d kept place).place.node.durable.boot ≡ d.boot + 1 =
-      ap (λ (x : Done). x.place.node.durable.boot) (cond-true b (booted set (heading_at set d None) d place) (halted (heading_at set d None) d) t) ∙ ap (λ (x : Durable). x.boot) (gives (applied (boot_record set d) d)) ∙ start_boot set d in
+      either_same b (booted set (heading_at set d None) d member) (booted set' (heading_at set' d None) d member) (halted (heading_at set d None) d) (λ t.
+      let more : (start_by set d kept member).member.node.durable.boot ≡ d.boot + 1 =
+      ap (λ (x : Done). x.member.node.durable.boot) (cond-true b (booted set (heading_at set d None) d member) (halted (heading_at set d None) d) t) ∙ ap (λ (x : Durable). x.boot) (gives (applied (boot_record set d) d)) ∙ start_boot set d in
       let same = upto (d.boot + 1) (omega (arith, more)) in
-      ap (λ s. booted s (heading_at s d None) d place) same.setting)
+      ap (λ s. booted s (heading_at s d None) d member) same.setting)
 
   -- a task, where they say the same of all starts that were made behind it
-  task_same : (w : World) (n : ℕ) (t : Task) → ((boot : ℕ) → boot ≤ (task_done w n t).place.node.durable.boot → Same m m' c c' n boot) → (durable_at w n).boot ≤ (task_done w n t).place.node.durable.boot → task_done w n t ≡ task_done' w n t
+  task_same : (w : World) (n : ℕ) (t : Task) → ((boot : ℕ) → boot ≤ (task_done w n t).member.node.durable.boot → Same m m' c c' n boot) → (durable_at w n).boot ≤ (task_done w n t).member.node.durable.boot → task_done w n t ≡ task_done' w n t
   task_same w n (task.Step moment input) upto le = by_start w n (task.Step moment input) (upto (durable_at w n).boot le)
   task_same w n (task.Torn moment input kept) upto le = by_start w n (task.Torn moment input kept) (upto (durable_at w n).boot le)
   task_same w n (task.Silent moment input) upto le = by_start w n (task.Silent moment input) (upto (durable_at w n).boot le)
@@ -146,7 +146,7 @@ module _ (m m' : Meanings) (c c' : Cluster) where
   module _ (there : AreThere c c') where
     calls_same : (w : World) (call : Option Call) → call_fault c w call ≡ call_fault c' w call
     calls_same w None = refl
-    calls_same w (Some call) = ap (λ b. step_fault b (w.places call.node).up (may_come w.packets call.input) (is_unused (asked_of (items w.trace)) (token_of_call c w call))) (there call.node (durable_at w call.node).boot)
+    calls_same w (Some call) = ap (λ b. step_fault b (w.members call.node).up (may_come w.packets call.input) (is_unused (asked_of (items w.trace)) (token_of_call c w call))) (there call.node (durable_at w call.node).boot)
 
     faults_same : (w : World) (e : WorldEvent) → fault_of c w e ≡ fault_of c' w e
     faults_same w (Ask n moment token r) = calls_same w (call_of w.packets (Ask n moment token r))
@@ -156,9 +156,9 @@ module _ (m m' : Meanings) (c c' : Cluster) where
     faults_same w (Move n moment k to) = calls_same w (call_of w.packets (Move n moment k to))
     faults_same w (Torn n moment given kept) = calls_same w (call_of w.packets (Torn n moment given kept))
     faults_same w (Silent n moment given) = calls_same w (call_of w.packets (Silent n moment given))
-    faults_same w (Crash n) = ap (λ b. stop_fault b (w.places n).up) (there n (durable_at w n).boot)
-    faults_same w (Restart n) = ap (λ b. start_fault b (w.places n).up) (there n ((durable_at w n).boot + 1))
-    faults_same w (TornRestart n kept) = ap (λ b. start_fault b (w.places n).up) (there n ((durable_at w n).boot + 1))
+    faults_same w (Crash n) = ap (λ b. stop_fault b (w.members n).up) (there n (durable_at w n).boot)
+    faults_same w (Restart n) = ap (λ b. start_fault b (w.members n).up) (there n ((durable_at w n).boot + 1))
+    faults_same w (TornRestart n kept) = ap (λ b. start_fault b (w.members n).up) (there n ((durable_at w n).boot + 1))
 
     order_same : (w : World) (e : WorldEvent) (o : Option Order) → fault_of c w e ≡ None → order_of w.packets e ≡ o → IsSome o → ((x : Order) → Goes c w e x → task_done w x.node x.task ≡ task_done' w x.node x.task) → happens m c w e ≡ happens m' c' w e
     order_same w e None none at some same = absurd (let no : false ≡ true = some in cc)
@@ -180,7 +180,7 @@ module _ (m m' : Meanings) (c c' : Cluster) where
     run_on (e ∷ es) w from =
         let on = happens_later m c w e in
         let one : happens m c w e ≡ happens m' c' w e = event_same w e (fault_of c w e) refl (λ x g. by_start w x.node x.task
-        (from x.node (number_for (durable_at w x.node) x.task) g.there (omega (arith, task_since (w.places x.node) x.task g.up)))) in
+        (from x.node (number_for (durable_at w x.node) x.task) g.there (omega (arith, task_since (w.members x.node) x.task g.up)))) in
         run_on es (happens m c w e) (λ n boot inside le. from n boot inside (omega (arith, le, on.from n))) ∙ ap (λ v. run m' c' v es) one
 
     -- ---- the same of all starts that were made
@@ -190,7 +190,7 @@ module _ (m m' : Meanings) (c c' : Cluster) where
 
     event_so_far : (w : World) (e : WorldEvent) → UpTo (happens m c w e) → happens m c w e ≡ happens m' c' w e
     event_so_far w e upto = event_same w e (fault_of c w e) refl (λ x g.
-        let at : (durable_at (happens m c w e) x.node).boot ≡ (task_done w x.node x.task).place.node.durable.boot = ap (λ v. (durable_at v x.node).boot) (g.happens m) ∙ own_place w.places x.node (task_done w x.node x.task).place in
+        let at : (durable_at (happens m c w e) x.node).boot ≡ (task_done w x.node x.task).member.node.durable.boot = ap (λ v. (durable_at v x.node).boot) (g.happens m) ∙ own_member w.members x.node (task_done w x.node x.task).member in
         let more : (durable_at w x.node).boot ≤ (durable_at (happens m c w e) x.node).boot = (happens_later m c w e).boot x.node in
         task_same w x.node x.task (λ boot le. upto x.node boot (omega (arith, le, at))) (omega (arith, at, more)))
 

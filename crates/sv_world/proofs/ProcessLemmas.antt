@@ -14,7 +14,7 @@ use Rattle.sv_node.specs.History.{Turn, Stand, IsAbove, number_in, RiseIn, numbe
 use Rattle.sv_world.specs.Disks.{NodeCall, Seen, start_at, IsNew, AllCome, MayCome, IsCall, AreCalls, with_number, numbers_behind, all_numbers, behind, nothing_called}
 use Rattle.sv_world.specs.Processes.{turn_of, turns_at, BringAll, BringsSent, BringSent, AreOfProcesses}
 use Rattle.sv_world.specs.Starts.{AreTurnsBy}
-use Rattle.sv_world.specs.World.{Cluster, Place, setting_of}
+use Rattle.sv_world.specs.World.{Cluster, Member, setting_of}
 
 -- ---- numbers
 
@@ -78,15 +78,15 @@ may_come packets low numbers Stop upto rises sent = tt
 
 -- ---- one node, where the call is its own or another's
 
-abbrev stand_in : Place → Stand
+abbrev stand_in : Member → Stand
 stand_in p = record { up = p.up; node = p.node }
 
-abbrev place_behind : Place → Turn → Place
-place_behind p t = record { up = runs_behind p.up t.call; node = t.after.node }
+abbrev member_behind : Member → Turn → Member
+member_behind p t = record { up = runs_behind p.up t.call; node = t.after.node }
 
-turns_on : (b : Bool) (m : ℕ → EngineMeaning) (set : ℕ → Setting) (p q : Place) (t : Turn) (ts : List Turn) → (b ≡ true → p ≡ q)
-    → AreTurnsBy m set (stand_in p) (cond b (t ∷ ts) ts) → AreTurnsBy m set (stand_in (cond b (place_behind q t) p)) ts
-turns_on true m set p q t ts same are = subst (λ (x : Place). AreTurnsBy m set (stand_in (place_behind x t)) ts) (same refl) are.1
+turns_on : (b : Bool) (m : ℕ → EngineMeaning) (set : ℕ → Setting) (p q : Member) (t : Turn) (ts : List Turn) → (b ≡ true → p ≡ q)
+    → AreTurnsBy m set (stand_in p) (cond b (t ∷ ts) ts) → AreTurnsBy m set (stand_in (cond b (member_behind q t) p)) ts
+turns_on true m set p q t ts same are = subst (λ (x : Member). AreTurnsBy m set (stand_in (member_behind x t)) ts) (same refl) are.1
 turns_on false m set p q t ts same are = are
 
 rise_on : (b : Bool) (low high : ℕ) (t : Turn) (ts : List Turn) → Rise low high (cond b (t ∷ ts) ts) → Rise (cond b (lowest_behind low t.call) low) high ts
@@ -104,7 +104,7 @@ module _ (m : Meanings) (c : Cluster) where
   -- what is known of the calls that are left
   record AreLeft (s : Seen) (numbers : ℕ → List ℕ) (low : ℕ → ℕ) (calls : List NodeCall) : Type 0 where
     inside : AllByRecursion (λ (l : NodeCall). (boot : ℕ) → l.node < c.nodes l.node boot) calls
-    turns : (n : ℕ) → AreTurnsBy (m n) (setting_of c n) (stand_in (s.places n)) (turns_at n calls)
+    turns : (n : ℕ) → AreTurnsBy (m n) (setting_of c n) (stand_in (s.members n)) (turns_at n calls)
     rise : (n : ℕ) → (high : ℕ) × Rise (low n) high (turns_at n calls)
     upto : (n : ℕ) → UpTo (low n) (numbers n)
     sent : BringSent s.packets calls
@@ -118,8 +118,8 @@ module _ (m : Meanings) (c : Cluster) where
 
     is_call : IsCall m c s numbers l
     is_call =
-        let turns : AreTurnsBy (m l.node) (setting_of c l.node) (stand_in (s.places l.node)) (turn_of l ∷ turns_at l.node ls) =
-        subst (λ (ts : List Turn). AreTurnsBy (m l.node) (setting_of c l.node) (stand_in (s.places l.node)) ts) own (left.turns l.node) in
+        let turns : AreTurnsBy (m l.node) (setting_of c l.node) (stand_in (s.members l.node)) (turn_of l ∷ turns_at l.node ls) =
+        subst (λ (ts : List Turn). AreTurnsBy (m l.node) (setting_of c l.node) (stand_in (s.members l.node)) ts) own (left.turns l.node) in
         let r = left.rise l.node in
         let rise : Rise (low l.node) r.0 (turn_of l ∷ turns_at l.node ls) = subst (λ (ts : List Turn). Rise (low l.node) r.0 ts) own r.1 in
         record {
@@ -132,7 +132,7 @@ module _ (m : Meanings) (c : Cluster) where
     left_behind = record {
       inside = left.inside.1;
       turns = λ n.
-          turns_on (n == l.node) (m n) (setting_of c n) (s.places n) (s.places l.node) (turn_of l) (turns_at n ls) (λ is i. s.places (eqb-true n l.node is i)) (left.turns n);
+          turns_on (n == l.node) (m n) (setting_of c n) (s.members n) (s.members l.node) (turn_of l) (turns_at n ls) (λ is i. s.members (eqb-true n l.node is i)) (left.turns n);
       rise = λ n. let r = left.rise n in (r.0, rise_on (n == l.node) (low n) r.0 (turn_of l) (turns_at n ls) r.1);
       upto = λ n. let r = left.rise n in upto_on (n == l.node) (low n) r.0 (numbers n) (turn_of l) (turns_at n ls) (left.upto n) r.1;
       sent = left.sent.1;

@@ -32,7 +32,7 @@ use Rattle.sv_world.specs.Rules.{rules_for}
 use Rattle.sv_world.specs.declared.event.WorldEvent.{WorldEvent}
 use Rattle.sv_world.specs.declared.event.WorldEvent.TheVariants.{Ask, Deliver, Tick, Restart}
 use Rattle.sv_world.specs.declared.call.Call.{Call}
-use Rattle.sv_world.specs.World.{Cluster, Place, World, steady, stopped, setting_of, set_place, durable_at, nothing_happened, whole, decision, happens, run}
+use Rattle.sv_world.specs.World.{Cluster, Member, World, steady, stopped, setting_of, set_member, durable_at, nothing_happened, whole, decision, happens, run}
 use Rattle.sv_world.specs.Progress.{AllRun, HasRoomAt, HasRoom, Round, ticked, behind, IsRound, AreFair, CanCome}
 use Rattle.sv_world.proofs.ProgressLemmas.{ready_by, stepped_by}
 use Rattle.sv_world.proofs.RunningLemmas.{delivery, runs_one}
@@ -67,9 +67,9 @@ module _ (response : Response) (secret : Secret) (r : Request) where
 
   -- node 0 at rest, and node 1 with these that wait; and these packets
   record Stands (w : World) (ps : List Parked) (packets : List Packet) : Type 0 where
-    zero_is : w.places 0 ≡ record { up = true; node = node [] 1 }
-    one_is : w.places 1 ≡ record { up = true; node = node ps 2 }
-    others : (n : ℕ) → 2 ≤ n → w.places n ≡ stopped blank
+    zero_is : w.members 0 ≡ record { up = true; node = node [] 1 }
+    one_is : w.members 1 ≡ record { up = true; node = node ps 2 }
+    others : (n : ℕ) → 2 ≤ n → w.members n ≡ stopped blank
     packets_are : w.packets ≡ packets
 
   abbrev want : Packet
@@ -83,15 +83,15 @@ module _ (response : Response) (secret : Secret) (r : Request) where
   all_run : (w : World) (ps : List Parked) (packets : List Packet) → Stands w ps packets → AllRun pair 2 w
   all_run w ps packets h = record { up = up; told = λ n _. refl; only = only }
     where
-      up : (n : ℕ) → n < 2 → (w.places n).up ≡ true
-      up zero less = ap (λ (x : Place). x.up) h.zero_is
-      up (suc zero) less = ap (λ (x : Place). x.up) h.one_is
+      up : (n : ℕ) → n < 2 → (w.members n).up ≡ true
+      up zero less = ap (λ (x : Member). x.up) h.zero_is
+      up (suc zero) less = ap (λ (x : Member). x.up) h.one_is
       up (suc (suc n)) less = absurd (omega (arith, less))
 
-      only : (n : ℕ) → (w.places n).up ≡ true → n < 2
+      only : (n : ℕ) → (w.members n).up ≡ true → n < 2
       only zero is = omega arith
       only (suc zero) is = omega arith
-      only (suc (suc n)) is = absurd (true≢false (sym is ∙ ap (λ (x : Place). x.up) (h.others (suc (suc n)) (omega arith))))
+      only (suc (suc n)) is = absurd (true≢false (sym is ∙ ap (λ (x : Member). x.up) (h.others (suc (suc n)) (omega arith))))
 
   -- a step of node 0, which stays as it is
   zero_steps : (w : World) (ps : List Parked) (packets more : List Packet) (e : WorldEvent) (i : Input) → Stands w ps packets → left (decided (m 0 1) (setting_of pair 0 1) (node [] 1) at i) ≡ node [] 1
@@ -99,9 +99,9 @@ module _ (response : Response) (secret : Secret) (r : Request) where
       → Stands (whole pair w e (record { node = 0; moment = at; input = i }) (decision m pair w (record { node = 0; moment = at; input = i }))) ps (packets ++ more)
   zero_steps w ps packets more e i h same sends =
       let call : Call = record { node = 0; moment = at; input = i } in
-      let d : decision m pair w call ≡ decided (m 0 1) (setting_of pair 0 1) (node [] 1) at i = ap (λ (x : Place). decided (m 0 x.node.durable.boot) (setting_of pair 0 x.node.durable.boot) x.node at i) h.zero_is in
-      let place : Place = record { up = true; node = left (decision m pair w call) } in
-      let rests : (n : ℕ) → n ≢ 0 → set_place w.places 0 place n ≡ w.places n = λ n ne. by_node (λ y z. y ≢ 0 → z ≡ w.places y) w.places 0 place n (λ e no. absurd (no e)) (λ _ _. refl) ne in
+      let d : decision m pair w call ≡ decided (m 0 1) (setting_of pair 0 1) (node [] 1) at i = ap (λ (x : Member). decided (m 0 x.node.durable.boot) (setting_of pair 0 x.node.durable.boot) x.node at i) h.zero_is in
+      let member : Member = record { up = true; node = left (decision m pair w call) } in
+      let rests : (n : ℕ) → n ≢ 0 → set_member w.members 0 member n ≡ w.members n = λ n ne. by_node (λ y z. y ≢ 0 → z ≡ w.members y) w.members 0 member n (λ e no. absurd (no e)) (λ _ _. refl) ne in
       record {
         zero_is = ap (λ (x : Decision). record { up = true; node = left x }) d ∙ ap (λ (x : Node). record { up = true; node = x }) same;
         one_is = rests 1 (λ e. omega (arith, e)) ∙ h.one_is;
@@ -115,9 +115,9 @@ module _ (response : Response) (secret : Secret) (r : Request) where
       → Stands (whole pair w e (record { node = 1; moment = at; input = i }) (decision m pair w (record { node = 1; moment = at; input = i }))) qs (packets ++ more)
   one_steps w ps qs packets more e i h same sends =
       let call : Call = record { node = 1; moment = at; input = i } in
-      let d : decision m pair w call ≡ decided (m 1 1) (setting_of pair 1 1) (node ps 2) at i = ap (λ (x : Place). decided (m 1 x.node.durable.boot) (setting_of pair 1 x.node.durable.boot) x.node at i) h.one_is in
-      let place : Place = record { up = true; node = left (decision m pair w call) } in
-      let rests : (n : ℕ) → n ≢ 1 → set_place w.places 1 place n ≡ w.places n = λ n ne. by_node (λ y z. y ≢ 1 → z ≡ w.places y) w.places 1 place n (λ e no. absurd (no e)) (λ _ _. refl) ne in
+      let d : decision m pair w call ≡ decided (m 1 1) (setting_of pair 1 1) (node ps 2) at i = ap (λ (x : Member). decided (m 1 x.node.durable.boot) (setting_of pair 1 x.node.durable.boot) x.node at i) h.one_is in
+      let member : Member = record { up = true; node = left (decision m pair w call) } in
+      let rests : (n : ℕ) → n ≢ 1 → set_member w.members 1 member n ≡ w.members n = λ n ne. by_node (λ y z. y ≢ 1 → z ≡ w.members y) w.members 1 member n (λ e no. absurd (no e)) (λ _ _. refl) ne in
       record {
         zero_is = rests 0 (λ e. omega (arith, e)) ∙ h.zero_is;
         one_is = ap (λ (x : Decision). record { up = true; node = left x }) d ∙ ap (λ (x : Node). record { up = true; node = x }) same;
@@ -186,13 +186,13 @@ module _ (response : Response) (secret : Secret) (r : Request) where
   asked : Stands w (p ∷ []) (want ∷ [])
   asked =
       let call : Call = record { node = 1; moment = at; input = input.Ask 7 r } in
-      let at_rest : Place = record { up = true; node = node [] 1 } in
-      let place : Place = record { up = true; node = left (decision m pair begun call) } in
+      let at_rest : Member = record { up = true; node = node [] 1 } in
+      let member : Member = record { up = true; node = left (decision m pair begun call) } in
       subst (λ x. Stands x (p ∷ []) (want ∷ [])) (sym (stepped_by m pair begun (Ask 1 at 7 r) call refl)) (record {
         zero_is = refl;
         one_is = rw (get-empty key_cmp k) refl;
-        others = λ n le. by_node (λ y z. 2 ≤ y → z ≡ stopped blank) begun.places 1 place n (λ e more. absurd (omega (arith, e, more)))
-            (λ _ _. by_node (λ y z. 2 ≤ y → z ≡ stopped blank) (set_place (λ _. stopped blank) 0 at_rest) 1 at_rest n (λ e more. absurd (omega (arith, e, more)))
+        others = λ n le. by_node (λ y z. 2 ≤ y → z ≡ stopped blank) begun.members 1 member n (λ e more. absurd (omega (arith, e, more)))
+            (λ _ _. by_node (λ y z. 2 ≤ y → z ≡ stopped blank) (set_member (λ _. stopped blank) 0 at_rest) 1 at_rest n (λ e more. absurd (omega (arith, e, more)))
             (λ _ _. by_node (λ y z. 2 ≤ y → z ≡ stopped blank) (λ _. stopped blank) 0 at_rest n (λ e more. absurd (omega (arith, e, more))) (λ _ _. refl) le) le) le;
         packets_are = rw (get-empty key_cmp k) refl;
       })
@@ -227,12 +227,12 @@ module _ (response : Response) (secret : Secret) (r : Request) where
   -- ---- what is asked for
 
   unknown : (w : World) (ps : List Parked) (packets : List Packet) → Stands w ps packets → (x : ℕ) → states w k x ≡ None
-  unknown w ps packets h zero = ap (λ (y : Place). known y.node.durable k) h.zero_is ∙ rw (get-empty key_cmp k) refl
-  unknown w ps packets h (suc zero) = ap (λ (y : Place). known y.node.durable k) h.one_is ∙ rw (get-empty key_cmp k) refl
-  unknown w ps packets h (suc (suc n)) = ap (λ (y : Place). known y.node.durable k) (h.others (suc (suc n)) (omega arith)) ∙ rw (get-empty key_cmp k) refl
+  unknown w ps packets h zero = ap (λ (y : Member). known y.node.durable k) h.zero_is ∙ rw (get-empty key_cmp k) refl
+  unknown w ps packets h (suc zero) = ap (λ (y : Member). known y.node.durable k) h.one_is ∙ rw (get-empty key_cmp k) refl
+  unknown w ps packets h (suc (suc n)) = ap (λ (y : Member). known y.node.durable k) (h.others (suc (suc n)) (omega arith)) ∙ rw (get-empty key_cmp k) refl
 
   room_at : (w : World) (ps : List Parked) (packets : List Packet) → Stands w ps packets → HasRoomAt pair 1 k w
-  room_at w ps packets h = ap (λ (x : Place). lacks_room (setting_of pair 1 x.node.durable.boot) x.node.durable k) h.one_is ∙ rw (get-empty key_cmp k, len-empty key_cmp KeyState) refl
+  room_at w ps packets h = ap (λ (x : Member). lacks_room (setting_of pair 1 x.node.durable.boot) x.node.durable k) h.one_is ∙ rw (get-empty key_cmp k, len-empty key_cmp KeyState) refl
 
   -- in the two worlds of one event, and in those of the ticks
   room_one : (w : World) (e : WorldEvent) (ps qs : List Parked) (packets more : List Packet) → Stands w ps packets → Stands (happens m pair w e) qs more → HasRoom m pair 1 k w (e ∷ [])
@@ -241,9 +241,9 @@ module _ (response : Response) (secret : Secret) (r : Request) where
   room_ticks : (w : World) (ps qs : List Parked) (packets more : List Packet) → Stands w ps packets → Stands (run m pair w (Tick 0 at ∷ Tick 1 at ∷ [])) qs more → HasRoom m pair 1 k w (Tick 0 at ∷ Tick 1 at ∷ [])
   room_ticks w ps qs packets more h g = (room_at w ps packets h, (room_at (happens m pair w (Tick 0 at)) ps (packets ++ []) (zero_ticks w ps packets h), room_at (run m pair w (Tick 0 at ∷ Tick 1 at ∷ [])) qs more g))
 
-  settled : (w : World) (ps : List Parked) (packets : List Packet) → Stands w ps packets → ((q : Parked) → In q ps → q.key ≡ k) → (n : ℕ) → n < 2 → (q : Parked) → In q (w.places n).node.parked → is_settled (known (durable_at w n) q.key) ≡ false
-  settled w ps packets h keys zero less q i = absurd (subst (λ (x : Place). In q x.node.parked) h.zero_is i)
-  settled w ps packets h keys (suc zero) less q i = ap (λ y. is_settled (known (durable_at w 1) y)) (keys q (subst (λ (x : Place). In q x.node.parked) h.one_is i)) ∙ ap is_settled (unknown w ps packets h 1)
+  settled : (w : World) (ps : List Parked) (packets : List Packet) → Stands w ps packets → ((q : Parked) → In q ps → q.key ≡ k) → (n : ℕ) → n < 2 → (q : Parked) → In q (w.members n).node.parked → is_settled (known (durable_at w n) q.key) ≡ false
+  settled w ps packets h keys zero less q i = absurd (subst (λ (x : Member). In q x.node.parked) h.zero_is i)
+  settled w ps packets h keys (suc zero) less q i = ap (λ y. is_settled (known (durable_at w 1) y)) (keys q (subst (λ (x : Member). In q x.node.parked) h.one_is i)) ∙ ap is_settled (unknown w ps packets h 1)
   settled w ps packets h keys (suc (suc n)) less q i = absurd (omega (arith, less))
 
   waits_for : (q : Parked) → In q (p ∷ []) → q.key ≡ k
@@ -282,8 +282,8 @@ module _ (response : Response) (secret : Secret) (r : Request) where
     settled = settled (behind m pair v d) [] (want ∷ want ∷ denial ∷ want ∷ denial ∷ []) late (λ q i. absurd i);
   }
 
-  pub waits : In p (w.places 1).node.parked
-  waits = subst (λ (x : Place). In p x.node.parked) (sym asked.one_is) (inl refl)
+  pub waits : In p (w.members 1).node.parked
+  waits = subst (λ (x : Member). In p x.node.parked) (sym asked.one_is) (inl refl)
 
   pub fair : AreFair m pair 2 w (a ∷ b ∷ d ∷ [])
   fair = record { run = all_run w (p ∷ []) (want ∷ []) asked; rounds_are = (first_fair, (second_fair, (third_fair, tt))) }
@@ -314,5 +314,5 @@ module _ (response : Response) (secret : Secret) (r : Request) where
       }
 
   -- and it is served: in the second round
-  pub served : ((behind m pair (behind m pair w a) b).places 1).node.parked ≡ []
-  served = ap (λ (x : Place). x.node.parked) quiet.one_is
+  pub served : ((behind m pair (behind m pair w a) b).members 1).node.parked ≡ []
+  served = ap (λ (x : Member). x.node.parked) quiet.one_is

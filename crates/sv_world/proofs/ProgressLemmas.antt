@@ -21,7 +21,7 @@ use Rattle.sv_world.specs.declared.event.WorldEvent.TheVariants.{Ask, Deliver, P
 use Rattle.sv_world.specs.declared.line.Line.{Line}
 use Rattle.sv_world.specs.declared.call.Call.{Call}
 use Rattle.sv_world.specs.Sent.{may_come}
-use Rattle.sv_world.specs.World.{Cluster, Place, World, set_place, setting_of, durable_at, items, commits_in, whole, decision, steps, happens, run, item_at, is_ready, is_there, is_unused, call_of, token_of_call}
+use Rattle.sv_world.specs.World.{Cluster, Member, World, set_member, setting_of, durable_at, items, commits_in, whole, decision, steps, happens, run, item_at, is_ready, is_there, is_unused, call_of, token_of_call}
 use Rattle.sv_world.specs.Waits.{boot_of}
 use Rattle.sv_world.specs.Progress.{IsStep, AreSteps, waiting, accounted_in, IsKept, setting_at, told_at, Runs, NobodyIsForgotten, TicksEndWaiting}
 use Rattle.sv_world.proofs.Events.{IsReady, readies}
@@ -42,17 +42,17 @@ pub kept_then : (w v u : World) → Kept w v → Kept v u → Kept w u
 kept_then w v u a b = record { count = λ t. omega (arith, a.count t, b.count t) }
 
 -- a whole step accounts for the one that came, and for those that wait
-grows : (w : World) (n : ℕ) (p : Place) (l : Line)
-    → ((t : Token) → t.node ≡ n → times t (served_of (option_to_list l.commit)) + times t (item_at l).refused + waiting t n (boot_of p) p.node.parked ≡ waiting t n (boot_of (w.places n)) (w.places n).node.parked + one_if (is_of t l.asked))
+grows : (w : World) (n : ℕ) (p : Member) (l : Line)
+    → ((t : Token) → t.node ≡ n → times t (served_of (option_to_list l.commit)) + times t (item_at l).refused + waiting t n (boot_of p) p.node.parked ≡ waiting t n (boot_of (w.members n)) (w.members n).node.parked + one_if (is_of t l.asked))
     → ((t : Token) → t.node ≢ n → times t (served_of (option_to_list l.commit)) + times t (item_at l).refused + one_if (is_of t l.asked) ≡ 0)
-    → (packets : List Packet) → Kept w (record { places = set_place w.places n p; packets = packets; trace = w.trace ++ l ∷ [] })
+    → (packets : List Packet) → Kept w (record { members = set_member w.members n p; packets = packets; trace = w.trace ++ l ∷ [] })
 grows w n p l here there packets =
     let served : (t : Token) → times t (served_of (commits_of (items (w.trace ++ l ∷ [])))) ≡ times t (served_of (commits_in w)) + times t (served_of (option_to_list l.commit)) = λ t. ap (λ cs. times t (served_of cs)) (commits_snoc w.trace l) ∙ served_snoc t (commits_in w) l.commit in
     let refused : (t : Token) → times t (refused_of (items (w.trace ++ l ∷ []))) ≡ times t (refused_of (items w.trace)) + times t (item_at l).refused = λ t. ap (λ is. times t (refused_of is)) (items_snoc w.trace l) ∙ refused_snoc t (items w.trace) (item_at l) in
     let asked : (t : Token) → times t (asked_of (items (w.trace ++ l ∷ []))) ≡ times t (asked_of (items w.trace)) + one_if (is_of t l.asked) = λ t. ap (λ is. times t (asked_of is)) (items_snoc w.trace l) ∙ asked_snoc t (items w.trace) (item_at l) in
     record {
-      count = λ t. by_node (λ y z. t.node ≡ y → times t (asked_of (items (w.trace ++ l ∷ []))) + accounted_in w t ≡ times t (asked_of (items w.trace)) + (times t (served_of (commits_of (items (w.trace ++ l ∷ [])))) + times t (refused_of (items (w.trace ++ l ∷ []))) + waiting t y (boot_of z) z.node.parked)) w.places n p t.node
-          (λ e _. omega (arith, served t, refused t, asked t, here t e, ap (λ y. waiting t y (boot_of p) p.node.parked) e, ap (λ y. waiting t y (boot_of (w.places y)) (w.places y).node.parked) e))
+      count = λ t. by_node (λ y z. t.node ≡ y → times t (asked_of (items (w.trace ++ l ∷ []))) + accounted_in w t ≡ times t (asked_of (items w.trace)) + (times t (served_of (commits_of (items (w.trace ++ l ∷ [])))) + times t (refused_of (items (w.trace ++ l ∷ []))) + waiting t y (boot_of z) z.node.parked)) w.members n p t.node
+          (λ e _. omega (arith, served t, refused t, asked t, here t e, ap (λ y. waiting t y (boot_of p) p.node.parked) e, ap (λ y. waiting t y (boot_of (w.members y)) (w.members y).node.parked) e))
           (λ e _. omega (arith, served t, refused t, asked t, there t e)) refl;
     }
 
@@ -61,7 +61,7 @@ module _ (m : Meanings) (c : Cluster) where
       → times t (served_of (option_to_list (decision m c w call).commit)) + times t (filter_map (refusal_in (token_of (setting_at c w call.node) (durable_at w call.node))) (decision m c w call).outputs) + one_if (is_of t (token_of_call c w call)) ≡ 0
   outside w call t ne =
       let h = thrifty_at m c w call in
-      omega (arith, h.count t, waiting_none t call.node (durable_at w call.node).boot (w.places call.node).node.parked ne, times_one t (token_of_call c w call), ap one_if (elsewhere m c (durable_at w call.node) call.node call.input t ne))
+      omega (arith, h.count t, waiting_none t call.node (durable_at w call.node).boot (w.members call.node).node.parked ne, times_one t (token_of_call c w call), ap one_if (elsewhere m c (durable_at w call.node) call.node call.input t ne))
 
   whole_kept : (w : World) (e : WorldEvent) (call : Call) → Kept w (whole c w e call (decision m c w call))
   whole_kept w e call =
@@ -117,7 +117,7 @@ pub ready_by : (c : Cluster) (w : World) (call : Call) → Runs c w call.node �
 ready_by c w call r may none =
     let unused : is_unused (asked_of (items w.trace)) (token_of_call c w call) ≡ true = ap (is_unused (asked_of (items w.trace))) none in
     and_from (is_there c call.node (durable_at w call.node).boot) _ (lt-ltb call.node (told_at c w call.node) r.there)
-    (and_from (w.places call.node).up _ r.up (and_from (may_come w.packets call.input) _ may unused))
+    (and_from (w.members call.node).up _ r.up (and_from (may_come w.packets call.input) _ may unused))
 
 -- what becomes of such a step
 pub stepped_by : (m : Meanings) (c : Cluster) (w : World) (e : WorldEvent) (call : Call) → is_ready c w call ≡ true → steps m c w e (Some call) ≡ whole c w e call (decision m c w call)
@@ -128,17 +128,17 @@ pub boot_kept : (m : Meanings) (c : Cluster) (w : World) (call : Call) → (deci
 boot_kept m c w call = (thrifty_at m c w call).boot
 
 -- behind a tick none is late
-pub none_late : (m : Meanings) (c : Cluster) (w : World) (n : ℕ) (moment : Moment) → Runs c w n → (p : Parked) → In p ((happens m c w (Tick n moment)).places n).node.parked
+pub none_late : (m : Meanings) (c : Cluster) (w : World) (n : ℕ) (moment : Moment) → Runs c w n → (p : Parked) → In p ((happens m c w (Tick n moment)).members n).node.parked
     → is_late (setting_at c (happens m c w (Tick n moment)) n) moment.steady p ≡ false
 none_late m c w n moment r =
     let call : Call = record { node = n; moment = moment; input = input.Tick } in
     let d = decision m c w call in
     let late = λ (set : Setting). is_late set moment.steady in
-    let place : Place = record { up = true; node = left d } in
+    let member : Member = record { up = true; node = left d } in
     let boot : d.durable.boot ≡ (durable_at w n).boot = boot_kept m c w call in
-    subst (λ (x : World). (p : Parked) → In p (x.places n).node.parked → late (setting_at c x n) p ≡ false) (sym (stepped_by m c w (Tick n moment) call (ready_by c w call r refl refl)))
-    (by_node (λ y z. y ≡ n → (p : Parked) → In p z.node.parked → late (setting_of c n z.node.durable.boot) p ≡ false) w.places n place n
-    (λ _ _ p i. ap (λ b. late (setting_of c n b) p) boot ∙ stays_early (late (setting_at c w n)) (w.places n).node.parked p i) (λ ne _ p i. absurd (ne refl)) refl)
+    subst (λ (x : World). (p : Parked) → In p (x.members n).node.parked → late (setting_at c x n) p ≡ false) (sym (stepped_by m c w (Tick n moment) call (ready_by c w call r refl refl)))
+    (by_node (λ y z. y ≡ n → (p : Parked) → In p z.node.parked → late (setting_of c n z.node.durable.boot) p ≡ false) w.members n member n
+    (λ _ _ p i. ap (λ b. late (setting_of c n b) p) boot ∙ stays_early (late (setting_at c w n)) (w.members n).node.parked p i) (λ ne _ p i. absurd (ne refl)) refl)
 
 pub ticks_end : (m : Meanings) (c : Cluster) (w : World) → TicksEndWaiting m c w
 ticks_end m c w n moment r p i =

@@ -88,7 +88,7 @@ pub record Takes (ps : List Packet) (set : Setting) (d : Decision) : Type 0 wher
 
 pub record Queues (ps : List Packet) (set : Setting) (node : Node) (d : Decision) : Type 0 where
   pub says : (d.mark ≡ None) ⊎ (Gives set d ⊎ Takes ps set d)
-  pub members : (p : Parked) → In p d.parked → In p node.parked ⊎ ((p.want ≡ node.next_want) × IsAsked set node.durable p)
+  pub origins : (p : Parked) → In p d.parked → In p node.parked ⊎ ((p.want ≡ node.next_want) × IsAsked set node.durable p)
   pub rising : AreWants 0 node.parked node.next_want → AreWants 0 d.parked d.next_want
   pub up : node.next_want ≤ d.next_want
 
@@ -100,7 +100,7 @@ module _ (m : EngineMeaning) (set : Setting) (node : Node) (moment : Moment) (ps
   still : (d : Decision) → (d.mark ≡ None) ⊎ (Gives set d ⊎ Takes ps set d) → d.parked ≡ node.parked → d.next_want ≡ node.next_want → Queues ps set node d
   still d says same want = record {
     says = says;
-    members = λ p i. inl (subst (In p) same i);
+    origins = λ p i. inl (subst (In p) same i);
     rising = λ h. subst (λ xs. AreWants 0 xs d.next_want) (sym same) (subst (AreWants 0 node.parked) (sym want) h);
     up = omega (arith, want);
   }
@@ -113,8 +113,8 @@ module _ (m : EngineMeaning) (set : Setting) (node : Node) (moment : Moment) (ps
 
   unless_queues : (cause : Option Cause) (number : ℕ) (r : Request) (rest : List Parked) → ((p : Parked) → In p rest → In p node.parked) → (AreWants 0 node.parked node.next_want → AreWants 0 rest node.next_want)
       → Queues ps set node (answered_unless cause m set node moment number r (answer_of m set node.durable moment r) rest)
-  unless_queues None number r rest old rises = record { says = inl refl; members = λ p i. inl (old p i); rising = rises; up = omega arith }
-  unless_queues (Some cause) number r rest old rises = record { says = inl refl; members = λ p i. inl (old p i); rising = rises; up = omega arith }
+  unless_queues None number r rest old rises = record { says = inl refl; origins = λ p i. inl (old p i); rising = rises; up = omega arith }
+  unless_queues (Some cause) number r rest old rises = record { says = inl refl; origins = λ p i. inl (old p i); rising = rises; up = omega arith }
 
   serve_queues : (number : ℕ) (r : Request) (rest : List Parked) → ((p : Parked) → In p rest → In p node.parked) → (AreWants 0 node.parked node.next_want → AreWants 0 rest node.next_want)
       → Queues ps set node (served m set node moment number r rest)
@@ -133,7 +133,7 @@ module _ (m : EngineMeaning) (set : Setting) (node : Node) (moment : Moment) (ps
       let asked : IsAsked set node.durable new = record { home = leb-false set.nodes k.home t.0; made = t.1 } in
       record {
         says = inl refl;
-        members = λ p i. ⊎_elim (λ (o : In p node.parked). inl o) (λ (e : new ≡ p). inr (subst (λ (q : Parked). (q.want ≡ node.next_want) × IsAsked set node.durable q) e (refl, asked))) (in_last p node.parked new i);
+        origins = λ p i. ⊎_elim (λ (o : In p node.parked). inl o) (λ (e : new ≡ p). inr (subst (λ (q : Parked). (q.want ≡ node.next_want) × IsAsked set node.durable q) e (refl, asked))) (in_last p node.parked new i);
         rising = λ h. more_rises 0 node.parked new node.next_want refl h;
         up = omega arith;
       }
@@ -205,7 +205,7 @@ module _ (m : EngineMeaning) (set : Setting) (node : Node) (moment : Moment) (ps
       Queues ps set node (record d { outputs = deadlines set moment.steady node.parked ++ wants_again set node.durable rest ++ filter_map (grant_again set) (entries d.durable.keys); parked = rest })
   tick_by d mark want = record {
     says = inl mark;
-    members = λ p i. inl (in_filter (λ q. not (is_late set moment.steady q)) node.parked p i);
+    origins = λ p i. inl (in_filter (λ q. not (is_late set moment.steady q)) node.parked p i);
     rising = λ h. filter_rises (λ q. not (is_late set moment.steady q)) 0 node.parked d.next_want (subst (AreWants 0 node.parked) (sym want) h);
     up = omega (arith, want);
   }

@@ -21,7 +21,7 @@ use Rattle.sv_world.specs.declared.line.Line.{Line}
 use Rattle.sv_world.specs.declared.call.Call.{Call}
 use Rattle.sv_world.specs.declared.rules.Rules.{Rules}
 use Rattle.sv_world.specs.Rules.{setting_by}
-use Rattle.sv_world.specs.World.{Cluster, setting_of, Place, World, set_place, durable_at, stopped, nothing_happened, records_at, decision, happens, run}
+use Rattle.sv_world.specs.World.{Cluster, setting_of, Member, World, set_member, durable_at, stopped, nothing_happened, records_at, decision, happens, run}
 use Rattle.sv_world.proofs.Waiting.{by_node}
 use Rattle.sv_world.proofs.Events.{behind, behind_all}
 use Rattle.sv_world.proofs.Runs.{Inv, sound_at, happens_keeps}
@@ -50,12 +50,12 @@ one_more : (d : Durable) (o : Option Record) → replayed d (option_to_list o ++
 one_more d None = refl
 one_more d (Some r) = refl
 
-grows : (wide : Rules) (w : World) (n : ℕ) (p : Place) (l : Line) (packets : List Packet) → l.node ≡ n → p.node.durable ≡ applied_if l.entry (durable_at w n) → FitsIf (setting_by wide n 0) (durable_at w n) l.entry → Kept wide w → Kept wide (record { places = set_place w.places n p; packets = packets; trace = w.trace ++ l ∷ [] })
+grows : (wide : Rules) (w : World) (n : ℕ) (p : Member) (l : Line) (packets : List Packet) → l.node ≡ n → p.node.durable ≡ applied_if l.entry (durable_at w n) → FitsIf (setting_by wide n 0) (durable_at w n) l.entry → Kept wide w → Kept wide (record { members = set_member w.members n p; packets = packets; trace = w.trace ++ l ∷ [] })
 grows wide w n p l packets at applies fit j = record {
   replay = λ y.
       let split : replayed blank (records_at y (w.trace ++ l ∷ [])) ≡ replayed (durable_at w y) (cond (l.node == y) (option_to_list l.entry) [] ++ []) =
       ap (replayed blank) (flat_map-append (λ (x : Line). cond (x.node == y) (option_to_list x.entry) []) w.trace (l ∷ [])) ∙ replayed_more blank (records_at y w.trace) _ ∙ ap (λ d. replayed d (cond (l.node == y) (option_to_list l.entry) [] ++ [])) (sym (j.replay y)) in
-      by_node (λ z q. y ≡ z → q.node.durable ≡ replayed blank (records_at y (w.trace ++ l ∷ []))) w.places n p y
+      by_node (λ z q. y ≡ z → q.node.durable ≡ replayed blank (records_at y (w.trace ++ l ∷ []))) w.members n p y
       (λ e _. applies ∙ sym (one_more (durable_at w n) l.entry) ∙ ap (λ d. replayed d (option_to_list l.entry ++ [])) (ap (durable_at w) (sym e)) ∙ ap (λ rs. replayed (durable_at w y) (rs ++ [])) (sym (cond-true (l.node == y) (option_to_list l.entry) [] (eq-eqb l.node y (at ∙ sym e)))) ∙ sym split)
       (λ e _. ap (λ rs. replayed (durable_at w y) (rs ++ [])) (sym (cond-false (l.node == y) (option_to_list l.entry) [] (ne_eqb l.node y (λ h. e (sym h ∙ at))))) ∙ sym split) refl;
   fits = λ y.
@@ -78,7 +78,7 @@ module _ (m : Meanings) (touches : AllTouchOnlyHanded m) (c : Cluster) (wide : R
   if_wider n boot d (Some r) h stage = wider n boot stage d r (h stage)
 
   fits_at : (w : World) (call : Call) → FitsIf (setting_by wide call.node 0) (durable_at w call.node) (decision m c w call).entry
-  fits_at w call = if_wider call.node (durable_at w call.node).boot (durable_at w call.node) (decision m c w call).entry (journaled (setting_of c call.node (durable_at w call.node).boot) (w.places call.node).node (m call.node (durable_at w call.node).boot) (touches call.node (durable_at w call.node).boot) call.moment call.input).fits
+  fits_at w call = if_wider call.node (durable_at w call.node).boot (durable_at w call.node) (decision m c w call).entry (journaled (setting_of c call.node (durable_at w call.node).boot) (w.members call.node).node (m call.node (durable_at w call.node).boot) (touches call.node (durable_at w call.node).boot) call.moment call.input).fits
 
   pub happens_kept : (w : World) (e : WorldEvent) → Inv m c w → Kept wide w → Kept wide (happens m c w e)
   happens_kept w e inv j = behind m c w (Kept wide) e (record {

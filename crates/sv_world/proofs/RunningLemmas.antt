@@ -20,7 +20,7 @@ use Rattle.sv_world.specs.declared.call.Call.{Call}
 use Rattle.sv_model.specs.NodeState.{known}
 use Rattle.sv_world.specs.Headline.{states}
 use Rattle.sv_world.specs.Sent.{same_packet}
-use Rattle.sv_world.specs.World.{Cluster, Place, World, durable_at, whole, decision, steps, happens, run, call_of}
+use Rattle.sv_world.specs.World.{Cluster, Member, World, durable_at, whole, decision, steps, happens, run, call_of}
 use Rattle.sv_world.specs.Progress.{IsStep, AreSteps, told_at, Runs, AllRun}
 use Rattle.sv_world.proofs.Events.{behind}
 use Rattle.sv_world.proofs.Keys.{in_left, got}
@@ -130,7 +130,7 @@ module _ (m : Meanings) (c : Cluster) where
 
   pub boots_stay : (w : World) (e : WorldEvent) → IsStep e → (n : ℕ) → (durable_at (happens m c w e) n).boot ≡ (durable_at w n).boot
   boots_stay w e s n = stepping m c (λ v. (durable_at v n).boot ≡ (durable_at w n).boot) w e s refl
-      (λ call is r. by_node (λ y z. z.node.durable.boot ≡ (durable_at w y).boot) w.places call.node (record { up = true; node = left (decision m c w call) }) n
+      (λ call is r. by_node (λ y z. z.node.durable.boot ≡ (durable_at w y).boot) w.members call.node (record { up = true; node = left (decision m c w call) }) n
       (λ same. boot_kept m c w call ∙ ap (λ y. (durable_at w y).boot) (sym same)) (λ _. refl))
 
   pub boots_along : (es : List WorldEvent) (w : World) → AreSteps es → (n : ℕ) → (durable_at (run m c w es) n).boot ≡ (durable_at w n).boot
@@ -139,12 +139,12 @@ module _ (m : Meanings) (c : Cluster) where
 
   pub runs_on : (nodes : ℕ) (w : World) (e : WorldEvent) → IsStep e → AllRun c nodes w → AllRun c nodes (happens m c w e)
   runs_on nodes w e s all = stepping m c (AllRun c nodes) w e s all (λ call is r.
-      let place : Place = record { up = true; node = left (decision m c w call) } in
+      let member : Member = record { up = true; node = left (decision m c w call) } in
       record {
-        up = λ n. by_node (λ y z. y < nodes → z.up ≡ true) w.places call.node place n (λ _ _. refl) (λ _. all.up n);
-        told = λ n. by_node (λ y z. y < nodes → c.nodes y z.node.durable.boot ≡ nodes) w.places call.node place n
+        up = λ n. by_node (λ y z. y < nodes → z.up ≡ true) w.members call.node member n (λ _ _. refl) (λ _. all.up n);
+        told = λ n. by_node (λ y z. y < nodes → c.nodes y z.node.durable.boot ≡ nodes) w.members call.node member n
             (λ same inside. ap (λ b. c.nodes n b) (boot_kept m c w call ∙ ap (λ y. (durable_at w y).boot) (sym same)) ∙ all.told n inside) (λ _. all.told n);
-        only = λ n. by_node (λ y z. z.up ≡ true → y < nodes) w.places call.node place n (λ same _. subst (λ y. y < nodes) (sym same) (all.only call.node r.up)) (λ _. all.only n);
+        only = λ n. by_node (λ y z. z.up ≡ true → y < nodes) w.members call.node member n (λ same _. subst (λ y. y < nodes) (sym same) (all.only call.node r.up)) (λ _. all.only n);
       })
 
   pub runs_along : (nodes : ℕ) (es : List WorldEvent) (w : World) → AreSteps es → AllRun c nodes w → AllRun c nodes (run m c w es)
@@ -153,19 +153,19 @@ module _ (m : Meanings) (c : Cluster) where
 
   pub one_runs : (w : World) (e : WorldEvent) → IsStep e → (n : ℕ) → Runs c w n → Runs c (happens m c w e) n
   one_runs w e s n h = stepping m c (λ v. Runs c v n) w e s h (λ call is r.
-      let place : Place = record { up = true; node = left (decision m c w call) } in
+      let member : Member = record { up = true; node = left (decision m c w call) } in
       record {
-        up = by_node (λ y z. z.up ≡ true) w.places call.node place n (λ _. refl) (λ _. h.up);
-        there = by_node (λ y z. n < c.nodes n z.node.durable.boot) w.places call.node place n
+        up = by_node (λ y z. z.up ≡ true) w.members call.node member n (λ _. refl) (λ _. h.up);
+        there = by_node (λ y z. n < c.nodes n z.node.durable.boot) w.members call.node member n
             (λ same. subst (λ b. n < c.nodes n b) (sym (boot_kept m c w call ∙ ap (λ y. (durable_at w y).boot) (sym same))) h.there) (λ _. h.there);
       })
 
   -- of two nodes one knows of a key what it knew
   pub one_moves : (w : World) (e : WorldEvent) → IsStep e → (k : Key) (x y : ℕ) → x ≢ y → (states (happens m c w e) k x ≡ states w k x) ⊎ (states (happens m c w e) k y ≡ states w k y)
   one_moves w e s k x y apart = stepping m c (λ v. (states v k x ≡ states w k x) ⊎ (states v k y ≡ states w k y)) w e s (inl refl) (λ call is r.
-      let place : Place = record { up = true; node = left (decision m c w call) } in
+      let member : Member = record { up = true; node = left (decision m c w call) } in
       let v = whole c w e call (decision m c w call) in
-      let keeps : (z : ℕ) → z ≢ call.node → states v k z ≡ states w k z = λ z ne. by_node (λ a b. a ≢ call.node → known b.node.durable k ≡ states w k a) w.places call.node place z (λ same other. absurd (other same)) (λ _ _. refl) ne in
+      let keeps : (z : ℕ) → z ≢ call.node → states v k z ≡ states w k z = λ z ne. by_node (λ a b. a ≢ call.node → known b.node.durable k ≡ states w k a) w.members call.node member z (λ same other. absurd (other same)) (λ _ _. refl) ne in
       ⊎_elim (λ (same : x ≡ call.node). inr (keeps y (λ also. apart (same ∙ sym also)))) (λ (ne : x ≢ call.node). inl (keeps x ne)) (cases_eq x call.node))
 
   -- ---- a packet comes where its addressee runs

@@ -32,7 +32,7 @@ use Rattle.sv_world.specs.Life.{Life, Unborn}
 use Rattle.sv_world.specs.declared.event.WorldEvent.{WorldEvent}
 use Rattle.sv_world.specs.declared.line.Line.{Line}
 use Rattle.sv_world.specs.declared.call.Call.{Call}
-use Rattle.sv_world.specs.World.{Cluster, Place, World, set_place, durable_at, stopped, nothing_happened, items, commits_in, openings_of, whole, torn, silent, becomes, decision, happens, run, item_at, record_of_start, quiet_line, commit_with, token_of_call, setting_of}
+use Rattle.sv_world.specs.World.{Cluster, Member, World, set_member, durable_at, stopped, nothing_happened, items, commits_in, openings_of, whole, torn, silent, becomes, decision, happens, run, item_at, record_of_start, quiet_line, commit_with, token_of_call, setting_of}
 use Rattle.sv_world.specs.Sane.{Sane, acked, store_of}
 use Rattle.sv_world.specs.Headline.{states, IsLiveAt, IsOpening, IsLive, granted, opened}
 use Rattle.sv_model.specs.Node.{decided}
@@ -41,12 +41,12 @@ use Rattle.sv_world.proofs.Sending.{lives_packets}
 use Rattle.sv_world.proofs.OneKey.{lives_once, map_has_live, live_of_map}
 use Rattle.sv_world.proofs.Steps.{Redisk, keys_of, Sound, decide_sound}
 
-abbrev pub disks_of : (ℕ → Place) → ℕ → Durable
-disks_of places x = (places x).node.durable
+abbrev pub disks_of : (ℕ → Member) → ℕ → Durable
+disks_of members x = (members x).node.durable
 
 -- a record, so that its arguments are found
 pub record Inv (m : Meanings) (c : Cluster) (w : World) : Type 0 where
-  pub sane : Sane m c (disks_of w.places) w.packets (openings_of w.trace) (commits_in w)
+  pub sane : Sane m c (disks_of w.members) w.packets (openings_of w.trace) (commits_in w)
 
 -- ---- a trace with one more line
 
@@ -61,29 +61,29 @@ pub commits_snoc : (trace : List Line) (l : Line) → commits_of (items (trace +
 commits_snoc trace l = ap commits_of (map-append item_at trace (l ∷ [])) ∙ flat_map-append (λ (i : Item). option_to_list i.commit) (items trace) (item_at l ∷ []) ∙ last_is (commits_of (items trace)) l.commit
 
 -- the invariant of a world, from that of its lists
-pub inv_by : (m : Meanings) (c : Cluster) (places : ℕ → Place) (packets : List Packet) (trace : List Line) (l : Line) → Sane m c (disks_of places) packets (with_last (openings_of trace) (opening_of l.entry)) (with_last (commits_of (items trace)) l.commit)
-    → Inv m c (record { places = places; packets = packets; trace = trace ++ l ∷ [] })
-inv_by m c places packets trace l s = record { sane = subst (λ os. Sane m c (disks_of places) packets os (commits_of (items (trace ++ l ∷ [])))) (sym (openings_snoc trace l)) (subst (λ cs. Sane m c (disks_of places) packets (with_last (openings_of trace) (opening_of l.entry)) cs) (sym (commits_snoc trace l)) s) }
+pub inv_by : (m : Meanings) (c : Cluster) (members : ℕ → Member) (packets : List Packet) (trace : List Line) (l : Line) → Sane m c (disks_of members) packets (with_last (openings_of trace) (opening_of l.entry)) (with_last (commits_of (items trace)) l.commit)
+    → Inv m c (record { members = members; packets = packets; trace = trace ++ l ∷ [] })
+inv_by m c members packets trace l s = record { sane = subst (λ os. Sane m c (disks_of members) packets os (commits_of (items (trace ++ l ∷ [])))) (sym (openings_snoc trace l)) (subst (λ cs. Sane m c (disks_of members) packets (with_last (openings_of trace) (opening_of l.entry)) cs) (sym (commits_snoc trace l)) s) }
 
 -- ---- one node becomes another
 
-redisk : (places : ℕ → Place) (n : ℕ) (p : Place) → Redisk (disks_of places) (disks_of (set_place places n p)) n p.node.durable
-redisk places n p = record { mine = ap (λ (z : Place). z.node.durable) (cond-true (n == n) p (places n) (eq-eqb n n refl)); others = λ y ne. ap (λ (z : Place). z.node.durable) (cond-false (y == n) p (places y) (ne_eqb y n ne)) }
+redisk : (members : ℕ → Member) (n : ℕ) (p : Member) → Redisk (disks_of members) (disks_of (set_member members n p)) n p.node.durable
+redisk members n p = record { mine = ap (λ (z : Member). z.node.durable) (cond-true (n == n) p (members n) (eq-eqb n n refl)); others = λ y ne. ap (λ (z : Member). z.node.durable) (cond-false (y == n) p (members y) (ne_eqb y n ne)) }
 
 abbrev pub SoundAt : Meanings → Cluster → World → ℕ → Decision → Type 0
-SoundAt m c w n d = Sound m c (disks_of w.places) w.packets (openings_of w.trace) (commits_in w) n (durable_at w n) d
+SoundAt m c w n d = Sound m c (disks_of w.members) w.packets (openings_of w.trace) (commits_in w) n (durable_at w n) d
 
 whole_keeps : (m : Meanings) (c : Cluster) (w : World) (e : WorldEvent) (call : Call) (d : Decision) → SoundAt m c w call.node d → Inv m c (whole c w e call d)
 whole_keeps m c w e call d s =
     let n = call.node in
-    let p : Place = record { up = true; node = left d } in
-    let r = redisk w.places n p in
+    let p : Member = record { up = true; node = left d } in
+    let r = redisk w.members n p in
     let a = s.durable _ r in
-    let l = lives_packets (keys_of (disks_of (set_place w.places n p))) w.packets _ _ (sends_in d.outputs) (s.just _ r) (record { each = a.lives }) in
-    inv_by m c (set_place w.places n p) (w.packets ++ sends_in d.outputs) w.trace _ (record { lives = l.each; unmade = a.unmade; made = a.made; lawful = a.lawful; counts = a.counts; own = a.own; full = a.full })
+    let l = lives_packets (keys_of (disks_of (set_member w.members n p))) w.packets _ _ (sends_in d.outputs) (s.just _ r) (record { each = a.lives }) in
+    inv_by m c (set_member w.members n p) (w.packets ++ sends_in d.outputs) w.trace _ (record { lives = l.each; unmade = a.unmade; made = a.made; lawful = a.lawful; counts = a.counts; own = a.own; full = a.full })
 
 torn_keeps : (m : Meanings) (c : Cluster) (w : World) (e : WorldEvent) (call : Call) (d : Decision) → SoundAt m c w call.node d → Inv m c (torn c w e call d)
-torn_keeps m c w e call d s = inv_by m c (set_place w.places call.node (stopped d.durable)) w.packets w.trace _ (s.durable _ (redisk w.places call.node (stopped d.durable)))
+torn_keeps m c w e call d s = inv_by m c (set_member w.members call.node (stopped d.durable)) w.packets w.trace _ (s.durable _ (redisk w.members call.node (stopped d.durable)))
 
 -- a node knows what it knew, and keeps what it kept; it may begin to forget its own keys
 record IsAlike (n : ℕ) (old new : Durable) : Type 0 where
@@ -92,11 +92,11 @@ record IsAlike (n : ℕ) (old new : Durable) : Type 0 where
   next : new.next ≡ old.next
   home : (new.home ≡ old.home) ⊎ (new.home ≡ Some n)
 
-alike_keeps : (m : Meanings) (c : Cluster) (w : World) (e : WorldEvent) (n : ℕ) (p : Place) (entry : Option Record) (asked : Option Token) → opening_of entry ≡ None → IsAlike n (durable_at w n) p.node.durable → Inv m c w → Inv m c (becomes w e n p entry asked)
+alike_keeps : (m : Meanings) (c : Cluster) (w : World) (e : WorldEvent) (n : ℕ) (p : Member) (entry : Option Record) (asked : Option Token) → opening_of entry ≡ None → IsAlike n (durable_at w n) p.node.durable → Inv m c w → Inv m c (becomes w e n p entry asked)
 alike_keeps m c w e n p entry asked none alike inv =
     let j = inv.sane in
-    let r = redisk w.places n p in
-    let new = disks_of (set_place w.places n p) in
+    let r = redisk w.members n p in
+    let new = disks_of (set_member w.members n p) in
     let f : (y : ℕ) (q : Key) → known (new y) q ≡ known (durable_at w y) q = λ y q. ⊎_elim (λ (e : y ≡ n). ap (λ z. known (new z) q) e ∙ ap (λ (d : Durable). known d q) r.mine ∙ alike.known_is q ∙ ap (λ z. known (durable_at w z) q) (sym e)) (λ (e : y ≢ n). ap (λ (d : Durable). known d q) (r.others y e)) (cases_eq y n) in
     let k : (y : ℕ) → (new y).keys ≡ (durable_at w y).keys = λ y. ⊎_elim (λ (e : y ≡ n). ap (λ z. (new z).keys) e ∙ ap (λ (d : Durable). d.keys) r.mine ∙ alike.keys ∙ ap (λ z. (durable_at w z).keys) (sym e)) (λ (e : y ≢ n). ap (λ (d : Durable). d.keys) (r.others y e)) (cases_eq y n) in
     let s : (y : ℕ) → (new y).next ≡ (durable_at w y).next = λ y. ⊎_elim (λ (e : y ≡ n). ap (λ z. (new z).next) e ∙ ap (λ (d : Durable). d.next) r.mine ∙ alike.next ∙ ap (λ z. (durable_at w z).next) (sym e)) (λ (e : y ≢ n). ap (λ (d : Durable). d.next) (r.others y e)) (cases_eq y n) in
@@ -107,7 +107,7 @@ alike_keeps m c w e n p entry asked none alike inv =
     alike.home)
     (λ (e : y ≢ n). inl (ap (λ (d : Durable). d.home) (r.others y e)))
     (cases_eq y n) in
-    inv_by m c (set_place w.places n p) w.packets w.trace _ (subst (λ o. Sane m c new w.packets (with_last (openings_of w.trace) o) (commits_in w)) (sym none) (record {
+    inv_by m c (set_member w.members n p) w.packets w.trace _ (subst (λ o. Sane m c new w.packets (with_last (openings_of w.trace) o) (commits_in w)) (sym none) (record {
       lives = λ q. subst (λ (g : ℕ → Option KeyState). Life g (granted w.packets q) (acked w.packets q) (opened (openings_of w.trace) q) ((store_of m (commits_in w)).map q)) (λ i y. sym (f y q) i) (j.lives q);
       unmade = λ y q u. f y q ∙ j.unmade y q (⊎_elim (λ (l : (new q.home).next ≤ q.serial). inl (omega (arith, s q.home))) (λ (z : q.serial ≡ 0). inr z) u);
       made = λ q u. omega (arith, s q.home, j.made q u);
@@ -140,16 +140,16 @@ start_alike m c w n inv =
     (λ _. record { known_is = forgets_known d n (d.boot + 1) d.home refl (j.own n) (j.full n); keys = refl; next = refl; home = inr refl })
     (λ _. record { known_is = λ q. refl; keys = refl; next = refl; home = inl refl })
 
--- a step of which nothing leaves its node: what it made durable, and nothing where it has no record
+-- a silent step: what it made durable, and nothing where it has no record
 silent_by : (m : Meanings) (c : Cluster) (w : World) (e : WorldEvent) (call : Call) (d : Decision) → SoundAt m c w call.node d → Inv m c w → (o : Option Record) → d.entry ≡ o
-    → Inv m c (record { places = set_place w.places call.node (record { up = true; node = left d }); packets = w.packets; trace = w.trace ++ quiet_line w e call.node (token_of_call c w call) o (commit_with o d.commit) ∷ [] })
+    → Inv m c (record { members = set_member w.members call.node (record { up = true; node = left d }); packets = w.packets; trace = w.trace ++ quiet_line w e call.node (token_of_call c w call) o (commit_with o d.commit) ∷ [] })
 silent_by m c w e call d s inv None is =
     let same : d.durable ≡ durable_at w call.node = s.applies ∙ ap (λ o. applied_if o (durable_at w call.node)) is in
     alike_keeps m c w e call.node (record { up = true; node = left d }) None (token_of_call c w call) refl (same_alike call.node (durable_at w call.node) d.durable same) inv
 silent_by m c w e call d s inv (Some r) is =
-    let p : Place = record { up = true; node = left d } in
-    let new = disks_of (set_place w.places call.node p) in
-    inv_by m c (set_place w.places call.node p) w.packets w.trace _ (subst (λ o. Sane m c new w.packets (with_last (openings_of w.trace) (opening_of o)) (with_last (commits_in w) d.commit)) is (s.durable _ (redisk w.places call.node p)))
+    let p : Member = record { up = true; node = left d } in
+    let new = disks_of (set_member w.members call.node p) in
+    inv_by m c (set_member w.members call.node p) w.packets w.trace _ (subst (λ o. Sane m c new w.packets (with_last (openings_of w.trace) (opening_of o)) (with_last (commits_in w) d.commit)) is (s.durable _ (redisk w.members call.node p)))
 
 silent_keeps : (m : Meanings) (c : Cluster) (w : World) (e : WorldEvent) (call : Call) (d : Decision) → SoundAt m c w call.node d → Inv m c w → Inv m c (silent c w e call d)
 silent_keeps m c w e call d s inv = silent_by m c w e call d s inv d.entry refl
@@ -160,12 +160,12 @@ start_opens c w n = cond_both (setting_of c n ((durable_at w n).boot + 1)).forge
 -- ---- an event
 
 module _ (m : Meanings) (touches : AllTouchOnlyHanded m) (c : Cluster) where
-  sound_by : (w : World) (n : ℕ) (moment : Moment) (i : Input) → Inv m c w → IsSentIn w.packets i → SoundAt m c w n (decided (m n (durable_at w n).boot) (setting_of c n (durable_at w n).boot) (w.places n).node moment i)
-  sound_by w n moment (Ask token r) j sent = decide_sound m touches c (disks_of w.places) w.packets (openings_of w.trace) (commits_in w) j.sane n (w.places n).node refl moment (Ask token r) sent
-  sound_by w n moment (Incoming p) j sent = decide_sound m touches c (disks_of w.places) w.packets (openings_of w.trace) (commits_in w) j.sane n (w.places n).node refl moment (Incoming p) sent
-  sound_by w n moment Poke j sent = decide_sound m touches c (disks_of w.places) w.packets (openings_of w.trace) (commits_in w) j.sane n (w.places n).node refl moment Poke sent
-  sound_by w n moment Tick j sent = decide_sound m touches c (disks_of w.places) w.packets (openings_of w.trace) (commits_in w) j.sane n (w.places n).node refl moment Tick sent
-  sound_by w n moment (Move k to) j sent = decide_sound m touches c (disks_of w.places) w.packets (openings_of w.trace) (commits_in w) j.sane n (w.places n).node refl moment (Move k to) sent
+  sound_by : (w : World) (n : ℕ) (moment : Moment) (i : Input) → Inv m c w → IsSentIn w.packets i → SoundAt m c w n (decided (m n (durable_at w n).boot) (setting_of c n (durable_at w n).boot) (w.members n).node moment i)
+  sound_by w n moment (Ask token r) j sent = decide_sound m touches c (disks_of w.members) w.packets (openings_of w.trace) (commits_in w) j.sane n (w.members n).node refl moment (Ask token r) sent
+  sound_by w n moment (Incoming p) j sent = decide_sound m touches c (disks_of w.members) w.packets (openings_of w.trace) (commits_in w) j.sane n (w.members n).node refl moment (Incoming p) sent
+  sound_by w n moment Poke j sent = decide_sound m touches c (disks_of w.members) w.packets (openings_of w.trace) (commits_in w) j.sane n (w.members n).node refl moment Poke sent
+  sound_by w n moment Tick j sent = decide_sound m touches c (disks_of w.members) w.packets (openings_of w.trace) (commits_in w) j.sane n (w.members n).node refl moment Tick sent
+  sound_by w n moment (Move k to) j sent = decide_sound m touches c (disks_of w.members) w.packets (openings_of w.trace) (commits_in w) j.sane n (w.members n).node refl moment (Move k to) sent
 
   pub sound_at : (w : World) (call : Call) → Inv m c w → IsReady c w call → SoundAt m c w call.node (decision m c w call)
   sound_at w call j r = sound_by w call.node call.moment call.input j r.sent

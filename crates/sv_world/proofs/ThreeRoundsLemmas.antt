@@ -25,7 +25,7 @@ use Rattle.sv_world.specs.declared.event.WorldEvent.TheVariants.{Deliver, Tick}
 use Rattle.sv_world.specs.declared.call.Call.{Call}
 use Rattle.sv_world.specs.Headline.{states}
 use Rattle.sv_world.specs.Life.{Away, Stands}
-use Rattle.sv_world.specs.World.{Cluster, Place, World, setting_of, durable_at, decision, happens, run}
+use Rattle.sv_world.specs.World.{Cluster, Member, World, setting_of, durable_at, decision, happens, run}
 use Rattle.sv_world.specs.Progress.{AreSteps, setting_at, told_at, Runs, AllRun, HasRoomAt, HasRoom, IsOff, HasArrived, IsOnItsWay, Round, ticked, behind, IsRound}
 use Rattle.sv_world.proofs.AnsweringLemmas.{Has, HasEnded, IsUnborn, Answers, answers_unmade, answers_step, answers_alone, way_step, IsComing, IsGivenElsewhere, given, due_on}
 use Rattle.sv_world.proofs.ArrivesLemmas.{ours}
@@ -140,7 +140,7 @@ module _ (m : Meanings) (touches : AllTouchOnlyHanded m) (c : Cluster) (nodes n 
       (false_from_ne_true (is_settled (known (durable_at w n) k)) (λ t. answers_alone m touches c k w x n inv some h apart t))
       (and_right (is_some (durable_at w n).home) (lacks_room (setting_at c w n) (durable_at w n) k) room)
 
-  not_late : (w : World) (moment : Moment) → Runs c w n → In p ((happens m c w (Tick n moment)).places n).node.parked → is_late (setting_at c w n) moment.steady p ≡ false
+  not_late : (w : World) (moment : Moment) → Runs c w n → In p ((happens m c w (Tick n moment)).members n).node.parked → is_late (setting_at c w n) moment.steady p ≡ false
   not_late w moment r i = ap (λ b. is_late (setting_of c n b) moment.steady p) (sym (boots_stay m c w (Tick n moment) tt n)) ∙ none_late m c w n moment r p i
 
   -- behind the ticks it has asked the node that can answer
@@ -154,7 +154,7 @@ module _ (m : Meanings) (touches : AllTouchOnlyHanded m) (c : Cluster) (nodes n 
       let r = runs_one c nodes w all n inside in
       ⊎_elim
       (λ (is : e ≡ Tick n moment).
-      let stays : In p ((happens m c w (Tick n moment)).places n).node.parked = subst (λ z. In p ((happens m c w z).places n).node.parked) is (waits_first m touches c n p es v on.1) in
+      let stays : In p ((happens m c w (Tick n moment)).members n).node.parked = subst (λ z. In p ((happens m c w z).members n).node.parked) is (waits_first m touches c n p es v on.1) in
       let asks = asks_at m c w n x moment p r on.0 (not_late w moment r stays) (not_quiet w x b.inv h apart room.0) (told_one c nodes w all n x inside there) apart in
       let put : HasPlace (Want n x k boot p.want) (length w.packets) v.packets = subst (λ z. HasPlace (Want n x k boot p.want) (length w.packets) (happens m c w z).packets) (sym is)
       (subst (λ z. HasPlace (Want n x k z p.want) (length w.packets) (happens m c w (Tick n moment)).packets) same asks) in
@@ -249,21 +249,21 @@ module _ (m : Meanings) (touches : AllTouchOnlyHanded m) (c : Cluster) (nodes n 
   -- ---- who is told No waits no more
 
   no_leaves : (v : World) (moment : Moment) (place by boot : ℕ) → Both m touches c v → Runs c v n → by < told_at c v n → by ≢ n → slice_get v.packets place ≡ Some (No by n k boot p.want)
-      → boot ≡ (durable_at v n).boot → In p (v.places n).node.parked → In p ((happens m c v (Deliver moment place)).places n).node.parked → ⊥
+      → boot ≡ (durable_at v n).boot → In p (v.members n).node.parked → In p ((happens m c v (Deliver moment place)).members n).node.parked → ⊥
   no_leaves v moment place by boot b r there apart at same i =
       let set = setting_at c v n in
-      let nd = (v.places n).node in
+      let nd = (v.members n).node in
       let e1 = m n nd.durable.boot in
       let packet = No by n k boot p.want in
       let call : Call = record { node = n; moment = moment; input = input.Packet packet } in
-      let place' : Place = record { up = true; node = left (decision m c v call) } in
+      let member' : Member = record { up = true; node = left (decision m c v call) } in
       let test = is_wanted k p.want in
       let serves : on_packet e1 set nd moment packet ≡ serve_parked e1 set nd moment test =
       cond-true (is_ours set packet) (on_ours e1 set nd moment packet) (idle nd []) (ours m c set by n refl apart there)
       ∙ cond-true (boot == nd.durable.boot) (serve_parked e1 set nd moment test) (idle nd []) (eq-eqb boot nd.durable.boot same) in
       let parked : (on_packet e1 set nd moment packet).parked ≡ without test nd.parked = ap (λ (d : Decision). d.parked) serves ∙ one_leaves m c e1 set nd moment test p i (wanted_self p) in
-      delivery m c (λ (y : World). In p (y.places n).node.parked → ⊥) v moment place packet r at
-      (by_node (λ y z. y ≡ n → In p z.node.parked → ⊥) v.places n place' n
+      delivery m c (λ (y : World). In p (y.members n).node.parked → ⊥) v moment place packet r at
+      (by_node (λ y z. y ≡ n → In p z.node.parked → ⊥) v.members n member' n
       (λ _ _ j. none_wanted k 0 nd.parked nd.next_want p (b.queued.at n).rising (wanted_self p) (subst (In p) parked j)) (λ ne _ _. ne refl) refl)
 
   rest_denied : (place by boot : ℕ) (moment : Moment) → by < nodes → by ≢ n → (es : List WorldEvent) (v : World) → AreSteps es → Both m touches c v → AllRun c nodes v
@@ -273,7 +273,7 @@ module _ (m : Meanings) (touches : AllTouchOnlyHanded m) (c : Cluster) (nodes n 
       let u = happens m c v e in
       ⊎_elim
       (λ (is : e ≡ Deliver moment place). no_leaves v moment place by boot b (runs_one c nodes v all n inside) (told_one c nodes v all n by inside there) apart at same on.0
-      (subst (λ z. In p ((happens m c v z).places n).node.parked) is (waits_first m touches c n p es u on.1)))
+      (subst (λ z. In p ((happens m c v z).members n).node.parked) is (waits_first m touches c n p es u on.1)))
       (λ (t : In (Deliver moment place) es). rest_denied place by boot moment there apart es u steps.1 (happens_both m touches c v e b) (runs_on m c nodes v e steps.0 all)
       (still_at v u place (No by n k boot p.want) (happens_grows m c v e) at) (same ∙ sym (boots_stay m c v e steps.0 n)) on.1 t)
       i
@@ -289,7 +289,7 @@ module _ (m : Meanings) (touches : AllTouchOnlyHanded m) (c : Cluster) (nodes n 
     pub boot_is : (durable_at w n).boot ≡ boot
     pub ticks_on : WaitsOn m touches c n p w a.ticks
     pub rest_on : WaitsOn m touches c n p (ticked m c w a) a.rest
-    pub end : In p ((behind m c w a).places n).node.parked
+    pub end : In p ((behind m c w a).members n).node.parked
     pub room : HasRoom m c n k w a.ticks × HasRoom m c n k (ticked m c w a) a.rest
 
   both_ticked : (since boot : ℕ) (w : World) (a : Round) → Begins since boot w a → Both m touches c (ticked m c w a)

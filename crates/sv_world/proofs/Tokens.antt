@@ -17,7 +17,7 @@ use Rattle.sv_model.specs.Membership.{with_last}
 use Rattle.sv_world.specs.declared.event.WorldEvent.{WorldEvent}
 use Rattle.sv_world.specs.declared.line.Line.{Line}
 use Rattle.sv_world.specs.declared.call.Call.{Call}
-use Rattle.sv_world.specs.World.{Cluster, Place, World, set_place, durable_at, stopped, nothing_happened, items, commits_in, whole, torn, silent, becomes, commit_with, is_unused, decision, happens, run, item_at, token_of_call, record_of_start, setting_of}
+use Rattle.sv_world.specs.World.{Cluster, Member, World, set_member, durable_at, stopped, nothing_happened, items, commits_in, whole, torn, silent, becomes, commit_with, is_unused, decision, happens, run, item_at, token_of_call, record_of_start, setting_of}
 use Rattle.sv_world.specs.Waits.{boot_of}
 use Rattle.sv_world.proofs.Arrivals.{one_if, token_same, times_more, times_one, asked_snoc, items_snoc}
 use Rattle.sv_world.proofs.Waiting.{by_node}
@@ -37,7 +37,7 @@ refused_snoc t is i = omega (arith, ap (times t) (flat_map-append (λ (x : Item)
 
 -- what was served and refused, and what waits, is of what was asked
 pub record Spent (w : World) : Type 0 where
-  pub count : (t : Token) → times t (served_of (commits_in w)) + times t (refused_of (items w.trace)) + waiting t t.node (boot_of (w.places t.node)) (w.places t.node).node.parked ≤ times t (asked_of (items w.trace))
+  pub count : (t : Token) → times t (served_of (commits_in w)) + times t (refused_of (items w.trace)) + waiting t t.node (boot_of (w.members t.node)) (w.members t.node).node.parked ≤ times t (asked_of (items w.trace))
   pub once : (t : Token) → times t (asked_of (items w.trace)) ≤ 1
 
 -- a commit that is kept with its record alone serves no more
@@ -54,18 +54,18 @@ once_more t asked (Some u) unused le = split (same_token t u) refl
     split true is = omega (arith, eqb-true _ _ unused, ap (λ (v : Token). times v asked) (token_same t u is))
     split false is = omega (arith, le)
 
--- a step, whole or cut, counts what it serves and refuses and what it leaves
-grows : (w : World) (n : ℕ) (p : Place) (l : Line) → is_unused (asked_of (items w.trace)) l.asked ≡ true
-    → ((t : Token) → t.node ≡ n → times t (served_of (option_to_list l.commit)) + times t (item_at l).refused + waiting t n (boot_of p) p.node.parked ≤ waiting t n (boot_of (w.places n)) (w.places n).node.parked + one_if (is_of t l.asked))
+-- a step, whole or torn, counts what it serves and refuses and what it leaves
+grows : (w : World) (n : ℕ) (p : Member) (l : Line) → is_unused (asked_of (items w.trace)) l.asked ≡ true
+    → ((t : Token) → t.node ≡ n → times t (served_of (option_to_list l.commit)) + times t (item_at l).refused + waiting t n (boot_of p) p.node.parked ≤ waiting t n (boot_of (w.members n)) (w.members n).node.parked + one_if (is_of t l.asked))
     → ((t : Token) → t.node ≢ n → times t (served_of (option_to_list l.commit)) + times t (item_at l).refused ≤ 0)
-    → (packets : List Packet) → Spent w → Spent (record { places = set_place w.places n p; packets = packets; trace = w.trace ++ l ∷ [] })
+    → (packets : List Packet) → Spent w → Spent (record { members = set_member w.members n p; packets = packets; trace = w.trace ++ l ∷ [] })
 grows w n p l unused here there packets j =
     let served : (t : Token) → times t (served_of (commits_of (items (w.trace ++ l ∷ [])))) ≡ times t (served_of (commits_in w)) + times t (served_of (option_to_list l.commit)) = λ t. ap (λ cs. times t (served_of cs)) (commits_snoc w.trace l) ∙ served_snoc t (commits_in w) l.commit in
     let refused : (t : Token) → times t (refused_of (items (w.trace ++ l ∷ []))) ≡ times t (refused_of (items w.trace)) + times t (item_at l).refused = λ t. ap (λ is. times t (refused_of is)) (items_snoc w.trace l) ∙ refused_snoc t (items w.trace) (item_at l) in
     let asked : (t : Token) → times t (asked_of (items (w.trace ++ l ∷ []))) ≡ times t (asked_of (items w.trace)) + one_if (is_of t l.asked) = λ t. ap (λ is. times t (asked_of is)) (items_snoc w.trace l) ∙ asked_snoc t (items w.trace) (item_at l) in
     record {
-      count = λ t. by_node (λ y z. t.node ≡ y → times t (served_of (commits_of (items (w.trace ++ l ∷ [])))) + times t (refused_of (items (w.trace ++ l ∷ []))) + waiting t y (boot_of z) z.node.parked ≤ times t (asked_of (items (w.trace ++ l ∷ [])))) w.places n p t.node
-          (λ e _. omega (arith, served t, refused t, asked t, here t e, j.count t, ap (λ y. waiting t y (boot_of p) p.node.parked) e, ap (λ y. waiting t y (boot_of (w.places y)) (w.places y).node.parked) e))
+      count = λ t. by_node (λ y z. t.node ≡ y → times t (served_of (commits_of (items (w.trace ++ l ∷ [])))) + times t (refused_of (items (w.trace ++ l ∷ []))) + waiting t y (boot_of z) z.node.parked ≤ times t (asked_of (items (w.trace ++ l ∷ [])))) w.members n p t.node
+          (λ e _. omega (arith, served t, refused t, asked t, here t e, j.count t, ap (λ y. waiting t y (boot_of p) p.node.parked) e, ap (λ y. waiting t y (boot_of (w.members y)) (w.members y).node.parked) e))
           (λ e _. omega (arith, served t, refused t, asked t, there t e, j.count t)) refl;
       once = λ t. omega (arith, asked t, once_more t (asked_of (items w.trace)) l.asked unused (j.once t));
     }
@@ -79,14 +79,14 @@ module _ (m : Meanings) (c : Cluster) where
   elsewhere d n Tick t ne = refl
   elsewhere d n (Move k to) t ne = refl
 
-  pub thrifty_at : (w : World) (call : Call) → Thrifty c call.node (w.places call.node).node (option_to_list (token_of_call c w call)) (decision m c w call)
-  thrifty_at w call = decide_thrifty m c call.node (w.places call.node).node call.moment call.input
+  pub thrifty_at : (w : World) (call : Call) → Thrifty c call.node (w.members call.node).node (option_to_list (token_of_call c w call)) (decision m c w call)
+  thrifty_at w call = decide_thrifty m c call.node (w.members call.node).node call.moment call.input
 
   outside : (w : World) (call : Call) (t : Token) → t.node ≢ call.node
       → times t (served_of (option_to_list (decision m c w call).commit)) + times t (filter_map (refusal_in (token_of (setting_of c call.node (durable_at w call.node).boot) (durable_at w call.node))) (decision m c w call).outputs) ≤ 0
   outside w call t ne =
       let h = thrifty_at w call in
-      omega (arith, h.count t, waiting_none t call.node (durable_at w call.node).boot (w.places call.node).node.parked ne, times_one t (token_of_call c w call), ap one_if (elsewhere (durable_at w call.node) call.node call.input t ne))
+      omega (arith, h.count t, waiting_none t call.node (durable_at w call.node).boot (w.members call.node).node.parked ne, times_one t (token_of_call c w call), ap one_if (elsewhere (durable_at w call.node) call.node call.input t ne))
 
   whole_spent : (w : World) (e : WorldEvent) (call : Call) → is_unused (asked_of (items w.trace)) (token_of_call c w call) ≡ true → Spent w → Spent (whole c w e call (decision m c w call))
   whole_spent w e call unused j =
@@ -114,7 +114,7 @@ module _ (m : Meanings) (c : Cluster) where
       (λ t here. omega (arith, h.count t, fewer_with t d.entry d.commit, ap (λ b. waiting t n b d.parked) h.boot, times_one t (token_of_call c w call)))
       (λ t ne. omega (arith, outside w call t ne, fewer_with t d.entry d.commit)) _ j
 
-  becomes_spent : (w : World) (e : WorldEvent) (n : ℕ) (p : Place) (entry : Option Record) (asked : Option Token) → p.node.parked ≡ [] → is_unused (asked_of (items w.trace)) asked ≡ true → Spent w → Spent (becomes w e n p entry asked)
+  becomes_spent : (w : World) (e : WorldEvent) (n : ℕ) (p : Member) (entry : Option Record) (asked : Option Token) → p.node.parked ≡ [] → is_unused (asked_of (items w.trace)) asked ≡ true → Spent w → Spent (becomes w e n p entry asked)
   becomes_spent w e n p entry asked none unused j = grows w n p _ unused (λ t here. omega (arith, ap (waiting t n (boot_of p)) none)) (λ t ne. omega arith) _ j
 
   pub happens_spent : (w : World) (e : WorldEvent) → Spent w → Spent (happens m c w e)

@@ -13,7 +13,7 @@ use Rattle.sv_model.specs.Trace.{tokens_in, commits_of, told_of, replies_of, ser
 use Rattle.sv_world.specs.declared.event.WorldEvent.{WorldEvent}
 use Rattle.sv_world.specs.declared.line.Line.{Line}
 use Rattle.sv_world.specs.declared.call.Call.{Call}
-use Rattle.sv_world.specs.World.{Cluster, Place, World, nothing_happened, items, commits_in, whole, decision, happens, run, item_at, quiet_line}
+use Rattle.sv_world.specs.World.{Cluster, Member, World, nothing_happened, items, commits_in, whole, decision, happens, run, item_at, quiet_line}
 use Rattle.sv_world.specs.Sane.{store_of}
 use Rattle.sv_world.specs.Headline.{AreLines, IsUnanswered, IsAnswered, IsUnheard, IsHeard, IsToldLine, wholes, whole_events}
 use Rattle.sv_world.proofs.Arrivals.{times_more}
@@ -39,7 +39,7 @@ unfolding stores
 lines_snoc P m st [] l h p = (p, tt)
 lines_snoc P m st (x ∷ ls) l h p = (h.0, lines_snoc P m (store_with m st x.commit) ls l h.1 p)
 
--- each line answers what its commit replies, and refuses nobody where it was cut
+-- each line answers what its commit replies, and refuses nobody where it isn't of a whole step
 pub record Answering (m : Meanings) (w : World) : Type 0 where
   pub lines : AreLines (IsAnswered m) m nothing_stored w.trace
 
@@ -50,14 +50,14 @@ pub record Telling (m : Meanings) (w : World) : Type 0 where
 more : (P : Store → Line → Type 0) (m : Meanings) (w : World) (l : Line) → AreLines P m nothing_stored w.trace → P (store_of m (commits_in w)) l → AreLines P m nothing_stored (w.trace ++ l ∷ [])
 more P m w l h p = lines_snoc P m nothing_stored w.trace l h (subst (λ st. P st l) (sym (stores_are m nothing_stored w.trace)) p)
 
--- the line of what a stop has cut, or of what isn't a step
-quiet_answers : (m : Meanings) (w : World) (e : WorldEvent) (n : ℕ) (asked : Option Token) (entry : Option Record) (o : Option Commit) (places : ℕ → Place) → Answering m w
-    → Answering m (record { places = places; packets = w.packets; trace = w.trace ++ quiet_line w e n asked entry o ∷ [] })
-quiet_answers m w e n asked entry o places h = record { lines = more (IsAnswered m) m w _ h.lines (record { replies = refl; refused = refl }) }
+-- the line of a torn or silent step, or of what isn't a step
+quiet_answers : (m : Meanings) (w : World) (e : WorldEvent) (n : ℕ) (asked : Option Token) (entry : Option Record) (o : Option Commit) (members : ℕ → Member) → Answering m w
+    → Answering m (record { members = members; packets = w.packets; trace = w.trace ++ quiet_line w e n asked entry o ∷ [] })
+quiet_answers m w e n asked entry o members h = record { lines = more (IsAnswered m) m w _ h.lines (record { replies = refl; refused = refl }) }
 
-quiet_tells : (m : Meanings) (w : World) (e : WorldEvent) (n : ℕ) (asked : Option Token) (entry : Option Record) (o : Option Commit) (places : ℕ → Place) → Telling m w
-    → Telling m (record { places = places; packets = w.packets; trace = w.trace ++ quiet_line w e n asked entry o ∷ [] })
-quiet_tells m w e n asked entry o places h = record { lines = more (IsToldLine m) m w _ h.lines (record { events = refl; mark = refl }) }
+quiet_tells : (m : Meanings) (w : World) (e : WorldEvent) (n : ℕ) (asked : Option Token) (entry : Option Record) (o : Option Commit) (members : ℕ → Member) → Telling m w
+    → Telling m (record { members = members; packets = w.packets; trace = w.trace ++ quiet_line w e n asked entry o ∷ [] })
+quiet_tells m w e n asked entry o members h = record { lines = more (IsToldLine m) m w _ h.lines (record { events = refl; mark = refl }) }
 
 module _ (m : Meanings) (touches : AllTouchOnlyHanded m) (c : Cluster) where
   whole_answers : (w : World) (e : WorldEvent) (call : Call) → SoundAt m c w call.node (decision m c w call) → Answering m w → Answering m (whole c w e call (decision m c w call))

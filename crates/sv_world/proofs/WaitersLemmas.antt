@@ -30,7 +30,7 @@ use Rattle.sv_model.proofs.KnownLemmas.{known_insert}
 use Rattle.sv_world.specs.declared.event.WorldEvent.TheVariants.{Deliver, Poke, Tick}
 use Rattle.sv_world.specs.declared.call.Call.{Call}
 use Rattle.sv_world.specs.Headline.{states}
-use Rattle.sv_world.specs.World.{Cluster, Place, World, durable_at, decision, happens}
+use Rattle.sv_world.specs.World.{Cluster, Member, World, durable_at, decision, happens}
 use Rattle.sv_world.specs.Progress.{setting_at, told_at, Runs, IsOff, TicksAsk, WantsAreAnswered, PokesServe}
 use Rattle.sv_world.proofs.ArrivesLemmas.{ours}
 use Rattle.sv_world.proofs.Keys.{in_left, in_right, set_here}
@@ -78,12 +78,12 @@ found f (q ∷ ps) p i e none = cond_both (f q) (Some q) (first_of f ps) (λ (o 
 module _ (m : Meanings) (c : Cluster) where
   -- ---- a tick asks
 
-  pub asks_at : (w : World) (n x : ℕ) (moment : Moment) (p : Parked) → Runs c w n → In p (w.places n).node.parked
+  pub asks_at : (w : World) (n x : ℕ) (moment : Moment) (p : Parked) → Runs c w n → In p (w.members n).node.parked
       → is_late (setting_at c w n) moment.steady p ≡ false → is_quiet (setting_at c w n) (durable_at w n) p ≡ false → x < told_at c w n → x ≢ n
       → HasPlace (Want n x p.key (durable_at w n).boot p.want) (length w.packets) (happens m c w (Tick n moment)).packets
   asks_at w n x moment p r i late quiet there apart =
       let set = setting_at c w n in
-      let nd = (w.places n).node in
+      let nd = (w.members n).node in
       let now = moment.now in
       let steady = moment.steady in
       let call : Call = record { node = n; moment = moment; input = input.Tick } in
@@ -122,13 +122,13 @@ module _ (m : Meanings) (c : Cluster) where
   pub pokes_serve : (w : World) → PokesServe m c w
   pokes_serve w n moment p r i settled =
       let set = setting_at c w n in
-      let nd = (w.places n).node in
+      let nd = (w.members n).node in
       let test = λ (q : Parked). is_settled (known nd.durable q.key) in
       let call : Call = record { node = n; moment = moment; input = input.Poke } in
-      let place : Place = record { up = true; node = left (decision m c w call) } in
+      let member : Member = record { up = true; node = left (decision m c w call) } in
       let now : (decision m c w call).parked ≡ without test nd.parked = one_leaves (m n nd.durable.boot) set nd moment test p i settled in
-      subst (λ (y : World). length (y.places n).node.parked + 1 ≡ length nd.parked) (sym (stepped_by m c w (Poke n moment) call (ready_by c w call r refl refl)))
-      (by_node (λ y z. y ≡ n → length z.node.parked + 1 ≡ length nd.parked) w.places n place n (λ _ _. ap (λ (ps : List Parked). length ps + 1) now ∙ shorter test nd.parked p i settled) (λ ne _. absurd (ne refl)) refl)
+      subst (λ (y : World). length (y.members n).node.parked + 1 ≡ length nd.parked) (sym (stepped_by m c w (Poke n moment) call (ready_by c w call r refl refl)))
+      (by_node (λ y z. y ≡ n → length z.node.parked + 1 ≡ length nd.parked) w.members n member n (λ _ _. ap (λ (ps : List Parked). length ps + 1) now ∙ shorter test nd.parked p i settled) (λ ne _. absurd (ne refl)) refl)
 
   -- ---- a Want comes
 
@@ -147,27 +147,27 @@ module _ (m : Meanings) (c : Cluster) where
       → IsGiven k n e s from (happens m c w (Deliver moment place))
   gives w n from place boot want e k s moment r there apart at is last =
       let set = setting_at c w n in
-      let nd = (w.places n).node in
+      let nd = (w.members n).node in
       let e1 = m n nd.durable.boot in
       let p = Want from n k boot want in
       let call : Call = record { node = n; moment = moment; input = input.Packet p } in
-      let place' : Place = record { up = true; node = left (decision m c w call) } in
+      let member' : Member = record { up = true; node = left (decision m c w call) } in
       let d : on_packet e1 set nd moment p ≡ hands_over set nd k e s from [] = wanted e1 set nd moment from k boot want (Some (Active e s)) apart there is ∙ cond-false (e == last_number) (idle nd []) (hands_over set nd k e s from []) (ne_eqb e last_number last) in
       let after : known (on_packet e1 set nd moment p).durable k ≡ Some (Sent (e + 1) s from) = ap (λ (x : Decision). known x.durable k) d ∙ known_insert nd.durable k (Sent (e + 1) s from) k ∙ set_here (known nd.durable) k (Some (Sent (e + 1) s from)) in
       let put : In (Grant n from k (e + 1) s) (sends_in (on_packet e1 set nd moment p).outputs) = subst (λ (x : Decision). In (Grant n from k (e + 1) s) (sends_in x.outputs)) (sym d) (inl refl) in
       delivery m c (IsGiven k n e s from) w moment place p r at (record {
-        off = by_node (λ y z. y ≡ n → known z.node.durable k ≡ Some (Sent (e + 1) s from)) w.places n place' n (λ _ _. after) (λ ne _. absurd (ne refl)) refl;
+        off = by_node (λ y z. y ≡ n → known z.node.durable k ≡ Some (Sent (e + 1) s from)) w.members n member' n (λ _ _. after) (λ ne _. absurd (ne refl)) refl;
         grant = in_right (Grant n from k (e + 1) s) w.packets (sends_in (on_packet e1 set nd moment p).outputs) put;
       })
 
   -- the answer to a Want that says No
   says : (w : World) (n from place boot want : ℕ) (k : Key) (moment : Moment) (st : Option KeyState) → Runs c w n → from < told_at c w n → from ≢ n
       → slice_get w.packets place ≡ Some (Want from n k boot want) → states w k n ≡ st
-      → In (No n from k boot want) (sends_in (on_want (setting_at c w n) (w.places n).node from k boot want st).outputs)
+      → In (No n from k boot want) (sends_in (on_want (setting_at c w n) (w.members n).node from k boot want st).outputs)
       → HasPlace (No n from k boot want) (length w.packets) (happens m c w (Deliver moment place)).packets
   says w n from place boot want k moment st r there apart at is denial =
       let set = setting_at c w n in
-      let nd = (w.places n).node in
+      let nd = (w.members n).node in
       let e1 = m n nd.durable.boot in
       let p = Want from n k boot want in
       let put : In (No n from k boot want) (sends_in (on_packet e1 set nd moment p).outputs) = subst (λ (x : Decision). In (No n from k boot want) (sends_in x.outputs)) (sym (wanted e1 set nd moment from k boot want st apart there is)) denial in
@@ -184,7 +184,7 @@ module _ (m : Meanings) (c : Cluster) where
       → HasPlace (No n from k boot want) (length w.packets) (happens m c w (Deliver moment place)).packets
   denies_unmade w n from place boot want k moment r there apart at is unmade =
       let set = setting_at c w n in
-      let nd = (w.places n).node in
+      let nd = (w.members n).node in
       says w n from place boot want k moment None r there apart at is
       (subst (λ (d : Decision). In (No n from k boot want) (sends_in d.outputs)) (sym (cond-true (is_unmade set nd.durable k) (says_no set nd from k boot want) (idle nd []) unmade)) (inl refl))
 

@@ -23,7 +23,7 @@ use Rattle.sv_model.specs.Waiting.{first_of, without}
 use Rattle.sv_model.specs.Membership.{In, with_last}
 use Rattle.sv_model.specs.Outputs.{sends_in}
 use Rattle.sv_world.specs.Life.{Phase, Unborn, Here, Away, Over, Stands, IsBelow, IsBehind, session_of}
-use Rattle.sv_world.specs.World.{Place, set_place, stopped, commit_with}
+use Rattle.sv_world.specs.World.{Member, set_member, stopped, commit_with}
 use Rattle.sv_world.specs.Headline.{AllServed}
 use Rattle.sv_world.specs.Sane.{store_of}
 use Rattle.sv_world.specs.Waits.{tok, boot_of, IsPast, IsParked, Waits}
@@ -111,8 +111,8 @@ module _ (m : Meanings) (arr brr : Token → ℕ) (asked basked : Token → Requ
   parked_still : (size : ℕ) (t : Token) (want : ℕ) (p : Parked) → IsParked m size arr asked t want p → IsParked m size brr basked t want p
   parked_still size t want p h = record { arrived = subst (λ x. x ≤ size) (sym (still t p.request h.came)) h.arrived; came = more t p.request h.came; named = h.named; names = h.names; key = h.key; below = h.below }
 
-  pub waits_still : (places : ℕ → Place) (packets : List Packet) (cs : List Commit) → Waits m places packets cs arr asked → Waits m places packets cs brr basked
-  waits_still places packets cs j = record {
+  pub waits_still : (members : ℕ → Member) (packets : List Packet) (cs : List Commit) → Waits m members packets cs arr asked → Waits m members packets cs brr basked
+  waits_still members packets cs j = record {
     want_past = j.want_past;
     no_past = j.no_past;
     no_excuse = λ from to k b x p i at boot want key. subst (λ a. IsExcused m cs a k) (sym (still _ _ (j.parked to p at).came)) (j.no_excuse from to k b x p i at boot want key);
@@ -138,44 +138,44 @@ fit_in map ps n boot want x [] h i = absurd i
 fit_in map ps n boot want x (y ∷ xs) h i = ⊎_elim (λ (e : y ≡ x). subst (FitsPacket map ps n boot want) e h.0) (λ (t : In x xs). fit_in map ps n boot want x xs h.1 t) i
 
 -- the volatile part of a decision
-pub record Patient (m : Meanings) (places : ℕ → Place) (ps : List Packet) (cs : List Commit) (arr : Token → ℕ) (asked : Token → Request → Type 0) (n : ℕ) (d : Decision) : Type 0 where
-  pub parked : (p : Parked) → In p d.parked → In p (places n).node.parked ⊎ ((p.want ≡ (places n).node.next_want) × IsParked m (length cs) arr asked (tok n (boot_of (places n)) p.token) d.next_want p)
-  pub next_want : (places n).node.next_want ≤ d.next_want
-  pub boot : d.durable.boot ≡ (places n).node.durable.boot
-  pub sends : AllFit (store_of m cs).map ps n (boot_of (places n)) d.next_want (sends_in d.outputs)
+pub record Patient (m : Meanings) (members : ℕ → Member) (ps : List Packet) (cs : List Commit) (arr : Token → ℕ) (asked : Token → Request → Type 0) (n : ℕ) (d : Decision) : Type 0 where
+  pub parked : (p : Parked) → In p d.parked → In p (members n).node.parked ⊎ ((p.want ≡ (members n).node.next_want) × IsParked m (length cs) arr asked (tok n (boot_of (members n)) p.token) d.next_want p)
+  pub next_want : (members n).node.next_want ≤ d.next_want
+  pub boot : d.durable.boot ≡ (members n).node.durable.boot
+  pub sends : AllFit (store_of m cs).map ps n (boot_of (members n)) d.next_want (sends_in d.outputs)
   pub commit : MayAdd m arr cs d.commit
   pub served : AreServed asked d.commit
 
--- a step of which nothing leaves its node
+-- a silent step
 abbrev silenced : Decision → Decision
 silenced d = record d { commit = commit_with d.entry d.commit; events = []; mark = None; outputs = [] }
 
-at_set : (places : ℕ → Place) (n : ℕ) (x : Place) → set_place places n x n ≡ x
-at_set places n x = cond-true (n == n) x (places n) (eq-eqb n n refl)
+at_set : (members : ℕ → Member) (n : ℕ) (x : Member) → set_member members n x n ≡ x
+at_set members n x = cond-true (n == n) x (members n) (eq-eqb n n refl)
 
-not_set : (places : ℕ → Place) (n : ℕ) (x : Place) (y : ℕ) → y ≢ n → set_place places n x y ≡ places y
-not_set places n x y ne = cond-false (y == n) x (places y) (ne_eqb y n ne)
+not_set : (members : ℕ → Member) (n : ℕ) (x : Member) (y : ℕ) → y ≢ n → set_member members n x y ≡ members y
+not_set members n x y ne = cond-false (y == n) x (members y) (ne_eqb y n ne)
 
 -- a fact of each node, after one node changed
-pub by_node : (P : ℕ → Place → Type 0) (places : ℕ → Place) (n : ℕ) (x : Place) (y : ℕ) → (y ≡ n → P y x) → (y ≢ n → P y (places y)) → P y (set_place places n x y)
-by_node P places n x y here there = ⊎_elim
-    (λ (e : y ≡ n). subst (P y) (sym (ap (set_place places n x) e ∙ at_set places n x)) (here e))
-    (λ (e : y ≢ n). subst (P y) (sym (not_set places n x y e)) (there e))
+pub by_node : (P : ℕ → Member → Type 0) (members : ℕ → Member) (n : ℕ) (x : Member) (y : ℕ) → (y ≡ n → P y x) → (y ≢ n → P y (members y)) → P y (set_member members n x y)
+by_node P members n x y here there = ⊎_elim
+    (λ (e : y ≡ n). subst (P y) (sym (ap (set_member members n x) e ∙ at_set members n x)) (here e))
+    (λ (e : y ≢ n). subst (P y) (sym (not_set members n x y e)) (there e))
     (cases_eq y n)
 
-past_on : (p x : Place) (b k : ℕ) → p.up ≡ true → x.node.durable.boot ≡ p.node.durable.boot → p.node.next_want ≤ x.node.next_want → IsPast p b k → IsPast x b k
+past_on : (p x : Member) (b k : ℕ) → p.up ≡ true → x.node.durable.boot ≡ p.node.durable.boot → p.node.next_want ≤ x.node.next_want → IsPast p b k → IsPast x b k
 past_on p x b k up boot l h = ⊎_elim
     (λ (o : b < p.node.durable.boot). inl (omega arith))
     (λ (o : (b ≡ p.node.durable.boot) × ((k < p.node.next_want) ⊎ (p.up ≡ false))). inr (o.0 ∙ sym boot, ⊎_elim (λ (c : k < p.node.next_want). inl (omega arith)) (λ (c : p.up ≡ false). absurd (true≢false (sym up ∙ c))) o.1))
     h
 
-past_stop : (p x : Place) (b k : ℕ) → x.up ≡ false → x.node.durable.boot ≡ p.node.durable.boot → IsPast p b k → IsPast x b k
+past_stop : (p x : Member) (b k : ℕ) → x.up ≡ false → x.node.durable.boot ≡ p.node.durable.boot → IsPast p b k → IsPast x b k
 past_stop p x b k down boot h = ⊎_elim (λ (o : b < p.node.durable.boot). inl (omega arith)) (λ (o : (b ≡ p.node.durable.boot) × ((k < p.node.next_want) ⊎ (p.up ≡ false))). inr (o.0 ∙ sym boot, inr down)) h
 
-past_boot : (p x : Place) (b k : ℕ) → x.node.durable.boot ≡ p.node.durable.boot + 1 → IsPast p b k → IsPast x b k
+past_boot : (p x : Member) (b k : ℕ) → x.node.durable.boot ≡ p.node.durable.boot + 1 → IsPast p b k → IsPast x b k
 past_boot p x b k boot h = ⊎_elim (λ (o : b < p.node.durable.boot). inl (omega arith)) (λ (o : (b ≡ p.node.durable.boot) × ((k < p.node.next_want) ⊎ (p.up ≡ false))). inl (omega arith)) h
 
-not_new : (p : Place) (b v : ℕ) → p.up ≡ true → IsPast p b v → b ≡ p.node.durable.boot → v ≡ p.node.next_want → ⊥
+not_new : (p : Member) (b v : ℕ) → p.up ≡ true → IsPast p b v → b ≡ p.node.durable.boot → v ≡ p.node.next_want → ⊥
 not_new p b v up h same new = ⊎_elim
     (λ (o : b < p.node.durable.boot). absurd (omega arith))
     (λ (o : (b ≡ p.node.durable.boot) × ((v < p.node.next_want) ⊎ (p.up ≡ false))). ⊎_elim (λ (c : v < p.node.next_want). absurd (omega arith)) (λ (c : p.up ≡ false). absurd (true≢false (sym up ∙ c))) o.1)
@@ -184,34 +184,34 @@ not_new p b v up h same new = ⊎_elim
 parked_longer : (m : Meanings) (size more : ℕ) (arr : Token → ℕ) (asked : Token → Request → Type 0) (t : Token) (want want' : ℕ) (p : Parked) → size ≤ more → want ≤ want' → IsParked m size arr asked t want p → IsParked m more arr asked t want' p
 parked_longer m size more arr asked t want want' p l k h = record { arrived = omega (arith, h.arrived); came = h.came; named = h.named; names = h.names; key = h.key; below = omega (arith, h.below) }
 
-module _ (m : Meanings) (places : ℕ → Place) (ps : List Packet) (cs : List Commit) (arr : Token → ℕ) (asked : Token → Request → Type 0) (j : Waits m places ps cs arr asked) (n : ℕ) where
-  pub whole_waits : (d : Decision) → (places n).up ≡ true → Patient m places ps cs arr asked n d → Waits m (set_place places n (record { up = true; node = left d })) (ps ++ sends_in d.outputs) (with_last cs d.commit) arr asked
+module _ (m : Meanings) (members : ℕ → Member) (ps : List Packet) (cs : List Commit) (arr : Token → ℕ) (asked : Token → Request → Type 0) (j : Waits m members ps cs arr asked) (n : ℕ) where
+  pub whole_waits : (d : Decision) → (members n).up ≡ true → Patient m members ps cs arr asked n d → Waits m (set_member members n (record { up = true; node = left d })) (ps ++ sends_in d.outputs) (with_last cs d.commit) arr asked
   whole_waits d up s =
-      let x : Place = record { up = true; node = left d } in
-      let on : (b k y : ℕ) → IsPast (places y) b k → IsPast (set_place places n x y) b k = λ b k y p. by_node (λ _ z. IsPast z b k) places n x y (λ e. past_on (places n) x b k up s.boot s.next_want (subst (λ z. IsPast (places z) b k) e p)) (λ e. p) in
-      let fit : (p : Packet) → In p (sends_in d.outputs) → FitsPacket (store_of m cs).map ps n (boot_of (places n)) d.next_want p = λ p i. fit_in _ _ _ _ _ p (sends_in d.outputs) s.sends i in
-      let wait : (y : ℕ) (p : Parked) → In p (set_place places n x y).node.parked → IsParked m (length cs) arr asked (tok y (boot_of (set_place places n x y)) p.token) (set_place places n x y).node.next_want p =
-      λ y p. by_node (λ z v. In p v.node.parked → IsParked m (length cs) arr asked (tok z (boot_of v) p.token) v.node.next_want p) places n x y
+      let x : Member = record { up = true; node = left d } in
+      let on : (b k y : ℕ) → IsPast (members y) b k → IsPast (set_member members n x y) b k = λ b k y p. by_node (λ _ z. IsPast z b k) members n x y (λ e. past_on (members n) x b k up s.boot s.next_want (subst (λ z. IsPast (members z) b k) e p)) (λ e. p) in
+      let fit : (p : Packet) → In p (sends_in d.outputs) → FitsPacket (store_of m cs).map ps n (boot_of (members n)) d.next_want p = λ p i. fit_in _ _ _ _ _ p (sends_in d.outputs) s.sends i in
+      let wait : (y : ℕ) (p : Parked) → In p (set_member members n x y).node.parked → IsParked m (length cs) arr asked (tok y (boot_of (set_member members n x y)) p.token) (set_member members n x y).node.next_want p =
+      λ y p. by_node (λ z v. In p v.node.parked → IsParked m (length cs) arr asked (tok z (boot_of v) p.token) v.node.next_want p) members n x y
       (λ e i. subst (λ z. IsParked m (length cs) arr asked (tok z d.durable.boot p.token) d.next_want p) (sym e) (subst (λ b. IsParked m (length cs) arr asked (tok n b p.token) d.next_want p) (sym s.boot) (⊎_elim
-      (λ (o : In p (places n).node.parked). parked_longer m (length cs) (length cs) arr asked _ (places n).node.next_want d.next_want p (omega arith) s.next_want (j.parked n p o))
-      (λ (o : (p.want ≡ (places n).node.next_want) × IsParked m (length cs) arr asked (tok n (boot_of (places n)) p.token) d.next_want p). o.1)
+      (λ (o : In p (members n).node.parked). parked_longer m (length cs) (length cs) arr asked _ (members n).node.next_want d.next_want p (omega arith) s.next_want (j.parked n p o))
+      (λ (o : (p.want ≡ (members n).node.next_want) × IsParked m (length cs) arr asked (tok n (boot_of (members n)) p.token) d.next_want p). o.1)
       (s.parked p i))))
       (λ e i. j.parked y p i) in
       record {
         want_past = λ from to k b v i. ⊎_elim
             (λ (o : In (Want from to k b v) ps). on b v from (j.want_past from to k b v o))
-            (λ (o : In (Want from to k b v) (sends_in d.outputs)). let f = fit _ o in by_node (λ _ z. IsPast z b v) places n x from (λ e. inr (f.1 ∙ sym s.boot, inl f.2)) (λ e. absurd (e f.0)))
+            (λ (o : In (Want from to k b v) (sends_in d.outputs)). let f = fit _ o in by_node (λ _ z. IsPast z b v) members n x from (λ e. inr (f.1 ∙ sym s.boot, inl f.2)) (λ e. absurd (e f.0)))
             (in_cases _ ps (sends_in d.outputs) i);
         no_past = λ from to k b v i. ⊎_elim
             (λ (o : In (No from to k b v) ps). on b v to (j.no_past from to k b v o))
             (λ (o : In (No from to k b v) (sends_in d.outputs)). let f = fit _ o in on b v to (j.want_past to from k b v f.0))
             (in_cases _ ps (sends_in d.outputs) i);
         no_excuse = λ from to k b v p i at boot want key. excused_with m cs d.commit _ k (⊎_elim
-            (λ (o : In (No from to k b v) ps). by_node (λ y z. In p z.node.parked → b ≡ z.node.durable.boot → y ≡ to → IsExcused m cs (arr (tok y (boot_of z) p.token)) k) places n x to
+            (λ (o : In (No from to k b v) ps). by_node (λ y z. In p z.node.parked → b ≡ z.node.durable.boot → y ≡ to → IsExcused m cs (arr (tok y (boot_of z) p.token)) k) members n x to
             (λ e i' b' _. ⊎_elim
-            (λ (q : In p (places n).node.parked). subst (λ a. IsExcused m cs (arr a) k) (λ z. tok to ((ap (λ y. boot_of (places y)) e ∙ sym s.boot) z) p.token)
-            (j.no_excuse from to k b v p o (subst (λ z. In p (places z).node.parked) (sym e) q) (b' ∙ s.boot ∙ ap (λ z. (places z).node.durable.boot) (sym e)) want key))
-            (λ (q : (p.want ≡ (places n).node.next_want) × IsParked m (length cs) arr asked (tok n (boot_of (places n)) p.token) d.next_want p). absurd (not_new (places n) b v up (subst (λ z. IsPast (places z) b v) e (j.no_past from to k b v o)) (b' ∙ s.boot) (sym want ∙ q.0)))
+            (λ (q : In p (members n).node.parked). subst (λ a. IsExcused m cs (arr a) k) (λ z. tok to ((ap (λ y. boot_of (members y)) e ∙ sym s.boot) z) p.token)
+            (j.no_excuse from to k b v p o (subst (λ z. In p (members z).node.parked) (sym e) q) (b' ∙ s.boot ∙ ap (λ z. (members z).node.durable.boot) (sym e)) want key))
+            (λ (q : (p.want ≡ (members n).node.next_want) × IsParked m (length cs) arr asked (tok n (boot_of (members n)) p.token) d.next_want p). absurd (not_new (members n) b v up (subst (λ z. IsPast (members z) b v) e (j.no_past from to k b v o)) (b' ∙ s.boot) (sym want ∙ q.0)))
             (s.parked p i'))
             (λ e i' b' _. j.no_excuse from to k b v p o i' b' want key) at boot refl)
             (λ (o : In (No from to k b v) (sends_in d.outputs)). excused_now m cs _ k (wait to p at).arrived (fit _ o).1)
@@ -222,9 +222,9 @@ module _ (m : Meanings) (places : ℕ → Place) (ps : List Packet) (cs : List C
       }
 
   -- nothing leaves the node
-  pub silent_waits : (d : Decision) → (places n).up ≡ true → Patient m places ps cs arr asked n d → Waits m (set_place places n (record { up = true; node = left d })) ps (with_last cs (commit_with d.entry d.commit)) arr asked
+  pub silent_waits : (d : Decision) → (members n).up ≡ true → Patient m members ps cs arr asked n d → Waits m (set_member members n (record { up = true; node = left d })) ps (with_last cs (commit_with d.entry d.commit)) arr asked
   silent_waits d up s =
-      subst (λ xs. Waits m (set_place places n (record { up = true; node = left d })) xs (with_last cs (commit_with d.entry d.commit)) arr asked) (append-nil ps)
+      subst (λ xs. Waits m (set_member members n (record { up = true; node = left d })) xs (with_last cs (commit_with d.entry d.commit)) arr asked) (append-nil ps)
       (whole_waits (silenced d) up (record {
         parked = s.parked;
         next_want = s.next_want;
@@ -235,23 +235,23 @@ module _ (m : Meanings) (places : ℕ → Place) (ps : List Packet) (cs : List C
       }))
 
   -- a node stops or starts, with nothing parked
-  pub empty_waits : (x : Place) (o : Option Commit) → x.node.parked ≡ [] → ((b k : ℕ) → IsPast (places n) b k → IsPast x b k) → MayAdd m arr cs o → AreServed asked o → Waits m (set_place places n x) ps (with_last cs o) arr asked
+  pub empty_waits : (x : Member) (o : Option Commit) → x.node.parked ≡ [] → ((b k : ℕ) → IsPast (members n) b k → IsPast x b k) → MayAdd m arr cs o → AreServed asked o → Waits m (set_member members n x) ps (with_last cs o) arr asked
   empty_waits x o none past s a =
-      let on : (b k y : ℕ) → IsPast (places y) b k → IsPast (set_place places n x y) b k = λ b k y p. by_node (λ _ z. IsPast z b k) places n x y (λ e. past b k (subst (λ z. IsPast (places z) b k) e p)) (λ e. p) in
+      let on : (b k y : ℕ) → IsPast (members y) b k → IsPast (set_member members n x y) b k = λ b k y p. by_node (λ _ z. IsPast z b k) members n x y (λ e. past b k (subst (λ z. IsPast (members z) b k) e p)) (λ e. p) in
       record {
         want_past = λ from to k b v i. on b v from (j.want_past from to k b v i);
         no_past = λ from to k b v i. on b v to (j.no_past from to k b v i);
-        no_excuse = λ from to k b v p i. by_node (λ y z. In p z.node.parked → b ≡ z.node.durable.boot → p.want ≡ v → p.key ≡ k → IsExcused m (with_last cs o) (arr (tok to (boot_of z) p.token)) k) places n x to (λ e h. absurd (subst (In p) none h)) (λ e h b' want key. excused_with m cs o _ k (j.no_excuse from to k b v p i h b' want key));
-        parked = λ y p. by_node (λ z v. In p v.node.parked → IsParked m (length (with_last cs o)) arr asked (tok y (boot_of v) p.token) v.node.next_want p) places n x y (λ e h. absurd (subst (In p) none h)) (λ e h. parked_longer m (length cs) (length (with_last cs o)) arr asked _ _ _ p (longer cs o) (omega arith) (j.parked y p h));
+        no_excuse = λ from to k b v p i. by_node (λ y z. In p z.node.parked → b ≡ z.node.durable.boot → p.want ≡ v → p.key ≡ k → IsExcused m (with_last cs o) (arr (tok to (boot_of z) p.token)) k) members n x to (λ e h. absurd (subst (In p) none h)) (λ e h b' want key. excused_with m cs o _ k (j.no_excuse from to k b v p i h b' want key));
+        parked = λ y p. by_node (λ z v. In p v.node.parked → IsParked m (length (with_last cs o)) arr asked (tok y (boot_of v) p.token) v.node.next_want p) members n x y (λ e h. absurd (subst (In p) none h)) (λ e h. parked_longer m (length cs) (length (with_last cs o)) arr asked _ _ _ p (longer cs o) (omega arith) (j.parked y p h));
         excused = stand_with m arr cs o j.excused s;
         served = served_with asked cs o j.served a;
       }
 
-  pub stop_waits : (d : Durable) (o : Option Commit) → d.boot ≡ (places n).node.durable.boot → MayAdd m arr cs o → AreServed asked o → Waits m (set_place places n (stopped d)) ps (with_last cs o) arr asked
-  stop_waits d o boot s a = empty_waits (stopped d) o refl (λ b k. past_stop (places n) (stopped d) b k refl boot) s a
+  pub stop_waits : (d : Durable) (o : Option Commit) → d.boot ≡ (members n).node.durable.boot → MayAdd m arr cs o → AreServed asked o → Waits m (set_member members n (stopped d)) ps (with_last cs o) arr asked
+  stop_waits d o boot s a = empty_waits (stopped d) o refl (λ b k. past_stop (members n) (stopped d) b k refl boot) s a
 
-  pub boot_waits : (x : Place) → x.node.parked ≡ [] → x.node.durable.boot ≡ (places n).node.durable.boot + 1 → Waits m (set_place places n x) ps cs arr asked
-  boot_waits x none boot = empty_waits x None none (λ b k. past_boot (places n) x b k boot) tt tt
+  pub boot_waits : (x : Member) → x.node.parked ≡ [] → x.node.durable.boot ≡ (members n).node.durable.boot + 1 → Waits m (set_member members n x) ps cs arr asked
+  boot_waits x none boot = empty_waits x None none (λ b k. past_boot (members n) x b k boot) tt tt
 
 pub in_without : (f : Parked → Bool) (ps : List Parked) (p : Parked) → In p (without f ps) → In p ps
 in_without f [] p h = h

@@ -42,14 +42,14 @@ serial_of m c w inv k x e ended = ⊎_elim
 module _ (m : Meanings) (touches : AllTouchOnlyHanded m) (c : Cluster) (nodes n : ℕ) (inside : n < nodes) where
   -- it waits in each world of these rounds
   abbrev WaitsRounds : Parked → World → List Round → Type 0
-  WaitsRounds p w [] = In p (w.places n).node.parked
+  WaitsRounds p w [] = In p (w.members n).node.parked
   WaitsRounds p w (a ∷ rs) = WaitsOn m touches c n p w a.ticks × WaitsOn m touches c n p (ticked m c w a) a.rest × WaitsRounds p (behind m c w a) rs
 
-  rounds_first : (p : Parked) (rs : List Round) (w : World) → WaitsRounds p w rs → In p (w.places n).node.parked
+  rounds_first : (p : Parked) (rs : List Round) (w : World) → WaitsRounds p w rs → In p (w.members n).node.parked
   rounds_first p [] w h = h
   rounds_first p (a ∷ rs) w h = waits_first m touches c n p a.ticks w h.0
 
-  rounds_on : (p : Parked) (rs : List Round) (since : ℕ) (w : World) → AreRounds m c nodes since w rs → p.want < (w.places n).node.next_want → In p ((behind_all m c w rs).places n).node.parked → WaitsRounds p w rs
+  rounds_on : (p : Parked) (rs : List Round) (since : ℕ) (w : World) → AreRounds m c nodes since w rs → p.want < (w.members n).node.next_want → In p ((behind_all m c w rs).members n).node.parked → WaitsRounds p w rs
   rounds_on p [] since w fair below i = i
   rounds_on p (a ∷ rs) since w fair below i =
       let v = ticked m c w a in
@@ -65,11 +65,11 @@ module _ (m : Meanings) (touches : AllTouchOnlyHanded m) (c : Cluster) (nodes n 
   both_rounds (a ∷ rs) w b = both_rounds rs (behind m c w a) (run_both m touches c (ticked m c w a) a.rest (run_both m touches c w a.ticks b))
 
   -- behind these rounds it waits, or it does not
-  waits_or_not : (p : Parked) (rs : List Round) (since : ℕ) (w : World) → Both m touches c w → AreRounds m c nodes since w rs → In p (w.places n).node.parked
-      → In p ((behind_all m c w rs).places n).node.parked ⊎ (In p ((behind_all m c w rs).places n).node.parked → ⊥)
+  waits_or_not : (p : Parked) (rs : List Round) (since : ℕ) (w : World) → Both m touches c w → AreRounds m c nodes since w rs → In p (w.members n).node.parked
+      → In p ((behind_all m c w rs).members n).node.parked ⊎ (In p ((behind_all m c w rs).members n).node.parked → ⊥)
   waits_or_not p rs since w b fair i =
-      let first = (w.places n).node in
-      let last = ((behind_all m c w rs).places n).node in
+      let first = (w.members n).node in
+      let last = ((behind_all m c w rs).members n).node in
       let below : p.want < first.next_want = want_below first.parked first.next_want p (b.queued.at n).rising i in
       ⊎_elim
       (λ (f : (q : Parked) × In q last.parked × (q.want ≡ p.want)).
@@ -202,10 +202,10 @@ module _ (m : Meanings) (touches : AllTouchOnlyHanded m) (c : Cluster) (nodes n 
         (λ (apart : x ≢ n). asking_in x (length w.packets) boot w a b rs there apart h (inr (inl (e, stands.0))))
         (cases_eq x n)
 
-    stays_by : (w : World) (rs : List Round) → Both m touches c w → AreFair m c nodes w rs → HasRoomIn m c n p.key w rs → In p (w.places n).node.parked → In p ((behind_all m c w rs).places n).node.parked
+    stays_by : (w : World) (rs : List Round) → Both m touches c w → AreFair m c nodes w rs → HasRoomIn m c n p.key w rs → In p (w.members n).node.parked → In p ((behind_all m c w rs).members n).node.parked
         → Stays (length w.packets) (durable_at w n).boot w rs
     stays_by w rs b fair room i end =
-        let node = (w.places n).node in
+        let node = (w.members n).node in
         record {
           both = b;
           all = fair.run;
@@ -219,16 +219,16 @@ module _ (m : Meanings) (touches : AllTouchOnlyHanded m) (c : Cluster) (nodes n 
   -- ---- all of it
 
   -- where it would wait at the end, its session went elsewhere
-  served_or : (w : World) → Both m touches c w → (p : Parked) (rs : List Round) → In p (w.places n).node.parked → AreFair m c nodes w rs → CanCome m c nodes w n p.key rs
+  served_or : (w : World) → Both m touches c w → (p : Parked) (rs : List Round) → In p (w.members n).node.parked → AreFair m c nodes w rs → CanCome m c nodes w n p.key rs
       → ((some : 0 < p.key.serial) → Stays p some (length w.packets) (durable_at w n).boot w rs → ElseRounds p some w rs)
-      → (In p ((behind_all m c w rs).places n).node.parked → ⊥) ⊎ WentElsewhereIn m c n p.key w rs
+      → (In p ((behind_all m c w rs).members n).node.parked → ⊥) ⊎ WentElsewhereIn m c n p.key w rs
   served_or w both p rs i fair can goes = ⊎_elim
-      (λ (end : In p ((behind_all m c w rs).places n).node.parked). inr (rounds_went p can.counts rs w (goes can.counts (stays_by p can.counts w rs both fair can.room i end))))
-      (λ (gone : In p ((behind_all m c w rs).places n).node.parked → ⊥). inl gone)
+      (λ (end : In p ((behind_all m c w rs).members n).node.parked). inr (rounds_went p can.counts rs w (goes can.counts (stays_by p can.counts w rs both fair can.room i end))))
+      (λ (gone : In p ((behind_all m c w rs).members n).node.parked → ⊥). inl gone)
       (waits_or_not p rs (length w.packets) w both fair.rounds_are i)
 
-  served_by : (w : World) → Both m touches c w → (p : Parked) (a b d : Round) → In p (w.places n).node.parked → AreFair m c nodes w (a ∷ b ∷ d ∷ []) → CanCome m c nodes w n p.key (a ∷ b ∷ d ∷ [])
-      → (In p ((behind_all m c w (a ∷ b ∷ d ∷ [])).places n).node.parked → ⊥) ⊎ WentElsewhereIn m c n p.key w (a ∷ b ∷ d ∷ [])
+  served_by : (w : World) → Both m touches c w → (p : Parked) (a b d : Round) → In p (w.members n).node.parked → AreFair m c nodes w (a ∷ b ∷ d ∷ []) → CanCome m c nodes w n p.key (a ∷ b ∷ d ∷ [])
+      → (In p ((behind_all m c w (a ∷ b ∷ d ∷ [])).members n).node.parked → ⊥) ⊎ WentElsewhereIn m c n p.key w (a ∷ b ∷ d ∷ [])
   served_by w both p a b d i fair can =
       let j = both.inv.sane.lives p.key in
       let boot = (durable_at w n).boot in
@@ -236,8 +236,8 @@ module _ (m : Meanings) (touches : AllTouchOnlyHanded m) (c : Cluster) (nodes n 
       (λ x e s to there way. way_in p some x e s to (length w.packets) boot w a b d there (can.goes x e s to way) (can.epochs_off x e s to way) h way (can.room_off x e s to way).1)
       j.phase j.stands)
 
-  served_in_two : (w : World) → Both m touches c w → (p : Parked) (a b : Round) → In p (w.places n).node.parked → ((x e : ℕ) (s : Session) (to : ℕ) → IsOnItsWay w p.key x e s to → to ≡ n)
-      → AreFair m c nodes w (a ∷ b ∷ []) → CanCome m c nodes w n p.key (a ∷ b ∷ []) → (In p ((behind_all m c w (a ∷ b ∷ [])).places n).node.parked → ⊥) ⊎ WentElsewhereIn m c n p.key w (a ∷ b ∷ [])
+  served_in_two : (w : World) → Both m touches c w → (p : Parked) (a b : Round) → In p (w.members n).node.parked → ((x e : ℕ) (s : Session) (to : ℕ) → IsOnItsWay w p.key x e s to → to ≡ n)
+      → AreFair m c nodes w (a ∷ b ∷ []) → CanCome m c nodes w n p.key (a ∷ b ∷ []) → (In p ((behind_all m c w (a ∷ b ∷ [])).members n).node.parked → ⊥) ⊎ WentElsewhereIn m c n p.key w (a ∷ b ∷ [])
   served_in_two w both p a b i here fair can =
       let j = both.inv.sane.lives p.key in
       let boot = (durable_at w n).boot in
@@ -245,13 +245,13 @@ module _ (m : Meanings) (touches : AllTouchOnlyHanded m) (c : Cluster) (nodes n 
       (λ x e s to there way. here_in p some x e s (length w.packets) boot w a b [] there h (subst (λ y. IsOnItsWay w p.key x e s y) (here x e s to way) way))
       j.phase j.stands)
 
-  rounds_up : (qs : List Round) (since : ℕ) (w : World) → AreRounds m c nodes since w qs → (w.places n).node.next_want ≤ ((behind_all m c w qs).places n).node.next_want
+  rounds_up : (qs : List Round) (since : ℕ) (w : World) → AreRounds m c nodes since w qs → (w.members n).node.next_want ≤ ((behind_all m c w qs).members n).node.next_want
   rounds_up [] since w f = omega arith
   rounds_up (a ∷ qs) since w f = omega (arith, wants_along m touches c n a.ticks w f.0.steps.0, wants_along m touches c n a.rest (ticked m c w a) f.0.steps.1, rounds_up qs (length (ticked m c w a).packets) (behind m c w a) f.1)
 
   -- who waits no more doesn't wait again
-  gone_windows : (p : Parked) (rs : List Window) (w : World) → Both m touches c w → p.want < (w.places n).node.next_want → AreWindows m c nodes n p.key w rs
-      → In p ((behind_windows m c w rs).places n).node.parked → In p (w.places n).node.parked
+  gone_windows : (p : Parked) (rs : List Window) (w : World) → Both m touches c w → p.want < (w.members n).node.next_want → AreWindows m c nodes n p.key w rs
+      → In p ((behind_windows m c w rs).members n).node.parked → In p (w.members n).node.parked
   gone_windows p [] w b below ws i = i
   gone_windows p (r ∷ rs) w b below ws i =
       let fair = ws.0.0 in
@@ -260,24 +260,24 @@ module _ (m : Meanings) (touches : AllTouchOnlyHanded m) (c : Cluster) (nodes n 
       rounds_first p (rounds_of r) w (rounds_on p (rounds_of r) (length w.packets) w fair.rounds_are below
       (gone_windows p rs v (both_rounds (rounds_of r) w b) (omega (arith, below, up)) ws.1 i))
 
-  served_windows : (p : Parked) (rs : List Window) (w : World) → Both m touches c w → In p (w.places n).node.parked → AreWindows m c nodes n p.key w rs
-      → (In p ((behind_windows m c w rs).places n).node.parked → ⊥) ⊎ AlwaysElsewhere m c n p.key w rs
+  served_windows : (p : Parked) (rs : List Window) (w : World) → Both m touches c w → In p (w.members n).node.parked → AreWindows m c nodes n p.key w rs
+      → (In p ((behind_windows m c w rs).members n).node.parked → ⊥) ⊎ AlwaysElsewhere m c n p.key w rs
   served_windows p [] w b i ws = inr tt
   served_windows p (r ∷ rs) w b i ws =
       let fair = ws.0.0 in
       let v = behind_all m c w (rounds_of r) in
       let bv = both_rounds (rounds_of r) w b in
-      let node = (v.places n).node in
+      let node = (v.members n).node in
       ⊎_elim
       (λ (stays : In p node.parked).
       ⊎_elim
       (λ (gone : In p node.parked → ⊥). absurd (gone stays))
       (λ (went : WentElsewhereIn m c n p.key w (rounds_of r)). ⊎_elim
-      (λ (gone : In p ((behind_windows m c v rs).places n).node.parked → ⊥). inl gone)
+      (λ (gone : In p ((behind_windows m c v rs).members n).node.parked → ⊥). inl gone)
       (λ (more : AlwaysElsewhere m c n p.key v rs). inr (went, more))
       (served_windows p rs v bv stays ws.1))
       (served_by w b p r.first r.second r.third i fair ws.0.1))
-      (λ (gone : In p node.parked → ⊥). inl (λ end. gone (gone_windows p rs v bv (omega (arith, want_below (w.places n).node.parked (w.places n).node.next_want p (b.queued.at n).rising i, rounds_up (rounds_of r) (length w.packets) w fair.rounds_are)) ws.1 end)))
+      (λ (gone : In p node.parked → ⊥). inl (λ end. gone (gone_windows p rs v bv (omega (arith, want_below (w.members n).node.parked (w.members n).node.next_want p (b.queued.at n).rising i, rounds_up (rounds_of r) (length w.packets) w fair.rounds_are)) ws.1 end)))
       (waits_or_not p (rounds_of r) (length w.packets) w b fair.rounds_are i)
 
   -- where the session has ended nobody gives it away
@@ -306,8 +306,8 @@ module _ (m : Meanings) (touches : AllTouchOnlyHanded m) (c : Cluster) (nodes n 
       (λ (y : ElseRounds p some (behind m c w a) rs). ended_rounds p some x e rs (length v.packets) (behind m c w a) fair.1 (run_both m touches c v a.rest bv) two.0 y)
       h
 
-  denied_by : (w : World) → Both m touches c w → (x e : ℕ) (p : Parked) (a b : Round) → x < nodes → In p (w.places n).node.parked → states w p.key x ≡ Some (Ended e)
-      → AreFair m c nodes w (a ∷ b ∷ []) → HasRoomIn m c n p.key w (a ∷ b ∷ []) → In p ((behind_all m c w (a ∷ b ∷ [])).places n).node.parked → ⊥
+  denied_by : (w : World) → Both m touches c w → (x e : ℕ) (p : Parked) (a b : Round) → x < nodes → In p (w.members n).node.parked → states w p.key x ≡ Some (Ended e)
+      → AreFair m c nodes w (a ∷ b ∷ []) → HasRoomIn m c n p.key w (a ∷ b ∷ []) → In p ((behind_all m c w (a ∷ b ∷ [])).members n).node.parked → ⊥
   denied_by w both x e p a b there i ended fair room end =
       let rs = a ∷ b ∷ [] in
       let some : 0 < p.key.serial = serial_of m c w both.inv p.key x e ended in

@@ -85,7 +85,7 @@ boot_plan_of d = record { decision = d; kept = entry_in d; entry = entry_in d }
 
 -- a node that stops with what a stop has left of its step
 abbrev pub halted_with : Heading → Durable → Rest → Done
-halted_with h d r = record { place = stopped (applied_if r.kept d); effect = quiet_at h r.entry r.commit }
+halted_with h d r = record { member = stopped (applied_if r.kept d); effect = quiet_at h r.entry r.commit }
 
 -- the record that may be there fits behind these
 abbrev pub MayFollow : Setting → Durable → Option Record → Type 0

@@ -22,7 +22,7 @@ use Rattle.sv_world.specs.declared.line.Heading.{Heading}
 use Rattle.sv_world.specs.declared.traced.Traced.{Traced}
 use Rattle.sv_world.specs.declared.task.Task.{Task}
 use Rattle.sv_world.specs.declared.task.Task.TheVariants.{Step, Torn, Silent, Stop, Start, TornStart}
-use Rattle.sv_world.specs.World.{Place, stopped, started, commit_with}
+use Rattle.sv_world.specs.World.{Member, stopped, started, commit_with}
 
 -- nothing is put out and nothing is told
 abbrev pub quiet_at : Heading → Option Record → Option Commit → Effect
@@ -56,9 +56,9 @@ line_of e f =
 
 -- ---- what a task does
 
--- the place behind it, and what has been done
+-- the member behind it, and what has been done
 pub record Done : Type 0 where
-  pub place : Place
+  pub member : Member
   pub effect : Effect
 
 -- a node's heading, with the token of the request that came
@@ -71,32 +71,32 @@ heading_by set d input = heading_at set d (asked_by (token_of set d) input)
 
 -- a whole step that was decided
 abbrev pub stepped : Heading → Decision → Done
-stepped h d = record { place = record { up = true; node = left d }; effect = whole_at h d }
+stepped h d = record { member = record { up = true; node = left d }; effect = whole_at h d }
 
 -- the node stops, or stays stopped, and nothing is durable that was not
 abbrev pub halted : Heading → Durable → Done
-halted h d = record { place = stopped d; effect = quiet_at h None None }
+halted h d = record { member = stopped d; effect = quiet_at h None None }
 
--- a step that a stop cuts: a commit is kept only with its record
+-- a torn step: a commit is kept only with its record
 abbrev pub torn_by : Heading → Durable → Bool → Decision → Done
 torn_by h old kept d =
-    cond (kept && is_some d.entry) (record { place = stopped d.durable; effect = quiet_at h d.entry d.commit }) (halted h old)
+    cond (kept && is_some d.entry) (record { member = stopped d.durable; effect = quiet_at h d.entry d.commit }) (halted h old)
 
--- a step of which nothing leaves its node
+-- a silent step
 abbrev pub silenced : Heading → Decision → Done
-silenced h d = record { place = record { up = true; node = left d }; effect = quiet_at h d.entry (commit_with d.entry d.commit) }
+silenced h d = record { member = record { up = true; node = left d }; effect = quiet_at h d.entry (commit_with d.entry d.commit) }
 
 -- a start by its record
-abbrev pub booted : Setting → Heading → Durable → (Durable → Place) → Done
-booted set h d place = record { place = place (applied (boot_record set d) d); effect = quiet_at h (Some (boot_record set d)) None }
+abbrev pub booted : Setting → Heading → Durable → (Durable → Member) → Done
+booted set h d member = record { member = member (applied (boot_record set d) d); effect = quiet_at h (Some (boot_record set d)) None }
 
 -- a start, that leaves the node running (`started`) or stopped, with its record or without; the last number is never gone past
-abbrev pub start_by : Setting → Durable → Bool → (Durable → Place) → Done
-start_by set d kept place =
-    cond (kept && not (d.boot == last_number)) (booted set (heading_at set d None) d place) (halted (heading_at set d None) d)
+abbrev pub start_by : Setting → Durable → Bool → (Durable → Member) → Done
+start_by set d kept member =
+    cond (kept && not (d.boot == last_number)) (booted set (heading_at set d None) d member) (halted (heading_at set d None) d)
 
 -- what a task does at a node that may be given it
-abbrev pub deed : EngineMeaning → Setting → Place → Task → Done
+abbrev pub deed : EngineMeaning → Setting → Member → Task → Done
 deed m set p (Step moment input) = stepped (heading_by set p.node.durable input) (decided m set p.node moment input)
 deed m set p (Torn moment input kept) = torn_by (heading_by set p.node.durable input) p.node.durable kept (decided m set p.node moment input)
 deed m set p (Silent moment input) = silenced (heading_by set p.node.durable input) (decided m set p.node moment input)

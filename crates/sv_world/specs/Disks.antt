@@ -25,7 +25,7 @@ use Rattle.sv_node.specs.Call.{Call, Open, Step, Unsaid, Compact, Stop, Done, Re
 use Rattle.sv_world.specs.declared.event.WorldEvent.{WorldEvent}
 use Rattle.sv_world.specs.declared.event.WorldEvent.TheVariants.{Ask, Deliver, Poke, Tick, Move, Crash, Torn, Silent, Restart, TornRestart}
 use Rattle.sv_world.specs.declared.line.Line.{Line}
-use Rattle.sv_world.specs.World.{Cluster, Place, World, setting_of, set_place, stopped, nothing_happened, run, AlwaysKnows}
+use Rattle.sv_world.specs.World.{Cluster, Member, World, setting_of, set_member, stopped, nothing_happened, run, AlwaysKnows}
 use Rattle.sv_world.specs.declared.rules.Rules.{Rules}
 use Rattle.sv_world.specs.Headline.{IsHeadline}
 use Rattle.sv_world.specs.Journals.{AreWithin, HaveFitted}
@@ -48,13 +48,13 @@ pub record Shown : Type 0 where
 -- what has come of all calls so far: what each node keeps and whether it runs, all packets that were put out, and what each
 -- step has shown
 pub record Seen : Type 0 where
-  pub places : ℕ → Place
+  pub members : ℕ → Member
   pub packets : List Packet
   pub shown : List Shown
 
 -- all disks are blank, and no node was opened
 abbrev pub nothing_called : Seen
-nothing_called = record { places = λ _. stopped blank; packets = []; shown = [] }
+nothing_called = record { members = λ _. stopped blank; packets = []; shown = [] }
 
 -- ---- what a call may be given
 
@@ -96,7 +96,7 @@ MayCome packets numbers Stop = ⊤
 
 -- the number of the start that a call is of
 abbrev pub start_at : Seen → NodeCall → ℕ
-start_at s l = number_of (s.places l.node).node.durable l.call
+start_at s l = number_of (s.members l.node).node.durable l.call
 
 -- the start that the call is of was told of its own node; the call was given what it may be given, and did what such a call does
 -- with the application and the setting of that start
@@ -104,7 +104,7 @@ pub record IsCall (m : Meanings) (c : Cluster) (s : Seen) (numbers : ℕ → Lis
   pub inside : l.node < c.nodes l.node (start_at s l)
   pub comes : MayCome s.packets (numbers l.node) l.call
   pub does :
-      Does (m l.node (start_at s l)) (setting_of c l.node (start_at s l)) (s.places l.node).up (s.places l.node).node l.call l.after
+      Does (m l.node (start_at s l)) (setting_of c l.node (start_at s l)) (s.members l.node).up (s.members l.node).node l.call l.after
 
 -- ---- what comes of it
 
@@ -128,9 +128,9 @@ shown_at n d Stop a = []
 
 abbrev pub behind : Seen → NodeCall → Seen
 behind s l =
-    let p = s.places l.node in
+    let p = s.members l.node in
     record {
-      places = set_place s.places l.node (record { up = runs_behind p.up l.call; node = l.after.node });
+      members = set_member s.members l.node (record { up = runs_behind p.up l.call; node = l.after.node });
       packets = s.packets ++ sends_in l.after.outputs;
       shown = s.shown ++ shown_at l.node p.node.durable l.call l.after;
     }
@@ -171,15 +171,15 @@ AreOfInput packets n at input.Poke events = events ≡ Poke n at ∷ []
 AreOfInput packets n at input.Tick events = events ≡ Tick n at ∷ []
 AreOfInput packets n at (input.Move k to) events = events ≡ Move n at k to ∷ []
 
--- a start that a stop has cut, its record kept or not
+-- a torn start, its record kept or not
 abbrev pub AreOfCutStart : ℕ → List WorldEvent → Type 0
 AreOfCutStart n events = (kept : Bool) × (events ≡ TornRestart n kept ∷ [])
 
--- a step that a stop has cut, its record kept or not
+-- a torn step, its record kept or not
 abbrev pub AreOfCutStep : ℕ → Moment → Input → List WorldEvent → Type 0
 AreOfCutStep n at input events = (kept : Bool) × (events ≡ Torn n at input kept ∷ [])
 
--- a step of which nothing leaves its node
+-- a silent step
 abbrev pub silent_event : ℕ → Given → WorldEvent
 silent_event n g = Silent n g.at g.input
 
@@ -213,7 +213,7 @@ AreOfCall packets up n (Compact Cut) events = AreOfStop up n events
 AreOfCall packets up n Stop events = AreOfStop up n events
 
 abbrev pub AreOf : Seen → NodeCall → List WorldEvent → Type 0
-AreOf s l events = AreOfCall s.packets (s.places l.node).up l.node l.call events
+AreOf s l events = AreOfCall s.packets (s.members l.node).up l.node l.call events
 
 -- the events of the calls, one call behind the other
 abbrev pub AreOfAll : Seen → List NodeCall → List WorldEvent → Type 0
@@ -227,22 +227,22 @@ abbrev pub shown_by : Line → List Shown
 shown_by l = cond l.whole (record { node = l.node; boot = l.boot; outputs = l.outputs; told = with_mark l.events l.mark } ∷ []) []
 
 abbrev pub seen_as : World → Seen
-seen_as w = record { places = w.places; packets = w.packets; shown = flat_map shown_by w.trace }
+seen_as w = record { members = w.members; packets = w.packets; shown = flat_map shown_by w.trace }
 
 -- ---- nodes that are added while others run
 
 -- an opening comes when it is the node's turn
-abbrev pub InTurnAt : Cluster → (ℕ → Place) → ℕ → Call → Type 0
-InTurnAt c places n (Open ending) = IsTurn c places n
-InTurnAt c places n (Step at input ending) = ⊤
-InTurnAt c places n (Unsaid givens) = ⊤
-InTurnAt c places n (Compact ending) = ⊤
-InTurnAt c places n Stop = ⊤
+abbrev pub InTurnAt : Cluster → (ℕ → Member) → ℕ → Call → Type 0
+InTurnAt c members n (Open ending) = IsTurn c members n
+InTurnAt c members n (Step at input ending) = ⊤
+InTurnAt c members n (Unsaid givens) = ⊤
+InTurnAt c members n (Compact ending) = ⊤
+InTurnAt c members n Stop = ⊤
 
 -- so does each of these
 abbrev pub AreOpenedInTurn : Cluster → Seen → List NodeCall → Type 0
 AreOpenedInTurn c s [] = ⊤
-AreOpenedInTurn c s (l ∷ ls) = InTurnAt c s.places l.node l.call × AreOpenedInTurn c (behind s l) ls
+AreOpenedInTurn c s (l ∷ ls) = InTurnAt c s.members l.node l.call × AreOpenedInTurn c (behind s l) ls
 
 -- The calls are a world: the list of their events leads to just what has come of them. So the theorem holds of the requests
 -- that came, of what the nodes keep, of what was put out and of what was told, as long as each node that runs was told of each

@@ -19,7 +19,7 @@ step_fault there up sent unused =
 abbrev pub call_fault : Cluster → World → Option Call → Option WorldFault
 call_fault c w None = Some NoPacket
 call_fault c w (Some call) =
-    step_fault (is_there c call.node (durable_at w call.node).boot) (w.places call.node).up (may_come w.packets call.input)
+    step_fault (is_there c call.node (durable_at w call.node).boot) (w.members call.node).up (may_come w.packets call.input)
     (is_unused (asked_of (items w.trace)) (token_of_call c w call))
 
 abbrev pub start_fault : Bool → Bool → Option WorldFault
@@ -37,9 +37,9 @@ fault_of c w (Tick n moment) = call_fault c w (call_of w.packets (Tick n moment)
 fault_of c w (Move n moment k to) = call_fault c w (call_of w.packets (Move n moment k to))
 fault_of c w (Torn n moment given kept) = call_fault c w (call_of w.packets (Torn n moment given kept))
 fault_of c w (Silent n moment given) = call_fault c w (call_of w.packets (Silent n moment given))
-fault_of c w (Crash n) = stop_fault (is_there c n (durable_at w n).boot) (w.places n).up
-fault_of c w (Restart n) = start_fault (is_there c n ((durable_at w n).boot + 1)) (w.places n).up
-fault_of c w (TornRestart n kept) = start_fault (is_there c n ((durable_at w n).boot + 1)) (w.places n).up
+fault_of c w (Crash n) = stop_fault (is_there c n (durable_at w n).boot) (w.members n).up
+fault_of c w (Restart n) = start_fault (is_there c n ((durable_at w n).boot + 1)) (w.members n).up
+fault_of c w (TornRestart n kept) = start_fault (is_there c n ((durable_at w n).boot + 1)) (w.members n).up
 
 -- an event with a fault changes nothing; any other adds one line, its own
 pub record IsFaulty (m : Meanings) (c : Cluster) (w : World) (e : WorldEvent) : Type 0 where

@@ -22,20 +22,20 @@ use Rattle.sv_world.specs.declared.world.World.{World as Nodes}
 use Rattle.sv_world.specs.Deed.{deed, told_by}
 use Rattle.sv_world.specs.Faults.{fault_of}
 use Rattle.sv_world.specs.Order.{order_of}
-use Rattle.sv_world.specs.World.{World, setting_of, set_place, nothing_happened, run}
-use Rattle.sv_world.specs.Worlds.{places_by, settings_by, heard_by, world_of, size_of, cluster_of, meanings_of, heard_of, AllMean}
+use Rattle.sv_world.specs.World.{World, setting_of, set_member, nothing_happened, run}
+use Rattle.sv_world.specs.Worlds.{members_by, settings_by, heard_by, world_of, size_of, cluster_of, meanings_of, heard_of, AllMean}
 
 -- ---- a task
 
 -- a node has done a task, whose engine means `m`; all others are as they were
 pub record HaveDone {E : Type 0} (noted : E → List (List ℕ)) (m : EngineMeaning) (old new : List (Slot E)) (o : Order) (f : Effect) : Type 0 where
-  pub places : places_by new ≡ set_place (places_by old) o.node (deed m (settings_by old o.node) (places_by old o.node) o.task).place
-  pub effect : f ≡ (deed m (settings_by old o.node) (places_by old o.node) o.task).effect
+  pub members : members_by new ≡ set_member (members_by old) o.node (deed m (settings_by old o.node) (members_by old o.node) o.task).member
+  pub effect : f ≡ (deed m (settings_by old o.node) (members_by old o.node) o.task).effect
   pub heard : (x : ℕ) → heard_by noted new x ≡ cond (x == o.node) (option_map (λ h. heard_all m h (told_by f)) (heard_by noted old x)) (heard_by noted old x)
 
 -- no node has done anything
 pub record AreUndone {E : Type 0} (noted : E → List (List ℕ)) (old new : List (Slot E)) : Type 0 where
-  pub places : places_by new ≡ places_by old
+  pub members : members_by new ≡ members_by old
   pub heard : heard_by noted new ≡ heard_by noted old
 
 -- ---- events
@@ -133,7 +133,7 @@ pub record AreBack {E : Type 0} (meaning : E → EngineMeaning) (noted : E → L
   pub meanings : (n : ℕ) → option_map meaning (slice_get new n) ≡ option_map meaning (slice_get old n)
   pub heard : (n : ℕ) → option_map noted (slice_get new n) ≡ option_map noted (slice_get old n)
 
--- a start that no stop cuts
+-- a start that isn't torn
 abbrev pub is_start : WorldEvent → Bool
 is_start (Ask n moment token r) = false
 is_start (Deliver moment place) = false

@@ -109,7 +109,7 @@ request_in input.Poke = None
 request_in input.Tick = None
 request_in (input.Move k to) = None
 
--- the request that came with an event: with a step, whole, cut or silent
+-- the request that came with an event: with a step, whole, torn or silent
 abbrev pub request_of : WorldEvent → Option Request
 request_of (Ask n moment number r) = Some r
 request_of (Deliver moment place) = None
@@ -137,7 +137,7 @@ abbrev pub AreLines : (Store → Line → Type 0) → Meanings → Store → Lis
 AreLines P m store [] = ⊤
 AreLines P m store (l ∷ ls) = P store l × AreLines P m (store_with m store l.commit) ls
 
--- a step that a stop has cut, or of which nothing leaves its node, answers and refuses nobody
+-- a torn or silent step answers and refuses nobody
 pub record IsUnanswered (l : Line) : Type 0 where
   pub replies : (item_at l).replies ≡ []
   pub refused : (item_at l).refused ≡ []
@@ -178,7 +178,7 @@ pub record IsAcknowledged (m : Meanings) (w : World) : Type 0 where
 
 -- ---- 5. listeners
 
--- a step that a stop has cut, or of which nothing leaves its node, tells nothing
+-- a torn or silent step tells nothing
 pub record IsUnheard (l : Line) : Type 0 where
   pub events : l.events ≡ []
   pub mark : l.mark ≡ None

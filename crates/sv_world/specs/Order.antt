@@ -13,11 +13,11 @@ use Rattle.sv_world.specs.World.{call_of}
 abbrev pub whole_order : Call → Order
 whole_order call = record { node = call.node; task = task.Step call.moment call.input }
 
--- a step that a stop cuts
+-- a torn step
 abbrev pub torn_order : Bool → Call → Order
 torn_order kept call = record { node = call.node; task = task.Torn call.moment call.input kept }
 
--- a step of which nothing leaves its node
+-- a silent step
 abbrev pub silent_order : Call → Order
 silent_order call = record { node = call.node; task = task.Silent call.moment call.input }
 

@@ -8,17 +8,17 @@ use Rattle.sv_world.specs.declared.installing.InstallFault.TheVariants.{NoNode, 
 use Rattle.sv_world.specs.declared.rules.Rules.{Rules}
 use Rattle.sv_world.specs.declared.slot.Slot.{Slot}
 use Rattle.sv_world.specs.declared.world.World.{World as Nodes}
-use Rattle.sv_world.specs.Slot.{place_of, boot_of}
-use Rattle.sv_world.specs.World.{Cluster, Place, World, setting_of, nothing_happened, run}
+use Rattle.sv_world.specs.Slot.{member_of, boot_of}
+use Rattle.sv_world.specs.World.{Cluster, Member, World, setting_of, nothing_happened, run}
 use Rattle.sv_world.specs.Worlds.{settings_by, meanings_by, heard_by, world_of, size_of, cluster_of, meanings_of}
 use Rattle.sv_world.specs.Happened.{events_in}
 
 -- the first start that what a node has now is of: its last one while it runs, else the next one
-abbrev pub since_at : Place → ℕ
+abbrev pub since_at : Member → ℕ
 since_at p = cond p.up p.node.durable.boot (p.node.durable.boot + 1)
 
 abbrev pub since : World → ℕ → ℕ
-since w n = since_at (w.places n)
+since w n = since_at (w.members n)
 
 -- a plan says what each start of a node is started with; that of the start of which a node is now, and of all behind it, is what
 -- the node has. Each start is told of its own node, and no other node is there
@@ -49,7 +49,7 @@ cluster_behind n last nodes rules c = record { nodes = changed_behind n last nod
 
 -- the number of the last start of a node
 abbrev pub last_of : {E : Type 0} → Nodes E → ℕ → ℕ
-last_of w n = ((world_of w).places n).node.durable.boot
+last_of w n = ((world_of w).members n).node.durable.boot
 
 -- why a node can't get something else
 abbrev pub fault_in : Option ℕ → Option InstallFault
@@ -58,7 +58,7 @@ fault_in (Some boot) = Some Running
 
 abbrev pub fault_by : {E : Type 0} → ℕ → ℕ → Option (Slot E) → Option InstallFault
 fault_by n nodes None = Some NoNode
-fault_by n nodes (Some s) = cond (nat_le nodes n) (Some NotTold) (fault_in (boot_of (place_of s)))
+fault_by n nodes (Some s) = cond (nat_le nodes n) (Some NotTold) (fault_in (boot_of (member_of s)))
 
 -- the fault with which it is refused: that of the node, and where it has none, that its records don't fit, or want of memory
 abbrev pub IsCause : Option InstallFault → InstallFault → Type 0

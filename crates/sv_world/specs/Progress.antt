@@ -59,14 +59,14 @@ setting_at c w n = setting_of c n (durable_at w n).boot
 
 -- the node runs, and was told of itself
 pub record Runs (c : Cluster) (w : World) (n : ℕ) : Type 0 where
-  pub up : (w.places n).up ≡ true
+  pub up : (w.members n).up ≡ true
   pub there : n < told_at c w n
 
 -- so many nodes run, each was told of as many, and no other node runs
 pub record AllRun (c : Cluster) (nodes : ℕ) (w : World) : Type 0 where
-  pub up : (n : ℕ) → n < nodes → (w.places n).up ≡ true
+  pub up : (n : ℕ) → n < nodes → (w.members n).up ≡ true
   pub told : (n : ℕ) → n < nodes → told_at c w n ≡ nodes
-  pub only : (n : ℕ) → (w.places n).up ≡ true → n < nodes
+  pub only : (n : ℕ) → (w.members n).up ≡ true → n < nodes
 
 -- ---- 1. nobody is forgotten
 
@@ -76,7 +76,7 @@ waiting t n boot [] = 0
 waiting t n boot (p ∷ ps) = cond (same_token t (tok n boot p.token)) 1 0 + waiting t n boot ps
 
 abbrev pub waiting_in : World → Token → ℕ
-waiting_in w t = waiting t t.node (boot_of (w.places t.node)) (w.places t.node).node.parked
+waiting_in w t = waiting t t.node (boot_of (w.members t.node)) (w.members t.node).node.parked
 
 -- how often it was served or refused, or waits
 abbrev pub accounted_in : World → Token → ℕ
@@ -93,7 +93,7 @@ NobodyIsForgotten m c w = (events : List WorldEvent) → AreSteps events → IsK
 
 -- none waits at the node for as long as its deadline, by the clock that nobody sets
 abbrev pub IsInTime : Cluster → World → ℕ → ℕ → Type 0
-IsInTime c w n steady = (p : Parked) → In p (w.places n).node.parked → steady < p.since + (setting_at c w n).deadline
+IsInTime c w n steady = (p : Parked) → In p (w.members n).node.parked → steady < p.since + (setting_at c w n).deadline
 
 abbrev pub TicksEndWaiting : Meanings → Cluster → World → Type 0
 TicksEndWaiting m c w = (n : ℕ) (moment : Moment) → Runs c w n → IsInTime c (happens m c w (Tick n moment)) n moment.steady
@@ -120,7 +120,7 @@ AllCome from to events = (place : ℕ) → from ≤ place → place < to → (mo
 
 -- nobody waits for a session that is at hand
 abbrev pub IsSettled : ℕ → World → Type 0
-IsSettled nodes w = (n : ℕ) → n < nodes → (p : Parked) → In p (w.places n).node.parked → is_settled (known (durable_at w n) p.key) ≡ false
+IsSettled nodes w = (n : ℕ) → n < nodes → (p : Parked) → In p (w.members n).node.parked → is_settled (known (durable_at w n) p.key) ≡ false
 
 -- a fair round of so many nodes, where the packets from place `since` on have not yet come
 pub record IsRound (m : Meanings) (c : Cluster) (nodes since : ℕ) (w : World) (r : Round) : Type 0 where
@@ -217,7 +217,7 @@ abbrev pub ServedInARound : Meanings → Cluster → World → Type 0
 ServedInARound m c w =
     (nodes n e : ℕ) (k : Key) (s : Session) (to : ℕ) (a : Round) → n < nodes → to < nodes → IsOnItsWay w k n e s to
     → AreFair m c nodes w (a ∷ []) → HasRoomIn m c to k w (a ∷ [])
-    → ((p : Parked) → In p ((behind m c w a).places to).node.parked → p.key ≢ k) ⊎ WentIn m c k to w a
+    → ((p : Parked) → In p ((behind m c w a).members to).node.parked → p.key ≢ k) ⊎ WentIn m c k to w a
 
 -- and its sender is done with it in two
 abbrev pub IsDoneInTwo : Meanings → Cluster → World → Type 0
@@ -230,7 +230,7 @@ IsDoneInTwo m c w =
 -- a tick asks every other node for the session, where the request goes on waiting and there is room for what it waits for
 abbrev pub TicksAsk : Meanings → Cluster → World → Type 0
 TicksAsk m c w =
-    (n x : ℕ) (moment : Moment) (p : Parked) → Runs c w n → In p (w.places n).node.parked
+    (n x : ℕ) (moment : Moment) (p : Parked) → Runs c w n → In p (w.members n).node.parked
     → is_late (setting_at c w n) moment.steady p ≡ false → is_quiet (setting_at c w n) (durable_at w n) p ≡ false → x < told_at c w n → x ≢ n
     → In (Want n x p.key (durable_at w n).boot p.want) (happens m c w (Tick n moment)).packets
 
@@ -246,8 +246,8 @@ pub record WantsAreAnswered (m : Meanings) (c : Cluster) (w : World) : Type 0 wh
 -- a poke serves or refuses one that waits for a session at hand, where there is one
 abbrev pub PokesServe : Meanings → Cluster → World → Type 0
 PokesServe m c w =
-    (n : ℕ) (moment : Moment) (p : Parked) → Runs c w n → In p (w.places n).node.parked → is_settled (known (durable_at w n) p.key) ≡ true
-    → length ((happens m c w (Poke n moment)).places n).node.parked + 1 ≡ length (w.places n).node.parked
+    (n : ℕ) (moment : Moment) (p : Parked) → Runs c w n → In p (w.members n).node.parked → is_settled (known (durable_at w n) p.key) ≡ true
+    → length ((happens m c w (Poke n moment)).members n).node.parked + 1 ≡ length (w.members n).node.parked
 
 -- the key is one that a node can have given; what is kept of it is kept at these nodes; and wherever it is, the session can go on, and
 -- where it goes there is room
@@ -274,16 +274,16 @@ WentElsewhereIn m c n k w (a ∷ rs) = WentElsewhere m c n k w a.ticks ⊎ (Went
 
 abbrev pub IsServed : Meanings → Cluster → World → Type 0
 IsServed m c w =
-    (nodes n : ℕ) (p : Parked) (a b d : Round) → n < nodes → In p (w.places n).node.parked
+    (nodes n : ℕ) (p : Parked) (a b d : Round) → n < nodes → In p (w.members n).node.parked
     → AreFair m c nodes w (a ∷ b ∷ d ∷ []) → CanCome m c nodes w n p.key (a ∷ b ∷ d ∷ [])
-    → (In p ((behind_all m c w (a ∷ b ∷ d ∷ [])).places n).node.parked → ⊥) ⊎ WentElsewhereIn m c n p.key w (a ∷ b ∷ d ∷ [])
+    → (In p ((behind_all m c w (a ∷ b ∷ d ∷ [])).members n).node.parked → ⊥) ⊎ WentElsewhereIn m c n p.key w (a ∷ b ∷ d ∷ [])
 
 -- in two, where the session isn't on its way to another node
 abbrev pub IsServedInTwo : Meanings → Cluster → World → Type 0
 IsServedInTwo m c w =
-    (nodes n : ℕ) (p : Parked) (a b : Round) → n < nodes → In p (w.places n).node.parked
+    (nodes n : ℕ) (p : Parked) (a b : Round) → n < nodes → In p (w.members n).node.parked
     → ((x e : ℕ) (s : Session) (to : ℕ) → IsOnItsWay w p.key x e s to → to ≡ n) → AreFair m c nodes w (a ∷ b ∷ []) → CanCome m c nodes w n p.key (a ∷ b ∷ [])
-    → (In p ((behind_all m c w (a ∷ b ∷ [])).places n).node.parked → ⊥) ⊎ WentElsewhereIn m c n p.key w (a ∷ b ∷ [])
+    → (In p ((behind_all m c w (a ∷ b ∷ [])).members n).node.parked → ⊥) ⊎ WentElsewhereIn m c n p.key w (a ∷ b ∷ [])
 
 -- ---- 5. so it is served in as many times three rounds, but for those in which its session went to another node
 
@@ -313,15 +313,15 @@ AlwaysElsewhere m c n k w (r ∷ rs) = WentElsewhereIn m c n k w (rounds_of r) �
 
 abbrev pub IsServedAtLast : Meanings → Cluster → World → Type 0
 IsServedAtLast m c w =
-    (nodes n : ℕ) (p : Parked) (rs : List Window) → n < nodes → In p (w.places n).node.parked → AreWindows m c nodes n p.key w rs
-    → (In p ((behind_windows m c w rs).places n).node.parked → ⊥) ⊎ AlwaysElsewhere m c n p.key w rs
+    (nodes n : ℕ) (p : Parked) (rs : List Window) → n < nodes → In p (w.members n).node.parked → AreWindows m c nodes n p.key w rs
+    → (In p ((behind_windows m c w rs).members n).node.parked → ⊥) ⊎ AlwaysElsewhere m c n p.key w rs
 
 -- where it has ended, in two rounds, whatever others do
 abbrev pub IsDeniedInTwo : Meanings → Cluster → World → Type 0
 IsDeniedInTwo m c w =
-    (nodes n x e : ℕ) (p : Parked) (a b : Round) → n < nodes → x < nodes → In p (w.places n).node.parked → states w p.key x ≡ Some (Ended e)
+    (nodes n x e : ℕ) (p : Parked) (a b : Round) → n < nodes → x < nodes → In p (w.members n).node.parked → states w p.key x ≡ Some (Ended e)
     → AreFair m c nodes w (a ∷ b ∷ []) → HasRoomIn m c n p.key w (a ∷ b ∷ [])
-    → In p ((behind_all m c w (a ∷ b ∷ [])).places n).node.parked → ⊥
+    → In p ((behind_all m c w (a ∷ b ∷ [])).members n).node.parked → ⊥
 
 -- ---- 6. a session that has expired ends
 

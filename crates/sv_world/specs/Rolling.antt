@@ -3,7 +3,7 @@ use Rattle.std.specs.Prelude.{◌≡◌, ◌<◌, ◌+◌, ℕ, true, IfSome, Op
 use Rattle.sv_model.specs.Container.{Meanings}
 use Rattle.sv_world.specs.declared.event.WorldEvent.{WorldEvent}
 use Rattle.sv_world.specs.declared.event.WorldEvent.TheVariants.{Ask, Deliver, Poke, Tick, Move, Crash, Torn, Silent, Restart, TornRestart}
-use Rattle.sv_world.specs.World.{Cluster, Place, World, happens}
+use Rattle.sv_world.specs.World.{Cluster, Member, World, happens}
 
 -- the node that an event starts
 abbrev pub start_in : WorldEvent → Option ℕ
@@ -19,12 +19,12 @@ start_in (Restart n) = Some n
 start_in (TornRestart n kept) = Some n
 
 -- when a node is started, it is told of each node that was ever started, and each node that runs was told of it
-pub record IsTurn (c : Cluster) (places : ℕ → Place) (n : ℕ) : Type 0 where
-  pub knows : (y : ℕ) → 0 < (places y).node.durable.boot → y < c.nodes n ((places n).node.durable.boot + 1)
-  pub known : (x : ℕ) → (places x).up ≡ true → n < c.nodes x (places x).node.durable.boot
+pub record IsTurn (c : Cluster) (members : ℕ → Member) (n : ℕ) : Type 0 where
+  pub knows : (y : ℕ) → 0 < (members y).node.durable.boot → y < c.nodes n ((members n).node.durable.boot + 1)
+  pub known : (x : ℕ) → (members x).up ≡ true → n < c.nodes x (members x).node.durable.boot
 
 -- So it is at each start. To add a node: start each node that runs anew with the longer list, one after the other, and then the new
 -- one.
 abbrev pub AreInTurn : Meanings → Cluster → World → List WorldEvent → Type 0
 AreInTurn m c w [] = ⊤
-AreInTurn m c w (e ∷ es) = IfSome (start_in e) (IsTurn c w.places) × AreInTurn m c (happens m c w e) es
+AreInTurn m c w (e ∷ es) = IfSome (start_in e) (IsTurn c w.members) × AreInTurn m c (happens m c w e) es

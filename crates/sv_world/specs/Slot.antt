@@ -1,4 +1,4 @@
--- A node in code, seen as a place of the world.
+-- A node in code, seen as a member of the world.
 use Rattle.std.specs.Prelude.{◌≡◌, ℕ, true, cond, is_some, is_none, Option, Some, None, List, IfSome}
 use Rattle.std.specs.Option.{option_map}
 use Rattle.sv_model.specs.Engine.{EngineMeaning, heard_all}
@@ -13,18 +13,18 @@ use Rattle.sv_world.specs.declared.slot.Slot.{Slot}
 use Rattle.sv_world.specs.declared.task.Task.{Task}
 use Rattle.sv_world.specs.declared.line.Effect.{Effect}
 use Rattle.sv_world.specs.Deed.{deed, told_by}
-use Rattle.sv_world.specs.World.{Place, stopped}
+use Rattle.sv_world.specs.World.{Member, stopped}
 
 -- what its journal gives
 abbrev pub durable_of : {E : Type 0} → Slot E → Durable
 durable_of s = replayed blank s.journal.items
 
-abbrev pub place_by : {E : Type 0} → Option (Core E) → Durable → Place
-place_by None d = stopped d
-place_by (Some c) d = record { up = true; node = core.node_at c }
+abbrev pub member_by : {E : Type 0} → Option (Core E) → Durable → Member
+member_by None d = stopped d
+member_by (Some c) d = record { up = true; node = core.node_at c }
 
-abbrev pub place_of : {E : Type 0} → Slot E → Place
-place_of s = place_by s.core (durable_of s)
+abbrev pub member_of : {E : Type 0} → Slot E → Member
+member_of s = member_by s.core (durable_of s)
 
 -- its engine, whether it runs or not
 abbrev pub engine_by : {E : Type 0} → Option (Core E) → Option E → Option E
@@ -48,7 +48,7 @@ pub record IsSlot {E : Type 0} (valid : E → Type 0) (s : Slot E) : Type 0 wher
   pub either : is_some s.idle ≡ is_none s.core
 
 -- the number of its last start, where it runs
-abbrev pub boot_of : Place → Option ℕ
+abbrev pub boot_of : Member → Option ℕ
 boot_of p = cond p.up (Some p.node.durable.boot) None
 
 -- what its engine means, and what the engine's listeners have noted
@@ -61,11 +61,11 @@ heard_in heard s = option_map heard (engine_in s)
 -- a task was done whose engine means `m`: the node is as the task leaves it, what was done is what the task does, and
 -- listeners have noted what was told
 pub record HasDone {E : Type 0} (noted : E → List (List ℕ)) (m : EngineMeaning) (old new : Slot E) (task : Task) (f : Effect) : Type 0 where
-  pub place : place_of new ≡ (deed m old.setting (place_of old) task).place
-  pub effect : f ≡ (deed m old.setting (place_of old) task).effect
+  pub member : member_of new ≡ (deed m old.setting (member_of old) task).member
+  pub effect : f ≡ (deed m old.setting (member_of old) task).effect
   pub heard : heard_in noted new ≡ option_map (λ h. heard_all m h (told_by f)) (heard_in noted old)
 
 -- nothing was done
 pub record IsUndone {E : Type 0} (noted : E → List (List ℕ)) (old new : Slot E) : Type 0 where
-  pub place : place_of new ≡ place_of old
+  pub member : member_of new ≡ member_of old
   pub heard : heard_in noted new ≡ heard_in noted old

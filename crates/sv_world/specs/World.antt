@@ -3,7 +3,7 @@
 -- A world is a value, and no code stands in it. A node's own step is the table of sv_model's `Node.antt`; here stands what a
 -- stop leaves of a step, what a step does of which nothing leaves its node, what a start does, and that a packet is one that
 -- was sent. Each clause is a sentence or two:
---     a step           its record is durable, listeners are told, its packets are sent        `whole`
+--     a whole step     its record is durable, listeners are told, its packets are sent        `whole`
 --     a torn step      cut behind its record, or before it; the node stops                    `torn`, `halt`
 --     a silent step    its record is durable, nobody is told, nothing is sent; it runs on     `silent`
 --     a stop           what isn't durable is gone                                             `halt`
@@ -52,34 +52,34 @@ setting_of c n boot = setting_by (c.rules n boot) n (c.nodes n boot)
 
 -- ---- the world
 
--- a node, and whether it runs; of one that doesn't run only what is durable is left
-pub record Place : Type 0 where
+-- a member: a node, and whether it runs; of one that doesn't run only what is durable is left
+pub record Member : Type 0 where
   pub up : Bool
   pub node : Node
 
 -- every node, every packet that was ever sent, in order, and a line for each event, in order
 pub record World : Type 0 where
-  pub places : ℕ → Place
+  pub members : ℕ → Member
   pub packets : List Packet
   pub trace : List Line
 
-abbrev pub set_place : (ℕ → Place) → ℕ → Place → ℕ → Place
-set_place places n p x = cond (x == n) p (places x)
+abbrev pub set_member : (ℕ → Member) → ℕ → Member → ℕ → Member
+set_member members n p x = cond (x == n) p (members x)
 
 abbrev pub durable_at : World → ℕ → Durable
-durable_at w n = (w.places n).node.durable
+durable_at w n = (w.members n).node.durable
 
 -- it doesn't run
-abbrev pub stopped : Durable → Place
+abbrev pub stopped : Durable → Member
 stopped d = record { up = false; node = record { durable = d; parked = []; next_want = 1 } }
 
 -- it runs, and nothing is parked
-abbrev pub started : Durable → Place
+abbrev pub started : Durable → Member
 started d = record { up = true; node = record { durable = d; parked = []; next_want = 1 } }
 
 -- no journal has a record, and no node runs
 abbrev pub nothing_happened : World
-nothing_happened = record { places = λ _. stopped blank; packets = []; trace = [] }
+nothing_happened = record { members = λ _. stopped blank; packets = []; trace = [] }
 
 -- ---- read off a trace
 
@@ -132,7 +132,7 @@ call_of sent (TornRestart n kept) = None
 abbrev pub decision : Meanings → Cluster → World → Call → Decision
 decision m c w call =
     let boot = (durable_at w call.node).boot in
-    decided (m call.node boot) (setting_of c call.node boot) (w.places call.node).node call.moment call.input
+    decided (m call.node boot) (setting_of c call.node boot) (w.members call.node).node call.moment call.input
 
 -- the token of a request that comes with a step
 abbrev pub token_of_call : Cluster → World → Call → Option Token
@@ -150,7 +150,7 @@ is_there c n boot = nat_lt n (c.nodes n boot)
 -- the node is there and runs, a packet was sent, and a request comes under a token of its own
 abbrev pub is_ready : Cluster → World → Call → Bool
 is_ready c w call =
-    is_there c call.node (durable_at w call.node).boot && ((w.places call.node).up
+    is_there c call.node (durable_at w call.node).boot && ((w.members call.node).up
     && (may_come w.packets call.input && is_unused (asked_of (items w.trace)) (token_of_call c w call)))
 
 -- ---- what an event does
@@ -191,16 +191,16 @@ whole_line c w e call d =
 abbrev pub whole : Cluster → World → WorldEvent → Call → Decision → World
 whole c w e call d =
     record {
-      places = set_place w.places call.node (record { up = true; node = left d });
+      members = set_member w.members call.node (record { up = true; node = left d });
       packets = w.packets ++ sends_in d.outputs;
       trace = w.trace ++ whole_line c w e call d ∷ [];
     }
 
--- a step that a stop cuts behind its record
+-- a torn step whose record is kept
 abbrev pub torn : Cluster → World → WorldEvent → Call → Decision → World
 torn c w e call d =
     record {
-      places = set_place w.places call.node (stopped d.durable);
+      members = set_member w.members call.node (stopped d.durable);
       packets = w.packets;
       trace = w.trace ++ quiet_line w e call.node (token_of_call c w call) d.entry d.commit ∷ [];
     }
@@ -210,20 +210,20 @@ abbrev pub commit_with : Option Record → Option Commit → Option Commit
 commit_with None commit = None
 commit_with (Some entry) commit = commit
 
--- a step of which nothing leaves its node
+-- a silent step
 abbrev pub silent : Cluster → World → WorldEvent → Call → Decision → World
 silent c w e call d =
     record {
-      places = set_place w.places call.node (record { up = true; node = left d });
+      members = set_member w.members call.node (record { up = true; node = left d });
       packets = w.packets;
       trace = w.trace ++ quiet_line w e call.node (token_of_call c w call) d.entry (commit_with d.entry d.commit) ∷ [];
     }
 
 -- a node becomes another, by a record that isn't of a step or by none
-abbrev pub becomes : World → WorldEvent → ℕ → Place → Option Record → Option Token → World
+abbrev pub becomes : World → WorldEvent → ℕ → Member → Option Record → Option Token → World
 becomes w e n p entry asked =
     record {
-      places = set_place w.places n p;
+      members = set_member w.members n p;
       packets = w.packets;
       trace = w.trace ++ quiet_line w e n asked entry None ∷ [];
     }
@@ -236,9 +236,9 @@ halt w e n asked = becomes w e n (stopped (durable_at w n)) None asked
 abbrev pub record_of_start : Cluster → World → ℕ → Record
 record_of_start c w n = boot_record (setting_of c n ((durable_at w n).boot + 1)) (durable_at w n)
 
-abbrev pub boots : Cluster → World → WorldEvent → ℕ → (Durable → Place) → World
-boots c w e n place =
-    becomes w e n (place (applied (record_of_start c w n) (durable_at w n))) (Some (record_of_start c w n)) None
+abbrev pub boots : Cluster → World → WorldEvent → ℕ → (Durable → Member) → World
+boots c w e n member =
+    becomes w e n (member (applied (record_of_start c w n) (durable_at w n))) (Some (record_of_start c w n)) None
 
 -- the boot numbers of a node are used up
 abbrev pub is_spent : World → ℕ → Bool
@@ -255,17 +255,17 @@ tears m c w e kept (Some call) =
     let d = decision m c w call in
     cond (is_ready c w call) (cond (kept && is_some d.entry) (torn c w e call d) (halt w e call.node (token_of_call c w call))) w
 
--- a step of which nothing leaves its node; the node runs on. So several steps that are made durable at once, behind which a
+-- a silent step; the node runs on. So several steps that are made durable at once, behind which a
 -- stop falls before anything of them has left, are as many silent steps and a stop.
 abbrev pub silences : Meanings → Cluster → World → WorldEvent → Option Call → World
 silences m c w e None = w
 silences m c w e (Some call) = cond (is_ready c w call) (silent c w e call (decision m c w call)) w
 
 -- a start, that leaves the node running (`started`) or stopped, with its record or without
-abbrev pub starts : Cluster → World → WorldEvent → ℕ → Bool → (Durable → Place) → World
-starts c w e n kept place =
-    cond (is_there c n ((durable_at w n).boot + 1) && not (w.places n).up)
-    (cond (kept && not (is_spent w n)) (boots c w e n place) (halt w e n None)) w
+abbrev pub starts : Cluster → World → WorldEvent → ℕ → Bool → (Durable → Member) → World
+starts c w e n kept member =
+    cond (is_there c n ((durable_at w n).boot + 1) && not (w.members n).up)
+    (cond (kept && not (is_spent w n)) (boots c w e n member) (halt w e n None)) w
 
 -- an event that can't happen changes nothing
 abbrev pub happens : Meanings → Cluster → World → WorldEvent → World
@@ -276,7 +276,7 @@ happens m c w (Tick n moment) = steps m c w (Tick n moment) (call_of w.packets (
 happens m c w (Move n moment k to) = steps m c w (Move n moment k to) (call_of w.packets (Move n moment k to))
 happens m c w (Torn n moment given kept) = tears m c w (Torn n moment given kept) kept (call_of w.packets (Torn n moment given kept))
 happens m c w (Silent n moment given) = silences m c w (Silent n moment given) (call_of w.packets (Silent n moment given))
-happens m c w (Crash n) = cond (is_there c n (durable_at w n).boot && (w.places n).up) (halt w (Crash n) n None) w
+happens m c w (Crash n) = cond (is_there c n (durable_at w n).boot && (w.members n).up) (halt w (Crash n) n None) w
 happens m c w (Restart n) = starts c w (Restart n) n true started
 happens m c w (TornRestart n kept) = starts c w (TornRestart n kept) n kept stopped
 
@@ -290,7 +290,7 @@ run m c w (e ∷ es) = run m c (happens m c w e) es
 -- no session lives that was made at a node of which a node that runs wasn't told; such a node takes its key for one that never was
 abbrev pub KnowsAll : Meanings → Cluster → World → Type 0
 KnowsAll m c w =
-    (x : ℕ) (k : Key) → (w.places x).up ≡ true → c.nodes x (durable_at w x).boot ≤ k.home
+    (x : ℕ) (k : Key) → (w.members x).up ≡ true → c.nodes x (durable_at w x).boot ≤ k.home
     → (after m nothing_stored (commits_in w)).map k ≡ None
 
 -- that holds before each of these events

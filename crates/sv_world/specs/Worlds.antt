@@ -10,17 +10,17 @@ use Rattle.sv_world.specs.declared.rules.Rules.{Rules}
 use Rattle.sv_world.specs.Rules.{rules_for, setting_by}
 use Rattle.sv_world.specs.declared.slot.Slot.{Slot}
 use Rattle.sv_world.specs.declared.world.World.{World as Nodes}
-use Rattle.sv_world.specs.Slot.{IsSlot, place_of, meaning_in, heard_in}
-use Rattle.sv_world.specs.World.{Cluster, Place, World, stopped}
+use Rattle.sv_world.specs.Slot.{IsSlot, member_of, meaning_in, heard_in}
+use Rattle.sv_world.specs.World.{Cluster, Member, World, stopped}
 
 -- ---- nodes, by their numbers
 
-abbrev pub place_in : {E : Type 0} → Option (Slot E) → Place
-place_in None = stopped blank
-place_in (Some s) = place_of s
+abbrev pub member_in : {E : Type 0} → Option (Slot E) → Member
+member_in None = stopped blank
+member_in (Some s) = member_of s
 
-abbrev pub places_by : {E : Type 0} → List (Slot E) → ℕ → Place
-places_by slots n = place_in (slice_get slots n)
+abbrev pub members_by : {E : Type 0} → List (Slot E) → ℕ → Member
+members_by slots n = member_in (slice_get slots n)
 
 abbrev pub setting_in : {E : Type 0} → Option (Slot E) → Setting
 setting_in None = setting_by (rules_for 0) 0 0
@@ -46,7 +46,7 @@ abbrev pub heard_by : {E : Type 0} → (E → List (List ℕ)) → List (Slot E)
 heard_by noted slots n = noted_in noted (slice_get slots n)
 
 abbrev pub state_by : {E : Type 0} → List (Slot E) → List Packet → List Line → World
-state_by slots packets trace = record { places = places_by slots; packets = packets; trace = trace }
+state_by slots packets trace = record { members = members_by slots; packets = packets; trace = trace }
 
 -- the rules of a setting
 abbrev pub rules_in : Setting → Rules

@@ -34,7 +34,7 @@ fn commit_with(entry: &Option<Record>, commit: Option<Commit>) -> Option<Commit>
     }
 }
 
-/// What the trace keeps of a step of which nothing leaves the node.
+/// What the trace keeps of a silent step.
 fn quiet_of(alloc: Global, heading: Heading, traced: Traced) -> Effect
     ensures { result ≡ quiet_at heading traced.entry (commit_with traced.entry traced.commit) }
 {
@@ -74,7 +74,7 @@ fn settle<E: Engine>(
     quiet_of(alloc, heading, traced)
 }
 
-/// A step of a core over its records, of which nothing leaves the node. After want of memory nothing was done.
+/// A silent step of a core over its records. After want of memory nothing was done.
 pub fn silent_step<E: Engine>(
     alloc: Global,
     core: &mut Core<E>,

@@ -5,9 +5,9 @@ ghost use Rattle.std.specs.List.{All};
 ghost use Rattle.sv_model.specs.Container.{Meanings};
 ghost use Rattle.sv_world.specs.Happened.{AreUndone};
 ghost use Rattle.sv_world.specs.Planned.{AreInstalled, fault_by, meanings_behind, cluster_behind};
-ghost use Rattle.sv_world.specs.Slot.{IsSlot, place_of, engine_in};
+ghost use Rattle.sv_world.specs.Slot.{IsSlot, member_of, engine_in};
 ghost use Rattle.sv_world.specs.World.{Cluster};
-ghost use Rattle.sv_world.specs.Worlds.{places_by, settings_by, meanings_by};
+ghost use Rattle.sv_world.specs.Worlds.{members_by, settings_by, meanings_by};
 
 use crate::rules::Rules;
 use crate::slot::Slot;
@@ -63,10 +63,10 @@ impl<E: Engine + Drop> Slot<E> {
     /// back that it had. After a fault it is as it was.
     fn install(&mut self, alloc: Global, setting: Setting, engine: E) -> Result<E, Unrecovered<E>>
         requires slot { IsSlot E.valid self.old }
-        requires down { (place_of self.old).up ≡ false }
+        requires down { (member_of self.old).up ≡ false }
         requires valid { E.valid engine }
         ensures slot { IsSlot E.valid self.new }
-        ensures place { place_of self.new ≡ place_of self.old }
+        ensures member { member_of self.new ≡ member_of self.old }
         ensures setting { OnOk result (self.new.setting ≡ setting) }
         ensures engine { OnOk result (engine_in self.new ≡ Some engine) }
         ensures had { IfOk result (λ e. engine_in self.old ≡ Some e) }
@@ -109,11 +109,11 @@ fn install_at<E: Engine + Drop>(
 ) -> Result<E, Uninstalled<E>>
     requires slots { All (λ s. IsSlot E.valid s) slots.old.items }
     requires there { setting.node < length slots.old.items }
-    requires down { (places_by slots.old.items setting.node).up ≡ false }
+    requires down { (members_by slots.old.items setting.node).up ≡ false }
     requires valid { E.valid engine }
     ensures slots { All (λ s. IsSlot E.valid s) slots.new.items }
     ensures number { length slots.new.items ≡ length slots.old.items }
-    ensures places { places_by slots.new.items ≡ places_by slots.old.items }
+    ensures members { members_by slots.new.items ≡ members_by slots.old.items }
     ensures installed { OnOk result (AreInstalled E.meaning E.heard setting engine slots.old.items slots.new.items) }
     ensures had { IfOk result (λ e. meanings_by E.meaning slots.old.items setting.node ≡ Some (E.meaning e)) }
     ensures undone { OnErr result (AreUndone E.heard slots.old.items slots.new.items) }

@@ -45,7 +45,7 @@ pub fn order()
         → (after m nothing_stored (commits_in (run m c nothing_happened events))).map k ≡ Some s → (x : ℕ) × IsLiveAt (run m c nothing_happened events) k x s }
 {}
 
-/// Each whole step tells what its commit and its record say, and one that was cut nothing, whatever nodes were told of one another.
+/// Each whole step tells what its commit and its record say, and any other nothing, whatever nodes were told of one another.
 pub fn heard()
     ensures { (m : Meanings) → AllTouchOnlyHanded m → (c : Cluster) (events : List WorldEvent) → IsTold m (run m c nothing_happened events) }
 {}

@@ -32,7 +32,7 @@ fn whole(call: Call) -> Order
     }
 }
 
-/// A step that a stop cuts.
+/// A torn step.
 fn torn(call: Call, kept: bool) -> Order
     ensures { result ≡ torn_order kept call }
 {
@@ -51,7 +51,7 @@ fn torn(call: Call, kept: bool) -> Order
     }
 }
 
-/// A step of which nothing leaves the node.
+/// A silent step.
 fn silent(call: Call) -> Order
     ensures { result ≡ silent_order call }
 {
@@ -76,7 +76,7 @@ fn whole_if(call: Option<Call>) -> Option<Order>
     }
 }
 
-/// The step that is asked for and torn, where there is one.
+/// The torn step that is asked for, where there is one.
 fn torn_if(call: Option<Call>, kept: bool) -> Option<Order>
     ensures { result ≡ option_map (torn_order kept) call }
 {
@@ -86,7 +86,7 @@ fn torn_if(call: Option<Call>, kept: bool) -> Option<Order>
     }
 }
 
-/// The step that is asked for and of which nothing leaves the node, where there is one.
+/// The silent step that is asked for, where there is one.
 fn silent_if(call: Option<Call>) -> Option<Order>
     ensures { result ≡ option_map silent_order call }
 {

@@ -4,7 +4,7 @@ ghost use Rattle.std.specs.Prelude.{◌≡◌, ◌++◌, IsTrue, [], None, Some,
 ghost use Rattle.sv_model.specs.Engine.{EngineMeaning};
 ghost use Rattle.sv_model.specs.Outputs.{sends_in};
 ghost use Rattle.sv_world.specs.Deed.{wants_up, heading_at, quiet_at};
-ghost use Rattle.sv_world.specs.Slot.{IsSlot, HasDone, IsUndone, place_of, engine_in, meaning_in};
+ghost use Rattle.sv_world.specs.Slot.{IsSlot, HasDone, IsUndone, member_of, engine_in, meaning_in};
 ghost use Rattle.sv_world.specs.World.{stopped};
 
 use crate::line::Effect;
@@ -18,12 +18,12 @@ impl<E: Engine + Drop> Slot<E> {
     /// Stops, and what isn't durable is gone.
     fn halt(&mut self, alloc: Global) -> Effect
         requires slot { IsSlot E.valid self.old }
-        requires up { IsTrue (place_of self.old).up }
+        requires up { IsTrue (member_of self.old).up }
         ensures slot { IsSlot E.valid self.new }
         ensures setting { self.new.setting ≡ self.old.setting }
         ensures engine { engine_in self.new ≡ engine_in self.old }
-        ensures place { place_of self.new ≡ stopped (place_of self.old).node.durable }
-        ensures effect { result ≡ quiet_at (heading_at self.old.setting (place_of self.old).node.durable None) None None }
+        ensures member { member_of self.new ≡ stopped (member_of self.old).node.durable }
+        ensures effect { result ≡ quiet_at (heading_at self.old.setting (member_of self.old).node.durable None) None None }
     {
         let heading = self.heading();
         self.stop();
@@ -38,7 +38,7 @@ impl<E: Engine + Drop> Slot<E> {
         task: Task,
     ) -> Result<Effect, Memory>
         requires slot { IsSlot E.valid self.old }
-        requires up { (place_of self.old).up ≡ wants_up task }
+        requires up { (member_of self.old).up ≡ wants_up task }
         ensures slot { IsSlot E.valid self.new }
         ensures setting { self.new.setting ≡ self.old.setting }
         ensures meaning { meaning_in E.meaning self.new ≡ meaning_in E.meaning self.old }

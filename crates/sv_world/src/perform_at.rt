@@ -6,7 +6,7 @@ ghost use Rattle.sv_model.specs.Engine.{EngineMeaning};
 ghost use Rattle.sv_model.specs.Outputs.{sends_in};
 ghost use Rattle.sv_world.specs.Deed.{wants_up};
 ghost use Rattle.sv_world.specs.Slot.{IsSlot};
-ghost use Rattle.sv_world.specs.Worlds.{places_by, settings_by, meanings_by};
+ghost use Rattle.sv_world.specs.Worlds.{members_by, settings_by, meanings_by};
 ghost use Rattle.sv_world.specs.Happened.{HaveDone, AreUndone};
 
 use crate::line::Effect;
@@ -25,7 +25,7 @@ pub fn perform_at<E: Engine + Drop>(
 ) -> Result<Effect, Memory>
     requires slots { All (λ s. IsSlot E.valid s) slots.old.items }
     requires there { order.node < length slots.old.items }
-    requires up { (places_by slots.old.items order.node).up ≡ wants_up order.task }
+    requires up { (members_by slots.old.items order.node).up ≡ wants_up order.task }
     ensures slots { All (λ s. IsSlot E.valid s) slots.new.items }
     ensures number { length slots.new.items ≡ length slots.old.items }
     ensures settings { settings_by slots.new.items ≡ settings_by slots.old.items }

@@ -1,7 +1,7 @@
 //! A core over what is durable.
 
 ghost use Rattle.std.specs.Prelude.{◌≡◌, false, OnOk, OnErr};
-ghost use Rattle.sv_world.specs.Slot.{IsSlot, place_of, engine_in};
+ghost use Rattle.sv_world.specs.Slot.{IsSlot, member_of, engine_in};
 ghost use Rattle.sv_world.specs.World.{started};
 
 use crate::slot::Slot;
@@ -14,12 +14,12 @@ impl<E: Engine + Drop> Slot<E> {
     /// it was.
     pub fn raise(&mut self, alloc: Global) -> Result<(), Memory>
         requires slot { IsSlot E.valid self.old }
-        requires down { (place_of self.old).up ≡ false }
+        requires down { (member_of self.old).up ≡ false }
         ensures slot { IsSlot E.valid self.new }
         ensures setting { self.new.setting ≡ self.old.setting }
         ensures engine { engine_in self.new ≡ engine_in self.old }
-        ensures place { OnOk result (place_of self.new ≡ started (place_of self.old).node.durable) }
-        ensures still { OnErr result (place_of self.new ≡ place_of self.old) }
+        ensures member { OnOk result (member_of self.new ≡ started (member_of self.old).node.durable) }
+        ensures still { OnErr result (member_of self.new ≡ member_of self.old) }
     {
         let Some(engine) = self.idle.take() else {
             unreachable!()

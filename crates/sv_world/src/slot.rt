@@ -2,7 +2,7 @@
 
 ghost use Rattle.std.specs.Prelude.{◌≡◌, IsTrue, None};
 ghost use Rattle.sv_world.specs.Deed.{heading_at, heading_by};
-ghost use Rattle.sv_world.specs.Slot.{IsSlot, place_of, engine_in, boot_of};
+ghost use Rattle.sv_world.specs.Slot.{IsSlot, member_of, engine_in, boot_of};
 ghost use Rattle.sv_world.specs.World.{stopped};
 
 use crate::line::Heading;
@@ -25,7 +25,7 @@ pub struct Slot<E> {
 impl<E> Slot<E> {
     /// The number of its last start, where it runs.
     pub fn boot(&self) -> Option<u64>
-        ensures { result ≡ boot_of (place_of self.now) }
+        ensures { result ≡ boot_of (member_of self.now) }
     {
         match &self.core {
             Some(core) => Some(core.boot()),
@@ -35,8 +35,8 @@ impl<E> Slot<E> {
 
     /// The heading of what happens at it with no request, while it runs.
     pub fn heading(&self) -> Heading
-        requires up { IsTrue (place_of self.now).up }
-        ensures { result ≡ heading_at self.now.setting (place_of self.now).node.durable None }
+        requires up { IsTrue (member_of self.now).up }
+        ensures { result ≡ heading_at self.now.setting (member_of self.now).node.durable None }
     {
         let Some(core) = &self.core else {
             unreachable!()
@@ -50,8 +50,8 @@ impl<E> Slot<E> {
 
     /// The heading of a step, while it runs.
     pub fn heading_by(&self, input: &Input) -> Heading
-        requires up { IsTrue (place_of self.now).up }
-        ensures { result ≡ heading_by self.now.setting (place_of self.now).node.durable input.now }
+        requires up { IsTrue (member_of self.now).up }
+        ensures { result ≡ heading_by self.now.setting (member_of self.now).node.durable input.now }
     {
         let Heading { node, boot, .. } = self.heading();
         Heading {
@@ -66,12 +66,12 @@ impl<E: Engine + Drop> Slot<E> {
     /// Stops; what is not durable is gone.
     pub fn stop(&mut self)
         requires slot { IsSlot E.valid self.old }
-        requires up { IsTrue (place_of self.old).up }
+        requires up { IsTrue (member_of self.old).up }
         ensures slot { IsSlot E.valid self.new }
         ensures setting { self.new.setting ≡ self.old.setting }
         ensures journal { self.new.journal ≡ self.old.journal }
         ensures engine { engine_in self.new ≡ engine_in self.old }
-        ensures place { place_of self.new ≡ stopped (place_of self.old).node.durable }
+        ensures member { member_of self.new ≡ stopped (member_of self.old).node.durable }
     {
         let Some(core) = self.core.take() else {
             unreachable!()

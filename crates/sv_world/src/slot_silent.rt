@@ -2,7 +2,7 @@
 
 ghost use Rattle.std.specs.Prelude.{◌≡◌, IsTrue, [], Some, IfOk, OnErr};
 ghost use Rattle.sv_model.specs.Engine.{EngineMeaning};
-ghost use Rattle.sv_world.specs.Slot.{IsSlot, HasDone, IsUndone, place_of, meaning_in};
+ghost use Rattle.sv_world.specs.Slot.{IsSlot, HasDone, IsUndone, member_of, meaning_in};
 ghost use Rattle.sv_world.specs.declared.task.Task.TheVariants.{Silent};
 
 use crate::call::Call;
@@ -23,7 +23,7 @@ impl<E: Engine + Drop> Slot<E> {
         input: Input,
     ) -> Result<Effect, Memory>
         requires slot { IsSlot E.valid self.old }
-        requires up { IsTrue (place_of self.old).up }
+        requires up { IsTrue (member_of self.old).up }
         ensures slot { IsSlot E.valid self.new }
         ensures setting { self.new.setting ≡ self.old.setting }
         ensures meaning { meaning_in E.meaning self.new ≡ meaning_in E.meaning self.old }

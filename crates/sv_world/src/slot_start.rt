@@ -3,7 +3,7 @@
 ghost use Rattle.std.specs.Prelude.{◌≡◌, ◌&&◌, IsTrue, cond, is_some, false, None, IfOk, OnErr};
 ghost use Rattle.sv_world.specs.Acting.{start_entry, start_entry_if, begun, start_of};
 ghost use Rattle.sv_world.specs.Deed.{quiet_at};
-ghost use Rattle.sv_world.specs.Slot.{IsSlot, place_of, engine_in, meaning_in, heard_in};
+ghost use Rattle.sv_world.specs.Slot.{IsSlot, member_of, engine_in, meaning_in, heard_in};
 ghost use Rattle.sv_world.specs.World.{stopped};
 
 use crate::core_start::begin;
@@ -18,15 +18,15 @@ impl<E: Engine + Drop> Slot<E> {
     /// nothing was done.
     fn begin(&mut self, alloc: Global) -> Result<Option<Record>, Memory>
         requires slot { IsSlot E.valid self.old }
-        requires up { IsTrue (place_of self.old).up }
+        requires up { IsTrue (member_of self.old).up }
         ensures slot { IsSlot E.valid self.new }
         ensures setting { self.new.setting ≡ self.old.setting }
         ensures meaning { meaning_in E.meaning self.new ≡ meaning_in E.meaning self.old }
         ensures heard { heard_in E.heard self.new ≡ heard_in E.heard self.old }
-        ensures up { IsTrue (place_of self.new).up }
-        ensures entry { IfOk result (λ entry. entry ≡ start_entry self.old.setting (place_of self.old).node.durable) }
-        ensures node { IfOk result (λ entry. (place_of self.new).node ≡ begun entry (place_of self.old).node) }
-        ensures still { OnErr result ((place_of self.new).node ≡ (place_of self.old).node) }
+        ensures up { IsTrue (member_of self.new).up }
+        ensures entry { IfOk result (λ entry. entry ≡ start_entry self.old.setting (member_of self.old).node.durable) }
+        ensures node { IfOk result (λ entry. (member_of self.new).node ≡ begun entry (member_of self.old).node) }
+        ensures still { OnErr result ((member_of self.new).node ≡ (member_of self.old).node) }
     {
         let Some(core) = &mut self.core else {
             unreachable!()
@@ -37,15 +37,15 @@ impl<E: Engine + Drop> Slot<E> {
     /// The same where the start comes so far, and else nothing.
     fn begin_if(&mut self, alloc: Global, kept: bool) -> Result<Option<Record>, Memory>
         requires slot { IsSlot E.valid self.old }
-        requires up { IsTrue (place_of self.old).up }
+        requires up { IsTrue (member_of self.old).up }
         ensures slot { IsSlot E.valid self.new }
         ensures setting { self.new.setting ≡ self.old.setting }
         ensures meaning { meaning_in E.meaning self.new ≡ meaning_in E.meaning self.old }
         ensures heard { heard_in E.heard self.new ≡ heard_in E.heard self.old }
-        ensures up { IsTrue (place_of self.new).up }
-        ensures entry { IfOk result (λ entry. entry ≡ start_entry_if self.old.setting kept (place_of self.old).node.durable) }
-        ensures node { IfOk result (λ entry. (place_of self.new).node ≡ begun entry (place_of self.old).node) }
-        ensures still { OnErr result ((place_of self.new).node ≡ (place_of self.old).node) }
+        ensures up { IsTrue (member_of self.new).up }
+        ensures entry { IfOk result (λ entry. entry ≡ start_entry_if self.old.setting kept (member_of self.old).node.durable) }
+        ensures node { IfOk result (λ entry. (member_of self.new).node ≡ begun entry (member_of self.old).node) }
+        ensures still { OnErr result ((member_of self.new).node ≡ (member_of self.old).node) }
     {
         if kept {
             return self.begin(alloc);
@@ -62,11 +62,11 @@ impl<E: Engine + Drop> Slot<E> {
         stays: bool,
     ) -> Effect
         requires slot { IsSlot E.valid self.old }
-        requires up { IsTrue (place_of self.old).up }
+        requires up { IsTrue (member_of self.old).up }
         ensures slot { IsSlot E.valid self.new }
         ensures setting { self.new.setting ≡ self.old.setting }
         ensures engine { engine_in self.new ≡ engine_in self.old }
-        ensures place { place_of self.new ≡ cond (is_some entry && stays) (place_of self.old) (stopped (place_of self.old).node.durable) }
+        ensures member { member_of self.new ≡ cond (is_some entry && stays) (member_of self.old) (stopped (member_of self.old).node.durable) }
         ensures effect { result ≡ quiet_at heading entry None }
     {
         if !(entry.is_some() && stays) {
@@ -79,14 +79,14 @@ impl<E: Engine + Drop> Slot<E> {
     /// whose boot numbers are used up stays stopped. After want of memory nothing was done.
     pub fn start(&mut self, alloc: Global, kept: bool, stays: bool) -> Result<Effect, Memory>
         requires slot { IsSlot E.valid self.old }
-        requires down { (place_of self.old).up ≡ false }
+        requires down { (member_of self.old).up ≡ false }
         ensures slot { IsSlot E.valid self.new }
         ensures setting { self.new.setting ≡ self.old.setting }
         ensures meaning { meaning_in E.meaning self.new ≡ meaning_in E.meaning self.old }
         ensures heard { heard_in E.heard self.new ≡ heard_in E.heard self.old }
-        ensures place { IfOk result (λ _. place_of self.new ≡ (start_of self.old.setting (place_of self.old).node.durable kept stays).place) }
-        ensures effect { IfOk result (λ f. f ≡ (start_of self.old.setting (place_of self.old).node.durable kept stays).effect) }
-        ensures still { OnErr result (place_of self.new ≡ place_of self.old) }
+        ensures member { IfOk result (λ _. member_of self.new ≡ (start_of self.old.setting (member_of self.old).node.durable kept stays).member) }
+        ensures effect { IfOk result (λ f. f ≡ (start_of self.old.setting (member_of self.old).node.durable kept stays).effect) }
+        ensures still { OnErr result (member_of self.new ≡ member_of self.old) }
     {
         self.raise(alloc)?;
         let heading = self.heading();

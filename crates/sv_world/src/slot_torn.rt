@@ -5,7 +5,7 @@ ghost use Rattle.sv_model.specs.Engine.{EngineMeaning};
 ghost use Rattle.sv_model.specs.Replay.{applied_if};
 ghost use Rattle.sv_world.specs.Acting.{MayFollow, halted_with};
 ghost use Rattle.sv_world.specs.Deed.{deed, heading_by, quiet_at};
-ghost use Rattle.sv_world.specs.Slot.{IsSlot, HasDone, IsUndone, place_of, engine_in, meaning_in, heard_in};
+ghost use Rattle.sv_world.specs.Slot.{IsSlot, HasDone, IsUndone, member_of, engine_in, meaning_in, heard_in};
 ghost use Rattle.sv_world.specs.World.{stopped};
 ghost use Rattle.sv_world.specs.declared.task.Task.TheVariants.{Torn};
 
@@ -28,17 +28,17 @@ impl<E: Engine + Drop> Slot<E> {
         kept: bool,
     ) -> Result<Rest, Memory>
         requires slot { IsSlot E.valid self.old }
-        requires up { IsTrue (place_of self.old).up }
+        requires up { IsTrue (member_of self.old).up }
         ensures slot { IsSlot E.valid self.new }
         ensures setting { self.new.setting ≡ self.old.setting }
         ensures meaning { meaning_in E.meaning self.new ≡ meaning_in E.meaning self.old }
         ensures heard { heard_in E.heard self.new ≡ heard_in E.heard self.old }
-        ensures place { place_of self.new ≡ place_of self.old }
+        ensures member { member_of self.new ≡ member_of self.old }
         ensures room { OnOk result (vec_len self.new.journal < vec_capacity self.new.journal) }
-        ensures follows { IfOk result (λ r. MayFollow self.old.setting (place_of self.old).node.durable r.kept) }
+        ensures follows { IfOk result (λ r. MayFollow self.old.setting (member_of self.old).node.durable r.kept) }
         ensures rest { IfOk result (λ r. (m : EngineMeaning) → meaning_in E.meaning self.old ≡ Some m
-            → deed m self.old.setting (place_of self.old) (Torn moment input kept)
-            ≡ halted_with (heading_by self.old.setting (place_of self.old).node.durable input) (place_of self.old).node.durable r) }
+            → deed m self.old.setting (member_of self.old) (Torn moment input kept)
+            ≡ halted_with (heading_by self.old.setting (member_of self.old).node.durable input) (member_of self.old).node.durable r) }
     {
         let call = Call {
             node: self.setting.node,
@@ -54,13 +54,13 @@ impl<E: Engine + Drop> Slot<E> {
     /// Keeps what a stop has left of a step, at a node that has stopped.
     fn leave(&mut self, alloc: Global, heading: Heading, rest: Rest) -> Effect
         requires slot { IsSlot E.valid self.old }
-        requires down { (place_of self.old).up ≡ false }
+        requires down { (member_of self.old).up ≡ false }
         requires room { vec_len self.old.journal < vec_capacity self.old.journal }
-        requires follows { MayFollow self.old.setting (place_of self.old).node.durable rest.kept }
+        requires follows { MayFollow self.old.setting (member_of self.old).node.durable rest.kept }
         ensures slot { IsSlot E.valid self.new }
         ensures setting { self.new.setting ≡ self.old.setting }
         ensures engine { engine_in self.new ≡ engine_in self.old }
-        ensures place { place_of self.new ≡ stopped (applied_if rest.kept (place_of self.old).node.durable) }
+        ensures member { member_of self.new ≡ stopped (applied_if rest.kept (member_of self.old).node.durable) }
         ensures effect { result ≡ quiet_at heading rest.entry rest.commit }
     {
         let Rest {
@@ -72,8 +72,8 @@ impl<E: Engine + Drop> Slot<E> {
         Effect::quiet(alloc, heading, entry, commit)
     }
 
-    /// A step that a stop cuts, behind its record where that is `kept`, else before it: listeners are told nothing, and
-    /// nothing is put out. After want of memory nothing was done.
+    /// A torn step, behind its record where that is `kept`, else before it: listeners are told nothing, and nothing is put out.
+    /// After want of memory nothing was done.
     pub fn torn_step(
         &mut self,
         alloc: Global,
@@ -82,7 +82,7 @@ impl<E: Engine + Drop> Slot<E> {
         kept: bool,
     ) -> Result<Effect, Memory>
         requires slot { IsSlot E.valid self.old }
-        requires up { IsTrue (place_of self.old).up }
+        requires up { IsTrue (member_of self.old).up }
         ensures slot { IsSlot E.valid self.new }
         ensures setting { self.new.setting ≡ self.old.setting }
         ensures meaning { meaning_in E.meaning self.new ≡ meaning_in E.meaning self.old }

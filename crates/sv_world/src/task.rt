@@ -10,13 +10,13 @@ pub enum Task {
         moment: Moment,
         input: Input,
     },
-    /// A step that a stop cuts, behind its record where that is `kept`, else before it.
+    /// A torn step: a stop cuts it, behind its record where that is `kept`, else before it.
     Torn {
         moment: Moment,
         input: Input,
         kept: bool,
     },
-    /// A step of which nothing leaves the node.
+    /// A silent step: nothing of it leaves the node.
     Silent {
         moment: Moment,
         input: Input,
@@ -25,7 +25,7 @@ pub enum Task {
     Stop,
     /// To start.
     Start,
-    /// A start that a stop cuts, behind its record where that is `kept`, else before it.
+    /// A torn start: a stop cuts it, behind its record where that is `kept`, else before it.
     TornStart {
         kept: bool,
     },

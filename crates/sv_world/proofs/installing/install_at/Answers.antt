@@ -4,32 +4,32 @@ use Rattle.std.proofs.lemmas.Option.{slice_get_read}
 use Rattle.std.proofs.lemmas.List.Elements.{All-set}
 use Rattle.sv_world.specs.Slot.{IsSlot}
 use Rattle.sv_world.specs.Worlds.{meant_in}
-use Rattle.sv_world.proofs.NodeLemmas.{installed, places_same, settings_same, meanings_same, undone}
+use Rattle.sv_world.proofs.NodeLemmas.{installed, members_same, settings_same, meanings_same, undone}
 use Rattle.sv_world.proofs.installing.install_at.Goals as goal
 
 pub returns-in-Ok-clause-slots : goal.returns-in-Ok-clause-slots
 returns-in-Ok-clause-slots g c =
     rw c.from.ensures (All-set (IsSlot g.E.Engine.valid) c.args.slots.now.items c.args.setting.node c.install.new.self c.install.ensures.slot c.requires.slots)
 
-pub returns-in-Ok-clause-places : goal.returns-in-Ok-clause-places
-returns-in-Ok-clause-places g c =
+pub returns-in-Ok-clause-members : goal.returns-in-Ok-clause-members
+returns-in-Ok-clause-members g c =
     let slots = c.args.slots.now.items in
     let old = c.index_mut.result.now in
     let less : c.from.result < length slots = rw c.from.ensures c.requires.there in
     let there = slice_get_read slots (length slots) c.from.result old refl less c.index_mut.ensures.value in
-    places_same g.E.Engine.meaning g.E.Engine.heard slots c.from.result old c.install.new.self less there c.install.ensures.place
+    members_same g.E.Engine.meaning g.E.Engine.heard slots c.from.result old c.install.new.self less there c.install.ensures.member
 
 pub returns-in-Err-clause-slots : goal.returns-in-Err-clause-slots
 returns-in-Err-clause-slots g c =
     rw c.from.ensures (All-set (IsSlot g.E.Engine.valid) c.args.slots.now.items c.args.setting.node c.install.new.self c.install.ensures.slot c.requires.slots)
 
-pub returns-in-Err-clause-places : goal.returns-in-Err-clause-places
-returns-in-Err-clause-places g c =
+pub returns-in-Err-clause-members : goal.returns-in-Err-clause-members
+returns-in-Err-clause-members g c =
     let slots = c.args.slots.now.items in
     let old = c.index_mut.result.now in
     let less : c.from.result < length slots = rw c.from.ensures c.requires.there in
     let there = slice_get_read slots (length slots) c.from.result old refl less c.index_mut.ensures.value in
-    places_same g.E.Engine.meaning g.E.Engine.heard slots c.from.result old c.install.new.self less there c.install.ensures.place
+    members_same g.E.Engine.meaning g.E.Engine.heard slots c.from.result old c.install.new.self less there c.install.ensures.member
 
 pub returns-in-Ok-clause-installed : goal.returns-in-Ok-clause-installed
 returns-in-Ok-clause-installed g c =
@@ -53,7 +53,7 @@ returns-in-Err-clause-undone g c =
     let old = c.index_mut.result.now in
     let less : c.from.result < length slots = rw c.from.ensures c.requires.there in
     let there = slice_get_read slots (length slots) c.from.result old refl less c.index_mut.ensures.value in
-    undone slots c.from.result old c.install.new.self less there g.E.Engine.heard (record { place = c.install.ensures.place; heard = ap (option_map g.E.Engine.heard) c.in-Err.ensures.kept })
+    undone slots c.from.result old c.install.new.self less there g.E.Engine.heard (record { member = c.install.ensures.member; heard = ap (option_map g.E.Engine.heard) c.in-Err.ensures.kept })
 
 pub returns-in-Err-clause-settings : goal.returns-in-Err-clause-settings
 returns-in-Err-clause-settings g c =

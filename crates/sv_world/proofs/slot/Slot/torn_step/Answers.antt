@@ -1,12 +1,12 @@
 use Rattle.std.proofs.Common.{sym, ap, ◌∙◌, subst}
 use Rattle.sv_world.specs.Acting.{MayFollow}
-use Rattle.sv_world.specs.World.{Place}
-use Rattle.sv_world.specs.Slot.{place_of}
+use Rattle.sv_world.specs.World.{Member}
+use Rattle.sv_world.specs.Slot.{member_of}
 use Rattle.sv_world.proofs.slot.Slot.torn_step.Goals as goal
 
 pub leave-requires-clause-follows : goal.leave-requires-clause-follows
 leave-requires-clause-follows g c =
     let old = c.args.self.now in
-    subst (λ s. MayFollow s (place_of c.stop.new.self).node.durable c.in_ok-rest.rest.kept) (sym (c.stop.ensures.setting ∙ c.torn_rest.ensures.setting))
-    (subst (λ d. MayFollow old.setting d c.in_ok-rest.rest.kept) (sym (ap (λ (p : Place). p.node.durable) c.stop.ensures.place ∙ ap (λ (p : Place). p.node.durable) c.torn_rest.ensures.place))
+    subst (λ s. MayFollow s (member_of c.stop.new.self).node.durable c.in_ok-rest.rest.kept) (sym (c.stop.ensures.setting ∙ c.torn_rest.ensures.setting))
+    (subst (λ d. MayFollow old.setting d c.in_ok-rest.rest.kept) (sym (ap (λ (p : Member). p.node.durable) c.stop.ensures.member ∙ ap (λ (p : Member). p.node.durable) c.torn_rest.ensures.member))
     c.in_ok-rest.ensures.follows)

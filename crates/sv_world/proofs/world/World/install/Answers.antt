@@ -6,7 +6,7 @@ use Rattle.sv_world.specs.declared.slot.Slot.{Slot}
 use Rattle.sv_world.specs.declared.world.World.{World as Nodes}
 use Rattle.sv_world.specs.Planned.{AreInstalled, fault_by}
 use Rattle.sv_world.specs.Rules.{setting_by}
-use Rattle.sv_world.specs.Worlds.{world_of, places_by, IsSet, AreSet}
+use Rattle.sv_world.specs.Worlds.{world_of, members_by, IsSet, AreSet}
 use Rattle.sv_world.proofs.HappenedLemmas.{same_cluster}
 use Rattle.sv_world.proofs.InstallLemmas.{ready_by, there_by_fault, all_set, installed_ran, still_ran, ok_map, err_map, ok_or_err, err_all, ok_all, no_cause, own_cause}
 use Rattle.sv_world.proofs.world.World.install.Goals as goal
@@ -29,7 +29,7 @@ install_at-requires-clause-down g c =
     let node = c.args.node in
     let nodes = c.args.nodes in
     let none = none_at c.deref.result.now old.slots.items node nodes c.fault_of.result c.deref.ensures.value c.fault_of.ensures c.in_default.is in
-    subst (λ (s : Setting). (places_by old.slots.items s.node).up ≡ false) (sym c.setting.ensures) (ready_by node nodes (slice_get old.slots.items node) none).1
+    subst (λ (s : Setting). (members_by old.slots.items s.node).up ≡ false) (sym c.setting.ensures) (ready_by node nodes (slice_get old.slots.items node) none).1
 
 pub returns-clause-world : goal.returns-clause-world
 returns-clause-world g c =
@@ -39,7 +39,7 @@ returns-clause-world g c =
     let none = none_at c.deref.result.now old.slots.items node nodes c.fault_of.result c.deref.ensures.value c.fault_of.ensures c.in_default.is in
     let new : Nodes g.row.E.Denot = record { alloc = old.alloc; slots = c.install_at.new.slots; packets = old.packets; trace = old.trace } in
     let is = c.install_at.ensures in
-    let world : world_of new ≡ world_of old = λ i. record { places = is.places i; packets = old.packets.items; trace = old.trace.items } in
+    let world : world_of new ≡ world_of old = λ i. record { members = is.members i; packets = old.packets.items; trace = old.trace.items } in
     let there = there_by_fault node nodes old.slots.items none in
     let ready = ready_by node nodes (slice_get old.slots.items node) none in
     let set : (h : AreInstalled g.E.Engine.meaning g.E.Engine.heard c.setting.result c.args.engine old.slots.items new.slots.items) → AreInstalled g.E.Engine.meaning g.E.Engine.heard (setting_by c.args.rules node nodes) c.args.engine old.slots.items new.slots.items =
@@ -52,7 +52,7 @@ returns-clause-world g c =
 
 pub returns-clause-nothing : goal.returns-clause-nothing
 returns-clause-nothing g c =
-    λ i. record { places = c.install_at.ensures.places i; packets = c.args.self.now.packets.items; trace = c.args.self.now.trace.items }
+    λ i. record { members = c.install_at.ensures.members i; packets = c.args.self.now.packets.items; trace = c.args.self.now.trace.items }
 
 pub returns-clause-possible : goal.returns-clause-possible
 returns-clause-possible g c =
@@ -78,7 +78,7 @@ returns-clause-ran g c =
     let none = none_at c.deref.result.now old.slots.items node nodes c.fault_of.result c.deref.ensures.value c.fault_of.ensures c.in_default.is in
     let new : Nodes g.row.E.Denot = record { alloc = old.alloc; slots = c.install_at.new.slots; packets = old.packets; trace = old.trace } in
     let is = c.install_at.ensures in
-    let world : world_of new ≡ world_of old = λ i. record { places = is.places i; packets = old.packets.items; trace = old.trace.items } in
+    let world : world_of new ≡ world_of old = λ i. record { members = is.members i; packets = old.packets.items; trace = old.trace.items } in
     let there = there_by_fault node nodes old.slots.items none in
     let ready = ready_by node nodes (slice_get old.slots.items node) none in
     let set : (h : AreInstalled g.E.Engine.meaning g.E.Engine.heard c.setting.result c.args.engine old.slots.items new.slots.items) → AreInstalled g.E.Engine.meaning g.E.Engine.heard (setting_by c.args.rules node nodes) c.args.engine old.slots.items new.slots.items =
@@ -95,7 +95,7 @@ returns-clause-heard g c =
     let none = none_at c.deref.result.now old.slots.items node nodes c.fault_of.result c.deref.ensures.value c.fault_of.ensures c.in_default.is in
     let new : Nodes g.row.E.Denot = record { alloc = old.alloc; slots = c.install_at.new.slots; packets = old.packets; trace = old.trace } in
     let is = c.install_at.ensures in
-    let world : world_of new ≡ world_of old = λ i. record { places = is.places i; packets = old.packets.items; trace = old.trace.items } in
+    let world : world_of new ≡ world_of old = λ i. record { members = is.members i; packets = old.packets.items; trace = old.trace.items } in
     let set : (h : AreInstalled g.E.Engine.meaning g.E.Engine.heard c.setting.result c.args.engine old.slots.items new.slots.items) → AreInstalled g.E.Engine.meaning g.E.Engine.heard (setting_by c.args.rules node nodes) c.args.engine old.slots.items new.slots.items =
     λ h. subst (λ (s : Setting). AreInstalled g.E.Engine.meaning g.E.Engine.heard s c.args.engine old.slots.items new.slots.items) c.setting.ensures h in
     ok_map c.install_at.result (λ h. (set h).heard) is.installed
@@ -108,7 +108,7 @@ returns-clause-still g c =
     let none = none_at c.deref.result.now old.slots.items node nodes c.fault_of.result c.deref.ensures.value c.fault_of.ensures c.in_default.is in
     let new : Nodes g.row.E.Denot = record { alloc = old.alloc; slots = c.install_at.new.slots; packets = old.packets; trace = old.trace } in
     let is = c.install_at.ensures in
-    let world : world_of new ≡ world_of old = λ i. record { places = is.places i; packets = old.packets.items; trace = old.trace.items } in
+    let world : world_of new ≡ world_of old = λ i. record { members = is.members i; packets = old.packets.items; trace = old.trace.items } in
     err_map c.install_at.result
     (λ undone settings meanings. record { size = is.number; cluster = same_cluster old new settings; world = world; meanings = meanings; heard = undone.heard })
     is.undone is.settings is.meanings
@@ -121,7 +121,7 @@ returns-clause-unchanged g c =
     let none = none_at c.deref.result.now old.slots.items node nodes c.fault_of.result c.deref.ensures.value c.fault_of.ensures c.in_default.is in
     let new : Nodes g.row.E.Denot = record { alloc = old.alloc; slots = c.install_at.new.slots; packets = old.packets; trace = old.trace } in
     let is = c.install_at.ensures in
-    let world : world_of new ≡ world_of old = λ i. record { places = is.places i; packets = old.packets.items; trace = old.trace.items } in
+    let world : world_of new ≡ world_of old = λ i. record { members = is.members i; packets = old.packets.items; trace = old.trace.items } in
     err_map c.install_at.result
     (λ undone settings meanings. still_ran g.E.Engine.meaning old new is.number world settings meanings)
     is.undone is.settings is.meanings
