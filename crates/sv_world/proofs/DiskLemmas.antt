@@ -38,14 +38,14 @@ use Rattle.sv_world.specs.declared.task.Task.TheVariants as task
 use Rattle.sv_world.specs.Deed.{Done, deed, line_of, heading_by, heading_at, halted, booted, quiet_at, start_by}
 use Rattle.sv_world.specs.Disks.{NodeCall, Seen, start_at, InTurnAt, AreOpenedInTurn, WasSent, IsNew, AllCome, MayCome, with_number, silent_event, IsCall, AreCalls, AreOfInput, AreOfStop, AreOf, AreOfAll, shown_at, is_own, all_numbers, behind, behind_all, seen_as, shown_by, nothing_called, AreWorld}
 use Rattle.sv_world.specs.Faults.{step_fault, start_fault, stop_fault, call_fault, fault_of}
-use Rattle.sv_world.specs.Order.{whole_order, torn_order, silent_order, order_of}
+use Rattle.sv_world.specs.Action.{whole_action, torn_action, silent_action, action_of}
 use Rattle.sv_world.specs.Rolling.{start_in, IsTurn, AreInTurn}
 use Rattle.sv_world.specs.Starts.{number_of}
 use Rattle.sv_world.specs.Sent.{may_come, same_packet}
 use Rattle.sv_world.specs.World.{Cluster, Member, World, steady, setting_of, set_member, stopped, started, items, item_at, is_there, is_unused, call_of, happens, run, nothing_happened}
 use Rattle.sv_world.proofs.DiskOrder.{asked_in, asked_at, IsDown, IsFresh, Orderly, behind_boot, step_fresh, stays_orderly, comes_new}
 use Rattle.sv_world.proofs.HeadlineLemmas.{kept as kept_fit, headline}
-use Rattle.sv_world.proofs.OrderLemmas.{done_by, goes}
+use Rattle.sv_world.proofs.ActionLemmas.{done_by, goes}
 use Rattle.sv_world.proofs.Events.{run_more}
 use Rattle.sv_world.proofs.Rolled.{in_turn}
 use Rattle.sv_world.proofs.SentLemmas.{packet_decides}
@@ -210,7 +210,7 @@ module _ (m : Meanings) (c : Cluster) (n boot : ℕ) (inside : n < c.nodes n boo
   silent_is : (w : World) (numbers : List ℕ) (g : Given) → (w.members n).node.durable.boot ≡ boot → (w.members n).up ≡ true → IsFresh (asked_of (items w.trace)) n (w.members n) numbers → WasSent w.packets g.input → IsNew numbers g.input → happens m c w (silent_event n g) ≡ one_silent w g
   silent_is w numbers g same up fresh sent new =
       let call : Asked = record { node = n; moment = g.at; input = g.input } in
-      (goes c w (silent_order call) (silent_event n g)
+      (goes c w (silent_action call) (silent_event n g)
       (no_step_fault (is_there c n (w.members n).node.durable.boot) (w.members n).up (may_come w.packets g.input) (is_unused (asked_of (items w.trace)) (asked_by (token_of of_node (w.members n).node.durable) g.input))
       (lt-ltb n (c.nodes n (w.members n).node.durable.boot) (subst (λ b. n < c.nodes n b) (sym same) inside)) up (comes w.packets g.input sent) (new_by w numbers fresh up g.input new _ refl)) refl).happens m
       ∙ ap (λ b. done_by w (silent_event n g) n (deed (m n b) (setting_of c n b) (w.members n) (task.Silent g.at g.input))) same
@@ -297,18 +297,18 @@ module _ (m : Meanings) (touches : AllTouchOnlyHanded m) (c : Cluster) (w : Worl
     decision = decided means set at_node.node at i
 
     -- the event that hands the input to its node
-    whole_by : (e : WorldEvent) → Own m c w n (Step at i Finished) a (e ∷ []) → call_of w.packets e ≡ Some (step_of at i) → fault_of c w e ≡ call_fault c w (call_of w.packets e) → order_of w.packets e ≡ option_map whole_order (call_of w.packets e)
+    whole_by : (e : WorldEvent) → Own m c w n (Step at i Finished) a (e ∷ []) → call_of w.packets e ≡ Some (step_of at i) → fault_of c w e ≡ call_fault c w (call_of w.packets e) → action_of w.packets e ≡ option_map whole_action (call_of w.packets e)
         → start_in e ≡ None → is_own n i ≡ true → a ≡ carried_out decision → Simulated m c w n (Step at i Finished) a
-    whole_by e of_call call fault order none own d =
+    whole_by e of_call call fault action none own d =
         does m c w n (Step at i Finished) a e (deed means set at_node (task.Step at i)) of_call (λ _. subst (λ o. IfSome o (IsTurn c w.members)) (sym none) tt)
-        ((goes c w (whole_order (step_of at i)) e (fault ∙ ready at i (call_of w.packets e) call up sent unused) (order ∙ ap (option_map whole_order) call)).happens m)
+        ((goes c w (whole_action (step_of at i)) e (fault ∙ ready at i (call_of w.packets e) call up sent unused) (action ∙ ap (option_map whole_action) call)).happens m)
         (λ j. record { up = sym up j; node = sym (node_in d) j }) (sym (puts_in d)) refl
         ((λ j. record { node = n; boot = at_node.node.durable.boot; outputs = sym (puts_in d) j; told = sym (tells_in d) j } ∷ [])
         ∙ sym (cond-true (is_own n i) (record { node = n; boot = at_node.node.durable.boot; outputs = a.outputs; told = a.told } ∷ []) [] own))
 
     -- the event of a stop inside it
     torn_by_event : (kept_too : Bool) → happens m c w (Torn n at i kept_too) ≡ done_by w (Torn n at i kept_too) n (deed means set at_node (task.Torn at i kept_too))
-    torn_by_event kept_too = (goes c w (torn_order kept_too (step_of at i)) (Torn n at i kept_too) (ready at i (Some (step_of at i)) refl up sent unused) refl).happens m
+    torn_by_event kept_too = (goes c w (torn_action kept_too (step_of at i)) (Torn n at i kept_too) (ready at i (Some (step_of at i)) refl up sent unused) refl).happens m
 
     torn_before : (call : Call) → Own m c w n call a (Torn n at i false ∷ []) → runs_behind at_node.up call ≡ false → asked_at n at_node.node.durable call ≡ option_to_list (asked_with i) → shown_at n at_node.node.durable call a ≡ []
         → a ≡ quiet (kept at_node.node.durable) → Simulated m c w n call a

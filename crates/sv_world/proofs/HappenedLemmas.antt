@@ -17,19 +17,19 @@ use Rattle.sv_model.specs.Node.{decided}
 use Rattle.sv_world.specs.declared.event.WorldEvent.{WorldEvent}
 use Rattle.sv_world.specs.declared.event.WorldEvent.TheVariants.{Ask, Deliver, Poke, Tick, Move, Crash, Torn, Silent, Restart, TornRestart}
 use Rattle.sv_world.specs.declared.line.Effect.{Effect}
-use Rattle.sv_world.specs.declared.order.Order.{Order}
+use Rattle.sv_world.specs.declared.action.Action.{Action}
 use Rattle.sv_world.specs.declared.slot.Slot.{Slot}
 use Rattle.sv_world.specs.declared.task.Task.{Task}
 use Rattle.sv_world.specs.declared.task.Task.TheVariants as task
 use Rattle.sv_world.specs.declared.world.World.{World as Nodes}
 use Rattle.sv_world.specs.Deed.{Done, deed, number_for, told_by, line_of, quiet_at, heading_at, heading_by, halted, booted}
 use Rattle.sv_world.specs.Slot.{IsSlot, engine_by}
-use Rattle.sv_world.specs.Order.{order_of}
+use Rattle.sv_world.specs.Action.{action_of}
 use Rattle.sv_world.specs.World.{Member, set_member, setting_of, stopped, started}
 use Rattle.sv_world.specs.Rules.{setting_by}
 use Rattle.sv_world.specs.Worlds.{rules_in, members_by, setting_in, settings_by, meant_in, meanings_by, world_of, size_of, cluster_of, meanings_of, heard_of, IsSet, IsWorld, AllMean}
 use Rattle.sv_world.specs.Happened.{by_node, HaveDone, AreUndone, HaveHappened, HasActed, IsStill, told_at, is_start}
-use Rattle.sv_world.proofs.OrderLemmas.{Goes, done_at, goes}
+use Rattle.sv_world.proofs.ActionLemmas.{Goes, done_at, goes}
 
 -- ---- what was done is done at the node, and a start tells nothing
 
@@ -120,7 +120,7 @@ option_same f (Some x) h = ap Some (h x)
 -- ---- one event
 
 module _ {E : Type 0} (meaning : E → EngineMeaning) (noted : E → List (List ℕ)) (old new : Nodes E) (number : length new.slots.items ≡ length old.slots.items) (settings : settings_by new.slots.items ≡ settings_by old.slots.items)
-    (meanings : meanings_of meaning new ≡ meanings_of meaning old) (e : WorldEvent) (o : Order) (f : Effect) (goes : Goes (cluster_of old) (world_of old) e o) (inside : o.node < size_of old)
+    (meanings : meanings_of meaning new ≡ meanings_of meaning old) (e : WorldEvent) (o : Action) (f : Effect) (goes : Goes (cluster_of old) (world_of old) e o) (inside : o.node < size_of old)
     (set : IsSet o.node (settings_by old.slots.items o.node)) (means : (m : EngineMeaning) × (meanings_of meaning old o.node ≡ Some m))
     (done : (m : EngineMeaning) → meanings_of meaning old o.node ≡ Some m → HaveDone noted m old.slots.items new.slots.items o f) where
   abbrev deeds : EngineMeaning → Done
@@ -184,7 +184,7 @@ module _ {E : Type 0} (meaning : E → EngineMeaning) (noted : E → List (List 
       either_same true x = refl
       either_same false x = refl
 
-pub start_task : (sent : List Packet) (e : WorldEvent) (o : Order) → is_start e ≡ true → order_of sent e ≡ Some o → o.task ≡ task.Start
+pub start_task : (sent : List Packet) (e : WorldEvent) (o : Action) → is_start e ≡ true → action_of sent e ≡ Some o → o.task ≡ task.Start
 start_task sent (Ask n moment token r) o h is = absurd (let no : false ≡ true = h in cc)
 start_task sent (Deliver moment place) o h is = absurd (let no : false ≡ true = h in cc)
 start_task sent (Poke n moment) o h is = absurd (let no : false ≡ true = h in cc)
@@ -193,7 +193,7 @@ start_task sent (Move n moment k to) o h is = absurd (let no : false ≡ true = 
 start_task sent (Crash n) o h is = absurd (let no : false ≡ true = h in cc)
 start_task sent (Torn n moment given kept) o h is = absurd (let no : false ≡ true = h in cc)
 start_task sent (Silent n moment given) o h is = absurd (let no : false ≡ true = h in cc)
-start_task sent (Restart n) o h is = ap (λ (x : Order). x.task) (sym (same_Some (record { node = n; task = task.Start }) o is))
+start_task sent (Restart n) o h is = ap (λ (x : Action). x.task) (sym (same_Some (record { node = n; task = task.Start }) o is))
 start_task sent (TornRestart n kept) o h is = absurd (let no : false ≡ true = h in cc)
 
 -- ---- what a node has done, and then the line
@@ -203,13 +203,13 @@ pub acted_world : {E : Type 0} (valid : E → Type 0) (mid new : Nodes E) → ne
 acted_world valid mid new slots w items = still_world valid mid new (ap length items) w (subst (λ xs. All (λ s. IsSlot valid s) xs) (sym items) w.slots) (ap settings_by items)
 
 module _ {E : Type 0} (meaning : E → EngineMeaning) (noted : E → List (List ℕ)) (valid : E → Type 0) (old mid : Nodes E) where
-  acted_goes : (e : WorldEvent) (f : Effect) (h : HasActed meaning noted old mid e f) → Goes (cluster_of old) (world_of old) e h.order
-  acted_goes e f h = goes (cluster_of old) (world_of old) h.order e h.possible h.asked
+  acted_goes : (e : WorldEvent) (f : Effect) (h : HasActed meaning noted old mid e f) → Goes (cluster_of old) (world_of old) e h.action
+  acted_goes e f h = goes (cluster_of old) (world_of old) h.action e h.possible h.asked
 
   module _ (new : Nodes E) (e : WorldEvent) (f : Effect) (w : IsWorld valid old) (h : HasActed meaning noted old mid e f) where
     pub acted_happened : new.slots.items ≡ mid.slots.items → new.packets.items ≡ mid.packets.items → new.trace.items ≡ mid.trace.items ++ line_of e f ∷ [] → HaveHappened meaning noted old new (e ∷ [])
     acted_happened slots packets trace =
-        let o = h.order in
+        let o = h.action in
         let gone = acted_goes e f h in
         let inside = told_there old.slots.items o.node gone.there in
         happened meaning noted old new (ap length slots ∙ h.number) (ap settings_by slots ∙ h.settings) (ap (meanings_by meaning) slots ∙ h.meanings) e o f gone inside
@@ -220,7 +220,7 @@ module _ {E : Type 0} (meaning : E → EngineMeaning) (noted : E → List (List 
   module _ (e : WorldEvent) (f : Effect) (w : IsWorld valid old) (h : HasActed meaning noted old mid e f) where
     pub acted_silent : is_start e ≡ true → heard_of noted mid ≡ heard_of noted old
     acted_silent start =
-        let o = h.order in
+        let o = h.action in
         let gone = acted_goes e f h in
         let inside = told_there old.slots.items o.node gone.there in
         silent_start meaning noted old mid h.number h.settings h.meanings e o f gone inside (w.settings o.node inside) (means_at meaning valid old.slots.items w.slots o.node inside) h.done

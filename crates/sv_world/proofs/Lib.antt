@@ -42,11 +42,11 @@ pub mod FaultLemmas
 pub mod FindingLemmas
 pub mod TracedLemmas
 pub mod NodeLemmas
-pub mod OrderLemmas
+pub mod ActionLemmas
 pub mod PlanLemmas
 pub mod HappenedLemmas
 pub mod RanLemmas
-pub mod ActingLemmas
+pub mod CoreStepLemmas
 pub mod SlotLemmas
 pub mod InstallLemmas
 pub mod MakingLemmas

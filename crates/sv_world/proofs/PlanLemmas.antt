@@ -11,18 +11,18 @@ use Rattle.sv_world.specs.declared.call.Call.{Call}
 use Rattle.sv_world.specs.declared.event.WorldEvent.{WorldEvent}
 use Rattle.sv_world.specs.declared.event.WorldEvent.TheVariants.{Ask, Deliver, Poke, Tick, Move, Crash, Torn, Silent, Restart, TornRestart}
 use Rattle.sv_world.specs.declared.fault.WorldFault.{WorldFault}
-use Rattle.sv_world.specs.declared.order.Order.{Order}
+use Rattle.sv_world.specs.declared.action.Action.{Action}
 use Rattle.sv_world.specs.declared.task.Task.{Task}
 use Rattle.sv_world.specs.declared.task.Task.TheVariants as task
 use Rattle.sv_world.specs.Deed.{Done, deed, wants_up, number_for, heading_at, halted, booted, start_by}
 use Rattle.sv_world.specs.Faults.{step_fault, call_fault, start_fault, stop_fault, fault_of}
-use Rattle.sv_world.specs.Order.{order_of}
+use Rattle.sv_world.specs.Action.{action_of}
 use Rattle.sv_world.specs.Planned.{since_at, since}
 use Rattle.sv_world.specs.Sent.{may_come}
 use Rattle.sv_world.specs.World.{Cluster, Member, World, durable_at, set_member, stopped, started, setting_of, items, call_of, decision, token_of_call, is_unused, is_there, happens, run}
 use Rattle.sv_world.proofs.Events.{behind, start_boot}
 use Rattle.sv_world.proofs.FaultLemmas.{faulty}
-use Rattle.sv_world.proofs.OrderLemmas.{Goes, done_by, goes, asks}
+use Rattle.sv_world.proofs.ActionLemmas.{Goes, done_by, goes, asks}
 use Rattle.sv_world.proofs.ProgressLemmas.{boot_kept}
 use Rattle.sv_world.proofs.Waiting.{by_node}
 
@@ -160,15 +160,15 @@ module _ (m m' : Meanings) (c c' : Cluster) where
     faults_same w (Restart n) = ap (λ b. start_fault b (w.members n).up) (there n ((durable_at w n).boot + 1))
     faults_same w (TornRestart n kept) = ap (λ b. start_fault b (w.members n).up) (there n ((durable_at w n).boot + 1))
 
-    order_same : (w : World) (e : WorldEvent) (o : Option Order) → fault_of c w e ≡ None → order_of w.packets e ≡ o → IsSome o → ((x : Order) → Goes c w e x → task_done w x.node x.task ≡ task_done' w x.node x.task) → happens m c w e ≡ happens m' c' w e
-    order_same w e None none at some same = absurd (let no : false ≡ true = some in cc)
-    order_same w e (Some x) none at some same =
+    action_same : (w : World) (e : WorldEvent) (o : Option Action) → fault_of c w e ≡ None → action_of w.packets e ≡ o → IsSome o → ((x : Action) → Goes c w e x → task_done w x.node x.task ≡ task_done' w x.node x.task) → happens m c w e ≡ happens m' c' w e
+    action_same w e None none at some same = absurd (let no : false ≡ true = some in cc)
+    action_same w e (Some x) none at some same =
         let g = goes c w x e none at in
         g.happens m ∙ ap (done_by w e x.node) (same x g) ∙ sym ((goes c' w x e (sym (faults_same w e) ∙ none) at).happens m')
 
-    event_same : (w : World) (e : WorldEvent) (f : Option WorldFault) → fault_of c w e ≡ f → ((x : Order) → Goes c w e x → task_done w x.node x.task ≡ task_done' w x.node x.task) → happens m c w e ≡ happens m' c' w e
+    event_same : (w : World) (e : WorldEvent) (f : Option WorldFault) → fault_of c w e ≡ f → ((x : Action) → Goes c w e x → task_done w x.node x.task ≡ task_done' w x.node x.task) → happens m c w e ≡ happens m' c' w e
     event_same w e (Some f) is same = (faulty m c w e).still f is ∙ sym ((faulty m' c' w e).still f (sym (faults_same w e) ∙ is))
-    event_same w e None is same = order_same w e (order_of w.packets e) is refl (asks c w e is) same
+    event_same w e None is same = action_same w e (action_of w.packets e) is refl (asks c w e is) same
 
     -- ---- the same of all starts from now on
 

@@ -22,11 +22,11 @@ use Rattle.sv_world.specs.declared.line.Heading.{Heading}
 use Rattle.sv_world.specs.declared.core_torn.Rest.{Rest}
 use Rattle.sv_world.specs.declared.slot.Slot.{Slot}
 use Rattle.sv_world.specs.declared.task.Task.TheVariants.{Step, Torn, Silent}
-use Rattle.sv_world.specs.Acting.{row_at, rest_of, IsCarriedOut, IsSilenced, MayFollow, halted_with}
+use Rattle.sv_world.specs.CoreStep.{row_at, rest_of, IsCarriedOut, IsSilenced, MayFollow, halted_with}
 use Rattle.sv_world.specs.Deed.{Done, deed, told_by, heading_by, torn_by, halted, quiet_at, whole_at}
 use Rattle.sv_world.specs.Slot.{IsSlot, HasDone, RunsOver, member_by, member_of, durable_of, engine_by, engine_in, meaning_in}
 use Rattle.sv_world.specs.World.{Member, stopped, commit_with}
-use Rattle.sv_world.proofs.ActingLemmas.{fits_more, replayed_more}
+use Rattle.sv_world.proofs.CoreStepLemmas.{fits_more, replayed_more}
 
 pub ok_both : {A B J : Type 0} {P Q : A → Type 0} (r : Result A B) → ((x : A) → P x → J → Q x) → IfOk r P → OnOk r J → IfOk r Q
 ok_both (Ok x) f p j = f x p j

@@ -15,20 +15,20 @@ use Rattle.sv_world.specs.declared.fault.WorldFault.{WorldFault}
 use Rattle.sv_world.specs.declared.fault.WorldFault.TheVariants.{Memory}
 use Rattle.sv_world.specs.declared.line.Effect.{Effect}
 use Rattle.sv_world.specs.declared.line.Line.{Line}
-use Rattle.sv_world.specs.declared.order.Order.{Order}
+use Rattle.sv_world.specs.declared.action.Action.{Action}
 use Rattle.sv_world.specs.declared.running.RunFault.{RunFault}
 use Rattle.sv_world.specs.declared.slot.Slot.{Slot}
 use Rattle.sv_world.specs.declared.world.World.{World as Nodes}
 use Rattle.sv_world.specs.Deed.{deed, told_by}
 use Rattle.sv_world.specs.Faults.{fault_of}
-use Rattle.sv_world.specs.Order.{order_of}
+use Rattle.sv_world.specs.Action.{action_of}
 use Rattle.sv_world.specs.World.{World, setting_of, set_member, nothing_happened, run}
 use Rattle.sv_world.specs.Worlds.{members_by, settings_by, heard_by, world_of, size_of, cluster_of, meanings_of, heard_of, AllMean}
 
 -- ---- a task
 
 -- a node has done a task, whose engine means `m`; all others are as they were
-pub record HaveDone {E : Type 0} (noted : E → List (List ℕ)) (m : EngineMeaning) (old new : List (Slot E)) (o : Order) (f : Effect) : Type 0 where
+pub record HaveDone {E : Type 0} (noted : E → List (List ℕ)) (m : EngineMeaning) (old new : List (Slot E)) (o : Action) (f : Effect) : Type 0 where
   pub members : members_by new ≡ set_member (members_by old) o.node (deed m (settings_by old o.node) (members_by old o.node) o.task).member
   pub effect : f ≡ (deed m (settings_by old o.node) (members_by old o.node) o.task).effect
   pub heard : (x : ℕ) → heard_by noted new x ≡ cond (x == o.node) (option_map (λ h. heard_all m h (told_by f)) (heard_by noted old x)) (heard_by noted old x)
@@ -71,12 +71,12 @@ pub record HaveHappened {E : Type 0} (meaning : E → EngineMeaning) (noted : E 
 -- a node has done what an event asks of it, and the trace has yet to get its line
 pub record HasActed {E : Type 0} (meaning : E → EngineMeaning) (noted : E → List (List ℕ)) (old new : Nodes E) (e : WorldEvent) (f : Effect) : Type 0 where
   pub possible : fault_of (cluster_of old) (world_of old) e ≡ None
-  pub order : Order
-  pub asked : order_of (world_of old).packets e ≡ Some order
+  pub action : Action
+  pub asked : action_of (world_of old).packets e ≡ Some action
   pub number : size_of new ≡ size_of old
   pub settings : settings_by new.slots.items ≡ settings_by old.slots.items
   pub meanings : meanings_of meaning new ≡ meanings_of meaning old
-  pub done : (m : EngineMeaning) → meanings_of meaning old order.node ≡ Some m → HaveDone noted m old.slots.items new.slots.items order f
+  pub done : (m : EngineMeaning) → meanings_of meaning old action.node ≡ Some m → HaveDone noted m old.slots.items new.slots.items action f
   pub packets : (world_of new).packets ≡ (world_of old).packets ++ sends_in f.outputs
   pub trace : (world_of new).trace ≡ (world_of old).trace
 

@@ -4,7 +4,7 @@ ghost use Rattle.std.specs.Prelude.{◌≡◌, ◌<◌, ◌++◌, IfOk, OnErr, v
 ghost use Rattle.std.specs.Option.{option_to_list};
 ghost use Rattle.sv_core.specs.Core.{node_at, setting_of, engine_of, decision_at, WasDecided};
 ghost use Rattle.sv_model.specs.Decision.{left};
-ghost use Rattle.sv_world.specs.Acting.{row_at, IsOver, IsSilenced};
+ghost use Rattle.sv_world.specs.CoreStep.{row_at, IsOver, IsSilenced};
 ghost use Rattle.sv_world.specs.Deed.{quiet_at};
 ghost use Rattle.sv_world.specs.World.{commit_with};
 

@@ -5,7 +5,7 @@ ghost use Rattle.std.specs.Option.{option_to_list};
 ghost use Rattle.sv_core.specs.Core.{node_at, setting_of, engine_of, durable_at, decision_at, starts, WasDecided};
 ghost use Rattle.sv_core.specs.Decision.{entry_in};
 ghost use Rattle.sv_model.specs.Engine.{heard_all};
-ghost use Rattle.sv_world.specs.Acting.{IsOver, start_entry, begun, boot_plan_of};
+ghost use Rattle.sv_world.specs.CoreStep.{IsOver, start_entry, begun, boot_plan_of};
 
 use crate::plan::{keep, let_go};
 use crate::traced::copied_record;

@@ -3,7 +3,7 @@
 ghost use Rattle.std.specs.Prelude.{◌≡◌, ◌<◌, IfOk, None, OnOk, vec_len, vec_capacity};
 ghost use Rattle.sv_core.specs.Core.{view_of, node_at, setting_of, engine_of};
 ghost use Rattle.sv_model.specs.Journaled.{IsJournaled};
-ghost use Rattle.sv_world.specs.Acting.{row_at, rest_in, rest_of};
+ghost use Rattle.sv_world.specs.CoreStep.{row_at, rest_in, rest_of};
 
 use crate::call::Call;
 use crate::plan::{Plan, decide, let_go, let_go_record, let_go_traced};

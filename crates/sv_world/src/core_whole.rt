@@ -8,7 +8,7 @@ ghost use Rattle.sv_model.specs.Engine.{heard_all};
 ghost use Rattle.sv_model.specs.Outputs.{sends_in};
 ghost use Rattle.sv_model.specs.Decision.{left};
 ghost use Rattle.sv_model.specs.Step.{told};
-ghost use Rattle.sv_world.specs.Acting.{row_at, IsOver, IsCarriedOut};
+ghost use Rattle.sv_world.specs.CoreStep.{row_at, IsOver, IsCarriedOut};
 ghost use Rattle.sv_world.specs.Deed.{whole_by};
 
 use crate::call::Call;

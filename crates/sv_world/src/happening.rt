@@ -10,11 +10,11 @@ ghost use Rattle.sv_world.specs.Progress.{IsProgress};
 ghost use Rattle.sv_world.specs.World.{Cluster, steady, nothing_happened, AlwaysKnows};
 ghost use Rattle.sv_world.specs.declared.rules.Rules.{Rules};
 
+use crate::action::action_for;
 use crate::event::WorldEvent;
 use crate::fault::WorldFault;
 use crate::finding::fault_of;
 use crate::line::{Effect, Line};
-use crate::order::order_for;
 use crate::perform_at::perform_at;
 use crate::world::World;
 use sv_model::Engine;
@@ -36,8 +36,8 @@ impl<E: Engine + Drop> World<E> {
             return Err(fault);
         }
         self.trace.try_reserve(1)?;
-        let order = order_for(self.alloc, &self.packets, event)?;
-        Ok(perform_at(&mut self.slots, self.alloc, &mut self.packets, order)?)
+        let action = action_for(self.alloc, &self.packets, event)?;
+        Ok(perform_at(&mut self.slots, self.alloc, &mut self.packets, action)?)
     }
 
     /// An event, where it can happen.

@@ -9,8 +9,8 @@ ghost use Rattle.sv_world.specs.Slot.{IsSlot};
 ghost use Rattle.sv_world.specs.Worlds.{members_by, settings_by, meanings_by};
 ghost use Rattle.sv_world.specs.Happened.{HaveDone, AreUndone};
 
+use crate::action::Action;
 use crate::line::Effect;
-use crate::order::Order;
 use crate::slot::Slot;
 use std::alloc::Global;
 use sv_core::Memory;
@@ -21,21 +21,21 @@ pub fn perform_at<E: Engine + Drop>(
     slots: &mut Vec<Slot<E>>,
     alloc: Global,
     packets: &mut Vec<Packet>,
-    order: Order,
+    action: Action,
 ) -> Result<Effect, Memory>
     requires slots { All (λ s. IsSlot E.valid s) slots.old.items }
-    requires there { order.node < length slots.old.items }
-    requires up { (members_by slots.old.items order.node).up ≡ wants_up order.task }
+    requires there { action.node < length slots.old.items }
+    requires up { (members_by slots.old.items action.node).up ≡ wants_up action.task }
     ensures slots { All (λ s. IsSlot E.valid s) slots.new.items }
     ensures number { length slots.new.items ≡ length slots.old.items }
     ensures settings { settings_by slots.new.items ≡ settings_by slots.old.items }
     ensures meanings { meanings_by E.meaning slots.new.items ≡ meanings_by E.meaning slots.old.items }
-    ensures done { IfOk result (λ f. (m : EngineMeaning) → meanings_by E.meaning slots.old.items order.node ≡ Some m
-        → HaveDone E.heard m slots.old.items slots.new.items order f) }
+    ensures done { IfOk result (λ f. (m : EngineMeaning) → meanings_by E.meaning slots.old.items action.node ≡ Some m
+        → HaveDone E.heard m slots.old.items slots.new.items action f) }
     ensures sent { IfOk result (λ f. packets.new.items ≡ packets.old.items ++ sends_in f.outputs) }
     ensures undone { OnErr result (AreUndone E.heard slots.old.items slots.new.items) }
     ensures unsent { OnErr result (packets.new.items ≡ packets.old.items) }
 {
-    let Order { node, task } = order;
+    let Action { node, task } = action;
     slots[usize::from(node)].perform(alloc, packets, task)
 }

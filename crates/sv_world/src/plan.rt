@@ -3,7 +3,7 @@
 ghost use Rattle.std.specs.Prelude.{◌≡◌, ◌<◌, ◌++◌, IfOk, vec_len, vec_capacity};
 ghost use Rattle.std.specs.Option.{option_to_list};
 ghost use Rattle.sv_core.specs.Core.{view_of, node_at, setting_of, engine_of};
-ghost use Rattle.sv_world.specs.Acting.{row_at, plan_of, IsPlan};
+ghost use Rattle.sv_world.specs.CoreStep.{row_at, plan_of, IsPlan};
 
 use crate::call::Call;
 use crate::traced::{Traced, copied_record, trace_of};

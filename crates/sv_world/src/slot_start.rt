@@ -1,7 +1,7 @@
 //! A node that starts.
 
 ghost use Rattle.std.specs.Prelude.{◌≡◌, ◌&&◌, IsTrue, cond, is_some, false, None, IfOk, OnErr};
-ghost use Rattle.sv_world.specs.Acting.{start_entry, start_entry_if, begun, start_of};
+ghost use Rattle.sv_world.specs.CoreStep.{start_entry, start_entry_if, begun, start_of};
 ghost use Rattle.sv_world.specs.Deed.{quiet_at};
 ghost use Rattle.sv_world.specs.Slot.{IsSlot, member_of, engine_in, meaning_in, heard_in};
 ghost use Rattle.sv_world.specs.World.{stopped};

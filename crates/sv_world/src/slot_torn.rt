@@ -3,7 +3,7 @@
 ghost use Rattle.std.specs.Prelude.{◌≡◌, ◌<◌, IsTrue, [], false, Some, IfOk, OnOk, OnErr, vec_len, vec_capacity};
 ghost use Rattle.sv_model.specs.Engine.{EngineMeaning};
 ghost use Rattle.sv_model.specs.Replay.{applied_if};
-ghost use Rattle.sv_world.specs.Acting.{MayFollow, halted_with};
+ghost use Rattle.sv_world.specs.CoreStep.{MayFollow, halted_with};
 ghost use Rattle.sv_world.specs.Deed.{deed, heading_by, quiet_at};
 ghost use Rattle.sv_world.specs.Slot.{IsSlot, HasDone, IsUndone, member_of, engine_in, meaning_in, heard_in};
 ghost use Rattle.sv_world.specs.World.{stopped};

@@ -1,9 +1,9 @@
 use Rattle.std.proofs.Common.{Result, Ok, ◌∙◌, ap, ◌++◌}
 use Rattle.std.specs.Option.{option_to_list}
 use Rattle.sv_core.specs.Core.{setting_of, node_at, engine_of}
-use Rattle.sv_world.specs.Acting.{row_at}
+use Rattle.sv_world.specs.CoreStep.{row_at}
 use Rattle.sv_world.specs.declared.line.Effect.{Effect}
-use Rattle.sv_world.proofs.ActingLemmas.{over_plan}
+use Rattle.sv_world.proofs.CoreStepLemmas.{over_plan}
 use Rattle.sv_world.proofs.core_silent.silent_step.Goals as goal
 
 pub returns-clause-over : goal.returns-clause-over

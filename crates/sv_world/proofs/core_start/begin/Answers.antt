@@ -6,7 +6,7 @@ use Rattle.sv_model.specs.NodeState.{Node}
 use Rattle.sv_model.specs.Replay.{applied_if}
 use Rattle.sv_core.specs.Core.{setting_of, node_at, decision_at}
 use Rattle.sv_world.specs.declared.core_start.BootPlan.{BootPlan}
-use Rattle.sv_world.proofs.ActingLemmas.{over_more}
+use Rattle.sv_world.proofs.CoreStepLemmas.{over_more}
 use Rattle.sv_world.proofs.core_start.begin.Goals as goal
 
 pub returns-clause-over : goal.returns-clause-over

@@ -1,6 +1,6 @@
 use Rattle.sv_core.specs.Core.{setting_of, node_at, engine_of}
-use Rattle.sv_world.specs.Acting.{row_at}
-use Rattle.sv_world.proofs.ActingLemmas.{over_plan}
+use Rattle.sv_world.specs.CoreStep.{row_at}
+use Rattle.sv_world.proofs.CoreStepLemmas.{over_plan}
 use Rattle.sv_world.proofs.core_whole.whole_step.Goals as goal
 
 pub returns-clause-over : goal.returns-clause-over

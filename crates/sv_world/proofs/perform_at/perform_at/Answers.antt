@@ -9,7 +9,7 @@ use Rattle.sv_world.proofs.perform_at.perform_at.Goals as goal
 pub returns-clause-slots : goal.returns-clause-slots
 returns-clause-slots g c =
     let slots = c.args.slots.now.items in
-    rw c.from.ensures (All-set (IsSlot g.E.Engine.valid) slots c.args.order.node c.perform.new.self c.perform.ensures.slot c.requires.slots)
+    rw c.from.ensures (All-set (IsSlot g.E.Engine.valid) slots c.args.action.node c.perform.new.self c.perform.ensures.slot c.requires.slots)
 
 pub returns-clause-settings : goal.returns-clause-settings
 returns-clause-settings g c =
@@ -29,9 +29,9 @@ pub returns-clause-done : goal.returns-clause-done
 returns-clause-done g c =
     let slots = c.args.slots.now.items in
     let old = c.index_mut.result.now in
-    let less : c.args.order.node < length slots = c.requires.there in
-    let there = slice_get_read slots (length slots) c.args.order.node old refl less (rw c.from.ensures at c.index_mut.ensures.value) in
-    rw c.from.ensures (ok_then c.perform.result _ _ (λ f h m means. done slots c.args.order.node old c.perform.new.self less there g.E.Engine.heard m c.args.order.task f (h m (sym (ap (meant_in g.E.Engine.meaning) there) ∙ means))) c.perform.ensures.done)
+    let less : c.args.action.node < length slots = c.requires.there in
+    let there = slice_get_read slots (length slots) c.args.action.node old refl less (rw c.from.ensures at c.index_mut.ensures.value) in
+    rw c.from.ensures (ok_then c.perform.result _ _ (λ f h m means. done slots c.args.action.node old c.perform.new.self less there g.E.Engine.heard m c.args.action.task f (h m (sym (ap (meant_in g.E.Engine.meaning) there) ∙ means))) c.perform.ensures.done)
 
 pub returns-clause-undone : goal.returns-clause-undone
 returns-clause-undone g c =

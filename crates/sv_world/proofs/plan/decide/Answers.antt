@@ -1,6 +1,6 @@
 use Rattle.sv_core.specs.Core.{setting_of, node_at, engine_of}
-use Rattle.sv_world.specs.Acting.{row_at}
-use Rattle.sv_world.proofs.ActingLemmas.{planned}
+use Rattle.sv_world.specs.CoreStep.{row_at}
+use Rattle.sv_world.proofs.CoreStepLemmas.{planned}
 use Rattle.sv_world.proofs.plan.decide.Goals as goal
 
 pub returns-clause-plan : goal.returns-clause-plan

@@ -1,5 +1,5 @@
 use Rattle.std.proofs.Common.{sym, ap, ◌∙◌, subst}
-use Rattle.sv_world.specs.Acting.{MayFollow}
+use Rattle.sv_world.specs.CoreStep.{MayFollow}
 use Rattle.sv_world.specs.World.{Member}
 use Rattle.sv_world.specs.Slot.{member_of}
 use Rattle.sv_world.proofs.slot.Slot.torn_step.Goals as goal

@@ -10,9 +10,9 @@ use Rattle.sv_world.specs.declared.slot.Slot.{Slot}
 use Rattle.sv_world.specs.declared.world.World.{World as Nodes}
 use Rattle.sv_world.specs.Faults.{fault_of}
 use Rattle.sv_world.specs.Happened.{IsStill, IsRefused, refusal}
-use Rattle.sv_world.specs.Order.{order_of}
+use Rattle.sv_world.specs.Action.{action_of}
 use Rattle.sv_world.specs.Worlds.{state_by, cluster_by, world_of, cluster_of, AreSet}
-use Rattle.sv_world.proofs.OrderLemmas.{goes, asks}
+use Rattle.sv_world.proofs.ActionLemmas.{goes, asks}
 use Rattle.sv_world.proofs.HappenedLemmas.{told_there, still_world, stays}
 use Rattle.sv_world.proofs.world.World.act.Goals as goal
 
@@ -27,26 +27,26 @@ refused_by : {E A : Type 0} (meaning : E → EngineMeaning) (noted : E → List 
 refused_by meaning noted old new e (Ok x) none still is = tt
 refused_by meaning noted old new e (Err f) none still is = record { still = still; fault = is ∙ ap refusal (sym none) }
 
-pub order_for-requires : goal.order_for-requires
-order_for-requires g c =
+pub action_for-requires : goal.action_for-requires
+action_for-requires g c =
     let self = c.args.self.now in
     let none = at_lists c.deref.result.now self.slots.items c.deref-2.result.now self.packets.items c.deref-3.result.now self.trace.items c.args.event.now c.fault_of.result
     c.requires.settings c.deref.ensures.value c.deref-2.ensures.value c.deref-3.ensures.value c.fault_of.ensures c.in_default.is in
-    subst (λ (ps : List Packet). IsSome (order_of ps c.args.event.now)) (sym c.deref-4.ensures.value) (asks (cluster_of self) (world_of self) c.args.event.now none)
+    subst (λ (ps : List Packet). IsSome (action_of ps c.args.event.now)) (sym c.deref-4.ensures.value) (asks (cluster_of self) (world_of self) c.args.event.now none)
 
 pub perform_at-requires-clause-there : goal.perform_at-requires-clause-there
 perform_at-requires-clause-there g c =
     let self = c.args.self.now in
     let none = at_lists c.deref.result.now self.slots.items c.deref-2.result.now self.packets.items c.deref-3.result.now self.trace.items c.args.event.now c.fault_of.result
     c.requires.settings c.deref.ensures.value c.deref-2.ensures.value c.deref-3.ensures.value c.fault_of.ensures c.in_default.is in
-    told_there self.slots.items c.in_ok-order.order.node (goes (cluster_of self) (world_of self) c.in_ok-order.order c.args.event.now none (ap (λ (ps : List Packet). order_of ps c.args.event.now) (sym c.deref-4.ensures.value) ∙ c.in_ok-order.ensures)).there
+    told_there self.slots.items c.in_ok-action.action.node (goes (cluster_of self) (world_of self) c.in_ok-action.action c.args.event.now none (ap (λ (ps : List Packet). action_of ps c.args.event.now) (sym c.deref-4.ensures.value) ∙ c.in_ok-action.ensures)).there
 
 pub perform_at-requires-clause-up : goal.perform_at-requires-clause-up
 perform_at-requires-clause-up g c =
     let self = c.args.self.now in
     let none = at_lists c.deref.result.now self.slots.items c.deref-2.result.now self.packets.items c.deref-3.result.now self.trace.items c.args.event.now c.fault_of.result
     c.requires.settings c.deref.ensures.value c.deref-2.ensures.value c.deref-3.ensures.value c.fault_of.ensures c.in_default.is in
-    (goes (cluster_of self) (world_of self) c.in_ok-order.order c.args.event.now none (ap (λ (ps : List Packet). order_of ps c.args.event.now) (sym c.deref-4.ensures.value) ∙ c.in_ok-order.ensures)).up
+    (goes (cluster_of self) (world_of self) c.in_ok-action.action c.args.event.now none (ap (λ (ps : List Packet). action_of ps c.args.event.now) (sym c.deref-4.ensures.value) ∙ c.in_ok-action.ensures)).up
 
 pub returns-in_err-perform_at-clause-world : goal.returns-in_err-perform_at-clause-world
 returns-in_err-perform_at-clause-world g c = still_world g.E.Engine.valid c.args.self.now _ c.perform_at.ensures.number c.requires c.perform_at.ensures.slots c.perform_at.ensures.settings
@@ -72,8 +72,8 @@ returns-clause-acted g c =
     c.requires.settings c.deref.ensures.value c.deref-2.ensures.value c.deref-3.ensures.value c.fault_of.ensures c.in_default.is in
     record {
       possible = none;
-      order = c.in_ok-order.order;
-      asked = ap (λ (ps : List Packet). order_of ps c.args.event.now) (sym c.deref-4.ensures.value) ∙ c.in_ok-order.ensures;
+      action = c.in_ok-action.action;
+      asked = ap (λ (ps : List Packet). action_of ps c.args.event.now) (sym c.deref-4.ensures.value) ∙ c.in_ok-action.ensures;
       number = c.perform_at.ensures.number;
       settings = c.perform_at.ensures.settings;
       meanings = c.perform_at.ensures.meanings;

@@ -15,12 +15,12 @@ use Rattle.sv_world.specs.declared.call.Call.{Call}
 use Rattle.sv_world.specs.declared.event.WorldEvent.{WorldEvent}
 use Rattle.sv_world.specs.declared.event.WorldEvent.TheVariants.{Ask, Deliver, Poke, Tick, Move, Crash, Torn, Silent, Restart, TornRestart}
 use Rattle.sv_world.specs.declared.fault.WorldFault.TheVariants.{NoPacket}
-use Rattle.sv_world.specs.declared.order.Order.{Order}
+use Rattle.sv_world.specs.declared.action.Action.{Action}
 use Rattle.sv_world.specs.declared.task.Task.{Task}
 use Rattle.sv_world.specs.declared.task.Task.TheVariants as task
 use Rattle.sv_world.specs.Deed.{Done, deed, wants_up, number_for, line_of, quiet_at, heading_at, heading_by, halted, booted, start_by}
 use Rattle.sv_world.specs.Faults.{call_fault, start_fault, fault_of}
-use Rattle.sv_world.specs.Order.{whole_order, torn_order, silent_order, order_of}
+use Rattle.sv_world.specs.Action.{whole_action, torn_action, silent_action, action_of}
 use Rattle.sv_world.specs.Sent.{may_come}
 use Rattle.sv_world.specs.World.{Cluster, Member, World, set_member, setting_of, durable_at, stopped, started, items, call_of, decision, token_of_call, is_unused, is_there, is_ready, is_spent, whole, torn, silent, becomes, halt, boots, steps, tears, silences, starts, happens}
 use Rattle.sv_world.proofs.FaultLemmas.{step_goes, start_goes, stop_goes}
@@ -29,13 +29,13 @@ use Rattle.sv_world.proofs.FaultLemmas.{step_goes, start_goes, stop_goes}
 abbrev pub done_by : World → WorldEvent → ℕ → Done → World
 done_by w e n d = record { members = set_member w.members n d.member; packets = w.packets ++ sends_in d.effect.outputs; trace = w.trace ++ line_of e d.effect ∷ [] }
 
-abbrev pub done_at : Meanings → Cluster → World → WorldEvent → Order → World
+abbrev pub done_at : Meanings → Cluster → World → WorldEvent → Action → World
 done_at m c w e o =
     let boot = number_for (durable_at w o.node) o.task in
     done_by w e o.node (deed (m o.node boot) (setting_of c o.node boot) (w.members o.node) o.task)
 
 -- an event that can happen asks for this
-pub record Goes (c : Cluster) (w : World) (e : WorldEvent) (o : Order) : Type 0 where
+pub record Goes (c : Cluster) (w : World) (e : WorldEvent) (o : Action) : Type 0 where
   pub happens : (m : Meanings) → happens m c w e ≡ done_at m c w e o
   pub there : o.node < c.nodes o.node (number_for (durable_at w o.node) o.task)
   pub up : (w.members o.node).up ≡ wants_up o.task
@@ -60,10 +60,10 @@ module _ (c : Cluster) (w : World) (e : WorldEvent) where
       let a = and_parts (is_there c call.node (durable_at w call.node).boot) _ (ready call h) in
       (ltb-true call.node (c.nodes call.node (durable_at w call.node).boot) a.0, (and_parts (w.members call.node).up _ a.1).0)
 
-  steps_go : (m : Meanings) (call : Call) → call_fault c w (Some call) ≡ None → steps m c w e (Some call) ≡ done_at m c w e (whole_order call)
+  steps_go : (m : Meanings) (call : Call) → call_fault c w (Some call) ≡ None → steps m c w e (Some call) ≡ done_at m c w e (whole_action call)
   steps_go m call h = cond-true (is_ready c w call) (whole c w e call (decision m c w call)) w (ready call h)
 
-  tears_go : (m : Meanings) (kept : Bool) (call : Call) → call_fault c w (Some call) ≡ None → tears m c w e kept (Some call) ≡ done_at m c w e (torn_order kept call)
+  tears_go : (m : Meanings) (kept : Bool) (call : Call) → call_fault c w (Some call) ≡ None → tears m c w e kept (Some call) ≡ done_at m c w e (torn_action kept call)
   tears_go m kept call h =
       let d = decision m c w call in
       let heading = heading_by (setting_of c call.node (durable_at w call.node).boot) (durable_at w call.node) call.input in
@@ -71,7 +71,7 @@ module _ (c : Cluster) (w : World) (e : WorldEvent) where
       ∙ split call.node (kept && is_some d.entry) (torn c w e call d) (halt w e call.node (token_of_call c w call)) (record { member = stopped d.durable; effect = quiet_at heading d.entry d.commit }) (halted heading (durable_at w call.node))
       (λ i. record (torn c w e call d) { packets = sym (append-nil w.packets) i }) (quiet call.node (durable_at w call.node).boot (stopped (durable_at w call.node)) None (token_of_call c w call))
 
-  silences_go : (m : Meanings) (call : Call) → call_fault c w (Some call) ≡ None → silences m c w e (Some call) ≡ done_at m c w e (silent_order call)
+  silences_go : (m : Meanings) (call : Call) → call_fault c w (Some call) ≡ None → silences m c w e (Some call) ≡ done_at m c w e (silent_action call)
   silences_go m call h =
       let d = decision m c w call in
       cond-true (is_ready c w call) (silent c w e call d) w (ready call h) ∙ (λ i. record (silent c w e call d) { packets = sym (append-nil w.packets) i })
@@ -90,17 +90,17 @@ module _ (c : Cluster) (w : World) (e : WorldEvent) where
       ∙ split n (kept && not (is_spent w n)) (boots c w e n member) (halt w e n None) (booted (next_setting n) heading (durable_at w n) member) (halted heading (durable_at w n))
       (quiet n ((durable_at w n).boot + 1) _ _ None) (quiet n ((durable_at w n).boot + 1) (stopped (durable_at w n)) None None)
 
-  whole_goes : (o : Order) (call : Option Call) → ((m : Meanings) → happens m c w e ≡ steps m c w e call) → call_fault c w call ≡ None → option_map whole_order call ≡ Some o → Goes c w e o
-  whole_goes o None is fault order = absurd (let no : Some NoPacket ≡ None = fault in cc)
-  whole_goes o (Some call) is fault order = subst (Goes c w e) (same_Some (whole_order call) o order) (record { happens = λ m. is m ∙ steps_go m call fault; there = (there_up call fault).0; up = (there_up call fault).1 })
+  whole_goes : (o : Action) (call : Option Call) → ((m : Meanings) → happens m c w e ≡ steps m c w e call) → call_fault c w call ≡ None → option_map whole_action call ≡ Some o → Goes c w e o
+  whole_goes o None is fault action = absurd (let no : Some NoPacket ≡ None = fault in cc)
+  whole_goes o (Some call) is fault action = subst (Goes c w e) (same_Some (whole_action call) o action) (record { happens = λ m. is m ∙ steps_go m call fault; there = (there_up call fault).0; up = (there_up call fault).1 })
 
-  torn_goes : (o : Order) (kept : Bool) (call : Option Call) → ((m : Meanings) → happens m c w e ≡ tears m c w e kept call) → call_fault c w call ≡ None → option_map (torn_order kept) call ≡ Some o → Goes c w e o
-  torn_goes o kept None is fault order = absurd (let no : Some NoPacket ≡ None = fault in cc)
-  torn_goes o kept (Some call) is fault order = subst (Goes c w e) (same_Some (torn_order kept call) o order) (record { happens = λ m. is m ∙ tears_go m kept call fault; there = (there_up call fault).0; up = (there_up call fault).1 })
+  torn_goes : (o : Action) (kept : Bool) (call : Option Call) → ((m : Meanings) → happens m c w e ≡ tears m c w e kept call) → call_fault c w call ≡ None → option_map (torn_action kept) call ≡ Some o → Goes c w e o
+  torn_goes o kept None is fault action = absurd (let no : Some NoPacket ≡ None = fault in cc)
+  torn_goes o kept (Some call) is fault action = subst (Goes c w e) (same_Some (torn_action kept call) o action) (record { happens = λ m. is m ∙ tears_go m kept call fault; there = (there_up call fault).0; up = (there_up call fault).1 })
 
-  silent_goes : (o : Order) (call : Option Call) → ((m : Meanings) → happens m c w e ≡ silences m c w e call) → call_fault c w call ≡ None → option_map silent_order call ≡ Some o → Goes c w e o
-  silent_goes o None is fault order = absurd (let no : Some NoPacket ≡ None = fault in cc)
-  silent_goes o (Some call) is fault order = subst (Goes c w e) (same_Some (silent_order call) o order) (record { happens = λ m. is m ∙ silences_go m call fault; there = (there_up call fault).0; up = (there_up call fault).1 })
+  silent_goes : (o : Action) (call : Option Call) → ((m : Meanings) → happens m c w e ≡ silences m c w e call) → call_fault c w call ≡ None → option_map silent_action call ≡ Some o → Goes c w e o
+  silent_goes o None is fault action = absurd (let no : Some NoPacket ≡ None = fault in cc)
+  silent_goes o (Some call) is fault action = subst (Goes c w e) (same_Some (silent_action call) o action) (record { happens = λ m. is m ∙ silences_go m call fault; there = (there_up call fault).0; up = (there_up call fault).1 })
 
   start_goes_by : (n : ℕ) (kept : Bool) (member : Durable → Member) (t : Task) → wants_up t ≡ false → number_for (durable_at w n) t ≡ (durable_at w n).boot + 1 → ((m : Meanings) → happens m c w e ≡ starts c w e n kept member)
       → ((m : Meanings) → done_by w e n (start_by (next_setting n) (durable_at w n) kept member) ≡ done_at m c w e (record { node = n; task = t })) → start_fault (there_next n) (w.members n).up ≡ None → Goes c w e (record { node = n; task = t })
@@ -112,8 +112,8 @@ module _ (c : Cluster) (w : World) (e : WorldEvent) where
         up = not_true (w.members n).up a.1 ∙ sym down;
       }
 
-module _ (c : Cluster) (w : World) (o : Order) where
-  pub goes : (e : WorldEvent) → fault_of c w e ≡ None → order_of w.packets e ≡ Some o → Goes c w e o
+module _ (c : Cluster) (w : World) (o : Action) where
+  pub goes : (e : WorldEvent) → fault_of c w e ≡ None → action_of w.packets e ≡ Some o → Goes c w e o
   goes (Ask n moment token r) f h = whole_goes c w (Ask n moment token r) o (call_of w.packets (Ask n moment token r)) (λ m. refl) f h
   goes (Deliver moment place) f h = whole_goes c w (Deliver moment place) o (call_of w.packets (Deliver moment place)) (λ m. refl) f h
   goes (Poke n moment) f h = whole_goes c w (Poke n moment) o (call_of w.packets (Poke n moment)) (λ m. refl) f h
@@ -135,15 +135,15 @@ module _ (c : Cluster) (w : World) (o : Order) where
 
 -- an event that can happen asks for something
 module _ (c : Cluster) (w : World) where
-  some_whole : (call : Option Call) → call_fault c w call ≡ None → IsSome (option_map whole_order call)
+  some_whole : (call : Option Call) → call_fault c w call ≡ None → IsSome (option_map whole_action call)
   some_whole None h = absurd (let no : Some NoPacket ≡ None = h in cc)
   some_whole (Some call) h = refl
 
-  some_torn : (kept : Bool) (call : Option Call) → call_fault c w call ≡ None → IsSome (option_map (torn_order kept) call)
+  some_torn : (kept : Bool) (call : Option Call) → call_fault c w call ≡ None → IsSome (option_map (torn_action kept) call)
   some_torn kept None h = absurd (let no : Some NoPacket ≡ None = h in cc)
   some_torn kept (Some call) h = refl
 
-  pub asks : (e : WorldEvent) → fault_of c w e ≡ None → IsSome (order_of w.packets e)
+  pub asks : (e : WorldEvent) → fault_of c w e ≡ None → IsSome (action_of w.packets e)
   asks (Ask n moment token r) h = refl
   asks (Deliver moment place) h = some_whole (call_of w.packets (Deliver moment place)) h
   asks (Poke n moment) h = refl

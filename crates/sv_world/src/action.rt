@@ -2,7 +2,7 @@
 
 ghost use Rattle.std.specs.Prelude.{◌≡◌, Some, IsSome, IfOk};
 ghost use Rattle.std.specs.Option.{option_map};
-ghost use Rattle.sv_world.specs.Order.{whole_order, torn_order, silent_order, order_of};
+ghost use Rattle.sv_world.specs.Action.{whole_action, torn_action, silent_action, action_of};
 
 use crate::call::{Call, call_of};
 use crate::event::WorldEvent;
@@ -10,38 +10,38 @@ use crate::task::Task;
 use std::alloc::{AllocError, Global};
 use sv_model::Packet;
 
-/// A task, and the node that is to do it.
+/// What a node is to do: a task, and which node.
 #[derive(Drop)]
-pub struct Order {
+pub struct Action {
     pub node: u8,
     pub task: Task,
 }
 
 /// A whole step.
-fn whole(call: Call) -> Order
-    ensures { result ≡ whole_order call }
+fn whole(call: Call) -> Action
+    ensures { result ≡ whole_action call }
 {
     let Call {
         node,
         moment,
         input,
     } = call;
-    Order {
+    Action {
         node,
         task: Task::Step { moment, input },
     }
 }
 
 /// A torn step.
-fn torn(call: Call, kept: bool) -> Order
-    ensures { result ≡ torn_order kept call }
+fn torn(call: Call, kept: bool) -> Action
+    ensures { result ≡ torn_action kept call }
 {
     let Call {
         node,
         moment,
         input,
     } = call;
-    Order {
+    Action {
         node,
         task: Task::Torn {
             moment,
@@ -52,23 +52,23 @@ fn torn(call: Call, kept: bool) -> Order
 }
 
 /// A silent step.
-fn silent(call: Call) -> Order
-    ensures { result ≡ silent_order call }
+fn silent(call: Call) -> Action
+    ensures { result ≡ silent_action call }
 {
     let Call {
         node,
         moment,
         input,
     } = call;
-    Order {
+    Action {
         node,
         task: Task::Silent { moment, input },
     }
 }
 
 /// The whole step that is asked for, where there is one.
-fn whole_if(call: Option<Call>) -> Option<Order>
-    ensures { result ≡ option_map whole_order call }
+fn whole_if(call: Option<Call>) -> Option<Action>
+    ensures { result ≡ option_map whole_action call }
 {
     match call {
         Some(call) => Some(whole(call)),
@@ -77,8 +77,8 @@ fn whole_if(call: Option<Call>) -> Option<Order>
 }
 
 /// The torn step that is asked for, where there is one.
-fn torn_if(call: Option<Call>, kept: bool) -> Option<Order>
-    ensures { result ≡ option_map (torn_order kept) call }
+fn torn_if(call: Option<Call>, kept: bool) -> Option<Action>
+    ensures { result ≡ option_map (torn_action kept) call }
 {
     match call {
         Some(call) => Some(torn(call, kept)),
@@ -87,8 +87,8 @@ fn torn_if(call: Option<Call>, kept: bool) -> Option<Order>
 }
 
 /// The silent step that is asked for, where there is one.
-fn silent_if(call: Option<Call>) -> Option<Order>
-    ensures { result ≡ option_map silent_order call }
+fn silent_if(call: Option<Call>) -> Option<Action>
+    ensures { result ≡ option_map silent_action call }
 {
     match call {
         Some(call) => Some(silent(call)),
@@ -97,12 +97,12 @@ fn silent_if(call: Option<Call>) -> Option<Order>
 }
 
 /// What an event asks for, where these packets were sent.
-fn order_of(
+fn action_of(
     alloc: Global,
     packets: &[Packet],
     event: &WorldEvent,
-) -> Result<Option<Order>, AllocError>
-    ensures { IfOk result (λ o. o ≡ order_of packets.now event.now) }
+) -> Result<Option<Action>, AllocError>
+    ensures { IfOk result (λ o. o ≡ action_of packets.now event.now) }
 {
     match *event {
         WorldEvent::Ask { .. }
@@ -112,15 +112,15 @@ fn order_of(
         | WorldEvent::Move { .. } => Ok(whole_if(call_of(alloc, packets, event)?)),
         WorldEvent::Torn { kept, .. } => Ok(torn_if(call_of(alloc, packets, event)?, kept)),
         WorldEvent::Silent { .. } => Ok(silent_if(call_of(alloc, packets, event)?)),
-        WorldEvent::Crash(node) => Ok(Some(Order {
+        WorldEvent::Crash(node) => Ok(Some(Action {
             node,
             task: Task::Stop,
         })),
-        WorldEvent::Restart(node) => Ok(Some(Order {
+        WorldEvent::Restart(node) => Ok(Some(Action {
             node,
             task: Task::Start,
         })),
-        WorldEvent::TornRestart { node, kept } => Ok(Some(Order {
+        WorldEvent::TornRestart { node, kept } => Ok(Some(Action {
             node,
             task: Task::TornStart { kept },
         })),
@@ -128,12 +128,16 @@ fn order_of(
 }
 
 /// What an event asks for that asks for something.
-pub fn order_for(alloc: Global, packets: &[Packet], event: &WorldEvent) -> Result<Order, AllocError>
-    requires { IsSome (order_of packets.now event.now) }
-    ensures { IfOk result (λ o. order_of packets.now event.now ≡ Some o) }
+pub fn action_for(
+    alloc: Global,
+    packets: &[Packet],
+    event: &WorldEvent,
+) -> Result<Action, AllocError>
+    requires { IsSome (action_of packets.now event.now) }
+    ensures { IfOk result (λ o. action_of packets.now event.now ≡ Some o) }
 {
-    match order_of(alloc, packets, event)? {
-        Some(order) => Ok(order),
+    match action_of(alloc, packets, event)? {
+        Some(action) => Ok(action),
         None => unreachable!(),
     }
 }

@@ -16,7 +16,7 @@ use Rattle.sv_core.specs.declared.node.Core.{Core}
 use Rattle.sv_core.specs.declared.decision.Decision as code
 use Rattle.sv_core.specs.Core.{setting_of, node_at, durable_at, decision_at, view_of, WasDecided}
 use Rattle.sv_world.specs.declared.plan.Plan.{Plan}
-use Rattle.sv_world.specs.Acting.{IsOver, IsPlan, MayFollow, plan_of}
+use Rattle.sv_world.specs.CoreStep.{IsOver, IsPlan, MayFollow, plan_of}
 use Rattle.sv_world.specs.Deed.{traced_of}
 
 pub fits_more : (set : Setting) (stage : Stage) (d : Durable) (rs : List Record) (o : Option Record) → AllFit set stage d rs → MayFollow set (replayed d rs) o → AllFit set stage d (rs ++ option_to_list o)
