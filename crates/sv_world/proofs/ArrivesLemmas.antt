@@ -31,7 +31,7 @@ use Rattle.sv_world.specs.declared.call.Call.{Call}
 use Rattle.sv_world.specs.Headline.{states}
 use Rattle.sv_world.specs.Life.{Away, Life, Stands}
 use Rattle.sv_world.specs.World.{Cluster, Member, World, durable_at, decision, happens}
-use Rattle.sv_world.specs.Progress.{setting_at, told_at, Runs, HasRoomAt, IsOff, HasArrived}
+use Rattle.sv_world.specs.Progress.{setting_at, nodes_told, Runs, HasRoomAt, IsOff, HasArrived}
 use Rattle.sv_world.proofs.Keys.{in_right, set_here}
 use Rattle.sv_world.proofs.OneKey.{below_epoch}
 use Rattle.sv_world.proofs.ProgressLemmas.{ready_by, stepped_by}
@@ -137,7 +137,7 @@ module _ (m : Meanings) (c : Cluster) where
       (λ _. grant_acks set nd n k e s (known nd.durable k) made room)
       (λ f. absurd (true≢false (sym (ours set n set.node refl apart inside) ∙ f)))
 
-  pub delivered_acks : (v : World) (moment : Moment) (place : ℕ) (n : ℕ) (k : Key) (e : ℕ) (s : Session) (to : ℕ) → Runs c v to → n < told_at c v to → n ≢ to → slice_get v.packets place ≡ Some (Grant n to k e s)
+  pub delivered_acks : (v : World) (moment : Moment) (place : ℕ) (n : ℕ) (k : Key) (e : ℕ) (s : Session) (to : ℕ) → Runs c v to → n < nodes_told c v to → n ≢ to → slice_get v.packets place ≡ Some (Grant n to k e s)
       → is_unmade (setting_at c v to) (durable_at v to) k ≡ false → HasRoomAt c to k v → HasPlace (Ack to n k e) (length v.packets) (happens m c v (Deliver moment place)).packets
   delivered_acks v moment place n k e s to r inside apart at made room =
       delivery m c (λ (x : World). HasPlace (Ack to n k e) (length v.packets) x.packets) v moment place (Grant n to k e s) r at
@@ -167,7 +167,7 @@ module _ (m : Meanings) (c : Cluster) where
       (λ f. absurd (true≢false (sym (eq-eqb e e refl) ∙ f)))))
       (λ f. absurd (true≢false (sym (ours set to set.node refl apart inside) ∙ f)))
 
-  pub delivered_ends : (v : World) (moment : Moment) (place : ℕ) (n : ℕ) (k : Key) (e : ℕ) (s : Session) (to : ℕ) → Runs c v n → to < told_at c v n → to ≢ n → slice_get v.packets place ≡ Some (Ack to n k e)
+  pub delivered_ends : (v : World) (moment : Moment) (place : ℕ) (n : ℕ) (k : Key) (e : ℕ) (s : Session) (to : ℕ) → Runs c v n → to < nodes_told c v n → to ≢ n → slice_get v.packets place ≡ Some (Ack to n k e)
       → IsOff v k n e s to → states (happens m c v (Deliver moment place)) k n ≡ Some (Gone e)
   delivered_ends v moment place n k e s to r inside apart at off =
       let call : Call = record { node = n; moment = moment; input = input.Packet (Ack to n k e) } in

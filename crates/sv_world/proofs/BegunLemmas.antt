@@ -25,7 +25,7 @@ use Rattle.sv_world.specs.Slot.{IsSlot, RunsOver, durable_of, engine_in, engine_
 use Rattle.sv_world.specs.World.{Cluster, steady, setting_of, stopped, nothing_happened, run}
 use Rattle.sv_world.specs.Worlds.{rules_in, member_in, meant_in, noted_in, world_of, size_of, cluster_of, meanings_of, heard_of, IsWorld}
 use Rattle.sv_world.specs.Happened.{AllAlike, AreMade, AreBack, restarts}
-use Rattle.sv_world.specs.Making.{IsIdle, IsUntouched, AreFilled, HaveBegun, AreOf}
+use Rattle.sv_world.specs.Making.{IsIdle, IsUntouched, AreFilled, HaveBegun, AreEnginesOf}
 use Rattle.sv_world.specs.Planned.{IsPlanned, Ran}
 use Rattle.sv_world.proofs.HappenedLemmas.{told_there}
 use Rattle.sv_world.proofs.MakingLemmas.{all_some}
@@ -123,7 +123,7 @@ module _ {E : Type 0} where
 
     -- the engines of a world's nodes are those of a world before it
     pub are_of : (fit : E → Type 0) (old new : Nodes E) (engines : List E) → size_of new ≡ size_of old → meanings_of meaning new ≡ meanings_of meaning old → heard_of noted new ≡ heard_of noted old
-        → All (λ s. IsSlot fit s) new.slots.items → map Some engines ≡ map engine_in new.slots.items → AreOf meaning noted fit old engines
+        → All (λ s. IsSlot fit s) new.slots.items → map Some engines ≡ map engine_in new.slots.items → AreEnginesOf meaning noted fit old engines
     are_of fit old new engines size meanings heard all is = record {
       valid = all_by fit engines (λ k. subst (λ o. IfSome o fit) (at_place new.slots.items engines (sym is) k) (seen_fit fit (slice_get new.slots.items k) (all_some (λ s. IsSlot fit s) new.slots.items all k)));
       number = sym (number_is new.slots.items engines (sym is)) ∙ size;
@@ -164,7 +164,7 @@ module _ {E : Type 0} where
         heard = λ n. (λ i. b.heard i n) ∙ heard_are w engines h.engines_in n;
       }
 
-      pub back : (fit : E → Type 0) (engines' : List E) → AreOf meaning noted fit w engines' → AreBack meaning noted fit engines engines'
+      pub back : (fit : E → Type 0) (engines' : List E) → AreEnginesOf meaning noted fit w engines' → AreBack meaning noted fit engines engines'
       back fit engines' a = record {
         valid = a.valid;
         number = a.number ∙ number_is w.slots.items engines h.engines_in;

@@ -36,7 +36,7 @@ use Rattle.sv_world.specs.declared.event.WorldEvent.TheVariants.{Ask, Deliver, P
 use Rattle.sv_world.specs.declared.line.Line.{Line}
 use Rattle.sv_world.specs.declared.task.Task.TheVariants as task
 use Rattle.sv_world.specs.Deed.{Done, deed, line_of, heading_by, heading_at, halted, booted, quiet_at, start_by}
-use Rattle.sv_world.specs.Disks.{NodeCall, Seen, start_at, InTurnAt, AreOpenedInTurn, WasSent, IsNew, AllCome, MayCome, with_number, silent_event, IsCall, AreCalls, AreOfInput, AreOfStop, AreOf, AreOfAll, shown_at, is_own, all_numbers, behind, behind_all, seen_as, shown_by, nothing_called, AreWorld}
+use Rattle.sv_world.specs.Disks.{NodeCall, Seen, start_at, InTurnAt, AreOpenedInTurn, WasSent, IsNew, AllMayCome, MayCome, with_number, silent_event, IsCall, AreCalls, AreOfInput, AreOfStop, AreEventsOf, AreOfAll, shown_at, is_own, all_numbers, behind, behind_all, seen_as, shown_by, nothing_called, AreWorld}
 use Rattle.sv_world.specs.Faults.{step_fault, start_fault, stop_fault, call_fault, fault_of}
 use Rattle.sv_world.specs.Action.{whole_action, torn_action, silent_action, action_of}
 use Rattle.sv_world.specs.Rolling.{start_in, IsTurn, AreInTurn}
@@ -127,7 +127,7 @@ module _ (m : Meanings) (c : Cluster) (w : World) (n : ℕ) (call : Call) (a : A
 
   -- the events are those of the call
   abbrev Own : List WorldEvent → Type 0
-  Own events = AreOf (seen_as w) made events
+  Own events = AreEventsOf (seen_as w) made events
 
   -- the world's events of the call make of it what the call makes
   pub record Simulated : Type 0 where
@@ -225,7 +225,7 @@ module _ (m : Meanings) (c : Cluster) (n boot : ℕ) (inside : n < c.nodes n boo
   at_own : (members : ℕ → Member) (p : Member) → set_member members n p n ≡ p
   at_own members p = cond-true (n == n) p (members n) (eq-eqb n n refl)
 
-  silenced : (w : World) (numbers : List ℕ) (gs : List Given) → (w.members n).node.durable.boot ≡ boot → (w.members n).up ≡ true → IsFresh (asked_of (items w.trace)) n (w.members n) numbers → AllCome w.packets numbers gs → Silenced w (run m c w (map (silent_event n) gs)) gs
+  silenced : (w : World) (numbers : List ℕ) (gs : List Given) → (w.members n).node.durable.boot ≡ boot → (w.members n).up ≡ true → IsFresh (asked_of (items w.trace)) n (w.members n) numbers → AllMayCome w.packets numbers gs → Silenced w (run m c w (map (silent_event n) gs)) gs
   silenced w numbers [] same up fresh all = record {
     members = λ x. ⊎_elim
         (λ (e : x ≡ n). ap w.members e ∙ (λ j. record { up = up j; node = (w.members n).node }) ∙ sym (cond-true (x == n) (record { up = true; node = (w.members n).node }) (w.members x) (eq-eqb x n e)))
@@ -249,7 +249,7 @@ module _ (m : Meanings) (c : Cluster) (n boot : ℕ) (inside : n < c.nodes n boo
       subst (λ (ts : List Token). IsFresh ts n (v.members n) (with_number g.input numbers)) (sym asked_v)
       (subst (λ (q : Member). IsFresh (asked_of (items w.trace) ++ option_to_list (asked_by (token_of of_node node.durable) g.input)) n q (with_number g.input numbers)) (sym here)
       (λ _. step_fresh (m n boot) (c.nodes n boot) (c.rules n boot) n (w.members n) (carried_out d) (asked_of (items w.trace)) numbers g.at g.input (up, refl) fresh)) in
-      let all_v : AllCome v.packets (with_number g.input numbers) gs = subst (λ ps. AllCome ps (with_number g.input numbers) gs) (sym (append-nil w.packets)) all.1 in
+      let all_v : AllMayCome v.packets (with_number g.input numbers) gs = subst (λ ps. AllMayCome ps (with_number g.input numbers) gs) (sym (append-nil w.packets)) all.1 in
       let number : (v.members n).node.durable.boot ≡ node.durable.boot = ap (λ (q : Member). q.node.durable.boot) here ∙ boot_kept node g in
       let rest = silenced v (with_number g.input numbers) gs (number ∙ same) (ap (λ (q : Member). q.up) here) fresh_v all_v in
       record {
@@ -393,7 +393,7 @@ module _ (m : Meanings) (touches : AllTouchOnlyHanded m) (c : Cluster) (w : Worl
   no_starts v [] = (tt, tt)
   no_starts v (g ∷ gs) = (tt, no_starts (happens m c v (silent_event n g)) gs)
 
-  unsaid : (numbers : List ℕ) → IsFresh (asked_of (items w.trace)) n at_node numbers → (gs : List Given) (a : After) → at_node.up ≡ true → AllCome w.packets numbers gs → a ≡ quiet (kept (node_behind means set at_node.node gs).durable) → Simulated m c w n (Unsaid gs) a
+  unsaid : (numbers : List ℕ) → IsFresh (asked_of (items w.trace)) n at_node numbers → (gs : List Given) (a : After) → at_node.up ≡ true → AllMayCome w.packets numbers gs → a ≡ quiet (kept (node_behind means set at_node.node gs).durable) → Simulated m c w n (Unsaid gs) a
   unsaid numbers fresh gs a up all d =
       let es = map (silent_event n) gs in
       let v = run m c w es in

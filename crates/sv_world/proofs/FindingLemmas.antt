@@ -16,15 +16,15 @@ use Rattle.sv_core.specs.declared.node.Core.{Core}
 use Rattle.sv_world.specs.declared.line.Line.{Line}
 use Rattle.sv_world.specs.declared.slot.Slot.{Slot}
 use Rattle.sv_world.specs.Faults.{step_fault, call_fault, start_fault, stop_fault}
-use Rattle.sv_world.specs.Finding.{boot_by, boot_in, started_by, start_in, stop_by, number_in, token_by, step_by, delivery_by}
-use Rattle.sv_world.specs.Slot.{boot_of, durable_of, member_by}
+use Rattle.sv_world.specs.Finding.{boot_by, boot_in, started_by, start_fault_in, stop_by, number_in, token_by, step_by, delivery_by}
+use Rattle.sv_world.specs.Slot.{boot_if_up, durable_of, member_by}
 use Rattle.sv_world.specs.Sent.{may_come}
 use Rattle.sv_world.specs.World.{items, is_unused, is_there, setting_of}
 use Rattle.sv_world.specs.Worlds.{member_in, members_by, setting_in, settings_by, state_by, cluster_by, AreSet}
 
 module _ {E : Type 0} where
   core_steps : (o : Option (Core E)) (d : Durable) (trace : List Line) (n : ℕ) (sent : Bool) (number : Option ℕ)
-      → step_by trace n sent number (boot_by (boot_of (member_by o d))) ≡ step_fault true (member_by o d).up sent (is_unused (asked_of (items trace)) (token_by n (member_by o d).node.durable.boot number))
+      → step_by trace n sent number (boot_by (boot_if_up (member_by o d))) ≡ step_fault true (member_by o d).up sent (is_unused (asked_of (items trace)) (token_by n (member_by o d).node.durable.boot number))
   core_steps None d trace n sent number = refl
   core_steps (Some c) d trace n sent number = refl
 
@@ -33,7 +33,7 @@ module _ {E : Type 0} where
   slot_steps None trace n sent number = refl
   slot_steps (Some s) trace n sent number = core_steps s.core (durable_of s) trace n sent number
 
-  core_stops : (o : Option (Core E)) (d : Durable) → stop_by (boot_by (boot_of (member_by o d))) ≡ stop_fault true (member_by o d).up
+  core_stops : (o : Option (Core E)) (d : Durable) → stop_by (boot_by (boot_if_up (member_by o d))) ≡ stop_fault true (member_by o d).up
   core_stops None d = refl
   core_stops (Some c) d = refl
 
@@ -70,13 +70,13 @@ module _ {E : Type 0} (slots : List (Slot E)) (packets : List Packet) (trace : L
   pub stops : (n : ℕ) → stop_by (boot_in (slice_get slots n)) ≡ stop_fault (is_there (cluster_by slots) n (members_by slots n).node.durable.boot) (members_by slots n).up
   stops n = slot_stops (slice_get slots n) ∙ ap (λ b. stop_fault b (members_by slots n).up) (there slots set n)
 
-  core_starts : (o : Option (Core E)) (d : Durable) → started_by (boot_of (member_by o d)) ≡ start_fault true (member_by o d).up
+  core_starts : (o : Option (Core E)) (d : Durable) → started_by (boot_if_up (member_by o d)) ≡ start_fault true (member_by o d).up
   core_starts None d = refl
   core_starts (Some c) d = refl
 
-  slot_starts : (o : Option (Slot E)) → start_in o ≡ start_fault (is_some o) (member_in o).up
+  slot_starts : (o : Option (Slot E)) → start_fault_in o ≡ start_fault (is_some o) (member_in o).up
   slot_starts None = refl
   slot_starts (Some s) = core_starts s.core (durable_of s)
 
-  pub starts : (n boot : ℕ) → start_in (slice_get slots n) ≡ start_fault (is_there (cluster_by slots) n boot) (members_by slots n).up
+  pub starts : (n boot : ℕ) → start_fault_in (slice_get slots n) ≡ start_fault (is_there (cluster_by slots) n boot) (members_by slots n).up
   starts n boot = slot_starts (slice_get slots n) ∙ ap (λ b. start_fault b (members_by slots n).up) (there slots set n)

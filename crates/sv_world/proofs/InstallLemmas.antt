@@ -15,7 +15,7 @@ use Rattle.sv_world.specs.declared.rules.Rules.{Rules}
 use Rattle.sv_world.specs.declared.slot.Slot.{Slot}
 use Rattle.sv_world.specs.declared.world.World.{World as Nodes}
 use Rattle.sv_world.specs.Rules.{setting_by}
-use Rattle.sv_world.specs.Slot.{IsSlot, RunsOver, member_of, engine_in, engine_by, durable_of, boot_of}
+use Rattle.sv_world.specs.Slot.{IsSlot, RunsOver, member_of, engine_in, engine_by, durable_of, boot_if_up}
 use Rattle.sv_world.specs.World.{Cluster, Member, World, setting_of, run, nothing_happened}
 use Rattle.sv_world.specs.Worlds.{rules_in, member_in, settings_by, world_of, size_of, cluster_of, meanings_of, IsSet, AreSet}
 use Rattle.sv_world.specs.Happened.{events_in}
@@ -42,7 +42,7 @@ module _ {E : Type 0} (old new : Slot E) (down : (member_of old).up ≡ false) (
 
 -- ---- no fault
 
-running_by : (p : Member) → fault_in (boot_of p) ≡ None → p.up ≡ false
+running_by : (p : Member) → fault_in (boot_if_up p) ≡ None → p.up ≡ false
 running_by p none = by p.up refl none
   where
     by : (b : Bool) → p.up ≡ b → fault_in (cond b (Some p.node.durable.boot) None) ≡ None → b ≡ false
@@ -53,7 +53,7 @@ module _ {E : Type 0} where
   pub ready_by : (n nodes : ℕ) (o : Option (Slot E)) → fault_by n nodes o ≡ None → (n < nodes) × ((member_in o).up ≡ false)
   ready_by n nodes None h = absurd (let no : Some NoNode ≡ None = h in cc)
   ready_by n nodes (Some s) h =
-      let by : Bool → Option InstallFault = λ b. cond b (Some NotTold) (fault_in (boot_of (member_of s))) in
+      let by : Bool → Option InstallFault = λ b. cond b (Some NotTold) (fault_in (boot_if_up (member_of s))) in
       ⊎_elim
       (λ (less : n < nodes). (less, running_by (member_of s) (sym (ap by (lt-leb nodes n less)) ∙ h)))
       (λ (past : nodes ≤ n). absurd (let no : Some NotTold ≡ None = sym (ap by (le-leb nodes n past)) ∙ h in cc))

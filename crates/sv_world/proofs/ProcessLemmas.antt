@@ -11,7 +11,7 @@ use Rattle.sv_model.specs.Engine.{EngineMeaning}
 use Rattle.sv_model.specs.Membership.{In}
 use Rattle.sv_node.specs.Call.{Call, Open, Step, Unsaid, Compact, Stop, Given, Done, Refused, Cut, runs_behind}
 use Rattle.sv_node.specs.History.{Turn, Stand, IsAbove, number_in, RiseIn, numbers_in, RisesAt, lowest_behind, Rise}
-use Rattle.sv_world.specs.Disks.{NodeCall, Seen, start_at, IsNew, AllCome, MayCome, IsCall, AreCalls, with_number, numbers_behind, all_numbers, behind, nothing_called}
+use Rattle.sv_world.specs.Disks.{NodeCall, Seen, start_at, IsNew, AllMayCome, MayCome, IsCall, AreCalls, with_number, numbers_behind, all_numbers, behind, nothing_called}
 use Rattle.sv_world.specs.Processes.{turn_of, turns_at, BringAll, BringsSent, BringSent, AreOfProcesses}
 use Rattle.sv_world.specs.Starts.{AreTurnsBy}
 use Rattle.sv_world.specs.World.{Cluster, Member, setting_of}
@@ -64,7 +64,7 @@ upto_behind low numbers (Unsaid gs) upto rises = upto_all low numbers gs upto ri
 upto_behind low numbers (Compact ending) upto rises = upto
 upto_behind low numbers Stop upto rises = upto
 
-all_come : (packets : List Packet) (low : ℕ) (numbers : List ℕ) (gs : List Given) → UpTo low numbers → RiseIn low gs → BringAll packets gs → AllCome packets numbers gs
+all_come : (packets : List Packet) (low : ℕ) (numbers : List ℕ) (gs : List Given) → UpTo low numbers → RiseIn low gs → BringAll packets gs → AllMayCome packets numbers gs
 all_come packets low numbers [] upto rises sent = tt
 all_come packets low numbers (g ∷ gs) upto rises sent =
     ((sent.0, is_new low numbers g.input upto rises.0), all_come packets (number_in low g.input) (with_number g.input numbers) gs (upto_with low numbers g.input upto rises.0) rises.1 sent.1)

@@ -23,7 +23,7 @@ use Rattle.sv_world.specs.declared.call.Call.{Call}
 use Rattle.sv_world.specs.Sent.{may_come}
 use Rattle.sv_world.specs.World.{Cluster, Member, World, set_member, setting_of, durable_at, items, commits_in, whole, decision, steps, happens, run, item_at, is_ready, is_there, is_unused, call_of, token_of_call}
 use Rattle.sv_world.specs.Waits.{boot_of}
-use Rattle.sv_world.specs.Progress.{IsStep, AreSteps, waiting, accounted_in, IsKept, setting_at, told_at, Runs, NobodyIsForgotten, TicksEndWaiting}
+use Rattle.sv_world.specs.Progress.{IsStep, AreSteps, waiting, accounted_in, IsKept, setting_at, nodes_told, Runs, NobodyIsForgotten, TicksEndWaiting}
 use Rattle.sv_world.proofs.Events.{IsReady, readies}
 use Rattle.sv_world.proofs.Arrivals.{one_if, times_one, asked_snoc, items_snoc}
 use Rattle.sv_world.proofs.Waiting.{by_node}
@@ -116,7 +116,7 @@ stays_early late (q ∷ ps) p i = cond_both (not (late q)) (q ∷ filter (λ x. 
 pub ready_by : (c : Cluster) (w : World) (call : Call) → Runs c w call.node → may_come w.packets call.input ≡ true → token_of_call c w call ≡ None → is_ready c w call ≡ true
 ready_by c w call r may none =
     let unused : is_unused (asked_of (items w.trace)) (token_of_call c w call) ≡ true = ap (is_unused (asked_of (items w.trace))) none in
-    and_from (is_there c call.node (durable_at w call.node).boot) _ (lt-ltb call.node (told_at c w call.node) r.there)
+    and_from (is_there c call.node (durable_at w call.node).boot) _ (lt-ltb call.node (nodes_told c w call.node) r.there)
     (and_from (w.members call.node).up _ r.up (and_from (may_come w.packets call.input) _ may unused))
 
 -- what becomes of such a step

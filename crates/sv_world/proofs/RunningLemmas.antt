@@ -21,7 +21,7 @@ use Rattle.sv_model.specs.NodeState.{known}
 use Rattle.sv_world.specs.Headline.{states}
 use Rattle.sv_world.specs.Sent.{same_packet}
 use Rattle.sv_world.specs.World.{Cluster, Member, World, durable_at, whole, decision, steps, happens, run, call_of}
-use Rattle.sv_world.specs.Progress.{IsStep, AreSteps, told_at, Runs, AllRun}
+use Rattle.sv_world.specs.Progress.{IsStep, AreSteps, nodes_told, Runs, AllRun}
 use Rattle.sv_world.proofs.Events.{behind}
 use Rattle.sv_world.proofs.Keys.{in_left, got}
 use Rattle.sv_world.proofs.ProgressLemmas.{stepping, stepped_by, ready_by, boot_kept}
@@ -184,5 +184,5 @@ pub runs_one : (c : Cluster) (nodes : ℕ) (w : World) → AllRun c nodes w → 
 runs_one c nodes w all n inside = record { up = all.up n inside; there = subst (λ x. n < x) (sym (all.told n inside)) inside }
 
 -- and was told of each other
-pub told_one : (c : Cluster) (nodes : ℕ) (w : World) → AllRun c nodes w → (n x : ℕ) → n < nodes → x < nodes → x < told_at c w n
+pub told_one : (c : Cluster) (nodes : ℕ) (w : World) → AllRun c nodes w → (n x : ℕ) → n < nodes → x < nodes → x < nodes_told c w n
 told_one c nodes w all n x inside there = subst (λ y. x < y) (sym (all.told n inside)) there

@@ -26,7 +26,7 @@ use Rattle.sv_world.specs.declared.call.Call.{Call}
 use Rattle.sv_world.specs.Headline.{states}
 use Rattle.sv_world.specs.Life.{Away, Stands}
 use Rattle.sv_world.specs.World.{Cluster, Member, World, setting_of, durable_at, decision, happens, run}
-use Rattle.sv_world.specs.Progress.{AreSteps, setting_at, told_at, Runs, AllRun, HasRoomAt, HasRoom, IsOff, HasArrived, IsOnItsWay, Round, ticked, behind, IsRound}
+use Rattle.sv_world.specs.Progress.{AreSteps, setting_at, nodes_told, Runs, AllRun, HasRoomAt, HasRoom, IsOff, HasArrived, IsOnItsWay, Round, ticked, behind, IsRound}
 use Rattle.sv_world.proofs.AnsweringLemmas.{Has, HasEnded, IsUnborn, Answers, answers_unmade, answers_step, answers_alone, way_step, IsComing, IsGivenElsewhere, given, due_on}
 use Rattle.sv_world.proofs.ArrivesLemmas.{ours}
 use Rattle.sv_world.proofs.EpochLemmas.{Gave}
@@ -248,7 +248,7 @@ module _ (m : Meanings) (touches : AllTouchOnlyHanded m) (c : Cluster) (nodes n 
 
   -- ---- who is told No waits no more
 
-  no_leaves : (v : World) (moment : Moment) (place by boot : ℕ) → Both m touches c v → Runs c v n → by < told_at c v n → by ≢ n → slice_get v.packets place ≡ Some (No by n k boot p.want)
+  no_leaves : (v : World) (moment : Moment) (place by boot : ℕ) → Both m touches c v → Runs c v n → by < nodes_told c v n → by ≢ n → slice_get v.packets place ≡ Some (No by n k boot p.want)
       → boot ≡ (durable_at v n).boot → In p (v.members n).node.parked → In p ((happens m c v (Deliver moment place)).members n).node.parked → ⊥
   no_leaves v moment place by boot b r there apart at same i =
       let set = setting_at c v n in

@@ -31,7 +31,7 @@ use Rattle.sv_world.specs.declared.event.WorldEvent.TheVariants.{Deliver, Poke, 
 use Rattle.sv_world.specs.declared.call.Call.{Call}
 use Rattle.sv_world.specs.Headline.{states}
 use Rattle.sv_world.specs.World.{Cluster, Member, World, durable_at, decision, happens}
-use Rattle.sv_world.specs.Progress.{setting_at, told_at, Runs, IsOff, TicksAsk, WantsAreAnswered, PokesServe}
+use Rattle.sv_world.specs.Progress.{setting_at, nodes_told, Runs, IsOff, TicksAsk, WantsAreAnswered, PokesServe}
 use Rattle.sv_world.proofs.ArrivesLemmas.{ours}
 use Rattle.sv_world.proofs.Keys.{in_left, in_right, set_here}
 use Rattle.sv_world.proofs.ProgressLemmas.{ready_by, stepped_by}
@@ -79,7 +79,7 @@ module _ (m : Meanings) (c : Cluster) where
   -- ---- a tick asks
 
   pub asks_at : (w : World) (n x : ℕ) (moment : Moment) (p : Parked) → Runs c w n → In p (w.members n).node.parked
-      → is_late (setting_at c w n) moment.steady p ≡ false → is_quiet (setting_at c w n) (durable_at w n) p ≡ false → x < told_at c w n → x ≢ n
+      → is_late (setting_at c w n) moment.steady p ≡ false → is_quiet (setting_at c w n) (durable_at w n) p ≡ false → x < nodes_told c w n → x ≢ n
       → HasPlace (Want n x p.key (durable_at w n).boot p.want) (length w.packets) (happens m c w (Tick n moment)).packets
   asks_at w n x moment p r i late quiet there apart =
       let set = setting_at c w n in
@@ -142,7 +142,7 @@ module _ (m : Meanings) (c : Cluster) where
     pub off : IsOff v k n (e + 1) s to
     pub grant : In (Grant n to k (e + 1) s) v.packets
 
-  pub gives : (w : World) (n from place boot want e : ℕ) (k : Key) (s : Session) (moment : Moment) → Runs c w n → from < told_at c w n → from ≢ n
+  pub gives : (w : World) (n from place boot want e : ℕ) (k : Key) (s : Session) (moment : Moment) → Runs c w n → from < nodes_told c w n → from ≢ n
       → slice_get w.packets place ≡ Some (Want from n k boot want) → states w k n ≡ Some (Active e s) → e ≢ last_number
       → IsGiven k n e s from (happens m c w (Deliver moment place))
   gives w n from place boot want e k s moment r there apart at is last =
@@ -161,7 +161,7 @@ module _ (m : Meanings) (c : Cluster) where
       })
 
   -- the answer to a Want that says No
-  says : (w : World) (n from place boot want : ℕ) (k : Key) (moment : Moment) (st : Option KeyState) → Runs c w n → from < told_at c w n → from ≢ n
+  says : (w : World) (n from place boot want : ℕ) (k : Key) (moment : Moment) (st : Option KeyState) → Runs c w n → from < nodes_told c w n → from ≢ n
       → slice_get w.packets place ≡ Some (Want from n k boot want) → states w k n ≡ st
       → In (No n from k boot want) (sends_in (on_want (setting_at c w n) (w.members n).node from k boot want st).outputs)
       → HasPlace (No n from k boot want) (length w.packets) (happens m c w (Deliver moment place)).packets
@@ -174,12 +174,12 @@ module _ (m : Meanings) (c : Cluster) where
       delivery m c (λ (y : World). HasPlace (No n from k boot want) (length w.packets) y.packets) w moment place p r at
       (place_behind (No n from k boot want) w.packets (sends_in (on_packet e1 set nd moment p).outputs) put)
 
-  pub denies : (w : World) (n from place boot want e : ℕ) (k : Key) (moment : Moment) → Runs c w n → from < told_at c w n → from ≢ n
+  pub denies : (w : World) (n from place boot want e : ℕ) (k : Key) (moment : Moment) → Runs c w n → from < nodes_told c w n → from ≢ n
       → slice_get w.packets place ≡ Some (Want from n k boot want) → states w k n ≡ Some (Ended e)
       → HasPlace (No n from k boot want) (length w.packets) (happens m c w (Deliver moment place)).packets
   denies w n from place boot want e k moment r there apart at is = says w n from place boot want k moment (Some (Ended e)) r there apart at is (inl refl)
 
-  pub denies_unmade : (w : World) (n from place boot want : ℕ) (k : Key) (moment : Moment) → Runs c w n → from < told_at c w n → from ≢ n
+  pub denies_unmade : (w : World) (n from place boot want : ℕ) (k : Key) (moment : Moment) → Runs c w n → from < nodes_told c w n → from ≢ n
       → slice_get w.packets place ≡ Some (Want from n k boot want) → states w k n ≡ None → is_unmade (setting_at c w n) (durable_at w n) k ≡ true
       → HasPlace (No n from k boot want) (length w.packets) (happens m c w (Deliver moment place)).packets
   denies_unmade w n from place boot want k moment r there apart at is unmade =

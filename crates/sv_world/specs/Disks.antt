@@ -82,15 +82,15 @@ with_number input.Tick numbers = numbers
 with_number (input.Move k to) numbers = numbers
 
 -- the same of several steps, one behind the other
-abbrev pub AllCome : List Packet → List ℕ → List Given → Type 0
-AllCome packets numbers [] = ⊤
-AllCome packets numbers (g ∷ gs) = (WasSent packets g.input × IsNew numbers g.input) × AllCome packets (with_number g.input numbers) gs
+abbrev pub AllMayCome : List Packet → List ℕ → List Given → Type 0
+AllMayCome packets numbers [] = ⊤
+AllMayCome packets numbers (g ∷ gs) = (WasSent packets g.input × IsNew numbers g.input) × AllMayCome packets (with_number g.input numbers) gs
 
 -- the numbers are those of the requests that came to the node since it was opened
 abbrev pub MayCome : List Packet → List ℕ → Call → Type 0
 MayCome packets numbers (Open ending) = ⊤
 MayCome packets numbers (Step at input ending) = WasSent packets input × IsNew numbers input
-MayCome packets numbers (Unsaid givens) = AllCome packets numbers givens
+MayCome packets numbers (Unsaid givens) = AllMayCome packets numbers givens
 MayCome packets numbers (Compact ending) = ⊤
 MayCome packets numbers Stop = ⊤
 
@@ -212,14 +212,14 @@ AreOfCall packets up n (Compact (Refused journal.Device)) events = AreOfStop up 
 AreOfCall packets up n (Compact Cut) events = AreOfStop up n events
 AreOfCall packets up n Stop events = AreOfStop up n events
 
-abbrev pub AreOf : Seen → NodeCall → List WorldEvent → Type 0
-AreOf s l events = AreOfCall s.packets (s.members l.node).up l.node l.call events
+abbrev pub AreEventsOf : Seen → NodeCall → List WorldEvent → Type 0
+AreEventsOf s l events = AreOfCall s.packets (s.members l.node).up l.node l.call events
 
 -- the events of the calls, one call behind the other
 abbrev pub AreOfAll : Seen → List NodeCall → List WorldEvent → Type 0
 AreOfAll s [] events = events ≡ []
 AreOfAll s (l ∷ ls) events =
-    (own : List WorldEvent) × (rest : List WorldEvent) × (events ≡ own ++ rest) × AreOf s l own × AreOfAll (behind s l) ls rest
+    (own : List WorldEvent) × (rest : List WorldEvent) × (events ≡ own ++ rest) × AreEventsOf s l own × AreOfAll (behind s l) ls rest
 
 -- ---- a world, seen so
 

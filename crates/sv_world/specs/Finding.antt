@@ -11,7 +11,7 @@ use Rattle.sv_world.specs.declared.fault.WorldFault.{WorldFault}
 use Rattle.sv_world.specs.declared.fault.WorldFault.TheVariants.{NoNode, Running, NotRunning, NoPacket, TokenUsed}
 use Rattle.sv_world.specs.declared.line.Line.{Line}
 use Rattle.sv_world.specs.declared.slot.Slot.{Slot}
-use Rattle.sv_world.specs.Slot.{member_of, boot_of}
+use Rattle.sv_world.specs.Slot.{member_of, boot_if_up}
 use Rattle.sv_world.specs.Sent.{may_come}
 use Rattle.sv_world.specs.World.{items, is_unused}
 
@@ -23,16 +23,16 @@ boot_by (Some boot) = Ok boot
 -- the same of a node that may not be there
 abbrev pub boot_in : {E : Type 0} → Option (Slot E) → Result ℕ WorldFault
 boot_in None = Err NoNode
-boot_in (Some s) = boot_by (boot_of (member_of s))
+boot_in (Some s) = boot_by (boot_if_up (member_of s))
 
 -- why a node that is there can't start
 abbrev pub started_by : Option ℕ → Option WorldFault
 started_by None = None
 started_by (Some boot) = Some Running
 
-abbrev pub start_in : {E : Type 0} → Option (Slot E) → Option WorldFault
-start_in None = Some NoNode
-start_in (Some s) = started_by (boot_of (member_of s))
+abbrev pub start_fault_in : {E : Type 0} → Option (Slot E) → Option WorldFault
+start_fault_in None = Some NoNode
+start_fault_in (Some s) = started_by (boot_if_up (member_of s))
 
 -- why a node can't stop
 abbrev pub stop_by : Result ℕ WorldFault → Option WorldFault

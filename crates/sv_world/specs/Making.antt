@@ -34,7 +34,7 @@ pub record HaveBegun {E : Type 0} (meaning : E → EngineMeaning) (noted : E →
   pub heard : heard_of noted new ≡ heard_of noted old
 
 -- the engines of a world's nodes
-pub record AreOf {E : Type 0} (meaning : E → EngineMeaning) (noted : E → List (List ℕ)) (fit : E → Type 0) (w : Nodes E) (engines : List E) : Type 0 where
+pub record AreEnginesOf {E : Type 0} (meaning : E → EngineMeaning) (noted : E → List (List ℕ)) (fit : E → Type 0) (w : Nodes E) (engines : List E) : Type 0 where
   pub valid : All fit engines
   pub number : length engines ≡ size_of w
   pub meanings : (n : ℕ) → option_map meaning (slice_get engines n) ≡ meanings_of meaning w n

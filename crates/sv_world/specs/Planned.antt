@@ -8,7 +8,7 @@ use Rattle.sv_world.specs.declared.installing.InstallFault.TheVariants.{NoNode, 
 use Rattle.sv_world.specs.declared.rules.Rules.{Rules}
 use Rattle.sv_world.specs.declared.slot.Slot.{Slot}
 use Rattle.sv_world.specs.declared.world.World.{World as Nodes}
-use Rattle.sv_world.specs.Slot.{member_of, boot_of}
+use Rattle.sv_world.specs.Slot.{member_of, boot_if_up}
 use Rattle.sv_world.specs.World.{Cluster, Member, World, setting_of, nothing_happened, run}
 use Rattle.sv_world.specs.Worlds.{settings_by, meanings_by, heard_by, world_of, size_of, cluster_of, meanings_of}
 use Rattle.sv_world.specs.Happened.{events_in}
@@ -58,7 +58,7 @@ fault_in (Some boot) = Some Running
 
 abbrev pub fault_by : {E : Type 0} → ℕ → ℕ → Option (Slot E) → Option InstallFault
 fault_by n nodes None = Some NoNode
-fault_by n nodes (Some s) = cond (nat_le nodes n) (Some NotTold) (fault_in (boot_of (member_of s)))
+fault_by n nodes (Some s) = cond (nat_le nodes n) (Some NotTold) (fault_in (boot_if_up (member_of s)))
 
 -- the fault with which it is refused: that of the node, and where it has none, that its records don't fit, or want of memory
 abbrev pub IsCause : Option InstallFault → InstallFault → Type 0

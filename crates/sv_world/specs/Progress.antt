@@ -50,8 +50,8 @@ AreSteps [] = ⊤
 AreSteps (e ∷ es) = IsStep e × AreSteps es
 
 -- of how many nodes a node was told when it was started last
-abbrev pub told_at : Cluster → World → ℕ → ℕ
-told_at c w n = c.nodes n (durable_at w n).boot
+abbrev pub nodes_told : Cluster → World → ℕ → ℕ
+nodes_told c w n = c.nodes n (durable_at w n).boot
 
 -- the setting with which a node was started last
 abbrev pub setting_at : Cluster → World → ℕ → Setting
@@ -60,12 +60,12 @@ setting_at c w n = setting_of c n (durable_at w n).boot
 -- the node runs, and was told of itself
 pub record Runs (c : Cluster) (w : World) (n : ℕ) : Type 0 where
   pub up : (w.members n).up ≡ true
-  pub there : n < told_at c w n
+  pub there : n < nodes_told c w n
 
 -- so many nodes run, each was told of as many, and no other node runs
 pub record AllRun (c : Cluster) (nodes : ℕ) (w : World) : Type 0 where
   pub up : (n : ℕ) → n < nodes → (w.members n).up ≡ true
-  pub told : (n : ℕ) → n < nodes → told_at c w n ≡ nodes
+  pub told : (n : ℕ) → n < nodes → nodes_told c w n ≡ nodes
   pub only : (n : ℕ) → (w.members n).up ≡ true → n < nodes
 
 -- ---- 1. nobody is forgotten
@@ -231,15 +231,15 @@ IsDoneInTwo m c w =
 abbrev pub TicksAsk : Meanings → Cluster → World → Type 0
 TicksAsk m c w =
     (n x : ℕ) (moment : Moment) (p : Parked) → Runs c w n → In p (w.members n).node.parked
-    → is_late (setting_at c w n) moment.steady p ≡ false → is_quiet (setting_at c w n) (durable_at w n) p ≡ false → x < told_at c w n → x ≢ n
+    → is_late (setting_at c w n) moment.steady p ≡ false → is_quiet (setting_at c w n) (durable_at w n) p ≡ false → x < nodes_told c w n → x ≢ n
     → In (Want n x p.key (durable_at w n).boot p.want) (happens m c w (Tick n moment)).packets
 
 -- a node that has the session hands it to the one that asks; one where it has ended says so
 pub record WantsAreAnswered (m : Meanings) (c : Cluster) (w : World) : Type 0 where
-  pub gives : (n from place boot want e : ℕ) (k : Key) (s : Session) (moment : Moment) → Runs c w n → from < told_at c w n → from ≢ n
+  pub gives : (n from place boot want e : ℕ) (k : Key) (s : Session) (moment : Moment) → Runs c w n → from < nodes_told c w n → from ≢ n
       → slice_get w.packets place ≡ Some (Want from n k boot want) → states w k n ≡ Some (Active e s) → e ≢ last_number
       → IsOff (happens m c w (Deliver moment place)) k n (e + 1) s from
-  pub denies : (n from place boot want e : ℕ) (k : Key) (moment : Moment) → Runs c w n → from < told_at c w n → from ≢ n
+  pub denies : (n from place boot want e : ℕ) (k : Key) (moment : Moment) → Runs c w n → from < nodes_told c w n → from ≢ n
       → slice_get w.packets place ≡ Some (Want from n k boot want) → states w k n ≡ Some (Ended e)
       → In (No n from k boot want) (happens m c w (Deliver moment place)).packets
 

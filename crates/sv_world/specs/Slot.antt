@@ -48,8 +48,8 @@ pub record IsSlot {E : Type 0} (valid : E → Type 0) (s : Slot E) : Type 0 wher
   pub either : is_some s.idle ≡ is_none s.core
 
 -- the number of its last start, where it runs
-abbrev pub boot_of : Member → Option ℕ
-boot_of p = cond p.up (Some p.node.durable.boot) None
+abbrev pub boot_if_up : Member → Option ℕ
+boot_if_up p = cond p.up (Some p.node.durable.boot) None
 
 -- what its engine means, and what the engine's listeners have noted
 abbrev pub meaning_in : {E : Type 0} → (E → EngineMeaning) → Slot E → Option EngineMeaning

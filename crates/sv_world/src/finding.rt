@@ -2,7 +2,7 @@
 
 ghost use Rattle.std.specs.Prelude.{◌≡◌, ℕ, length, slice_get};
 ghost use Rattle.sv_world.specs.Faults.{fault_of};
-ghost use Rattle.sv_world.specs.Finding.{boot_in, start_in, stop_by, number_in, token_by, step_by, delivery_by};
+ghost use Rattle.sv_world.specs.Finding.{boot_in, start_fault_in, stop_by, number_in, token_by, step_by, delivery_by};
 ghost use Rattle.sv_world.specs.Sent.{may_come};
 ghost use Rattle.sv_world.specs.Worlds.{state_by, cluster_by, AreSet};
 
@@ -29,7 +29,7 @@ fn boot_at<E>(slots: &[Slot<E>], node: u8) -> Result<u64, WorldFault>
 
 /// Why a node can't start.
 fn start_fault<E>(slots: &[Slot<E>], node: u8) -> Option<WorldFault>
-    ensures { result ≡ start_in (slice_get slots.now node) }
+    ensures { result ≡ start_fault_in (slice_get slots.now node) }
 {
     match slots.get(usize::from(node)) {
         Some(slot) => match slot.boot() {

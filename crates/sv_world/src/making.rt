@@ -28,7 +28,7 @@ impl<E: Engine + Drop> World<E> {
     ghost use Rattle.sv_world.specs.Worlds.{world_of, size_of, meanings_of, heard_of, IsWorld};
     ghost use Rattle.sv_world.specs.Happened.{HaveHappened, AreMade, AreBack, AllAlike, restarts};
     ghost use Rattle.sv_world.specs.Planned.{Ran};
-    ghost use Rattle.sv_world.specs.Making.{HaveBegun, IsUntouched, AreOf, AreFilled};
+    ghost use Rattle.sv_world.specs.Making.{HaveBegun, IsUntouched, AreEnginesOf, AreFilled};
 
     /// Starts each node, by number, up to the first for which memory is refused.
     fn start_all(&mut self, nodes: u8) -> Result<(), WorldFault>
@@ -53,7 +53,7 @@ impl<E: Engine + Drop> World<E> {
         requires room { nodes ≤ vec_capacity engines.old }
         ensures world { OnOk result (IsWorld E.valid self.new) }
         ensures begun { OnOk result (HaveBegun E.meaning E.heard self.old self.new) }
-        ensures back { OnErr result (AreOf E.meaning E.heard E.valid self.old engines.new.items) }
+        ensures back { OnErr result (AreEnginesOf E.meaning E.heard E.valid self.old engines.new.items) }
     {
         if let Err(fault) = self.start_all(nodes) {
             take_engines(&mut self.slots, engines);

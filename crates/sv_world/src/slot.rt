@@ -2,7 +2,7 @@
 
 ghost use Rattle.std.specs.Prelude.{◌≡◌, IsTrue, None};
 ghost use Rattle.sv_world.specs.Deed.{heading_at, heading_by};
-ghost use Rattle.sv_world.specs.Slot.{IsSlot, member_of, engine_in, boot_of};
+ghost use Rattle.sv_world.specs.Slot.{IsSlot, member_of, engine_in, boot_if_up};
 ghost use Rattle.sv_world.specs.World.{stopped};
 
 use crate::line::Heading;
@@ -25,7 +25,7 @@ pub struct Slot<E> {
 impl<E> Slot<E> {
     /// The number of its last start, where it runs.
     pub fn boot(&self) -> Option<u64>
-        ensures { result ≡ boot_of (member_of self.now) }
+        ensures { result ≡ boot_if_up (member_of self.now) }
     {
         match &self.core {
             Some(core) => Some(core.boot()),
