@@ -88,7 +88,7 @@ impl<E: Engine + Drop> Slot<E> {
         ensures effect { IfOk result (λ f. f ≡ (start_of self.old.setting (member_of self.old).node.durable kept stays).effect) }
         ensures still { OnErr result (member_of self.new ≡ member_of self.old) }
     {
-        self.raise(alloc)?;
+        self.recover(alloc)?;
         let heading = self.heading();
         match self.begin_if(alloc, kept) {
             Ok(entry) => Ok(self.settle(alloc, heading, entry, stays)),

@@ -12,7 +12,7 @@ use sv_model::Engine;
 impl<E: Engine + Drop> Slot<E> {
     /// Puts its engine over what is durable; its boot number is still that of its last start. After want of memory it is as
     /// it was.
-    pub fn raise(&mut self, alloc: Global) -> Result<(), Memory>
+    pub fn recover(&mut self, alloc: Global) -> Result<(), Memory>
         requires slot { IsSlot E.valid self.old }
         requires down { (member_of self.old).up ≡ false }
         ensures slot { IsSlot E.valid self.new }
