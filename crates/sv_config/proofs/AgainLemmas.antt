@@ -1,6 +1,6 @@
--- Items that are equal to one before them.
-use Rattle.std.proofs.Common.{◌≡◌, ◌∙◌, ℕ, ◌+◌, ◌<◌, Bool, true, false, cond, List, [], ◌∷◌, ◌++◌, length, map, take, drop, get_or, bytes_eq, refl, ap, nat_cmp, is_eq, append_assoc}
-use Rattle.std.specs.Prelude.{not}
+-- Items that are equal to one before them, and names that are looked for.
+use Rattle.std.proofs.Common.{◌≡◌, ◌∙◌, ℕ, ◌+◌, ◌<◌, Bool, true, false, cond, List, [], ◌∷◌, ◌++◌, length, map, take, drop, get_or, bytes_eq, refl, ap, Bor, nat_cmp, is_eq, append_assoc}
+use Rattle.std.specs.Prelude.{◌||◌, not}
 use Rattle.std.specs.List.{list_any}
 use Rattle.std.specs.Ordering.{eq_by_cmp}
 use Rattle.std.specs.Cmp.Lexicographic.{slice_cmp}
@@ -9,9 +9,14 @@ use Rattle.std.proofs.lemmas.List.Folds.{list_any-append}
 use Rattle.std.proofs.lemmas.Map.Text.{is_eq-slice_cmp}
 use Rattle.sv_mapping.specs.Path.{Text}
 use Rattle.sv_config.specs.Place.{Spot, spot}
-use Rattle.sv_config.specs.Places.{repeated, repeated_behind}
+use Rattle.sv_config.specs.Repeats.{repeated, repeated_behind}
 use Rattle.sv_config.specs.declared.place.Place.{Place}
-use Rattle.sv_config.proofs.RepeatLemmas.{Shown, or_last}
+
+or_last : (a b : Bool) → cond a true b ≡ (b || (a || false))
+or_last true true = refl
+or_last true false = refl
+or_last false true = refl
+or_last false false = refl
 
 module _ {K : Type 0} (same : K → K → Bool) (items : List (K × Place)) (i : ℕ) (d : K × Place) (within : i < length items) where
   abbrev keys_to : ℕ → List K
@@ -36,6 +41,12 @@ module _ {K : Type 0} (same : K → K → Bool) (items : List (K × Place)) (i :
       (append_assoc out (cond holds (spot (get_or items i d).1 ∷ []) []) (repeated_behind same (keys_to i ++ (get_or items i d).0 ∷ []) (places_from (i + 1))))
 
 -- ---- texts behind references
+
+abbrev Shown : Type 0
+Shown = Bor (List ℕ)
+
+abbrev texts_shown : List Shown → List Text
+texts_shown texts = map (λ text. text.now) texts
 
 any_shown : (text : Shown) (before : List Shown) → list_any (λ (x : Shown). is_eq (slice_cmp nat_cmp x.now text.now)) before ≡ list_any (λ x. bytes_eq x text.now) (map (λ x. x.now) before)
 any_shown text [] = refl
@@ -73,3 +84,14 @@ not_twice false = refl
 -- what is not new was there
 pub was_there : (is_new had : Bool) → is_new ≡ not had → not is_new ≡ had
 was_there is_new had e = ap not e ∙ not_twice had
+
+-- one name more
+pub found_more : (text : Text) (names : List Shown) (i : ℕ) (d : Shown) (new old : Bool) → i < length names
+    → new ≡ cond (is_eq (slice_cmp nat_cmp (get_or names i d).now text)) true old
+    → old ≡ list_any (λ name. bytes_eq name text) (texts_shown (take i names))
+    → new ≡ list_any (λ name. bytes_eq name text) (texts_shown (take (i + 1) names))
+found_more text names i d new old within more before =
+    let here : new ≡ cond (bytes_eq (get_or names i d).now text) true old = rw (is_eq-slice_cmp (get_or names i d).now text) at more in
+    let shown : Shown → Text = λ name. name.now in
+    rw (map_more shown names i d within, list_any-append (λ name. bytes_eq name text) (texts_shown (take i names)) ((get_or names i d).now ∷ []), ← before)
+    (here ∙ or_last (bytes_eq (get_or names i d).now text) old)

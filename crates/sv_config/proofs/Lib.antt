@@ -1,5 +1,3 @@
 pub mod DocumentLemmas
-pub mod RepeatLemmas
 pub mod MappingLemmas
-pub mod PlacesLaw
 pub mod AgainLemmas

@@ -1,10 +1,10 @@
 -- The session cookie of a context: how its name is spelled, and what it wants (RFC 6265, and the draft 6265bis).
-use Rattle.std.specs.Prelude.{ℕ, Bool, false, ◌&&◌, ◌||◌, not, ◌==◌, map, take, length, unwrap_or, codes, bytes_eq, is_none, Option, Some, None, if◌then◌else◌}
+use Rattle.std.specs.Prelude.{Bool, false, ◌&&◌, ◌||◌, not, ◌==◌, map, take, length, unwrap_or, codes, bytes_eq, is_none, Option, Some, None, if◌then◌else◌}
 use Rattle.std.specs.Option.{option_map_or}
 use Rattle.std.specs.Char.{to_ascii_lowercase}
 use Rattle.toml.specs.Data.{Members}
 use Rattle.sv_mapping.specs.Path.{Text}
-use Rattle.sv_config.specs.Document.{text_at, text_or_empty, boolean_at, table_at}
+use Rattle.sv_config.specs.Document.{text_at, text_or_empty, boolean_at}
 use Rattle.sv_config.specs.declared.cookie.SameSite.{SameSite}
 use Rattle.sv_config.specs.declared.cookie.SameSite.TheVariants.{Strict, Lax, None as Neither}
 

@@ -1,5 +1,5 @@
 -- What stands in a table of a document (TOML 1.1). A member of another kind than the one asked for is not looked at.
-use Rattle.std.specs.Prelude.{ℕ, suc, ℤ, Bool, false, ◌||◌, ◌==◌, List, [], ◌∷◌, ◌++◌, length, Option, option_and_then, is_some, unwrap_or, codes}
+use Rattle.std.specs.Prelude.{ℕ, suc, ℤ, Bool, false, ◌&&◌, not, ◌==◌, List, [], ◌∷◌, ◌++◌, length, Option, option_and_then, is_some, unwrap_or, codes}
 use Rattle.std.specs.Option.{option_map_or}
 use Rattle.std.specs.List.{filter_map, flat_map}
 use Rattle.toml.specs.Data.{Data, Items, no_items, item, Members, no_members, member, get_member, as_str, as_integer, as_bool, as_array, as_table}
@@ -13,6 +13,13 @@ items_list (item d ds) = d ∷ items_list ds
 -- the table has the key
 abbrev pub has : Text → Members → Bool
 has key t = is_some (get_member key t)
+
+-- the table has both keys, or neither
+abbrev pub has_both : Text → Text → Members → Bool
+has_both one other t = has one t && has other t
+
+abbrev pub has_neither : Text → Text → Members → Bool
+has_neither one other t = not (has one t) && not (has other t)
 
 -- the text at a key, the text or an empty one, the integer and the table
 abbrev pub text_at : Text → Members → Option Text
@@ -49,22 +56,14 @@ texts_at key t = filter_map as_str (values_at key t)
 abbrev pub integers_at : Text → Members → List ℤ
 integers_at key t = filter_map as_integer (values_at key t)
 
--- the texts, and the integers, that the tables of an array have at a key
+-- the texts that the tables of an array have at a key
 abbrev pub column : Text → Text → Members → List Text
 column array key t = filter_map (text_at key) (tables_at array t)
-
-abbrev pub integer_column : Text → Text → Members → List ℤ
-integer_column array key t = filter_map (integer_at key) (tables_at array t)
 
 -- how many members a table has
 abbrev pub size : Members → ℕ
 size no_members = 0
 size (member key d t) = suc (size t)
-
--- the test holds of some member of a table
-abbrev pub any_member : (Text → Data → Bool) → Members → Bool
-any_member test no_members = false
-any_member test (member key d t) = test key d || any_member test t
 
 -- the patterns of servlets
 abbrev pub patterns_of : List Members → List Text

@@ -1,44 +1,39 @@
--- WrongKind: a field that is there, or an array's member, has another kind; a setting is no text.
-use Rattle.std.specs.Prelude.{Bool, false, ◌&&◌, ◌||◌, not, is_some}
+-- WrongKind: each field of another kind, of an array each member of another kind, and each setting that is no text.
+use Rattle.std.specs.Prelude.{Bool, false, ◌++◌, List, [], is_none, if◌then◌else◌}
 use Rattle.std.specs.Option.{option_map_or}
-use Rattle.std.specs.List.{list_any, list_all}
+use Rattle.std.specs.List.{flat_map}
 use Rattle.toml.specs.Data.{Data, Members, get_member, as_str, as_integer, as_bool, as_array, as_table}
-use Rattle.sv_config.specs.Document.{items_list}
-use Rattle.sv_config.specs.Keys.{has_odd_key}
+use Rattle.sv_mapping.specs.Path.{Text}
+use Rattle.sv_config.specs.Keys.{is_odd, is_unfit}
+use Rattle.sv_config.specs.Place.{Spot, PlacedTable, kind_of, field_where, members_where, keys_where}
 use Rattle.sv_config.specs.Rules.{Rule, rules_of, has_free_keys}
-use Rattle.sv_config.specs.declared.keys.OddKey.TheVariants.{NoText}
+use Rattle.sv_config.specs.declared.keys.OddKey.TheVariants.{NoText as NoTextAt}
+use Rattle.sv_config.specs.declared.members.Unfit.TheVariants.{NoText, NoInteger, NoTable}
 use Rattle.sv_config.specs.declared.rules.FieldKind.{FieldKind}
-use Rattle.sv_config.specs.declared.rules.FieldKind.TheVariants.{Text, Integer, Boolean, Texts, Integers, Table, Tables}
-use Rattle.sv_config.specs.declared.rules.TableKind.{TableKind}
+use Rattle.sv_config.specs.declared.rules.FieldKind.TheVariants.{Text as TextKind, Integer, Boolean, Texts, Integers, Table, Tables}
 
--- an array whose members all pass
-abbrev pub is_array_of : (Data → Bool) → Data → Bool
-is_array_of test d = option_map_or (λ ds. list_all test (items_list ds)) (as_array d) false
+-- neither the kind nor, for an array, an array
+abbrev pub has_other_shape : FieldKind → Data → Bool
+has_other_shape TextKind d = is_none (as_str d)
+has_other_shape Integer d = is_none (as_integer d)
+has_other_shape Boolean d = is_none (as_bool d)
+has_other_shape Table d = is_none (as_table d)
+has_other_shape Texts d = is_none (as_array d)
+has_other_shape Integers d = is_none (as_array d)
+has_other_shape Tables d = is_none (as_array d)
 
-abbrev pub is_text : Data → Bool
-is_text d = is_some (as_str d)
+abbrev pub mistyped_members : FieldKind → PlacedTable → Text → List Spot
+mistyped_members Texts p key = members_where (is_unfit NoText) p key
+mistyped_members Integers p key = members_where (is_unfit NoInteger) p key
+mistyped_members Tables p key = members_where (is_unfit NoTable) p key
+mistyped_members _ p key = []
 
-abbrev pub is_integer : Data → Bool
-is_integer d = is_some (as_integer d)
+abbrev pub misshaped_at : FieldKind → Text → Members → Bool
+misshaped_at kind key t = option_map_or (has_other_shape kind) (get_member key t) false
 
-abbrev pub is_boolean : Data → Bool
-is_boolean d = is_some (as_bool d)
+abbrev pub mistyped_field : PlacedTable → Rule → List Spot
+mistyped_field p rule = field_where (misshaped_at rule.kind rule.key p.1) p rule.key ++ mistyped_members rule.kind p rule.key
 
-abbrev pub is_table : Data → Bool
-is_table d = is_some (as_table d)
-
-abbrev pub has_kind : FieldKind → Data → Bool
-has_kind Text d = is_text d
-has_kind Integer d = is_integer d
-has_kind Boolean d = is_boolean d
-has_kind Texts d = is_array_of is_text d
-has_kind Integers d = is_array_of is_integer d
-has_kind Table d = is_table d
-has_kind Tables d = is_array_of is_table d
-
--- the table has the field of the rule in another kind
-abbrev pub misfits : Members → Rule → Bool
-misfits t rule = option_map_or (λ d. not (has_kind rule.kind d)) (get_member rule.key t) false
-
-unfoldable pub is_mistyped : TableKind → Members → Bool
-is_mistyped kind t = list_any (misfits t) (rules_of kind) || (has_free_keys kind && has_odd_key NoText t)
+abbrev pub mistyped_in : PlacedTable → List Spot
+mistyped_in p =
+    flat_map (mistyped_field p) (rules_of (kind_of p.0)) ++ (if has_free_keys (kind_of p.0) then keys_where (is_odd NoTextAt) p.0 p.1 else [])

@@ -1,7 +1,7 @@
 pub mod Document
 pub mod Rules
-pub mod Tables
 pub mod Cookie
+pub mod Place
 pub mod Missing
 pub mod Keys
 pub mod Kinds
@@ -10,7 +10,5 @@ pub mod Spelling
 pub mod Repeats
 pub mod Limits
 pub mod Fault
-pub mod Place
-pub mod Places
 pub mod Listed
 pub mod Values

@@ -1,6 +1,6 @@
--- BadPattern: a pattern that cannot be read as one; a context path, a name, the path of an error page or of a file, or a
+-- BadPattern: each pattern that cannot be read as one; each context path, name, path of an error page or of a file, and
 -- value of Cache-Control that is badly spelled; the name of a cookie that its context cannot have.
-use Rattle.std.specs.Prelude.{ℕ, Bool, true, false, ◌&&◌, ◌||◌, not, nat_le, nat_eq, ◌==◌, List, length, drop, codes, bytes_eq, if◌then◌else◌}
+use Rattle.std.specs.Prelude.{ℕ, Bool, true, false, ◌&&◌, ◌||◌, ◌++◌, not, nat_le, nat_eq, ◌==◌, List, [], length, drop, codes, bytes_eq, if◌then◌else◌}
 use Rattle.std.specs.Option.{option_map_or}
 use Rattle.std.specs.List.{list_any, list_all, starts_with, ends_with, slice_split}
 use Rattle.toml.specs.Data.{Members}
@@ -9,9 +9,13 @@ use Rattle.sv_mapping.specs.Pattern.{is_pattern, form_of}
 use Rattle.sv_mapping.specs.declared.pattern.PatternForm.{PatternForm}
 use Rattle.sv_mapping.specs.declared.pattern.PatternForm.TheVariants.{Exact, ContextRoot, Prefix, Extension, Default}
 use Rattle.sv_config.specs.Cookie.{fits_context, is_root}
-use Rattle.sv_config.specs.Document.{has, text_at, texts_at, table_at}
+use Rattle.sv_config.specs.Document.{has, text_at, table_at}
+use Rattle.sv_config.specs.Keys.{is_unfit}
+use Rattle.sv_config.specs.Place.{Spot, PlacedTable, number_of, field_where, members_where}
+use Rattle.sv_config.specs.declared.members.Unfit.TheVariants.{NoPattern}
+use Rattle.sv_config.specs.declared.place.TablePlace.TheVariants.{Single}
 use Rattle.sv_config.specs.declared.rules.TableKind.{TableKind}
-use Rattle.sv_config.specs.declared.rules.TableKind.TheVariants.{Top, Cluster, Context, Servlet, Filter, Mapping, Listener, Page, File, Once, Cookie, Settings}
+use Rattle.sv_config.specs.declared.rules.TableKind.TheVariants.{Context, Servlet, Filter, Mapping, Listener, Page, File, Cookie}
 
 -- an ASCII letter or digit
 abbrev pub is_alphanumeric : ℕ → Bool
@@ -95,36 +99,27 @@ is_cache_control text = has_field_length text && (list_all is_field_char text &&
 abbrev pub fails_at : (Text → Bool) → Text → Members → Bool
 fails_at test key t = option_map_or (λ text. not (test text)) (text_at key t) false
 
-abbrev pub has_bad_pattern : List Text → Bool
-has_bad_pattern patterns = list_any (λ pattern. not (is_pattern pattern)) patterns
+abbrev pub misspelled_at : (Text → Bool) → PlacedTable → Text → List Spot
+misspelled_at test p key = field_where (fails_at test key p.1) p key
 
-abbrev pub is_misspelled_servlet : Members → Bool
-is_misspelled_servlet t = fails_at is_name (codes "name") t || has_bad_pattern (texts_at (codes "patterns") t)
+-- the name of a context's cookie that is for a context at the root, where this one is not
+abbrev pub stray_cookie : PlacedTable → List Spot
+stray_cookie p =
+    option_map_or (λ cookie. misspelled_at (fits_context (is_root p.1)) (Single (number_of p.0) Cookie, cookie) (codes "name"))
+    (table_at (codes "cookie") p.1) []
 
--- the name of its cookie is for a context at the root, and it is not there
-abbrev pub has_stray_cookie : Members → Bool
-has_stray_cookie t = option_map_or (fails_at (fits_context (is_root t)) (codes "name")) (table_at (codes "cookie") t) false
+unfoldable pub misspelled_file : PlacedTable → List Spot
+misspelled_file p =
+    misspelled_at (is_file_pattern (has (codes "folder") p.1)) p (codes "path") ++ misspelled_at is_file_path p (codes "file")
+    ++ misspelled_at is_file_path p (codes "folder") ++ misspelled_at is_cache_control p (codes "cache")
 
-abbrev pub is_misspelled_context : Members → Bool
-is_misspelled_context t = fails_at is_context_path (codes "path") t || has_stray_cookie t
-
-abbrev pub has_bad_source : Members → Bool
-has_bad_source t = fails_at is_file_path (codes "file") t || fails_at is_file_path (codes "folder") t
-
-abbrev pub is_misspelled_file : Members → Bool
-is_misspelled_file t =
-    fails_at (is_file_pattern (has (codes "folder") t)) (codes "path") t || (has_bad_source t || fails_at is_cache_control (codes "cache") t)
-
-unfoldable pub is_misspelled : TableKind → Members → Bool
-is_misspelled Top t = false
-is_misspelled Cluster t = false
-is_misspelled Context t = is_misspelled_context t
-is_misspelled Servlet t = is_misspelled_servlet t
-is_misspelled Filter t = fails_at is_name (codes "name") t
-is_misspelled Mapping t = fails_at is_pattern (codes "pattern") t
-is_misspelled Listener t = fails_at is_name (codes "name") t
-is_misspelled Page t = fails_at is_page_path (codes "path") t
-is_misspelled File t = is_misspelled_file t
-is_misspelled Once t = false
-is_misspelled Cookie t = fails_at is_token (codes "name") t
-is_misspelled Settings t = false
+abbrev pub misspelled_in : TableKind → PlacedTable → List Spot
+misspelled_in Context p = misspelled_at is_context_path p (codes "path") ++ stray_cookie p
+misspelled_in Servlet p = misspelled_at is_name p (codes "name") ++ members_where (is_unfit NoPattern) p (codes "patterns")
+misspelled_in Filter p = misspelled_at is_name p (codes "name")
+misspelled_in Mapping p = misspelled_at is_pattern p (codes "pattern")
+misspelled_in Listener p = misspelled_at is_name p (codes "name")
+misspelled_in Page p = misspelled_at is_page_path p (codes "path")
+misspelled_in File p = misspelled_file p
+misspelled_in Cookie p = misspelled_at is_token p (codes "name")
+misspelled_in _ p = []

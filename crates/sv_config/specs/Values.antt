@@ -16,7 +16,7 @@ use Rattle.sv_mapping.specs.declared.filter.FilterTarget.{FilterTarget}
 use Rattle.sv_mapping.specs.declared.filter.FilterTarget.TheVariants.{Pattern, Servlet}
 use Rattle.sv_config.specs.Cookie.{is_secure, same_site_of}
 use Rattle.sv_config.specs.Document.{text_at, text_or_empty, integer_at, boolean_at, table_at, tables_at, texts_at, integers_at, column}
-use Rattle.sv_config.specs.Limits.{is_outside}
+use Rattle.sv_config.specs.Keys.{is_outside}
 use Rattle.sv_config.specs.declared.cookie.CookieConfig.{CookieConfig}
 use Rattle.sv_config.specs.declared.cookie.SameSite.{SameSite}
 use Rattle.sv_config.specs.declared.deployment.Cluster.{Cluster}

@@ -3,14 +3,12 @@
 ghost use Rattle.std.specs.Prelude.{◌≡◌, ◌≢◌, IfOk, IfErr, Some, None, map, option_map};
 ghost use Rattle.toml.specs.Parse.{parse_document};
 ghost use Rattle.toml.specs.View.{table_view};
-ghost use Rattle.sv_config.specs.Fault.{fault_of};
+ghost use Rattle.sv_config.specs.Fault as spec;
 ghost use Rattle.sv_config.specs.Place.{spot};
-ghost use Rattle.sv_config.specs.Places as spec;
 
 use crate::fault::ConfigFault;
 use crate::least::least_fault;
 use crate::place::Place;
-use crate::places::places_of;
 use std::alloc::{AllocError, Global};
 use thiserror::Error;
 use toml::Table;
@@ -55,22 +53,8 @@ impl Document {
     /// The descriptor's least fault with each place where it stands, or `None` where it has no fault.
     pub fn faults(&self, alloc: Global) -> Result<Option<Faulty<'_>>, AllocError>
         ensures places { IfOk result (λ found. option_map (λ f. (f.fault, map spot f.places.items)) found ≡ spec.faults_of (table_view self.now.table)) }
-        ensures fault { IfOk result (λ found. option_map (λ f. f.fault) found ≡ fault_of (table_view self.now.table)) }
+        ensures fault { IfOk result (λ found. option_map (λ f. f.fault) found ≡ spec.fault_of (table_view self.now.table)) }
     {
-        match least_fault(alloc, &self.table)? {
-            Some(fault) => Ok(Some(with_places(alloc, &self.table, fault)?)),
-            None => Ok(None),
-        }
+        least_fault(alloc, &self.table)
     }
-}
-
-fn with_places<'a>(
-    alloc: Global,
-    document: &'a Table,
-    fault: ConfigFault,
-) -> Result<Faulty<'a>, AllocError>
-    ensures { IfOk result (λ f. (f.fault ≡ fault) × (map spot f.places.items ≡ spec.places_of fault (table_view document.now))) }
-{
-    let places = places_of(alloc, document, fault)?;
-    Ok(Faulty { fault, places })
 }

@@ -5,7 +5,7 @@ ghost use Rattle.std.specs.List.{filter_map};
 ghost use Rattle.toml.specs.View.{table_view};
 ghost use Rattle.sv_config.specs.Document as spec;
 
-use crate::document::{integer_at, text_at, values_at};
+use crate::document::{text_at, values_at};
 use std::alloc::{AllocError, Global};
 use toml::Table;
 
@@ -108,21 +108,4 @@ fn texts_of<'a>(alloc: Global, tables: &[&'a Table], key: &str) -> Result<Vec<&'
         }
     }
     Ok(texts)
-}
-
-/// The integers that these tables have at a key.
-pub(crate) fn integers_of(
-    alloc: Global,
-    tables: &[&Table],
-    key: &str,
-) -> Result<Vec<i64>, AllocError>
-    ensures { IfOk result (λ integers. integers.items ≡ filter_map (spec.integer_at key.now) (map (λ t. table_view t.now) tables.now)) }
-{
-    let mut integers = Vec::new(alloc);
-    for table in tables {
-        if let Some(integer) = integer_at(table, key) {
-            integers.push(integer)?;
-        }
-    }
-    Ok(integers)
 }

@@ -5,7 +5,7 @@ ghost use Rattle.std.specs.Prelude.{◌≡◌, IfOk, bytes_eq, codes, map, optio
 ghost use Rattle.toml.specs.View.{table_view};
 ghost use Rattle.sv_config.specs.Cookie as spec;
 ghost use Rattle.sv_config.specs.Document.{text_at as spec_text_at};
-ghost use Rattle.sv_config.specs.Spelling.{fails_at, has_stray_cookie};
+ghost use Rattle.sv_config.specs.Spelling.{fails_at};
 ghost use Rattle.sv_config.specs.Values.{cookie_data, cookie_of, cookie_of_table};
 
 use crate::document::{boolean_at, owned_text_at, table_at, text_at, text_or_empty};
@@ -168,16 +168,7 @@ fn is_alike(one: &[u8], other: &[u8]) -> bool
     one.eq_ignore_ascii_case(other)
 }
 
-/// Whether the name of a context's cookie is for a context at the root alone, and this one isn't there.
-pub(crate) fn has_stray_cookie(context: &Table) -> bool
-    ensures { result ≡ has_stray_cookie (table_view context.now) }
-{
-    match table_at(context, "cookie") {
-        Some(cookie) => has_stray_name(is_root(context), cookie),
-        None => false,
-    }
-}
-
+/// Whether a cookie's name is for a context at the root alone, and its own isn't there.
 pub(crate) fn has_stray_name(is_root: bool, cookie: &Table) -> bool
     ensures { result ≡ fails_at (spec.fits_context is_root) (codes "name") (table_view cookie.now) }
 {

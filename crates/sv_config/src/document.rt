@@ -22,6 +22,20 @@ pub(crate) fn has(table: &Table, key: &str) -> bool
     member(table, key).is_some()
 }
 
+/// Whether the table has both keys.
+pub(crate) fn has_both(table: &Table, one: &str, other: &str) -> bool
+    ensures { result ≡ spec.has_both one.now other.now (table_view table.now) }
+{
+    has(table, one) && has(table, other)
+}
+
+/// Whether the table has neither key.
+pub(crate) fn has_neither(table: &Table, one: &str, other: &str) -> bool
+    ensures { result ≡ spec.has_neither one.now other.now (table_view table.now) }
+{
+    !has(table, one) && !has(table, other)
+}
+
 /// The text at a key.
 pub(crate) fn text_at<'a>(table: &'a Table, key: &str) -> Option<&'a str>
     ensures { option_map (λ s. s.now) result ≡ spec.text_at key.now (table_view table.now) }

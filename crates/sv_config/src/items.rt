@@ -5,31 +5,15 @@ ghost use Rattle.std.specs.List.{flat_map};
 ghost use Rattle.toml.specs.View.{table_view};
 ghost use Rattle.sv_config.specs.Document.{values_at};
 ghost use Rattle.sv_config.specs.Place.{spot, placed, child};
-ghost use Rattle.sv_config.specs.Places as spec;
+ghost use Rattle.sv_config.specs.Repeats as spec;
 
-use crate::document::{integer_at, text_at, values_at};
+use crate::document::{has_neither, integer_at, text_at, values_at};
 use crate::members::add_table;
-use crate::place::{Found, Place, TablePlace};
+use crate::place::{Found, Place, TablePlace, inner_place};
 use crate::placed::{Placed, children};
-use crate::repeats::is_default_page;
 use crate::rules::TableKind;
-use crate::undeclared::number_of;
 use std::alloc::{AllocError, Global};
 use toml::Table;
-
-/// The place of a table of an array.
-fn inner_place(place: TablePlace, kind: TableKind, index: usize) -> TablePlace
-    ensures { result ≡ spec.inner_place place kind index }
-{
-    match kind {
-        TableKind::Context => TablePlace::OfContext(index),
-        _ => TablePlace::Within {
-            context: number_of(place),
-            kind,
-            index,
-        },
-    }
-}
 
 /// The text that each table of an array has at a key.
 pub(crate) fn text_items<'a>(
@@ -214,4 +198,11 @@ fn defaults_of<'a>(
         add_table(&mut pages, is_default_page(table), at)?;
     }
     Ok(pages)
+}
+
+/// Whether an error page is for all else: it names neither a status nor a fault.
+fn is_default_page(page: &Table) -> bool
+    ensures { result ≡ spec.is_default_page (table_view page.now) }
+{
+    has_neither(page, "status", "fault")
 }

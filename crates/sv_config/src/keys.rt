@@ -55,18 +55,6 @@ fn has_key(rules: &[FieldRule], key: &str) -> bool
     rules.iter().any(|rule| rule.key == key)
 }
 
-/// Whether this is wrong with some key of a table.
-pub(crate) fn has_odd_key(table: &Table, odd: OddKey) -> bool
-    ensures { result ≡ spec.has_odd_key odd (table_view table.now) }
-{
-    for (key, value) in table.iter() {
-        if is_odd(odd, key, value) {
-            return true;
-        }
-    }
-    false
-}
-
 /// Adds each key of a table with which this is wrong.
 pub(crate) fn add_odd_keys<'a>(
     places: &mut Vec<Place<'a>>,

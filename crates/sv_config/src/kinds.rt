@@ -1,103 +1,84 @@
-//! Fields of another kind than they must be.
+//! Where fields and members are of another kind than they must be.
 
-ghost use Rattle.std.specs.Prelude.{◌≡◌};
-ghost use Rattle.std.specs.List.{list_any, list_all};
+ghost use Rattle.std.specs.Prelude.{◌≡◌, ◌++◌, map, OnOk};
+ghost use Rattle.std.specs.List.{flat_map};
 ghost use Rattle.toml.specs.View.{table_view, view};
+ghost use Rattle.sv_config.specs.Place.{spot, placed};
 ghost use Rattle.sv_config.specs.Kinds as spec;
-ghost use Rattle.sv_config.specs.Rules.{rule_of, rules_of};
+ghost use Rattle.sv_config.specs.Rules.{rule_of};
 
 use crate::document::member;
-use crate::keys::{OddKey, has_odd_key};
-use crate::rules::{FieldKind, FieldRule, TableKind, has_free_keys, rules};
+use crate::keys::{OddKey, add_odd_keys};
+use crate::members::{Unfit, add_field, add_members};
+use crate::place::{Place, kind_of};
+use crate::placed::Placed;
+use crate::rules::{FieldKind, FieldRule, has_free_keys, rules};
+use std::alloc::AllocError;
 use toml::{Table, Value};
 
-/// Whether a table of a kind has a field of another kind than it must be.
-#[tactic(auto, unfolding(crate::specs::Kinds::is_mistyped))]
-pub(crate) fn is_mistyped(kind: TableKind, table: &Table) -> bool
-    ensures { result ≡ spec.is_mistyped kind (table_view table.now) }
+/// Adds each field of another kind, of an array each member of another kind, and each setting that is no text.
+pub(crate) fn add_mistyped<'a>(
+    places: &mut Vec<Place<'a>>,
+    at: Placed<'a>,
+) -> Result<(), AllocError>
+    ensures { OnOk result (map spot places.new.items ≡ map spot places.old.items ++ spec.mistyped_in (placed at.entry)) }
 {
-    misfits_field(kind, table) || (has_free_keys(kind) && has_odd_key(table, OddKey::NoText))
+    let kind = kind_of(at.place);
+    add_misfits(places, at, rules(kind))?;
+    if has_free_keys(kind) {
+        add_odd_keys(places, OddKey::NoText, at)?;
+    }
+    Ok(())
 }
 
-fn misfits_field(kind: TableKind, table: &Table) -> bool
-    ensures { result ≡ list_any (spec.misfits (table_view table.now)) (rules_of kind) }
+fn add_misfits<'a>(
+    places: &mut Vec<Place<'a>>,
+    at: Placed<'a>,
+    rules: &[FieldRule],
+) -> Result<(), AllocError>
+    ensures { OnOk result (map spot places.new.items ≡ map spot places.old.items ++ flat_map (spec.mistyped_field (placed at.entry)) (map rule_of rules.now)) }
 {
-    misfits_some(table, rules(kind))
+    for rule in rules {
+        add_misfit(places, at, rule)?;
+    }
+    Ok(())
 }
 
-fn misfits_some(table: &Table, rules: &[FieldRule]) -> bool
-    ensures { result ≡ list_any (λ rule. spec.misfits (table_view table.now) (rule_of rule)) rules.now }
+fn add_misfit<'a>(
+    places: &mut Vec<Place<'a>>,
+    at: Placed<'a>,
+    rule: &FieldRule,
+) -> Result<(), AllocError>
+    ensures { OnOk result (map spot places.new.items ≡ map spot places.old.items ++ spec.mistyped_field (placed at.entry) (rule_of rule.now)) }
 {
-    rules.iter().any(|rule| misfits(table, rule))
+    let key = rule.key;
+    add_field(places, is_misshaped(rule.kind, at.table, key), at, key)?;
+    match rule.kind {
+        FieldKind::Text | FieldKind::Integer | FieldKind::Boolean | FieldKind::Table => Ok(()),
+        FieldKind::Texts => add_members(places, Unfit::NoText, at, key),
+        FieldKind::Integers => add_members(places, Unfit::NoInteger, at, key),
+        FieldKind::Tables => add_members(places, Unfit::NoTable, at, key),
+    }
 }
 
-fn misfits(table: &Table, rule: &FieldRule) -> bool
-    ensures { result ≡ spec.misfits (table_view table.now) (rule_of rule.now) }
+fn is_misshaped(kind: FieldKind, table: &Table, key: &str) -> bool
+    ensures { result ≡ spec.misshaped_at kind key.now (table_view table.now) }
 {
-    match member(table, rule.key) {
-        Some(value) => !has_kind(rule.kind, value),
+    match member(table, key) {
+        Some(value) => has_other_shape(kind, value),
         None => false,
     }
 }
 
-fn has_kind(kind: FieldKind, value: &Value) -> bool
-    ensures { result ≡ spec.has_kind kind (view value.now) }
+/// Whether it is neither of the kind nor, for an array, an array.
+fn has_other_shape(kind: FieldKind, value: &Value) -> bool
+    ensures { result ≡ spec.has_other_shape kind (view value.now) }
 {
     match kind {
-        FieldKind::Text => value.is_str(),
-        FieldKind::Integer => value.is_integer(),
-        FieldKind::Boolean => value.is_bool(),
-        FieldKind::Texts => is_texts(value),
-        FieldKind::Integers => is_integers(value),
-        FieldKind::Table => value.is_table(),
-        FieldKind::Tables => is_tables(value),
+        FieldKind::Text => !value.is_str(),
+        FieldKind::Integer => !value.is_integer(),
+        FieldKind::Boolean => !value.is_bool(),
+        FieldKind::Table => !value.is_table(),
+        FieldKind::Texts | FieldKind::Integers | FieldKind::Tables => !value.is_array(),
     }
-}
-
-#[tactic(auto, using(crate::proofs::DocumentLemmas::all_texts))]
-fn is_texts(value: &Value) -> bool
-    ensures { result ≡ spec.is_array_of spec.is_text (view value.now) }
-{
-    match value.as_array() {
-        Some(values) => are_texts(values),
-        None => false,
-    }
-}
-
-#[tactic(auto, using(crate::proofs::DocumentLemmas::all_integers))]
-fn is_integers(value: &Value) -> bool
-    ensures { result ≡ spec.is_array_of spec.is_integer (view value.now) }
-{
-    match value.as_array() {
-        Some(values) => are_integers(values),
-        None => false,
-    }
-}
-
-#[tactic(auto, using(crate::proofs::DocumentLemmas::all_tables))]
-fn is_tables(value: &Value) -> bool
-    ensures { result ≡ spec.is_array_of spec.is_table (view value.now) }
-{
-    match value.as_array() {
-        Some(values) => are_tables(values),
-        None => false,
-    }
-}
-
-fn are_texts(values: &[Value]) -> bool
-    ensures { result ≡ list_all (λ v. spec.is_text (view v)) values.now }
-{
-    values.iter().all(|value| value.is_str())
-}
-
-fn are_integers(values: &[Value]) -> bool
-    ensures { result ≡ list_all (λ v. spec.is_integer (view v)) values.now }
-{
-    values.iter().all(|value| value.is_integer())
-}
-
-fn are_tables(values: &[Value]) -> bool
-    ensures { result ≡ list_all (λ v. spec.is_table (view v)) values.now }
-{
-    values.iter().all(|value| value.is_table())
 }

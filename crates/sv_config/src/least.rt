@@ -1,20 +1,20 @@
-//! The least fault of a document.
+//! The least fault of a document, with the places at which it stands.
 
-ghost use Rattle.std.specs.Prelude.{◌≡◌, IfOk, map};
-ghost use Rattle.std.specs.List.{list_any};
+ghost use Rattle.std.specs.Prelude.{◌≡◌, ◌++◌, IfOk, OnOk, map, option_map};
 ghost use Rattle.toml.specs.View.{table_view};
 ghost use Rattle.sv_config.specs.Fault as spec;
-ghost use Rattle.sv_config.specs.Tables.{seen};
+ghost use Rattle.sv_config.specs.Place.{spot, placed};
 
+use crate::checked::Faulty;
 use crate::fault::ConfigFault;
-use crate::kinds::is_mistyped;
-use crate::limits::is_exceeding;
-use crate::missing::is_missing;
-use crate::repeats::is_repeating;
-use crate::rules::TableKind;
-use crate::spelling::is_misspelled;
-use crate::tables::tables_of;
-use crate::unknown::has_unknown;
+use crate::kinds::add_mistyped;
+use crate::limits::add_exceeding;
+use crate::missing::add_missing;
+use crate::misspelled::add_misspelled;
+use crate::place::Place;
+use crate::placed::{Placed, placed_tables};
+use crate::repeats::add_repeated;
+use crate::unknown::add_unknown;
 use std::alloc::{AllocError, Global};
 use toml::Table;
 
@@ -28,66 +28,70 @@ const FAULTS: [ConfigFault; 6] = [
     ConfigFault::LimitExceeded,
 ];
 
-/// The least fault of a document.
+/// The least fault of a document, with its places.
 #[tactic(auto, unfolding(crate::specs::Fault::fault_of))]
-pub(crate) fn least_fault(
+pub(crate) fn least_fault<'a>(
     alloc: Global,
-    document: &Table,
-) -> Result<Option<ConfigFault>, AllocError>
-    ensures { IfOk result (λ fault. fault ≡ spec.fault_of (table_view document.now)) }
+    document: &'a Table,
+) -> Result<Option<Faulty<'a>>, AllocError>
+    ensures { IfOk result (λ found. option_map (λ f. (f.fault, map spot f.places.items)) found ≡ spec.faults_of (table_view document.now)) }
 {
-    let tables = tables_of(alloc, document)?;
+    let tables = placed_tables(alloc, document)?;
     first_fault(alloc, &FAULTS, &tables)
 }
 
-/// The first of the faults that some table has.
-fn first_fault(
+/// The first of the faults that the tables have, with its places.
+fn first_fault<'a>(
     alloc: Global,
     faults: &[ConfigFault],
-    tables: &[(TableKind, &Table)],
-) -> Result<Option<ConfigFault>, AllocError>
-    ensures { IfOk result (λ found. found ≡ spec.first_fault faults.now (map seen tables.now)) }
+    tables: &[Placed<'a>],
+) -> Result<Option<Faulty<'a>>, AllocError>
+    ensures { IfOk result (λ found. option_map (λ f. (f.fault, map spot f.places.items)) found
+        ≡ option_map (spec.with_places (map placed tables.now)) (spec.first_fault faults.now (map placed tables.now))) }
 {
     for fault in faults {
-        if is_somewhere(alloc, *fault, tables)? {
-            return Ok(Some(*fault));
+        let places = places_among(alloc, tables, *fault)?;
+        if !places.is_empty() {
+            return Ok(Some(Faulty {
+                fault: *fault,
+                places,
+            }));
         }
     }
     Ok(None)
 }
 
-/// Whether some table has the fault.
-fn is_somewhere(
+/// The places in these tables at which the fault stands.
+fn places_among<'a>(
     alloc: Global,
+    tables: &[Placed<'a>],
     fault: ConfigFault,
-    tables: &[(TableKind, &Table)],
-) -> Result<bool, AllocError>
-    ensures { IfOk result (λ b. b ≡ list_any (spec.has_fault fault) (map seen tables.now)) }
+) -> Result<Vec<Place<'a>>, AllocError>
+    ensures { IfOk result (λ places. map spot places.items ≡ spec.places_among (map placed tables.now) fault) }
 {
-    for (kind, table) in tables {
-        if has_fault(alloc, fault, *kind, table)? {
-            return Ok(true);
-        }
+    let mut places = Vec::new(alloc);
+    for table in tables {
+        add_places(alloc, &mut places, *table, fault)?;
     }
-    Ok(false)
+    Ok(places)
 }
 
-/// Whether a table of a kind has the fault.
-fn has_fault(
+/// Adds the places in a table.
+fn add_places<'a>(
     alloc: Global,
+    places: &mut Vec<Place<'a>>,
+    at: Placed<'a>,
     fault: ConfigFault,
-    kind: TableKind,
-    table: &Table,
-) -> Result<bool, AllocError>
-    ensures { IfOk result (λ b. b ≡ spec.has_fault fault (kind, table_view table.now)) }
+) -> Result<(), AllocError>
+    ensures { OnOk result (map spot places.new.items ≡ map spot places.old.items ++ spec.places_in fault (placed at.entry)) }
 {
     match fault {
-        ConfigFault::NotToml | ConfigFault::Memory => Ok(false),
-        ConfigFault::MissingField => Ok(is_missing(kind, table)),
-        ConfigFault::WrongKind => Ok(is_mistyped(kind, table)),
-        ConfigFault::UnknownName => has_unknown(alloc, kind, table),
-        ConfigFault::BadPattern => is_misspelled(alloc, kind, table),
-        ConfigFault::Duplicate => is_repeating(alloc, kind, table),
-        ConfigFault::LimitExceeded => is_exceeding(alloc, kind, table),
+        ConfigFault::NotToml | ConfigFault::Memory => Ok(()),
+        ConfigFault::MissingField => add_missing(places, at),
+        ConfigFault::WrongKind => add_mistyped(places, at),
+        ConfigFault::UnknownName => add_unknown(alloc, places, at),
+        ConfigFault::BadPattern => add_misspelled(alloc, places, at),
+        ConfigFault::Duplicate => add_repeated(alloc, places, at),
+        ConfigFault::LimitExceeded => add_exceeding(alloc, places, at),
     }
 }

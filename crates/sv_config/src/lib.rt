@@ -1,10 +1,10 @@
 //! The descriptor of a deployment, read from TOML 1.1.
 //!
 //! A floor above the mapping, below the container. [`Deployment::from_toml`] gives the deployment that a document says,
-//! with its defaults filled in, or the least of the document's faults. Contracts cite `Fault.fault_of`, which has a
-//! definition for each fault over every table that is there, and `Values.deployment_of`. [`Document`] tells of the least
-//! fault each place where it stands, as `Places.places_of` says over the same definitions. Nothing here opens a file,
-//! looks for the objects that a descriptor names, or knows what they do.
+//! with its defaults filled in, or the least of the document's faults. Contracts cite `Fault.fault_of` and
+//! `Values.deployment_of`. A document has a fault if there is a place for it in one of its tables (`Fault.has_fault`), and
+//! [`Document`] tells each place of the least. Nothing here opens a file, looks for the objects that a descriptor names, or
+//! knows what they do.
 #![tactic(auto)]
 
 mod checked;
@@ -14,37 +14,29 @@ mod context;
 mod cookie;
 mod deployment;
 mod document;
-mod exceeding;
 mod fault;
 mod files;
 mod hints;
 mod items;
 mod keys;
 mod kinds;
-mod lacking;
-mod laws;
 mod least;
 mod limits;
 mod listed;
-mod lists;
 mod mappings;
 mod members;
-mod misshaped;
 mod missing;
+mod misspelled;
 mod once;
 mod pages;
 mod paths;
 mod place;
 mod placed;
-mod places;
 mod read;
-mod repeated;
 mod repeats;
 mod rules;
 mod settings;
 mod spelling;
-mod tables;
-mod undeclared;
 mod unknown;
 
 pub use checked::{Document, Faulty, NotRead};
@@ -52,7 +44,6 @@ pub use cookie::{CookieConfig, SameSite};
 pub use deployment::{Cluster, Context, Deployment, ErrorPage, Once, PageFor};
 pub use fault::ConfigFault;
 pub use files::{FileMapping, FileSource};
-pub use laws::placed_where_it_stands;
 pub use place::{Found, Place, TablePlace};
 pub use rules::TableKind;
 pub use settings::Setting;

@@ -1,127 +1,190 @@
-//! Counts and numbers outside their limits.
+//! Where limits are passed.
 
-ghost use Rattle.std.specs.Prelude.{◌≡◌, IfOk, ◌<◌, codes};
+ghost use Rattle.std.specs.Prelude.{◌≡◌, ◌++◌, map, OnOk};
 ghost use Rattle.toml.specs.View.{table_view};
+ghost use Rattle.sv_config.specs.Keys.{is_outside};
 ghost use Rattle.sv_config.specs.Limits as spec;
+ghost use Rattle.sv_config.specs.Place.{kind_of, spot, placed};
 
-use crate::columns::{all_patterns, integers_at};
+use crate::columns::all_patterns;
 use crate::document::{integer_at, is_empty_at, text_at, values_at};
-use crate::keys::{OddKey, has_odd_key};
+use crate::keys::{OddKey, add_odd_keys};
+use crate::members::{Unfit, add_count, add_field, add_members};
+use crate::place::{Place, kind_of};
+use crate::placed::Placed;
 use crate::rules::TableKind;
-use crate::settings::has_too_many_settings;
+use crate::settings::{count_settings, has_too_many_settings};
 use std::alloc::{AllocError, Global};
 use sv_mapping::MAX_PATTERNS;
 use sv_model::{CONTEXT_LIMIT, NODE_LIMIT};
 use toml::Table;
 
-pub(crate) const MAX_NODES: usize = NODE_LIMIT as usize;
+const MAX_NODES: usize = NODE_LIMIT as usize;
 
 pub(crate) const MAX_KEYS: i64 = 1_048_576;
 
-pub(crate) const MAX_CONTEXTS: usize = CONTEXT_LIMIT as usize;
+const MAX_CONTEXTS: usize = CONTEXT_LIMIT as usize;
 
-pub(crate) const MAX_SERVLETS: usize = 64;
+const MAX_SERVLETS: usize = 64;
 
-pub(crate) const MAX_FILTERS: usize = 32;
+const MAX_FILTERS: usize = 32;
 
-pub(crate) const MAX_FILTER_MAPPINGS: usize = 64;
+const MAX_FILTER_MAPPINGS: usize = 64;
 
-pub(crate) const MAX_LISTENERS: usize = 16;
+const MAX_LISTENERS: usize = 16;
 
-pub(crate) const MAX_ERROR_PAGES: usize = 32;
+const MAX_ERROR_PAGES: usize = 32;
 
-pub(crate) const MAX_FILE_MAPPINGS: usize = 64;
+const MAX_FILE_MAPPINGS: usize = 64;
 
-pub(crate) const MAX_ANSWERS: i64 = 16;
+const MAX_ANSWERS: i64 = 16;
 
-pub(crate) const MAX_NAME_BYTES: usize = 64;
+const MAX_NAME_BYTES: usize = 64;
 
-/// Whether a table of a kind passes a limit.
-#[tactic(auto, unfolding(crate::specs::Limits::is_exceeding))]
-pub(crate) fn is_exceeding(
+/// Adds each array, number and name of a table that passes its limit.
+pub(crate) fn add_exceeding<'a>(
     alloc: Global,
-    kind: TableKind,
-    table: &Table,
-) -> Result<bool, AllocError>
-    ensures { IfOk result (λ b. b ≡ spec.is_exceeding kind (table_view table.now)) }
+    places: &mut Vec<Place<'a>>,
+    at: Placed<'a>,
+) -> Result<(), AllocError>
+    ensures { OnOk result (map spot places.new.items ≡ map spot places.old.items ++ spec.exceeding_in (kind_of at.entry.place) (placed at.entry)) }
 {
-    match kind {
-        TableKind::Top => Ok(has_over(table, "context", MAX_CONTEXTS)),
-        TableKind::Cluster => exceeds_in_cluster(alloc, table),
-        TableKind::Context => exceeds_in_context(alloc, table),
+    match kind_of(at.place) {
+        TableKind::Top => add_too_many(places, at, "context", MAX_CONTEXTS),
+        TableKind::Cluster => add_in_cluster(places, at),
+        TableKind::Context => add_in_context(alloc, places, at),
         TableKind::Servlet | TableKind::Filter | TableKind::Listener | TableKind::Cookie => {
-            Ok(has_bad_length(table, "name"))
+            add_field(places, has_bad_length(at.table, "name"), at, "name")
         }
-        TableKind::Mapping | TableKind::File => Ok(false),
-        TableKind::Page => Ok(is_outside_at(table, "status", 400, 599)),
-        TableKind::Once => Ok(exceeds_in_once(table)),
-        TableKind::Settings => {
-            Ok(has_too_many_settings(table) || has_odd_key(table, OddKey::BadSetting))
-        }
+        TableKind::Mapping | TableKind::File => Ok(()),
+        TableKind::Page => add_field(
+            places,
+            is_outside_at(at.table, "status", 400, 599),
+            at,
+            "status",
+        ),
+        TableKind::Once => add_in_once(places, at),
+        TableKind::Settings => add_in_settings(places, at),
     }
 }
 
-#[tactic(auto, unfolding(crate::specs::Limits::exceeds_in_cluster))]
-fn exceeds_in_cluster(alloc: Global, cluster: &Table) -> Result<bool, AllocError>
-    ensures { IfOk result (λ b. b ≡ spec.exceeds_in_cluster (table_view cluster.now)) }
+fn add_in_settings<'a>(places: &mut Vec<Place<'a>>, at: Placed<'a>) -> Result<(), AllocError>
+    ensures { OnOk result (map spot places.new.items ≡ map spot places.old.items ++ spec.exceeding_in TableKind.Settings (placed at.entry)) }
 {
-    if is_empty_at(cluster, "ports") || has_over(cluster, "ports", MAX_NODES) {
-        return Ok(true);
-    }
-    if has_no_port(alloc, cluster)? {
-        return Ok(true);
-    }
-    Ok(is_outside_at(cluster, "deadline", 1, 86400) || is_outside_at(cluster, "keys", 1, MAX_KEYS))
+    let is_over = has_too_many_settings(at.table);
+    add_count(places, is_over, at, "", count_settings(at.table))?;
+    add_odd_keys(places, OddKey::BadSetting, at)
 }
 
-/// Whether some of the ports is none.
-fn has_no_port(alloc: Global, cluster: &Table) -> Result<bool, AllocError>
-    ensures { IfOk result (λ b. b ≡ spec.has_no_port (table_view cluster.now)) }
+fn add_in_once<'a>(places: &mut Vec<Place<'a>>, at: Placed<'a>) -> Result<(), AllocError>
+    ensures { OnOk result (map spot places.new.items ≡ map spot places.old.items ++ spec.exceeding_in TableKind.Once (placed at.entry)) }
 {
-    let ports = integers_at(alloc, cluster, "ports")?;
-    Ok(ports.iter().any(|port| is_outside(*port, 1, 65535)))
+    add_field(
+        places,
+        is_outside_at(at.table, "answers", 1, MAX_ANSWERS),
+        at,
+        "answers",
+    )?;
+    add_field(
+        places,
+        has_bad_length(at.table, "parameter"),
+        at,
+        "parameter",
+    )
 }
 
-#[tactic(auto, unfolding(crate::specs::Limits::exceeds_in_context))]
-fn exceeds_in_context(alloc: Global, context: &Table) -> Result<bool, AllocError>
-    ensures { IfOk result (λ b. b ≡ spec.exceeds_in_context (table_view context.now)) }
+#[tactic(auto, unfolding(crate::specs::Limits::exceeding_in_cluster))]
+fn add_in_cluster<'a>(places: &mut Vec<Place<'a>>, at: Placed<'a>) -> Result<(), AllocError>
+    ensures { OnOk result (map spot places.new.items ≡ map spot places.old.items ++ spec.exceeding_in_cluster (placed at.entry)) }
 {
-    if is_outside_at(context, "interval", -2_147_483_648, 2_147_483_647) {
-        return Ok(true);
-    }
-    if has_too_many(context) {
-        return Ok(true);
-    }
-    has_too_many_patterns(alloc, context)
+    let is_miscounted = is_empty_at(at.table, "ports") || has_over(at.table, "ports", MAX_NODES);
+    add_counted(places, is_miscounted, at, "ports")?;
+    add_members(places, Unfit::NoPort, at, "ports")?;
+    add_field(
+        places,
+        is_outside_at(at.table, "deadline", 1, 86400),
+        at,
+        "deadline",
+    )?;
+    add_field(
+        places,
+        is_outside_at(at.table, "keys", 1, MAX_KEYS),
+        at,
+        "keys",
+    )
 }
 
-fn has_too_many(context: &Table) -> bool
-    ensures { result ≡ spec.has_too_many (table_view context.now) }
+#[tactic(auto, unfolding(crate::specs::Limits::exceeding_in_context))]
+fn add_in_context<'a>(
+    alloc: Global,
+    places: &mut Vec<Place<'a>>,
+    at: Placed<'a>,
+) -> Result<(), AllocError>
+    ensures { OnOk result (map spot places.new.items ≡ map spot places.old.items ++ spec.exceeding_in_context (placed at.entry)) }
 {
-    has_over(context, "servlet", MAX_SERVLETS)
-        || has_over(context, "filter", MAX_FILTERS)
-        || has_over(context, "filter-mapping", MAX_FILTER_MAPPINGS)
-        || has_over(context, "listener", MAX_LISTENERS)
-        || has_over(context, "error-page", MAX_ERROR_PAGES)
-        || has_over(context, "file", MAX_FILE_MAPPINGS)
+    let is_outside = is_outside_at(at.table, "interval", -2_147_483_648, 2_147_483_647);
+    add_field(places, is_outside, at, "interval")?;
+    add_too_many(places, at, "servlet", MAX_SERVLETS)?;
+    add_too_many(places, at, "filter", MAX_FILTERS)?;
+    add_too_many(places, at, "filter-mapping", MAX_FILTER_MAPPINGS)?;
+    add_too_many(places, at, "listener", MAX_LISTENERS)?;
+    add_too_many(places, at, "error-page", MAX_ERROR_PAGES)?;
+    add_too_many(places, at, "file", MAX_FILE_MAPPINGS)?;
+    add_too_many_patterns(alloc, places, at)
 }
 
-fn has_too_many_patterns(alloc: Global, context: &Table) -> Result<bool, AllocError>
-    ensures { IfOk result (λ b. b ≡ spec.has_too_many_patterns (table_view context.now)) }
+/// Adds an array of more members than the limit.
+fn add_too_many<'a>(
+    places: &mut Vec<Place<'a>>,
+    at: Placed<'a>,
+    key: &'a str,
+    limit: usize,
+) -> Result<(), AllocError>
+    ensures { OnOk result (map spot places.new.items ≡ map spot places.old.items ++ spec.too_many_at limit (placed at.entry) key.now) }
 {
-    let patterns = all_patterns(alloc, context)?;
-    Ok(patterns.len() > MAX_PATTERNS)
+    add_counted(places, has_over(at.table, key, limit), at, key)
+}
+
+/// Adds an array with the number of its members, where that is wrong.
+fn add_counted<'a>(
+    places: &mut Vec<Place<'a>>,
+    holds: bool,
+    at: Placed<'a>,
+    key: &'a str,
+) -> Result<(), AllocError>
+    ensures { OnOk result (map spot places.new.items ≡ map spot places.old.items ++ spec.counted holds (placed at.entry) key.now) }
+{
+    let count = values_at(at.table, key).len();
+    add_count(places, holds, at, key, count)
+}
+
+/// Adds the patterns of a context, where they are too many.
+fn add_too_many_patterns<'a>(
+    alloc: Global,
+    places: &mut Vec<Place<'a>>,
+    at: Placed<'a>,
+) -> Result<(), AllocError>
+    ensures { OnOk result (map spot places.new.items ≡ map spot places.old.items ++ spec.too_many_patterns (placed at.entry)) }
+{
+    let patterns = all_patterns(alloc, at.table)?;
+    add_count(
+        places,
+        patterns.len() > MAX_PATTERNS,
+        at,
+        "patterns",
+        patterns.len(),
+    )
 }
 
 /// Whether the array at a key has more members than the limit.
-pub(crate) fn has_over(table: &Table, key: &str, limit: usize) -> bool
+fn has_over(table: &Table, key: &str, limit: usize) -> bool
     ensures { result ≡ spec.has_over limit key.now (table_view table.now) }
 {
     values_at(table, key).len() > limit
 }
 
 /// Whether the integer at a key lies outside the range.
-pub(crate) fn is_outside_at(table: &Table, key: &str, least: i64, most: i64) -> bool
+fn is_outside_at(table: &Table, key: &str, least: i64, most: i64) -> bool
     ensures { result ≡ spec.is_outside_at least most key.now (table_view table.now) }
 {
     match integer_at(table, key) {
@@ -131,20 +194,13 @@ pub(crate) fn is_outside_at(table: &Table, key: &str, least: i64, most: i64) -> 
 }
 
 pub(crate) fn is_outside(integer: i64, least: i64, most: i64) -> bool
-    ensures { result ≡ spec.is_outside least most integer }
+    ensures { result ≡ is_outside least most integer }
 {
     integer < least || most < integer
 }
 
-#[tactic(auto, unfolding(crate::specs::Limits::is_exceeding))]
-fn exceeds_in_once(once: &Table) -> bool
-    ensures { result ≡ spec.is_exceeding TableKind.Once (table_view once.now) }
-{
-    is_outside_at(once, "answers", 1, MAX_ANSWERS) || has_bad_length(once, "parameter")
-}
-
 /// Whether the name at a key has no byte, or too many.
-pub(crate) fn has_bad_length(table: &Table, key: &str) -> bool
+fn has_bad_length(table: &Table, key: &str) -> bool
     ensures { result ≡ spec.has_bad_length key.now (table_view table.now) }
 {
     match text_at(table, key) {

@@ -2,8 +2,8 @@
 
 ghost use Rattle.std.specs.Prelude.{◌≡◌, ◌++◌, map, OnOk};
 ghost use Rattle.toml.specs.View.{table_view, view};
+ghost use Rattle.sv_config.specs.Keys as spec;
 ghost use Rattle.sv_config.specs.Place.{spot, placed, shown, shown_in, shown_at, table_where, field_where, count_where, members_where};
-ghost use Rattle.sv_config.specs.Places as spec;
 
 use crate::document::{member, values_at};
 use crate::limits::is_outside;

@@ -1,50 +1,65 @@
-//! What a table lacks.
+//! Where fields are missing.
 
-ghost use Rattle.std.specs.Prelude.{◌≡◌};
-ghost use Rattle.std.specs.List.{list_any};
+ghost use Rattle.std.specs.Prelude.{◌≡◌, ◌++◌, map, OnOk};
+ghost use Rattle.std.specs.List.{flat_map};
 ghost use Rattle.toml.specs.View.{table_view};
 ghost use Rattle.sv_config.specs.Missing as spec;
-ghost use Rattle.sv_config.specs.Rules.{rule_of, rules_of};
+ghost use Rattle.sv_config.specs.Place.{kind_of, spot, placed, field_where};
+ghost use Rattle.sv_config.specs.Rules.{rule_of};
 
 use crate::cookie::lacks_secure;
-use crate::document::{has, is_empty_at};
+use crate::document::{has, has_neither, is_empty_at};
+use crate::members::add_field;
+use crate::place::{Place, kind_of};
+use crate::placed::Placed;
 use crate::rules::{FieldRule, TableKind, rules};
+use std::alloc::AllocError;
 use toml::Table;
 
-/// Whether a table of a kind lacks what it must have.
-#[tactic(auto, unfolding(crate::specs::Missing::is_missing))]
-pub(crate) fn is_missing(kind: TableKind, table: &Table) -> bool
-    ensures { result ≡ spec.is_missing kind (table_view table.now) }
+/// Adds each field that a table lacks.
+pub(crate) fn add_missing<'a>(places: &mut Vec<Place<'a>>, at: Placed<'a>) -> Result<(), AllocError>
+    ensures { OnOk result (map spot places.new.items ≡ map spot places.old.items ++ spec.missing_in (placed at.entry)) }
 {
-    lacks_field(kind, table) || lacks_contents(kind, table)
+    add_required(places, at, rules(kind_of(at.place)))?;
+    add_contents(places, at)?;
+    Ok(())
 }
 
-fn lacks_field(kind: TableKind, table: &Table) -> bool
-    ensures { result ≡ list_any (spec.lacks (table_view table.now)) (rules_of kind) }
+fn add_required<'a>(
+    places: &mut Vec<Place<'a>>,
+    at: Placed<'a>,
+    rules: &[FieldRule],
+) -> Result<(), AllocError>
+    ensures { OnOk result (map spot places.new.items ≡ map spot places.old.items
+        ++ flat_map (λ rule. field_where (spec.lacks (placed at.entry).1 rule) (placed at.entry) rule.key) (map rule_of rules.now)) }
 {
-    lacks_some(table, rules(kind))
+    for rule in rules {
+        add_field(places, lacks(at.table, rule), at, rule.key)?;
+    }
+    Ok(())
 }
 
-pub(crate) fn lacks_contents(kind: TableKind, table: &Table) -> bool
-    ensures { result ≡ spec.lacks_contents kind (table_view table.now) }
+/// Adds what is missing beside single fields.
+fn add_contents<'a>(places: &mut Vec<Place<'a>>, at: Placed<'a>) -> Result<(), AllocError>
+    ensures { OnOk result (map spot places.new.items ≡ map spot places.old.items ++ spec.lacking_in (kind_of at.entry.place) (placed at.entry)) }
 {
-    match kind {
-        TableKind::Top => is_empty_at(table, "context"),
-        TableKind::Mapping => !has(table, "pattern") && !has(table, "servlet"),
-        TableKind::File => !has(table, "file") && !has(table, "folder"),
-        TableKind::Cookie => lacks_secure(table),
-        _ => false,
+    let table = at.table;
+    match kind_of(at.place) {
+        TableKind::Top => add_field(places, is_empty_at(table, "context"), at, "context"),
+        TableKind::Mapping => add_field(
+            places,
+            has_neither(table, "pattern", "servlet"),
+            at,
+            "pattern",
+        ),
+        TableKind::File => add_field(places, has_neither(table, "file", "folder"), at, "file"),
+        TableKind::Cookie => add_field(places, lacks_secure(table), at, "secure"),
+        _ => Ok(()),
     }
 }
 
-pub(crate) fn lacks(table: &Table, rule: &FieldRule) -> bool
+fn lacks(table: &Table, rule: &FieldRule) -> bool
     ensures { result ≡ spec.lacks (table_view table.now) (rule_of rule.now) }
 {
     rule.required && !has(table, rule.key)
-}
-
-fn lacks_some(table: &Table, rules: &[FieldRule]) -> bool
-    ensures { result ≡ list_any (λ rule. spec.lacks (table_view table.now) (rule_of rule)) rules.now }
-{
-    rules.iter().any(|rule| lacks(table, rule))
 }

@@ -62,6 +62,31 @@ pub(crate) fn kind_of(place: TablePlace) -> TableKind
     }
 }
 
+/// The number of the context that a table is, or is in.
+pub(crate) fn number_of(place: TablePlace) -> usize
+    ensures { result ≡ spec.number_of place }
+{
+    match place {
+        TablePlace::Document | TablePlace::OfNodes => 0,
+        TablePlace::OfContext(context) => context,
+        TablePlace::Within { context, .. } | TablePlace::Single { context, .. } => context,
+    }
+}
+
+/// The place of a table of an array.
+pub(crate) fn inner_place(place: TablePlace, kind: TableKind, index: usize) -> TablePlace
+    ensures { result ≡ spec.inner_place place kind index }
+{
+    match kind {
+        TableKind::Context => TablePlace::OfContext(index),
+        _ => TablePlace::Within {
+            context: number_of(place),
+            kind,
+            index,
+        },
+    }
+}
+
 /// The key of a context at which tables of a kind stand.
 fn key_of(kind: TableKind) -> &'static str {
     match kind {

@@ -30,7 +30,7 @@ impl Deployment {
             Err(_) => return Err(ConfigFault::NotToml),
         };
         match least_fault(alloc, &document)? {
-            Some(fault) => Err(fault),
+            Some(faulty) => Err(faulty.fault),
             None => Ok(read_deployment(alloc, &document)?),
         }
     }

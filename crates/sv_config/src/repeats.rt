@@ -1,133 +1,191 @@
-//! What stands twice and may stand once.
+//! Where something stands again that may stand once.
 
-ghost use Rattle.std.specs.Prelude.{◌≡◌, ◌<◌, length, filter, IfOk, map};
-ghost use Rattle.toml.specs.View.{table_view};
-ghost use Rattle.sv_config.specs.Document.{tables_at};
+ghost use Rattle.std.specs.Prelude.{◌≡◌, ◌++◌, map, drop, IfOk, OnOk, codes, bytes_eq, if◌then◌else◌, List, [], ◌∷◌};
+ghost use Rattle.std.specs.List.{flat_map};
+ghost use Rattle.std.specs.Ordering.{eq_by_cmp, int_eq};
+ghost use Rattle.sv_config.specs.Place.{kind_of, spot, placed, child};
 ghost use Rattle.sv_config.specs.Repeats as spec;
 
-use crate::columns::{all_patterns, column, integers_at, integers_of, tables_at};
-use crate::document::has;
-use crate::lists::{has_repeated_integer, has_repeated_text};
+use crate::document::has_both;
+use crate::items::{default_pages, integer_items, pattern_items, port_items, text_items};
+use crate::members::add_field;
+use crate::place::{Place, kind_of};
+use crate::placed::Placed;
 use crate::rules::TableKind;
 use std::alloc::{AllocError, Global};
-use toml::Table;
+use std::collections::BTreeSet;
 
-/// Whether a table of a kind has something twice that it may have once.
-#[tactic(auto, unfolding(crate::specs::Repeats::is_repeating))]
-pub(crate) fn is_repeating(
+/// Adds what stands again in a table.
+pub(crate) fn add_repeated<'a>(
     alloc: Global,
-    kind: TableKind,
-    table: &Table,
-) -> Result<bool, AllocError>
-    ensures { IfOk result (λ b. b ≡ spec.is_repeating kind (table_view table.now)) }
+    places: &mut Vec<Place<'a>>,
+    at: Placed<'a>,
+) -> Result<(), AllocError>
+    ensures { OnOk result (map spot places.new.items ≡ map spot places.old.items ++ spec.repeated_in (kind_of at.entry.place) (placed at.entry)) }
 {
-    match kind {
-        TableKind::Top => repeats_text(alloc, table, "context", "path"),
-        TableKind::Cluster => repeats_port(alloc, table),
-        TableKind::Context => repeats_in_context(alloc, table),
+    match kind_of(at.place) {
+        TableKind::Top => add_texts(alloc, places, at, TableKind::Context, "context", "path"),
+        TableKind::Cluster => add_ports(alloc, places, at),
+        TableKind::Context => add_in_context(alloc, places, at),
         TableKind::Servlet
         | TableKind::Filter
         | TableKind::Listener
         | TableKind::Once
         | TableKind::Cookie
-        | TableKind::Settings => Ok(false),
-        TableKind::Mapping => Ok(has_both(table, "pattern", "servlet")),
-        TableKind::Page => Ok(has_both(table, "status", "fault")),
-        TableKind::File => Ok(has_both(table, "file", "folder")),
-    }
-}
-
-fn repeats_port(alloc: Global, cluster: &Table) -> Result<bool, AllocError>
-    ensures { IfOk result (λ b. b ≡ spec.repeats_port (table_view cluster.now)) }
-{
-    let ports = integers_at(alloc, cluster, "ports")?;
-    has_repeated_integer(alloc, &ports)
-}
-
-#[tactic(auto, unfolding(crate::specs::Repeats::repeats_in_context))]
-fn repeats_in_context(alloc: Global, context: &Table) -> Result<bool, AllocError>
-    ensures { IfOk result (λ b. b ≡ spec.repeats_in_context (table_view context.now)) }
-{
-    if repeats_text(alloc, context, "servlet", "name")? {
-        return Ok(true);
-    }
-    if repeats_text(alloc, context, "filter", "name")? {
-        return Ok(true);
-    }
-    if repeats_text(alloc, context, "listener", "name")? {
-        return Ok(true);
-    }
-    if repeats_pattern(alloc, context)? {
-        return Ok(true);
-    }
-    repeats_page(alloc, context)
-}
-
-/// Whether two tables of the array have one text at the key.
-fn repeats_text(alloc: Global, table: &Table, array: &str, key: &str) -> Result<bool, AllocError>
-    ensures { IfOk result (λ b. b ≡ spec.repeats_text array.now key.now (table_view table.now)) }
-{
-    let texts = column(alloc, table, array, key)?;
-    has_repeated_text(alloc, &texts)
-}
-
-fn repeats_pattern(alloc: Global, context: &Table) -> Result<bool, AllocError>
-    ensures { IfOk result (λ b. b ≡ spec.repeats_pattern (table_view context.now)) }
-{
-    let patterns = all_patterns(alloc, context)?;
-    has_repeated_text(alloc, &patterns)
-}
-
-/// Whether two error pages are for one status or one fault, or two are the default.
-#[tactic(auto, unfolding(crate::specs::Repeats::repeats_page))]
-fn repeats_page(alloc: Global, context: &Table) -> Result<bool, AllocError>
-    ensures { IfOk result (λ b. b ≡ spec.repeats_page (table_view context.now)) }
-{
-    if repeats_status(alloc, context)? {
-        return Ok(true);
-    }
-    if repeats_text(alloc, context, "error-page", "fault")? {
-        return Ok(true);
-    }
-    repeats_default(alloc, context)
-}
-
-fn repeats_status(alloc: Global, context: &Table) -> Result<bool, AllocError>
-    ensures { IfOk result (λ b. b ≡ spec.repeats_status (table_view context.now)) }
-{
-    let pages = tables_at(alloc, context, "error-page")?;
-    let statuses = integers_of(alloc, &pages, "status")?;
-    has_repeated_integer(alloc, &statuses)
-}
-
-fn repeats_default(alloc: Global, context: &Table) -> Result<bool, AllocError>
-    ensures { IfOk result (λ b. b ≡ spec.repeats_default (table_view context.now)) }
-{
-    let pages = tables_at(alloc, context, "error-page")?;
-    Ok(count_defaults(&pages) > 1)
-}
-
-fn count_defaults(pages: &[&Table]) -> usize
-    ensures { result ≡ length (filter spec.is_default_page (map (λ page. table_view page.now) pages.now)) }
-{
-    let mut count = 0;
-    for page in pages {
-        if is_default_page(page) {
-            count += 1;
+        | TableKind::Settings => Ok(()),
+        TableKind::Mapping => {
+            let has_two = has_both(at.table, "pattern", "servlet");
+            add_field(places, has_two, at, "servlet")
+        }
+        TableKind::Page => {
+            let has_two = has_both(at.table, "status", "fault");
+            add_field(places, has_two, at, "fault")
+        }
+        TableKind::File => {
+            let has_two = has_both(at.table, "file", "folder");
+            add_field(places, has_two, at, "folder")
         }
     }
-    count
 }
 
-/// Whether an error page names neither a status nor a fault.
-pub(crate) fn is_default_page(page: &Table) -> bool
-    ensures { result ≡ spec.is_default_page (table_view page.now) }
+#[tactic(auto, unfolding(crate::specs::Repeats::repeated_in_context))]
+fn add_in_context<'a>(
+    alloc: Global,
+    places: &mut Vec<Place<'a>>,
+    at: Placed<'a>,
+) -> Result<(), AllocError>
+    ensures { OnOk result (map spot places.new.items ≡ map spot places.old.items ++ spec.repeated_in_context (placed at.entry)) }
 {
-    !has(page, "status") && !has(page, "fault")
+    add_texts(alloc, places, at, TableKind::Servlet, "servlet", "name")?;
+    add_texts(alloc, places, at, TableKind::Filter, "filter", "name")?;
+    add_texts(alloc, places, at, TableKind::Listener, "listener", "name")?;
+    add_patterns(alloc, places, at)?;
+    add_statuses(alloc, places, at)?;
+    add_texts(alloc, places, at, TableKind::Page, "error-page", "fault")?;
+    add_defaults(alloc, places, at)?;
+    Ok(())
 }
 
-pub(crate) fn has_both(table: &Table, one: &str, other: &str) -> bool
-    ensures { result ≡ spec.has_both one.now other.now (table_view table.now) }
+/// Adds each table of an array that has the text of one before it at the key.
+fn add_texts<'a>(
+    alloc: Global,
+    places: &mut Vec<Place<'a>>,
+    at: Placed<'a>,
+    kind: TableKind,
+    array: &'a str,
+    key: &'a str,
+) -> Result<(), AllocError>
+    ensures { OnOk result (map spot places.new.items ≡ map spot places.old.items ++ spec.repeated_texts kind array.now key.now (placed at.entry)) }
 {
-    has(table, one) && has(table, other)
+    let items = text_items(alloc, at, kind, array, key)?;
+    add_repeated_texts(alloc, places, &items)
+}
+
+fn add_patterns<'a>(
+    alloc: Global,
+    places: &mut Vec<Place<'a>>,
+    at: Placed<'a>,
+) -> Result<(), AllocError>
+    ensures { OnOk result (map spot places.new.items ≡ map spot places.old.items ++ spec.repeated bytes_eq (spec.pattern_items (placed at.entry))) }
+{
+    let items = pattern_items(alloc, at)?;
+    add_repeated_texts(alloc, places, &items)
+}
+
+fn add_ports<'a>(
+    alloc: Global,
+    places: &mut Vec<Place<'a>>,
+    at: Placed<'a>,
+) -> Result<(), AllocError>
+    ensures { OnOk result (map spot places.new.items ≡ map spot places.old.items ++ spec.repeated int_eq (spec.port_items (placed at.entry))) }
+{
+    let items = port_items(alloc, at)?;
+    add_repeated_integers(alloc, places, &items)
+}
+
+fn add_statuses<'a>(
+    alloc: Global,
+    places: &mut Vec<Place<'a>>,
+    at: Placed<'a>,
+) -> Result<(), AllocError>
+    ensures { OnOk result (map spot places.new.items ≡ map spot places.old.items
+        ++ spec.repeated int_eq (spec.integer_items TableKind.Page (codes "error-page") (codes "status") (placed at.entry))) }
+{
+    let items = integer_items(alloc, at, TableKind::Page, "error-page", "status")?;
+    add_repeated_integers(alloc, places, &items)
+}
+
+/// Adds each error page that is for all else, but for the first.
+fn add_defaults<'a>(
+    alloc: Global,
+    places: &mut Vec<Place<'a>>,
+    at: Placed<'a>,
+) -> Result<(), AllocError>
+    ensures { OnOk result (map spot places.new.items ≡ map spot places.old.items ++ drop 1 (spec.default_pages (placed at.entry))) }
+{
+    let pages = default_pages(alloc, at)?;
+    add_all_but_first(places, &pages)
+}
+
+fn add_all_but_first<'a>(places: &mut Vec<Place<'a>>, all: &[Place<'a>]) -> Result<(), AllocError>
+    ensures { OnOk result (map spot places.new.items ≡ map spot places.old.items ++ drop 1 (map spot all.now)) }
+{
+    if all.is_empty() {
+        return Ok(());
+    }
+    places.extend_from_slice(&all[1..])?;
+    Ok(())
+}
+
+/// Adds each text that is equal to one before it.
+fn add_repeated_texts<'a>(
+    alloc: Global,
+    places: &mut Vec<Place<'a>>,
+    items: &[(&'a str, Place<'a>)],
+) -> Result<(), AllocError>
+    ensures { OnOk result (map spot places.new.items ≡ map spot places.old.items ++ spec.repeated bytes_eq (map (λ i. (i.0.now, spot i.1)) items.now)) }
+{
+    add_again(alloc, places, items)?;
+    Ok(())
+}
+
+/// Adds each integer that is equal to one before it.
+fn add_repeated_integers<'a>(
+    alloc: Global,
+    places: &mut Vec<Place<'a>>,
+    items: &[(i64, Place<'a>)],
+) -> Result<(), AllocError>
+    ensures { OnOk result (map spot places.new.items ≡ map spot places.old.items ++ spec.repeated int_eq (map (λ i. (i.0, spot i.1)) items.now)) }
+{
+    add_again(alloc, places, items)?;
+    Ok(())
+}
+
+/// Adds the place of each key that is equal to one before it.
+fn add_again<'a, K: Ord + Copy + Drop>(
+    alloc: Global,
+    places: &mut Vec<Place<'a>>,
+    items: &[(K, Place<'a>)],
+) -> Result<(), AllocError>
+    ensures { OnOk result (map spot places.new.items ≡ map spot places.old.items ++ spec.repeated (eq_by_cmp K.cmp) (map (λ i. (i.0, spot i.1)) items.now)) }
+{
+    let mut passed = BTreeSet::new(alloc);
+    for (key, place) in items {
+        let is_new = passed.insert(*key)?;
+        add_where(places, !is_new, *place)?;
+    }
+    Ok(())
+}
+
+fn add_where<'a>(
+    places: &mut Vec<Place<'a>>,
+    holds: bool,
+    place: Place<'a>,
+) -> Result<(), AllocError>
+    ensures { OnOk result (map spot places.new.items ≡ map spot places.old.items ++ (if holds then spot place.entry ∷ [] else [])) }
+{
+    if holds {
+        places.push(place)?;
+    }
+    Ok(())
 }

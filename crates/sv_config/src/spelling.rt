@@ -4,13 +4,10 @@ ghost use Rattle.std.specs.Prelude.{◌≡◌, ◌==◌, IfOk, map, codes};
 ghost use Rattle.std.specs.List.{list_all, slice_split};
 ghost use Rattle.toml.specs.View.{table_view};
 ghost use Rattle.sv_mapping.specs.Pattern.{is_pattern, form_of};
-ghost use Rattle.sv_config.specs.Document.{texts_at, has as spec_has};
+ghost use Rattle.sv_config.specs.Document.{has as spec_has};
 ghost use Rattle.sv_config.specs.Spelling as spec;
 
-use crate::columns::texts_at;
-use crate::cookie::has_stray_cookie;
 use crate::document::{has, text_at};
-use crate::rules::TableKind;
 use std::alloc::{AllocError, Global};
 use sv_mapping::Pattern;
 use toml::Table;
@@ -23,78 +20,6 @@ const MAX_FILE_PATH_BYTES: usize = 256;
 
 /// The most bytes that a value of Cache-Control has.
 const MAX_CACHE_BYTES: usize = 256;
-
-/// Whether a table of a kind has a text that is badly spelled.
-#[tactic(auto, unfolding(crate::specs::Spelling::is_misspelled))]
-pub(crate) fn is_misspelled(
-    alloc: Global,
-    kind: TableKind,
-    table: &Table,
-) -> Result<bool, AllocError>
-    ensures { IfOk result (λ b. b ≡ spec.is_misspelled kind (table_view table.now)) }
-{
-    match kind {
-        TableKind::Top | TableKind::Cluster | TableKind::Once | TableKind::Settings => Ok(false),
-        TableKind::Context => is_misspelled_context(alloc, table),
-        TableKind::Servlet => is_misspelled_servlet(alloc, table),
-        TableKind::Filter | TableKind::Listener => Ok(has_bad_name(table)),
-        TableKind::Mapping => Ok(has_bad_target(table)),
-        TableKind::Page => Ok(has_bad_page_path(table)),
-        TableKind::File => is_misspelled_file(alloc, table),
-        TableKind::Cookie => Ok(has_bad_cookie_name(table)),
-    }
-}
-
-fn is_misspelled_context(alloc: Global, context: &Table) -> Result<bool, AllocError>
-    ensures { IfOk result (λ b. b ≡ spec.is_misspelled_context (table_view context.now)) }
-{
-    if has_bad_context_path(alloc, context)? {
-        return Ok(true);
-    }
-    Ok(has_stray_cookie(context))
-}
-
-fn is_misspelled_file(alloc: Global, file: &Table) -> Result<bool, AllocError>
-    ensures { IfOk result (λ b. b ≡ spec.is_misspelled_file (table_view file.now)) }
-{
-    if has_bad_file_pattern(file) {
-        return Ok(true);
-    }
-    if has_bad_source(alloc, file)? {
-        return Ok(true);
-    }
-    Ok(has_bad_cache_control(file))
-}
-
-fn has_bad_source(alloc: Global, file: &Table) -> Result<bool, AllocError>
-    ensures { IfOk result (λ b. b ≡ spec.has_bad_source (table_view file.now)) }
-{
-    if has_bad_file_path(alloc, file, "file")? {
-        return Ok(true);
-    }
-    has_bad_file_path(alloc, file, "folder")
-}
-
-fn is_misspelled_servlet(alloc: Global, servlet: &Table) -> Result<bool, AllocError>
-    ensures { IfOk result (λ b. b ≡ spec.is_misspelled_servlet (table_view servlet.now)) }
-{
-    if has_bad_name(servlet) {
-        return Ok(true);
-    }
-    let patterns = texts_at(alloc, servlet, "patterns")?;
-    Ok(has_bad_pattern(&patterns))
-}
-
-fn has_bad_pattern(patterns: &[&str]) -> bool
-    ensures { result ≡ spec.has_bad_pattern (map (λ pattern. pattern.now) patterns.now) }
-{
-    for pattern in patterns {
-        if !Pattern::is_valid(pattern) {
-            return true;
-        }
-    }
-    false
-}
 
 pub(crate) fn has_bad_context_path(alloc: Global, context: &Table) -> Result<bool, AllocError>
     ensures { IfOk result (λ b. b ≡ spec.fails_at spec.is_context_path (codes "path") (table_view context.now)) }

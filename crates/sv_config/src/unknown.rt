@@ -1,75 +1,118 @@
-//! Names that nothing declares.
+//! Where names stand that nothing declares.
 
-ghost use Rattle.std.specs.Prelude.{◌≡◌, IfOk, map, codes};
-ghost use Rattle.sv_config.specs.Document.{texts_at};
+ghost use Rattle.std.specs.Prelude.{◌≡◌, ◌++◌, map, IfOk, OnOk, bytes_eq};
+ghost use Rattle.std.specs.BTreeSet.{contains_by};
+ghost use Rattle.std.specs.Cmp.Lexicographic.{slice_cmp};
+ghost use Rattle.std.specs.List.{flat_map, list_any};
+ghost use Rattle.std.specs.Ordering.{nat_cmp};
+ghost use Rattle.sv_mapping.specs.Path.{Text};
 ghost use Rattle.toml.specs.View.{table_view};
+ghost use Rattle.sv_config.specs.Place.{kind_of, spot, placed, child};
 ghost use Rattle.sv_config.specs.Unknown as spec;
+ghost use Rattle.sv_config.specs.Spelling.{fails_at};
 
-use crate::columns::{column, texts_at};
+use crate::columns::column;
 use crate::cookie::has_bad_same_site;
-use crate::keys::{OddKey, has_odd_key};
-use crate::lists::has_stranger_among;
+use crate::document::text_at;
+use crate::keys::{OddKey, add_odd_keys};
+use crate::members::{Unfit, add_field, add_members};
+use crate::place::{Place, TablePlace, kind_of, number_of};
+use crate::placed::{Placed, children};
 use crate::rules::TableKind;
 use std::alloc::{AllocError, Global};
-use sv_mapping::Dispatcher;
+use std::collections::BTreeSet;
 use toml::Table;
 
-/// Whether a table of a kind has a name that nothing declares.
-#[tactic(auto, unfolding(crate::specs::Unknown::has_unknown))]
-pub(crate) fn has_unknown(alloc: Global, kind: TableKind, table: &Table) -> Result<bool, AllocError>
-    ensures { IfOk result (λ b. b ≡ spec.has_unknown kind (table_view table.now)) }
+/// Adds each key, dispatcher, filter and servlet of a table that nothing declares.
+pub(crate) fn add_unknown<'a>(
+    alloc: Global,
+    places: &mut Vec<Place<'a>>,
+    at: Placed<'a>,
+) -> Result<(), AllocError>
+    ensures { OnOk result (map spot places.new.items ≡ map spot places.old.items ++ spec.unknown_in (placed at.entry)) }
 {
-    if has_odd_key(table, OddKey::NotListed(kind)) {
-        return Ok(true);
-    }
-    names_unknown(alloc, kind, table)
+    add_odd_keys(places, OddKey::NotListed(kind_of(at.place)), at)?;
+    add_strange(alloc, places, at)
 }
 
-fn names_unknown(alloc: Global, kind: TableKind, table: &Table) -> Result<bool, AllocError>
-    ensures { IfOk result (λ b. b ≡ spec.names_unknown kind (table_view table.now)) }
+fn add_strange<'a>(
+    alloc: Global,
+    places: &mut Vec<Place<'a>>,
+    at: Placed<'a>,
+) -> Result<(), AllocError>
+    ensures { OnOk result (map spot places.new.items ≡ map spot places.old.items ++ spec.strange_in (kind_of at.entry.place) (placed at.entry)) }
 {
-    match kind {
-        TableKind::Context => has_undeclared(alloc, table),
-        TableKind::Mapping => has_stray_dispatcher(alloc, table),
-        TableKind::Cookie => Ok(has_bad_same_site(table)),
-        _ => Ok(false),
-    }
-}
-
-/// Whether filter mappings of a context name what the context does not declare.
-fn has_undeclared(alloc: Global, context: &Table) -> Result<bool, AllocError>
-    ensures { IfOk result (λ b. b ≡ spec.has_undeclared (table_view context.now)) }
-{
-    if has_undeclared_at(alloc, context, "filter")? {
-        return Ok(true);
-    }
-    has_undeclared_at(alloc, context, "servlet")
-}
-
-/// Whether filter mappings name at a key what the array at that key does not declare.
-fn has_undeclared_at(alloc: Global, context: &Table, key: &str) -> Result<bool, AllocError>
-    ensures { IfOk result (λ b. b ≡ spec.has_undeclared_at key.now (table_view context.now)) }
-{
-    let declared = column(alloc, context, key, "name")?;
-    let named = column(alloc, context, "filter-mapping", key)?;
-    has_stranger_among(alloc, &declared, &named)
-}
-
-/// Whether a filter mapping lists a word that is no dispatcher's.
-fn has_stray_dispatcher(alloc: Global, mapping: &Table) -> Result<bool, AllocError>
-    ensures { IfOk result (λ b. b ≡ spec.has_stray_dispatcher (texts_at (codes "dispatch") (table_view mapping.now))) }
-{
-    let words = texts_at(alloc, mapping, "dispatch")?;
-    Ok(has_stray_word(&words))
-}
-
-fn has_stray_word(words: &[&str]) -> bool
-    ensures { result ≡ spec.has_stray_dispatcher (map (λ word. word.now) words.now) }
-{
-    for word in words {
-        if word.parse::<Dispatcher>().is_err() {
-            return true;
+    match kind_of(at.place) {
+        TableKind::Context => {
+            add_undeclared(alloc, places, at, "filter")?;
+            add_undeclared(alloc, places, at, "servlet")
         }
+        TableKind::Mapping => add_members(places, Unfit::NoDispatcher, at, "dispatch"),
+        TableKind::Cookie => add_field(places, has_bad_same_site(at.table), at, "same-site"),
+        _ => Ok(()),
     }
-    false
+}
+
+/// Adds each filter mapping of a context that names at a key what the array at that key does not declare.
+fn add_undeclared<'a>(
+    alloc: Global,
+    places: &mut Vec<Place<'a>>,
+    at: Placed<'a>,
+    key: &'a str,
+) -> Result<(), AllocError>
+    ensures { OnOk result (map spot places.new.items ≡ map spot places.old.items ++ spec.undeclared_at key.now (placed at.entry)) }
+{
+    let declared = column(alloc, at.table, key, "name")?;
+    let mappings = children(alloc, at.table, "filter-mapping")?;
+    let context = number_of(at.place);
+    add_strangers(alloc, places, context, key, &declared, &mappings)
+}
+
+/// Adds each of these filter mappings of a context that names at the key what is not declared.
+fn add_strangers<'a>(
+    alloc: Global,
+    places: &mut Vec<Place<'a>>,
+    context: usize,
+    key: &'a str,
+    declared: &[&str],
+    mappings: &[(usize, &'a Table)],
+) -> Result<(), AllocError>
+    ensures { OnOk result (map spot places.new.items ≡ map spot places.old.items
+        ++ flat_map (spec.stranger_at context key.now (map (λ name. name.now) declared.now)) (map child mappings.now)) }
+{
+    let names = names_of(alloc, declared)?;
+    for (index, table) in mappings {
+        let at = Placed {
+            place: TablePlace::Within {
+                context,
+                kind: TableKind::Mapping,
+                index: *index,
+            },
+            table,
+        };
+        add_field(places, is_undeclared(&names, table, key), at, key)?;
+    }
+    Ok(())
+}
+
+/// Names as a set, in which one is found without looking at each.
+fn names_of<'a>(alloc: Global, names: &[&'a str]) -> Result<BTreeSet<&'a str>, AllocError>
+    ensures { IfOk result (λ set. (text : Text) → contains_by (λ name. slice_cmp nat_cmp text name.now) set
+        ≡ list_any (λ name. bytes_eq name text) (map (λ name. name.now) names.now)) }
+{
+    let mut set = BTreeSet::new(alloc);
+    for name in names {
+        set.insert(*name)?;
+    }
+    Ok(set)
+}
+
+/// Whether the text at a key is none of the names.
+fn is_undeclared(names: &BTreeSet<&str>, table: &Table, key: &str) -> bool
+    ensures { result ≡ fails_at (λ text. contains_by (λ name. slice_cmp nat_cmp text name.now) names.now) key.now (table_view table.now) }
+{
+    match text_at(table, key) {
+        Some(text) => !names.contains(text),
+        None => false,
+    }
 }

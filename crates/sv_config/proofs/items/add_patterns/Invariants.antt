@@ -3,7 +3,7 @@ use Rattle.std.specs.Prelude.{codes}
 use Rattle.toml.specs.View.{table_view, view}
 use Rattle.sv_config.specs.Document.{values_at}
 use Rattle.sv_config.specs.Place.{spot}
-use Rattle.sv_config.specs.Places.{texts_from}
+use Rattle.sv_config.specs.Repeats.{texts_from}
 use Rattle.sv_config.proofs.items.add_patterns.Given as goal
 
 abbrev pub invariant-loop-index : goal.invariant-loop-index

@@ -1,7 +1,7 @@
 use Rattle.std.proofs.Common.{◌≡◌, map, take}
 use Rattle.std.specs.List.{flat_map}
 use Rattle.sv_config.specs.Place.{spot, child}
-use Rattle.sv_config.specs.Places.{integer_item}
+use Rattle.sv_config.specs.Repeats.{integer_item}
 use Rattle.sv_config.proofs.items.integers_of.Given as goal
 
 abbrev pub invariant-loop-index : goal.invariant-loop-index

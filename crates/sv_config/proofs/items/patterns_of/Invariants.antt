@@ -1,7 +1,7 @@
 use Rattle.std.proofs.Common.{◌≡◌, map, take}
 use Rattle.std.specs.List.{flat_map}
 use Rattle.sv_config.specs.Place.{spot, child}
-use Rattle.sv_config.specs.Places.{patterns_in}
+use Rattle.sv_config.specs.Repeats.{patterns_in}
 use Rattle.sv_config.proofs.items.patterns_of.Given as goal
 
 abbrev pub invariant-loop-index : goal.invariant-loop-index

@@ -2,7 +2,7 @@ use Rattle.std.proofs.Common.{◌≡◌, ◌++◌, map, drop}
 use Rattle.std.specs.Prelude.{codes}
 use Rattle.toml.specs.View.{view}
 use Rattle.sv_config.specs.Place.{spot, placed}
-use Rattle.sv_config.specs.Places.{integers_from, port_items}
+use Rattle.sv_config.specs.Repeats.{integers_from, port_items}
 use Rattle.sv_config.proofs.items.port_items.Given as goal
 
 abbrev pub invariant-loop-index : goal.invariant-loop-index

@@ -1,7 +1,7 @@
 use Rattle.std.proofs.Common.{◌≡◌, map, take}
 use Rattle.std.specs.List.{flat_map}
 use Rattle.sv_config.specs.Place.{spot, child}
-use Rattle.sv_config.specs.Places.{text_item}
+use Rattle.sv_config.specs.Repeats.{text_item}
 use Rattle.sv_config.proofs.items.texts_of.Given as goal
 
 abbrev pub invariant-loop-index : goal.invariant-loop-index

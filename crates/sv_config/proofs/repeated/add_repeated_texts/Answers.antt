@@ -1,7 +1,0 @@
-use Rattle.std.proofs.Common.{◌++◌, ◌∙◌, ap, map}
-use Rattle.sv_config.specs.Place.{spot}
-use Rattle.sv_config.proofs.AgainLemmas.{texts_again}
-use Rattle.sv_config.proofs.repeated.add_repeated_texts.Goals as goal
-
-pub returns : goal.returns
-returns c = c.in_ok-add_again.ensures ∙ ap (λ all. map spot c.args.places.now.items ++ all) (texts_again c.args.items.now)
