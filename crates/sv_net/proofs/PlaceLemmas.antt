@@ -3,7 +3,6 @@ use Rattle.std.proofs.Common.{◌≡◌, ℕ, zero, suc, List, [], ◌∷◌, Op
 use Rattle.std.specs.Prelude.{IfSome, slice_get}
 use Rattle.sv_net.specs.declared.connections.Connections.{Connections}
 use Rattle.sv_net.specs.declared.open.Open.{Open}
-use Rattle.sv_net.specs.declared.state.State.{State}
 use Rattle.sv_net.specs.Places.{places_of, elsewhere, with_at, held_in, held_at, HasStood, IsKept, Keeps}
 
 module _ {A : Type 0} where
@@ -15,12 +14,12 @@ module _ {A : Type 0} where
 
 -- ---- who stands there
 
-set_holds : (P : Open → Type 0) (xs : List (Option Open)) (i : ℕ) (x : Open) → P x → IfSome (held_in (slice_get (slice_set xs i (Some x)) i)) P
+pub set_holds : (P : Open → Type 0) (xs : List (Option Open)) (i : ℕ) (x : Open) → P x → IfSome (held_in (slice_get (slice_set xs i (Some x)) i)) P
 set_holds P [] i x p = tt
 set_holds P (y ∷ ys) zero x p = p
 set_holds P (y ∷ ys) (suc i) x p = set_holds P ys i x p
 
-none_held : (xs : List (Option Open)) (i : ℕ) → held_in (slice_get (slice_set xs i None) i) ≡ None
+pub none_held : (xs : List (Option Open)) (i : ℕ) → held_in (slice_get (slice_set xs i None) i) ≡ None
 none_held [] i = refl
 none_held (y ∷ ys) zero = refl
 none_held (y ∷ ys) (suc i) = none_held ys i
@@ -41,21 +40,21 @@ pub put_holds : (P : Open → Type 0) (place : ℕ) (held : Open) (old new : Con
 put_holds P place held old new is p = subst (λ xs. IfSome (held_in (slice_get xs place)) P) (sym is) (set_holds P (places_of old) place held p)
 
 -- who was kept
-pub keep_holds : (P : State → Type 0) (place : ℕ) (was : Open) (old new : Connections) → Keeps place was old new → held_at old place ≡ None → P was.state → IfSome (held_at new place) (λ held. P held.state)
-keep_holds P place was old new (inl k) none p = put_holds (λ held. P held.state) place k.held old new k.places (subst P (sym k.kept.state) p)
-keep_holds P place was old new (inr k) none p = nobody_holds (λ held. P held.state) (same_held place old new k.places ∙ none)
+pub keep_holds : (P : Open → Type 0) (place : ℕ) (was : Open) (old new : Connections) → Keeps place was old new → held_at old place ≡ None → ((held : Open) → IsKept was held → P held) → IfSome (held_at new place) P
+keep_holds P place was old new (inl k) none p = put_holds P place k.held old new k.places (p k.held k.kept)
+keep_holds P place was old new (inr k) none p = nobody_holds P (same_held place old new k.places ∙ none)
 
 -- who has stood there before
-stood_in : (P : State → Type 0) (o m : Option Open) → IfSome o (λ held. (was : Open) × (m ≡ Some was) × IsKept was held) → IfSome m (λ was. P was.state)
-    → IfSome o (λ held. P held.state)
-stood_in P None m stood p = tt
-stood_in P (Some held) m (was, is, kept) p = subst P (sym kept.state) (subst (λ (o : Option Open). IfSome o (λ was. P was.state)) is p)
+stood_in : (P : Open → Type 0) (o m : Option Open) → ((was held : Open) → IsKept was held → P was → P held) → IfSome o (λ held. (was : Open) × (m ≡ Some was) × IsKept was held)
+    → IfSome m P → IfSome o P
+stood_in P None m keeps stood p = tt
+stood_in P (Some held) m keeps (was, is, kept) p = keeps was held kept (subst (λ (o : Option Open). IfSome o P) is p)
 
-pub stood_holds : (P : State → Type 0) (place : ℕ) (old new : Connections) → HasStood place old new → IfSome (held_at old place) (λ was. P was.state)
-    → IfSome (held_at new place) (λ held. P held.state)
-stood_holds P place old new stood p = stood_in P (held_at new place) (held_at old place) stood p
+pub stood_holds : (P : Open → Type 0) (place : ℕ) (old new : Connections) → ((was held : Open) → IsKept was held → P was → P held) → HasStood place old new → IfSome (held_at old place) P
+    → IfSome (held_at new place) P
+stood_holds P place old new keeps stood p = stood_in P (held_at new place) (held_at old place) keeps stood p
 
--- what is so of each is so of whoever stands there
-pub holds_more : (P Q : State → Type 0) → ((s : State) → P s → Q s) → (o : Option Open) → IfSome o (λ held. P held.state) → IfSome o (λ held. Q held.state)
+-- what is so of each is so of whoever is there
+pub holds_more : {A : Type 0} (P Q : A → Type 0) → ((a : A) → P a → Q a) → (o : Option A) → IfSome o P → IfSome o Q
 holds_more P Q more None p = tt
-holds_more P Q more (Some held) p = more held.state p
+holds_more P Q more (Some a) p = more a p

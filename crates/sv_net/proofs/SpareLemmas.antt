@@ -27,7 +27,7 @@ later p q (inl is) = inl (ap suc is)
 later p q (inr same) = inr (later_same p q same)
 
 -- they are one, or what is set at the one isn't seen at the other
-same_or_apart : (p q : ℕ) → (p ≡ q) ⊎ ((xs : List (Option Open)) → held_in (slice_get (slice_set xs p None) q) ≡ held_in (slice_get xs q))
+pub same_or_apart : (p q : ℕ) → (p ≡ q) ⊎ ((xs : List (Option Open)) → held_in (slice_get (slice_set xs p None) q) ≡ held_in (slice_get xs q))
 same_or_apart zero zero = inl refl
 same_or_apart zero (suc q) = inr (first_other q)
 same_or_apart (suc p) zero = inr (later_first p)
@@ -47,7 +47,7 @@ pub spares_same : (old new : Connections) → ((place : ℕ) → held_at new pla
 spares_same old new same place = stays (held_at old place) (held_at new place) (same place)
 
 -- what stands at another place
-apart_same : (p q : ℕ) (old new : Connections) → elsewhere p new ≡ elsewhere p old
+pub apart_same : (p q : ℕ) (old new : Connections) → elsewhere p new ≡ elsewhere p old
     → ((xs : List (Option Open)) → held_in (slice_get (slice_set xs p None) q) ≡ held_in (slice_get xs q)) → held_at new q ≡ held_at old q
 apart_same p q old new same apart = sym (apart (places_of new)) ∙ ap (λ xs. held_in (slice_get xs q)) same ∙ apart (places_of old)
 

@@ -1,6 +1,10 @@
+pub mod Bytes
+pub mod Arrival
 pub mod Peers
 pub mod Places
+pub mod Exchange
 pub mod Frames
 pub mod Hearing
 pub mod Saying
+pub mod Sending
 pub mod Life

@@ -1,6 +1,7 @@
 -- The connections that are open, each at its place.
 use Rattle.std.specs.Prelude.{◌≡◌, ◌⊎◌, ◌-◌, ℕ, ◌==◌, Bool, true, false, cond, List, Option, Some, None, IfSome, slice_get, slice_set}
 use Rattle.sv_connection.specs.declared.reply.Naming.{Naming}
+use Rattle.sv_net.specs.Bytes.{IsQuiet}
 use Rattle.sv_net.specs.declared.connections.Connections.{Connections}
 use Rattle.sv_net.specs.declared.open.Open.{Open}
 use Rattle.sv_net.specs.declared.persistence.Persistence.{Persistence}
@@ -64,8 +65,9 @@ SparesClients old new = (place : ℕ) → IfSome (held_at old place) (λ was. wa
 abbrev pub count_of : Connections → ℕ
 count_of c = c.count
 
--- a connection as it was, but for its socket
+-- a connection as it was, but for what its socket knows of the poll
 pub record IsKept (was held : Open) : Type 0 where
+  pub quiet : IsQuiet was.socket held.socket
   pub state : held.state ≡ was.state
   pub begun : held.begun ≡ was.begun
   pub heard : held.heard ≡ was.heard
@@ -117,3 +119,8 @@ manner_of token (Some (Some held)) = manner_in token held.state
 -- the same of the client at a place; none where no client waits there under this number
 abbrev pub manner_at : Connections → ℕ → ℕ → Option (Bool × Bool)
 manner_at c place token = manner_of token (slice_get (places_of c) place)
+
+-- whoever waits under a number at this place was told something, by how it wants a refusal, or its connection is closed
+abbrev pub TellsAt : ℕ → ℕ → (Bool × Bool → Open → Open → Type 0) → Connections → Connections → Type 0
+TellsAt place token told old new =
+    IfSome (manner_at old place token) (λ manner. IfSome (held_at old place) (λ was. IfSome (held_at new place) (λ held. told manner was held)))

@@ -1,5 +1,8 @@
 //! Where those stand who connect, and where a node waits.
 
+ghost use Rattle.sv_net.specs.Arrival.{IsNew};
+ghost use Rattle.sv_net.specs.Exchange.{AllContinue};
+
 use crate::connections::{Connections, OPEN_LIMIT};
 use crate::deadline::{TURN, listen};
 use crate::hearing::PIECE;
@@ -212,18 +215,24 @@ impl Acceptor {
     }
 
     /// Ends the connections that have taken too long, once in a while. Whoever is in the queue waits for the node, and isn't late.
-    pub fn look_round(&self, connections: &mut Connections) {
+    pub fn look_round(&self, connections: &mut Connections)
+        ensures { AllContinue connections.old connections.new }
+    {
         connections.look_round(&self.queue);
     }
 
     /// Closes the connection that gives way first; false where none does. Whoever is in the queue has said something that wasn't read
     /// yet, and doesn't give way.
-    pub fn make_room(&self, connections: &mut Connections) -> bool {
+    pub fn make_room(&self, connections: &mut Connections) -> bool
+        ensures { AllContinue connections.old connections.new }
+    {
         connections.make_room(&self.queue)
     }
 
     /// Whether one more may be open, for whom another gives way where as many are open as may be.
-    pub fn has_room(&self, connections: &mut Connections) -> bool {
+    pub fn has_room(&self, connections: &mut Connections) -> bool
+        ensures { AllContinue connections.old connections.new }
+    {
         !connections.is_full() || self.make_room(connections)
     }
 
@@ -253,7 +262,9 @@ impl Acceptor {
     }
 
     /// Accepts a connection. Whatever keeps it out, the node goes on, and tries again.
-    pub fn accept(&mut self) -> Arrival {
+    pub fn accept(&mut self) -> Arrival
+        ensures { IsNew result }
+    {
         self.door = false;
         match self.listener.accept() {
             Ok((stream, _)) => {
@@ -283,7 +294,9 @@ impl Acceptor {
 
     /// Somebody who has come. While nobody else is here, what comes first of them is waited for a moment: that costs less than to
     /// ask the poll for it, and most requests come at once.
-    fn introduce(&self, stream: TcpStream) -> Arrival {
+    fn introduce(&self, stream: TcpStream) -> Arrival
+        ensures { IsNew result }
+    {
         let socket = if self.waits {
             Socket::patient(stream)
         } else {

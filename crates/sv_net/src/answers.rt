@@ -1,10 +1,12 @@
 //! What clients are told.
 
-ghost use Rattle.std.specs.Prelude.{◌≡◌, ◌||◌, None, IfSome, is_some};
+ghost use Rattle.std.specs.Prelude.{◌≡◌, ◌∷◌, ◌||◌, [], None, IfSome, is_some};
 ghost use Rattle.sv_connection.specs.Serve.{memory_lines};
-ghost use Rattle.sv_net.specs.Places.{elsewhere, held_at, manner_at, naming_of};
-ghost use Rattle.sv_net.specs.Saying.{Answers, Follows, IsListenedTo, Says, Tells, is_deadline, refused_as};
-ghost use Rattle.sv_net.specs.declared.state.Next.TheVariants.{Part};
+ghost use Rattle.sv_net.specs.Bytes.{came_of, went_of};
+ghost use Rattle.sv_net.specs.Exchange.{GoOnWith, said_on, unsent};
+ghost use Rattle.sv_net.specs.Places.{TellsAt, elsewhere, held_at, manner_at, naming_of};
+ghost use Rattle.sv_net.specs.Saying.{Answers, FollowsOn, Says, Tells, is_deadline, refused_as};
+ghost use Rattle.sv_net.specs.declared.state.Next.TheVariants.{Close, Listen, Part};
 
 use crate::client::Client;
 use crate::connections::Connections;
@@ -26,7 +28,8 @@ fn closes(cause: Cause, close: bool) -> bool
 impl Connections {
     /// Says a text at a place. What isn't taken of it is kept, and leaves `text`.
     pub fn say(&mut self, place: usize, socket: Socket, text: &mut Vec<u8>, next: Next)
-        ensures said { held_at self.old place ≡ None → IfSome (held_at self.new place) (λ held. Says text.old.items next held.state) }
+        ensures said { held_at self.old place ≡ None
+            → IfSome (held_at self.new place) (λ held. Says text.old.items next (went_of socket) (came_of socket) held) }
         ensures others { elsewhere place self.new ≡ elsewhere place self.old }
     {
         let mut socket = socket;
@@ -43,7 +46,9 @@ impl Connections {
     }
 
     /// Says more of a text that was begun.
-    pub(crate) fn say_on(&mut self, place: usize, open: Open) {
+    pub(crate) fn say_on(&mut self, place: usize, open: Open)
+        ensures { held_at self.old place ≡ None → GoOnWith place «open» self.old self.new }
+    {
         let (mut socket, state, begun, heard) = open.into_parts();
         let State::Saying { mut text, next } = state else {
             self.leave(place);
@@ -77,7 +82,7 @@ impl Connections {
     /// Listens to a client further. One of which nothing more has come rests until the poll reports it; another is gone on with in the
     /// next turn, so that each has one request a turn.
     fn listen(&mut self, place: usize, socket: Socket, client: Client)
-        ensures listened { held_at self.old place ≡ None → IfSome (held_at self.new place) (λ held. IsListenedTo client held.state) }
+        ensures listened { held_at self.old place ≡ None → IfSome (held_at self.new place) (λ held. FollowsOn (Listen client) socket held) }
         ensures others { elsewhere place self.new ≡ elsewhere place self.old }
     {
         if socket.is_drained() && client.connection.is_empty() {
@@ -91,7 +96,7 @@ impl Connections {
 
     /// What follows once a text is written.
     pub(crate) fn follow(&mut self, place: usize, socket: Socket, next: Next)
-        ensures followed { held_at self.old place ≡ None → IfSome (held_at self.new place) (λ held. Follows next held.state) }
+        ensures followed { held_at self.old place ≡ None → IfSome (held_at self.new place) (λ held. FollowsOn next socket held) }
         ensures others { elsewhere place self.new ≡ elsewhere place self.old }
     {
         match next {
@@ -103,7 +108,9 @@ impl Connections {
 
     /// Says one byte, and closes the connection.
     pub(crate) fn tell(&mut self, place: usize, socket: Socket, byte: u8)
-        ensures { elsewhere place self.new ≡ elsewhere place self.old }
+        ensures said { held_at self.old place ≡ None
+            → IfSome (held_at self.new place) (λ held. Says (byte ∷ []) Close (went_of socket) (came_of socket) held) }
+        ensures others { elsewhere place self.new ≡ elsewhere place self.old }
     {
         let mut text = Vec::new(self.alloc);
         if text.push(byte).is_ok() {
@@ -154,7 +161,7 @@ impl Connections {
         text: &mut Vec<u8>,
     )
         ensures nobody { manner_at self.old place token ≡ None → self.new ≡ self.old }
-        ensures answered { IfSome (manner_at self.old place token) (λ _. IfSome (held_at self.new place) (λ held. Tells response.now now held.state)) }
+        ensures answered { TellsAt place token (λ _ was held. Tells response.now now was held) self.old self.new }
         ensures others { elsewhere place self.new ≡ elsewhere place self.old }
     {
         if !self.waits_at(place, token) {
@@ -178,7 +185,8 @@ impl Connections {
 
     /// Says to a client that memory was refused, and parts from it.
     fn refuse_for_memory(&mut self, place: usize, socket: Socket)
-        ensures said { held_at self.old place ≡ None → IfSome (held_at self.new place) (λ held. Says memory_lines Part held.state) }
+        ensures said { held_at self.old place ≡ None
+            → IfSome (held_at self.new place) (λ held. Says memory_lines Part (went_of socket) (came_of socket) held) }
         ensures others { elsewhere place self.new ≡ elsewhere place self.old }
     {
         match Vec::from_slice(self.alloc, memory_lines()) {
@@ -192,7 +200,8 @@ impl Connections {
 
     /// The same to the client at a place.
     fn starve(&mut self, place: usize)
-        ensures said { IfSome (held_at self.new place) (λ held. Says memory_lines Part held.state) }
+        ensures said { IfSome (held_at self.old place) (λ was. unsent was.state ≡ []
+            → IfSome (held_at self.new place) (λ held. Says memory_lines Part (said_on was) (came_of was.socket) held)) }
         ensures others { elsewhere place self.new ≡ elsewhere place self.old }
     {
         if let Some(open) = self.take(place) {
@@ -204,8 +213,7 @@ impl Connections {
     /// Refuses the client that waits at a place for the answer under a token. The connection of one that has waited in vain closes.
     pub fn refuse(&mut self, place: usize, token: u64, cause: Cause, now: u64, text: &mut Vec<u8>)
         ensures nobody { manner_at self.old place token ≡ None → self.new ≡ self.old }
-        ensures refused { IfSome (manner_at self.old place token) (λ manner. IfSome (held_at self.new place)
-            (λ held. Answers (refused_as (naming_of self.old) cause manner) now held.state)) }
+        ensures refused { TellsAt place token (λ manner was held. Answers (refused_as (naming_of self.old) cause manner) now was held) self.old self.new }
         ensures others { elsewhere place self.new ≡ elsewhere place self.old }
     {
         let Some((head_only, close)) = self.manner_at(place, token) else {

@@ -2,7 +2,11 @@
 
 ghost use Rattle.std.specs.Prelude.{◌≡◌, None, IfSome};
 ghost use Rattle.sv_model.specs.Ranges.{IsPacket};
-ghost use Rattle.sv_net.specs.Places.{Spares, SparesClients, elsewhere, held_at, places_of};
+ghost use Rattle.sv_net.specs.Bytes.{went_of};
+ghost use Rattle.sv_net.specs.Exchange.{AllContinue, GoOnBut, GoOnWith, Obeys};
+ghost use Rattle.sv_net.specs.Places.{HasStood, Spares, SparesClients, elsewhere, held_at, places_of};
+ghost use Rattle.sv_net.specs.Sending.{Admits, SamePeople, Sends, SendsBehind, links_of};
+ghost use Rattle.sv_net.specs.declared.state.State.TheVariants.{Calling, Ordering};
 ghost use Rattle.sv_record.specs.Frame.{spelling};
 ghost use Rattle.sv_record.specs.Greeting.{IsGreeting};
 ghost use Rattle.sv_record.specs.declared.frame.Frame.TheVariants.{Peer as PeerFrame};
@@ -54,6 +58,9 @@ impl Connections {
     fn admit_call(&mut self, socket: Socket, state: State) -> Option<usize>
         ensures vacant { IfSome result (λ place. held_at self.old place ≡ None) }
         ensures spares { Spares self.old self.new }
+        ensures admits { Admits (λ held. (held.socket ≡ socket) × (held.state ≡ state)) self.old self.new }
+        ensures refused { result ≡ None → SamePeople self.old self.new }
+        ensures links { links_of self.new ≡ links_of self.old }
     {
         if self.calls() >= CALL_LIMIT {
             return None;
@@ -64,7 +71,9 @@ impl Connections {
     }
 
     /// A packet is sent or lost: the command that waits for that is answered.
-    pub(crate) fn release(&mut self, holder: Option<usize>) {
+    pub(crate) fn release(&mut self, holder: Option<usize>)
+        ensures { AllContinue self.old self.new }
+    {
         let Some(place) = holder else {
             return;
         };
@@ -83,7 +92,8 @@ impl Connections {
     /// Sends a packet to a node. What isn't sent is a packet that is lost.
     pub fn send(&mut self, machine: &HostRuntime, to: u8, addr: SocketAddr, packet: Packet)
         requires { IsPacket packet }
-        ensures { Spares self.old self.new }
+        ensures spares { Spares self.old self.new }
+        ensures sends { Sends to (spelling (PeerFrame packet)) self.old self.new }
     {
         match spelled(self.alloc, packet) {
             Some(frame) => self.send_frame(machine, to, addr, frame),
@@ -122,7 +132,8 @@ impl Connections {
 
     /// Sends a frame.
     fn send_frame(&mut self, machine: &HostRuntime, to: u8, addr: SocketAddr, frame: Vec<u8>)
-        ensures { Spares self.old self.new }
+        ensures spares { Spares self.old self.new }
+        ensures sends { Sends to frame.items self.old self.new }
     {
         match self.links.link_to(machine, to, addr, self.clock) {
             Some(link) => self.call(link, frame),
@@ -132,7 +143,8 @@ impl Connections {
 
     /// Sends a frame on a connection. It stays there as long as the frame isn't taken whole; one on which it was is kept for the next.
     fn call(&mut self, link: Link, frame: Vec<u8>)
-        ensures { Spares self.old self.new }
+        ensures spares { Spares self.old self.new }
+        ensures sends { SendsBehind link.node (went_of link.socket) frame.items self.old self.new }
     {
         let mut link = link;
         let mut frame = frame;
@@ -148,7 +160,9 @@ impl Connections {
 
     /// Keeps a connection on which the rest of a frame is to be sent.
     fn keep_call(&mut self, socket: Socket, to: u8, frame: Vec<u8>)
-        ensures { Spares self.old self.new }
+        ensures spares { Spares self.old self.new }
+        ensures admits { Admits (λ held. (held.state ≡ Calling to frame None) × (went_of held.socket ≡ went_of socket)) self.old self.new }
+        ensures links { links_of self.new ≡ links_of self.old }
     {
         self.calling = self.admit_call(
             socket,
@@ -166,7 +180,9 @@ impl Connections {
 
     /// Has the poll report when more of a packet can be sent.
     fn watch_call(&mut self, place: usize)
-        ensures { elsewhere place self.new ≡ elsewhere place self.old }
+        ensures stood { HasStood place self.old self.new }
+        ensures others { elsewhere place self.new ≡ elsewhere place self.old }
+        ensures links { links_of self.new ≡ links_of self.old }
     {
         if let Some(open) = self.take(place) {
             self.keep(place, open);
@@ -183,7 +199,8 @@ impl Connections {
     /// Answers the command at a place by a byte, once the packet is sent or lost that it has put out. Whoever else stands there by now
     /// is told nothing.
     pub fn obeyed(&mut self, place: usize, byte: u8)
-        ensures { SparesClients self.old self.new }
+        ensures spares { SparesClients self.old self.new }
+        ensures told { GoOnBut place (λ held. IfSome (held_at self.old place) (λ was. Obeys byte was held)) self.old self.new }
     {
         let Some(open) = self.take(place) else {
             return;
@@ -196,7 +213,8 @@ impl Connections {
 
     /// Tells the byte of a command that was taken from its place: at once, if no packet is on its way that its step has put out.
     fn tell_in_time(&mut self, place: usize, open: Open, byte: u8)
-        ensures { held_at self.old place ≡ None → SparesClients self.old self.new }
+        ensures spares { held_at self.old place ≡ None → SparesClients self.old self.new }
+        ensures told { held_at self.old place ≡ None → «open».state ≡ Ordering → GoOnBut place (λ held. Obeys byte «open» held) self.old self.new }
     {
         let (socket, _state, _begun, _heard) = open.into_parts();
         if self.hold(place) {
@@ -208,7 +226,8 @@ impl Connections {
 
     /// Keeps a command's connection until the packet is sent or lost that its step has put out; false if none is on its way.
     fn hold(&mut self, place: usize) -> bool
-        ensures { SparesClients self.old self.new }
+        ensures spares { SparesClients self.old self.new }
+        ensures go_on { AllContinue self.old self.new }
     {
         let Some(call) = self.calling else {
             return false;
@@ -229,7 +248,9 @@ impl Connections {
     }
 
     /// Sends more of a packet.
-    pub(crate) fn call_on(&mut self, place: usize, open: Open) {
+    pub(crate) fn call_on(&mut self, place: usize, open: Open)
+        ensures { GoOnWith place «open» self.old self.new }
+    {
         let (mut socket, state, begun, heard) = open.into_parts();
         let State::Calling {
             to,
@@ -260,7 +281,9 @@ impl Connections {
     }
 
     /// A packet to a node was sent, or was lost as its connection has broken.
-    fn called(&mut self, to: u8, written: Written) {
+    fn called(&mut self, to: u8, written: Written)
+        ensures { places_of self.new ≡ places_of self.old }
+    {
         if written == Written::All {
             self.report.sent(to);
         } else {

@@ -1,8 +1,8 @@
 //! A client's connection among those that are open.
 
 ghost use Rattle.std.specs.Prelude.{◌≡◌, Bool, Some, []};
-ghost use Rattle.sv_connection.specs.Connection.{IsFresh, is_single, is_waiting, stand_of};
-ghost use Rattle.sv_net.specs.Saying.{IsAtRest};
+ghost use Rattle.sv_connection.specs.Connection.{IsFresh, held_by, is_single, is_waiting, stand_of};
+ghost use Rattle.sv_net.specs.Saying.{HearsNext, IsAtRest};
 
 use crate::persistence::Persistence;
 use crate::state::Next;
@@ -65,7 +65,9 @@ impl Client {
 
     /// What follows behind an answer (RFC 9112, section 9.6): the next request; or, where the connection closes, the close, at
     /// once where the client asked for it, as it sends no more then.
-    pub(crate) fn next(self) -> Next {
+    pub(crate) fn next(self) -> Next
+        ensures { HearsNext (held_by self.connection) result }
+    {
         if !self.connection.closed() {
             Next::Listen(self.counted())
         } else if self.connection.leaving() && !self.unread {
@@ -76,7 +78,9 @@ impl Client {
     }
 
     /// It was answered once more. The last answer but one has it close behind the next, which says so.
-    fn counted(self) -> Client {
+    fn counted(self) -> Client
+        ensures { held_by result.connection ≡ held_by self.connection }
+    {
         let mut client = self;
         client.answered = client.answered.saturating_add(1);
         if client.answered.saturating_add(1) >= REQUEST_LIMIT {

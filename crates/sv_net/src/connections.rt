@@ -1,6 +1,8 @@
 //! The connections that are open.
 
 ghost use Rattle.std.specs.Prelude.{◌≡◌, ◌-◌, ℕ, None, IfSome, is_none};
+ghost use Rattle.sv_net.specs.Exchange.{GoOnWith};
+ghost use Rattle.sv_net.specs.Sending.{links_of};
 ghost use Rattle.sv_net.specs.Places.{places_of, count_of, elsewhere, held_at, with_at, naming_of, persistence_of, IsKept, Keeps, HasStood};
 
 use crate::links::Links;
@@ -156,6 +158,7 @@ impl Connections {
         ensures places { places_of self.new ≡ elsewhere place self.old }
         ensures count { count_of self.new ≡ count_of self.old }
         ensures others { elsewhere place self.new ≡ elsewhere place self.old }
+        ensures links { links_of self.new ≡ links_of self.old }
     {
         if place >= self.places.len() {
             return None;
@@ -168,6 +171,7 @@ impl Connections {
         ensures places { places_of self.new ≡ with_at place (record { socket = socket; state = state; begun = begun; heard = self.old.clock }) self.old }
         ensures count { count_of self.new ≡ count_of self.old }
         ensures others { elsewhere place self.new ≡ elsewhere place self.old }
+        ensures links { links_of self.new ≡ links_of self.old }
     {
         let heard = self.clock;
         self.seat(
@@ -186,6 +190,7 @@ impl Connections {
         ensures places { places_of self.new ≡ with_at place «open» self.old }
         ensures count { count_of self.new ≡ count_of self.old }
         ensures others { elsewhere place self.new ≡ elsewhere place self.old }
+        ensures links { links_of self.new ≡ links_of self.old }
     {
         if place < self.places.len() {
             self.places[place] = Some(open);
@@ -198,6 +203,7 @@ impl Connections {
             ≡ with_at place (record { socket = socket; state = state; begun = self.old.clock; heard = self.old.clock }) self.old }
         ensures count { count_of self.new ≡ count_of self.old }
         ensures others { elsewhere place self.new ≡ elsewhere place self.old }
+        ensures links { links_of self.new ≡ links_of self.old }
     {
         let begun = self.clock;
         self.put(place, socket, state, begun);
@@ -207,6 +213,7 @@ impl Connections {
     pub fn keep(&mut self, place: usize, open: Open)
         ensures kept { Keeps place «open» self.old self.new }
         ensures others { elsewhere place self.new ≡ elsewhere place self.old }
+        ensures links { links_of self.new ≡ links_of self.old }
     {
         let mut open = open;
         if self.watch(place, &mut open) {
@@ -279,7 +286,9 @@ impl Connections {
     }
 
     /// Hands over the places where something is to be done that the poll may not report.
-    pub(crate) fn hand_over(&mut self, queue: &mut Queue) {
+    pub(crate) fn hand_over(&mut self, queue: &mut Queue)
+        ensures { places_of self.new ≡ places_of self.old }
+    {
         for place in &self.due {
             queue.add(*place);
         }
@@ -307,6 +316,7 @@ impl Connections {
     pub fn leave(&mut self, place: usize)
         ensures places { places_of self.new ≡ places_of self.old }
         ensures count { count_of self.new ≡ count_of self.old - 1 }
+        ensures links { links_of self.new ≡ links_of self.old }
     {
         self.count = self.count.saturating_sub(1);
         let _: Result<(), AllocFailed<usize>> = self.free.push(place);
@@ -326,6 +336,7 @@ impl Connections {
     fn vacant(&mut self) -> Option<usize>
         ensures vacant { IfSome result (λ place. held_at self.new place ≡ None) }
         ensures same { (place : ℕ) → held_at self.new place ≡ held_at self.old place }
+        ensures links { links_of self.new ≡ links_of self.old }
     {
         if let Some(place) = self.free.pop()
             && self.is_vacant(place)
@@ -341,6 +352,7 @@ impl Connections {
     pub fn free_place(&mut self) -> Option<usize>
         ensures vacant { IfSome result (λ place. held_at self.new place ≡ None) }
         ensures same { (place : ℕ) → held_at self.new place ≡ held_at self.old place }
+        ensures links { links_of self.new ≡ links_of self.old }
     {
         if self.is_full() {
             return None;
@@ -357,7 +369,9 @@ impl Connections {
     }
 
     /// Goes on with a connection that was taken, where no more than its socket is needed.
-    pub fn go_on(&mut self, place: usize, open: Open) {
+    pub fn go_on(&mut self, place: usize, open: Open)
+        ensures { held_at self.old place ≡ None → GoOnWith place «open» self.old self.new }
+    {
         match open.state {
             State::Waiting { .. } => self.look_at_client(place, open),
             State::Saying { .. } => self.say_on(place, open),

@@ -1,5 +1,7 @@
 //! Connections that are closed before their end.
 
+ghost use Rattle.sv_net.specs.Exchange.{AllContinue, GoOnWith};
+
 use crate::connections::Connections;
 use crate::open::Open;
 use crate::queue::Queue;
@@ -67,7 +69,9 @@ impl Connections {
     }
 
     /// Closes the connection that gives way first, of those that aren't to be gone on with; false where none does.
-    pub(crate) fn make_room(&mut self, queue: &Queue) -> bool {
+    pub(crate) fn make_room(&mut self, queue: &Queue) -> bool
+        ensures { AllContinue self.old self.new }
+    {
         let Some(place) = self.first_to_go(queue) else {
             return false;
         };
@@ -76,14 +80,18 @@ impl Connections {
     }
 
     /// Ends a connection that isn't at its end.
-    fn end(&mut self, place: usize, ending: Ending) {
+    fn end(&mut self, place: usize, ending: Ending)
+        ensures { AllContinue self.old self.new }
+    {
         if let Some(open) = self.take(place) {
             self.end_taken(place, open, ending);
         }
     }
 
     /// The same of one that was taken from its place.
-    fn end_taken(&mut self, place: usize, open: Open, ending: Ending) {
+    fn end_taken(&mut self, place: usize, open: Open, ending: Ending)
+        ensures { AllContinue self.old self.new }
+    {
         self.leave(place);
         if let State::Calling { to, holder, .. } = open.state {
             self.report.lost(to, ending.loss());
@@ -94,7 +102,9 @@ impl Connections {
     }
 
     /// Puts a connection back of which all that has come was read, or which takes no more now; or ends it if it has taken too long.
-    pub fn keep_in_time(&mut self, place: usize, open: Open) {
+    pub fn keep_in_time(&mut self, place: usize, open: Open)
+        ensures { GoOnWith place «open» self.old self.new }
+    {
         if open.is_late(self.clock) {
             self.end_taken(place, open, Ending::Late);
         } else {
@@ -110,17 +120,26 @@ impl Connections {
         }
     }
 
+    /// Ends whoever is at a place, if that one has taken too long.
+    fn end_late(&mut self, place: usize, queue: &Queue)
+        ensures { AllContinue self.old self.new }
+    {
+        if self.is_late_at(place, queue) {
+            self.end(place, Ending::Late);
+        }
+    }
+
     /// Ends the connections that have taken too long, once in a while. One that is to be gone on with has said something, and the
     /// node hasn't read it yet: whether it's late is seen once that is done.
-    pub(crate) fn look_round(&mut self, queue: &Queue) {
+    pub(crate) fn look_round(&mut self, queue: &Queue)
+        ensures { AllContinue self.old self.new }
+    {
         if self.clock < self.looked.saturating_add(Duration::from_millis(LOOKING)) {
             return;
         }
         self.looked = self.clock;
         for place in 0..self.places.len() {
-            if self.is_late_at(place, queue) {
-                self.end(place, Ending::Late);
-            }
+            self.end_late(place, queue);
         }
     }
 }

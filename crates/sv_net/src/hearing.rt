@@ -158,7 +158,8 @@ impl Connections {
 
     /// A connection on which this comes: its socket, its state, and when that began.
     pub fn begun(&self, open: Open, piece: &[u8]) -> (Socket, State, Duration)
-        ensures { Finds self.now.greets «open».state piece.now result.1 }
+        ensures socket { result.0 ≡ «open».socket }
+        ensures state { Finds self.now.greets «open».state piece.now result.1 }
     {
         let (socket, state, since, _) = open.into_parts();
         let since = self.since(&state, since);

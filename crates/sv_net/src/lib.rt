@@ -28,6 +28,8 @@ mod persistence;
 mod queue;
 mod socket;
 mod state;
+mod stream;
+mod tape;
 mod unread;
 
 pub use acceptor::{Acceptor, Arrival, TURN_LIMIT};

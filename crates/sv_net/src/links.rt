@@ -1,6 +1,8 @@
 //! Connections to other nodes that are kept.
 
-ghost use Rattle.std.specs.Prelude.{◌≡◌};
+ghost use Rattle.std.specs.Prelude.{◌≡◌, ◌⊎◌, ◌<◌, [], All, Contains, IfSome, length, position};
+ghost use Rattle.sv_net.specs.Bytes.{went_of};
+ghost use Rattle.sv_net.specs.Sending.{AreAmong, IsLinkTo, is_to, links_in};
 
 use crate::persistence::Persistence;
 use crate::socket::{Sign, Socket};
@@ -38,6 +40,21 @@ impl Drop for Links {
     }
 }
 
+/// It is to the node of a number.
+fn is_to(node: u8, link: &Link) -> bool
+    ensures { result ≡ is_to node link.now }
+{
+    link.node == node
+}
+
+/// Where the one to a node stands.
+fn position(links: &[Link], node: u8) -> Option<usize>
+    ensures position { result ≡ position (is_to node) links.now }
+    ensures within { IfSome result (λ at. at < length links.now) }
+{
+    links.iter().position(|link| is_to(node, link))
+}
+
 impl Links {
     pub fn new(alloc: Global, persistence: Persistence) -> Links
         ensures { result.persistence ≡ persistence }
@@ -62,7 +79,10 @@ impl Links {
         node: u8,
         addr: SocketAddr,
         clock: Duration,
-    ) -> Option<Link> {
+    ) -> Option<Link>
+        ensures link { IfSome result (IsLinkTo node (links_in self.old)) }
+        ensures others { AreAmong (links_in self.old) (links_in self.new) }
+    {
         match self.take(node, clock) {
             Some(link) => Some(link),
             None => Some(Link {
@@ -74,7 +94,9 @@ impl Links {
     }
 
     /// A new connection. What is sent on one that is kept doesn't wait for the other end to have acknowledged what was sent before.
-    fn connect(&self, machine: &HostRuntime, addr: SocketAddr) -> Option<Socket> {
+    fn connect(&self, machine: &HostRuntime, addr: SocketAddr) -> Option<Socket>
+        ensures { IfSome result (λ socket. went_of socket ≡ []) }
+    {
         let stream = TcpStream::connect(machine, addr).ok()?;
         if self.persistence == Persistence::Kept {
             stream.set_nodelay(true).ok()?;
@@ -83,8 +105,11 @@ impl Links {
     }
 
     /// Takes the connection to a node, where one is kept that isn't too old, and whose other end is still there.
-    fn take(&mut self, node: u8, clock: Duration) -> Option<Link> {
-        let at = self.links.iter().position(|link| link.node == node)?;
+    fn take(&mut self, node: u8, clock: Duration) -> Option<Link>
+        ensures link { IfSome result (IsLinkTo node (links_in self.old)) }
+        ensures others { AreAmong (links_in self.old) (links_in self.new) }
+    {
+        let at = position(self.links.as_slice(), node)?;
         let mut link = self.links.swap_remove(at);
         if clock >= link.since.saturating_add(Duration::from_secs(AGE)) {
             return None;
@@ -96,9 +121,11 @@ impl Links {
     }
 
     /// Keeps a connection on which a packet was sent whole. Where none is to be kept, or there is no memory for it, it is closed.
-    pub fn keep(&mut self, link: Link) {
+    pub fn keep(&mut self, link: Link)
+        ensures { All (λ other. Contains (links_in self.old) other ⊎ (other ≡ link)) (links_in self.new) }
+    {
         let node = link.node;
-        let has_one = self.links.iter().any(|other| other.node == node);
+        let has_one = position(self.links.as_slice(), node).is_some();
         if self.persistence == Persistence::Kept && !has_one {
             let _: Result<(), AllocFailed<Link>> = self.links.push(link);
         }

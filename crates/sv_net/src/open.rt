@@ -1,6 +1,8 @@
 //! An open connection.
 
 ghost use Rattle.std.specs.Prelude.{◌≡◌};
+ghost use Rattle.sv_net.specs.Exchange.{Continues};
+ghost use Rattle.sv_net.specs.declared.state.State.TheVariants.{New};
 
 use crate::socket::Socket;
 use crate::state::State;
@@ -29,7 +31,10 @@ impl Drop for Open {
 
 impl Open {
     /// A connection that has come at a moment, and on which nothing has come yet.
-    pub fn new(socket: Socket, begun: Duration) -> Open {
+    pub fn new(socket: Socket, begun: Duration) -> Open
+        ensures socket { result.socket ≡ socket }
+        ensures state { result.state ≡ New }
+    {
         Open {
             socket,
             state: State::New,
@@ -52,6 +57,7 @@ impl Open {
 
     /// Its socket, its state, when that began, and when something was last read.
     pub(crate) fn into_parts(self) -> (Socket, State, Duration, Duration)
+        ensures socket { result.0 ≡ self.socket }
         ensures state { result.1 ≡ self.state }
     {
         let Open {
@@ -64,7 +70,9 @@ impl Open {
     }
 
     /// A client whose request waits, and that sends no more: it has been silent for longer than any other.
-    pub(crate) fn silenced(self) -> Open {
+    pub(crate) fn silenced(self) -> Open
+        ensures { Continues self result }
+    {
         let Open {
             socket,
             state,
@@ -80,7 +88,9 @@ impl Open {
     }
 
     /// A packet on its way, for which the command at a place waits.
-    pub(crate) fn held_for(self, place: usize) -> Open {
+    pub(crate) fn held_for(self, place: usize) -> Open
+        ensures { Continues self result }
+    {
         let Open {
             socket,
             state,
@@ -96,7 +106,10 @@ impl Open {
     }
 
     /// It has so much more time. A request that waits has no such limit, and is said to have taken as long as it has.
-    pub(crate) fn forgive(&mut self, stood: Duration) {
+    pub(crate) fn forgive(&mut self, stood: Duration)
+        ensures socket { self.new.socket ≡ self.old.socket }
+        ensures state { self.new.state ≡ self.old.state }
+    {
         if !self.state.is_waiting() {
             self.begun = self.begun.saturating_add(stood);
         }

@@ -1,16 +1,16 @@
 //! A connection's socket, which waits at most for a moment, and only for what comes first.
 
-ghost use Rattle.std.specs.Prelude.{◌≡◌, ◌≤◌, [], drop, length};
+ghost use Rattle.std.specs.Prelude.{◌≡◌, ◌++◌, ◌≤◌, [], IfOk, drop, length};
 ghost use Rattle.std.specs.Io.{ReadsAtMost, WritesAtMost};
-ghost use Rattle.sv_net.specs.Saying.{IsLeft};
+ghost use Rattle.sv_net.specs.Bytes.{IsBlank, IsQuiet, Leaves, came_of, moved, went_of};
 ghost use Rattle.sv_net.specs.declared.socket.Written.TheVariants as written;
 
+use crate::stream::Stream;
 use mio::unix::SourceFd;
 use mio::{Interest, Registry, Token};
 use std::io;
-use std::io::{ErrorKind, Read, Write};
-use std::net::{OpenStream, Shutdown, TcpStream};
-use std::os::fd::AsRawFd;
+use std::io::ErrorKind;
+use std::net::TcpStream;
 use std::time::Duration;
 
 /// Writes of one text in turn, at most, before it counts as one that isn't taken.
@@ -50,7 +50,7 @@ enum Unread {
 
 /// A connection's socket.
 pub struct Socket {
-    stream: TcpStream,
+    stream: Stream,
     patience: Patience,
     unread: Unread,
     /// What the poll reports of it, once it was registered.
@@ -104,13 +104,17 @@ fn cut(text: &mut Vec<u8>, count: usize)
 }
 
 impl From<mio::net::TcpStream> for Socket {
+    ghost from_gives = { λ _ socket. IsBlank socket.stream };
+
     fn from(stream: mio::net::TcpStream) -> Socket {
-        Socket::new(TcpStream::from(stream), Patience::None)
+        Socket::new(Stream::new(TcpStream::from(stream)), Patience::None)
     }
 }
 
 impl Socket {
-    fn new(stream: TcpStream, patience: Patience) -> Socket {
+    fn new(stream: Stream, patience: Patience) -> Socket
+        ensures { result.stream ≡ stream }
+    {
         Socket {
             stream,
             patience,
@@ -120,28 +124,38 @@ impl Socket {
     }
 
     /// A socket that never waits.
-    pub(crate) fn quick(stream: TcpStream) -> io::Result<Socket> {
-        stream.set_nonblocking(true)?;
+    pub(crate) fn quick(tcp: TcpStream) -> io::Result<Socket>
+        ensures { IfOk result (λ socket. IsBlank socket.stream) }
+    {
+        let stream = Stream::new(tcp);
+        stream.hurry()?;
         Ok(Socket::new(stream, Patience::None))
     }
 
     /// A socket that waits for what comes first, a moment.
-    pub(crate) fn patient(stream: TcpStream) -> io::Result<Socket> {
-        stream.set_read_timeout(Some(Duration::from_millis(MOMENT)))?;
+    pub(crate) fn patient(tcp: TcpStream) -> io::Result<Socket>
+        ensures { IfOk result (λ socket. IsBlank socket.stream) }
+    {
+        let stream = Stream::new(tcp);
+        stream.wait_at_most(Duration::from_millis(MOMENT))?;
         Ok(Socket::new(stream, Patience::Hearing))
     }
 
     /// Has the socket never wait again.
-    fn hurry(&mut self) -> io::Result<()> {
+    fn hurry(&mut self) -> io::Result<()>
+        ensures { IsQuiet self.old self.new }
+    {
         if self.patience != Patience::None {
-            self.stream.set_nonblocking(true)?;
+            self.stream.hurry()?;
             self.patience = Patience::None;
         }
         Ok(())
     }
 
     /// The poll has told of it; whether its other end sends no more.
-    pub(crate) fn was_told(&mut self, is_ended: bool) {
+    pub(crate) fn was_told(&mut self, is_ended: bool)
+        ensures { IsQuiet self.old self.new }
+    {
         if is_ended {
             self.unread = Unread::End;
         } else if self.unread == Unread::Nothing {
@@ -150,7 +164,9 @@ impl Socket {
     }
 
     /// So many bytes were read of so many that there was room for: fewer were all that lay there (epoll(7)).
-    fn was_read(&mut self, count: usize, room: usize) {
+    fn was_read(&mut self, count: usize, room: usize)
+        ensures { IsQuiet self.old self.new }
+    {
         if self.unread != Unread::End {
             self.unread = if 0 < count && count < room {
                 Unread::Nothing
@@ -167,7 +183,9 @@ impl Socket {
 
     /// Reads what is there. Where nothing is, `comes_later` says whether something may still come.
     pub fn read(&mut self, piece: &mut [u8]) -> io::Result<usize>
-        ensures { ReadsAtMost result piece.new }
+        ensures most { ReadsAtMost result piece.new }
+        ensures came { came_of self.new ≡ came_of self.old ++ moved result piece.new }
+        ensures went { went_of self.new ≡ went_of self.old }
     {
         if self.patience == Patience::Hearing {
             self.patience = Patience::Saying;
@@ -181,7 +199,9 @@ impl Socket {
 
     /// Writes as much of a text as the other end takes now.
     fn put(&mut self, text: &[u8]) -> io::Result<usize>
-        ensures { WritesAtMost result text.now }
+        ensures most { WritesAtMost result text.now }
+        ensures came { came_of self.new ≡ came_of self.old }
+        ensures went { went_of self.new ≡ went_of self.old ++ moved result text.now }
     {
         if self.patience == Patience::Saying && text.len() <= AT_ONCE {
             self.patience = Patience::Spent;
@@ -191,19 +211,31 @@ impl Socket {
         self.stream.write(text)
     }
 
+    /// Writes once what the other end takes, and cuts it off; how much that was.
+    fn write_once(&mut self, text: &mut Vec<u8>) -> io::Result<usize>
+        ensures { Leaves self.old self.new text.old.items text.new.items }
+    {
+        let count = self.put(text.as_slice())?;
+        if count == text.len() {
+            text.clear();
+        } else {
+            cut(text, count);
+        }
+        Ok(count)
+    }
+
     /// Writes what the other end takes now, and cuts it off.
     pub fn write(&mut self, text: &mut Vec<u8>) -> Written
-        ensures left { IsLeft text.new.items text.old.items }
+        ensures left { Leaves self.old self.new text.old.items text.new.items }
         ensures all { result ≡ written.All → text.new.items ≡ [] }
     {
         for _ in 0..WRITES {
             if text.is_empty() {
                 return Written::All;
             }
-            match self.put(text.as_slice()) {
+            match self.write_once(text) {
                 Ok(0) => return Written::Broken,
-                Ok(count) if count == text.len() => text.clear(),
-                Ok(count) => cut(text, count),
+                Ok(_) => {}
                 Err(fault) if fault.kind() == ErrorKind::WouldBlock => return Written::Part,
                 Err(_) => return Written::Broken,
             }
@@ -212,13 +244,17 @@ impl Socket {
     }
 
     /// Says that nothing more is written.
-    pub(crate) fn end_writing(&mut self) -> io::Result<()> {
+    pub(crate) fn end_writing(&mut self) -> io::Result<()>
+        ensures { IsQuiet self.old self.new }
+    {
         self.hurry()?;
-        self.stream.shutdown(Shutdown::Write)
+        self.stream.end_writing()
     }
 
     /// What the other end does meanwhile, as far as that can be told without taking what it has sent.
-    pub(crate) fn sign(&mut self) -> Sign {
+    pub(crate) fn sign(&mut self) -> Sign
+        ensures { IsQuiet self.old self.new }
+    {
         if self.hurry().is_err() {
             return Sign::Broken;
         }
@@ -232,7 +268,9 @@ impl Socket {
     }
 
     /// Has the poll report under a place when the socket becomes ready. False where it can't.
-    pub(crate) fn watch(&mut self, registry: &Registry, place: usize, interest: Interest) -> bool {
+    pub(crate) fn watch(&mut self, registry: &Registry, place: usize, interest: Interest) -> bool
+        ensures { IsQuiet self.old self.new }
+    {
         self.watched == Some(interest) || self.watch_anew(registry, place, interest)
     }
 
@@ -242,11 +280,13 @@ impl Socket {
         registry: &Registry,
         place: usize,
         interest: Interest,
-    ) -> bool {
+    ) -> bool
+        ensures { IsQuiet self.old self.new }
+    {
         if self.hurry().is_err() {
             return false;
         }
-        let number = self.stream.as_raw_fd();
+        let number = self.stream.number();
         let mut source = SourceFd(&number);
         let is_known = self.watched.is_some();
         self.watched = Some(interest);

@@ -1,5 +1,6 @@
 //! How far a connection has come.
 
+ghost use Rattle.sv_net.specs.Exchange.{IsLike};
 ghost use Rattle.sv_net.specs.Hearing.{BeginsBy};
 
 use crate::client::Client;
@@ -259,7 +260,9 @@ impl State {
     }
 
     /// The state of a client whose request waits, once it sends no more.
-    pub(crate) fn silenced(self) -> State {
+    pub(crate) fn silenced(self) -> State
+        ensures { IsLike self result }
+    {
         match self {
             State::Waiting {
                 client,
@@ -279,7 +282,9 @@ impl State {
     }
 
     /// The state of a packet on its way, once the command at a place waits for it.
-    pub(crate) fn held_for(self, place: usize) -> State {
+    pub(crate) fn held_for(self, place: usize) -> State
+        ensures { IsLike self result }
+    {
         match self {
             State::Calling {
                 to,

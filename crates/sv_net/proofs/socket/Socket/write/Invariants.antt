@@ -1,6 +1,6 @@
-use Rattle.sv_net.specs.Saying.{IsLeft}
+use Rattle.sv_net.specs.Bytes.{Leaves}
 use Rattle.sv_net.proofs.socket.Socket.write.Given as goal
 
 -- what was taken was the front
 abbrev pub invariant-loop : goal.invariant-loop
-invariant-loop l = IsLeft l.text.items l.initial.text.items
+invariant-loop l = Leaves l.initial.self l.self l.initial.text.items l.text.items

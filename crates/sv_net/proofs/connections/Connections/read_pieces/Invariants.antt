@@ -1,0 +1,7 @@
+use Rattle.std.proofs.Common.{◌≡◌}
+use Rattle.sv_net.specs.Bytes.{went_of}
+use Rattle.sv_net.proofs.connections.Connections.read_pieces.Given as goal
+
+-- nothing is said meanwhile
+abbrev pub invariant-loop : goal.invariant-loop
+invariant-loop l = went_of l.socket ≡ went_of l.initial.socket

@@ -1,0 +1,6 @@
+use Rattle.std.proofs.Common.{refl}
+use Rattle.sv_net.proofs.ContinueLemmas.{continues_like}
+use Rattle.sv_net.proofs.open.Open.held_for.Goals as goal
+
+pub returns : goal.returns
+returns c = continues_like c.args.self _ refl c.held_for.ensures
