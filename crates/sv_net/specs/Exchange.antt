@@ -1,5 +1,5 @@
 -- What was said on a connection, and what came on it, over its whole life.
-use Rattle.std.specs.Prelude.{◌≡◌, ◌⊎◌, ◌++◌, ◌∷◌, ℕ, List, [], Bool, true, false, Some, IfSome}
+use Rattle.std.specs.Prelude.{◌≡◌, ◌⊎◌, ◌++◌, ◌∷◌, ℕ, List, [], Bool, true, false, Option, Some, IfSome}
 use Rattle.sv_connection.specs.Connection.{held_by}
 use Rattle.sv_net.specs.Bytes.{came_of, went_of}
 use Rattle.sv_net.specs.Places.{held_at}
@@ -83,9 +83,13 @@ pub record Continues (was held : Open) : Type 0 where
   pub came : parts held.state ≡ false → came_of held.socket ≡ came_of was.socket
   pub unread_is : unread held.state ≡ unread was.state
 
--- whoever stands at a place has stood there before, and goes on
+-- whoever stands there has stood there before, and goes on
+abbrev pub GoesOnThere : Option Open → Option Open → Type 0
+GoesOnThere old new = IfSome new (λ held. (was : Open) × (old ≡ Some was) × Continues was held)
+
+-- the same of each place
 abbrev pub AllContinue : Connections → Connections → Type 0
-AllContinue old new = (place : ℕ) → IfSome (held_at new place) (λ held. (was : Open) × (held_at old place ≡ Some was) × Continues was held)
+AllContinue old new = (place : ℕ) → GoesOnThere (held_at old place) (held_at new place)
 
 -- the same of all but whoever stands at this place, of whom this holds
 abbrev pub GoOnBut : ℕ → (Open → Type 0) → Connections → Connections → Type 0

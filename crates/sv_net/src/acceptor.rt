@@ -135,21 +135,43 @@ impl Acceptor {
 
     /// Has the poll report who is to be looked after, and waits for that. A client whose connection has broken is closed at once: what
     /// it may have asked is for nobody.
-    fn ask_poll(&mut self, connections: &mut Connections, timeout: Duration) {
+    fn ask_poll(&mut self, connections: &mut Connections, timeout: Duration)
+        ensures { AllContinue connections.old connections.new }
+    {
         let _ = self.poll.poll(&mut self.events, Some(timeout));
         for event in &self.events {
             let Token(place) = event.token();
             if place == DOOR {
                 self.door = true;
-                continue;
-            }
-            connections.was_told(place, event.is_read_closed());
-            if !event.is_write_closed() || !connections.close_broken(place) {
+            } else if connections.is_reported(
+                place,
+                event.is_read_closed(),
+                event.is_write_closed(),
+            ) {
                 self.queue.add(place);
             }
         }
         if self.is_full {
             self.door = true;
+        }
+    }
+
+    /// Waits for the poll, so long at most, where nothing else is to be done.
+    fn wait_for_poll(&mut self, connections: &mut Connections, is_idle: bool, most: Duration)
+        ensures { AllContinue connections.old connections.new }
+    {
+        if is_idle {
+            self.ask_poll(connections, self.patience().min(most));
+        }
+    }
+
+    /// Asks the poll without waiting for it, unless it was just waited for. A wait tells of nobody, too, that was cut short since the
+    /// process was stopped and goes on (signal(7)): so what has come meanwhile is gathered before the time is looked at.
+    fn look_at_poll(&mut self, connections: &mut Connections, has_waited: bool)
+        ensures { AllContinue connections.old connections.new }
+    {
+        if !has_waited || self.is_quiet() {
+            self.ask_poll(connections, Duration::ZERO);
         }
     }
 
@@ -166,7 +188,9 @@ impl Acceptor {
     /// listener needn't be switched to and fro.
     ///
     /// Who was put down in the turn before is gone on with before the poll is asked again: what has come of them is there already.
-    pub fn wait(&mut self, connections: &mut Connections, most: Duration) {
+    pub fn wait(&mut self, connections: &mut Connections, most: Duration)
+        ensures { AllContinue connections.old connections.new }
+    {
         self.queue.forget(self.done);
         self.done = 0;
         connections.hand_over(&mut self.queue);
@@ -179,14 +203,8 @@ impl Acceptor {
         self.polled = !(self.polled && 0 < count && count <= TURN_LIMIT);
         if self.polled {
             let is_idle = count == 0 && !self.door && !most.is_zero();
-            if is_idle {
-                self.ask_poll(connections, self.patience().min(most));
-            }
-            // A wait tells of nobody, too, that was cut short since the process was stopped and goes on (signal(7)): so what has come
-            // meanwhile is gathered before the time is looked at.
-            if !is_idle || self.is_quiet() {
-                self.ask_poll(connections, Duration::ZERO);
-            }
+            self.wait_for_poll(connections, is_idle, most);
+            self.look_at_poll(connections, is_idle);
         }
     }
 
@@ -205,7 +223,9 @@ impl Acceptor {
     /// Asks the poll, once somebody was accepted, whether somebody else stands at the door: `accept` would wait for one. What the
     /// poll tells of the others meanwhile is of the next turn, so the queue first forgets who was gone on with in this one: what has
     /// come of them since would be taken for what was read.
-    pub fn look_at_door(&mut self, connections: &mut Connections) {
+    pub fn look_at_door(&mut self, connections: &mut Connections)
+        ensures { AllContinue connections.old connections.new }
+    {
         self.waits = false;
         if !self.door && !self.is_full {
             self.queue.forget(self.done);

@@ -1,7 +1,7 @@
 //! The connections that are open.
 
 ghost use Rattle.std.specs.Prelude.{◌≡◌, ◌-◌, ℕ, None, IfSome, is_none};
-ghost use Rattle.sv_net.specs.Exchange.{GoOnWith};
+ghost use Rattle.sv_net.specs.Exchange.{AllContinue, GoOnWith, GoesOnThere};
 ghost use Rattle.sv_net.specs.Sending.{links_of};
 ghost use Rattle.sv_net.specs.Places.{places_of, count_of, elsewhere, held_at, with_at, naming_of, persistence_of, IsKept, Keeps, HasStood};
 
@@ -69,6 +69,24 @@ impl Drop for Connections {
     }
 }
 
+/// The poll has told of whoever stands there.
+fn was_told_there(slot: &mut Option<Open>, is_ended: bool)
+    ensures { GoesOnThere slot.old slot.new }
+{
+    if let Some(open) = slot {
+        open.socket.was_told(is_ended);
+    }
+}
+
+/// Gives so much more time to whoever stands there.
+fn forgive_there(slot: &mut Option<Open>, stood: Duration)
+    ensures { GoesOnThere slot.old slot.new }
+{
+    if let Some(open) = slot {
+        open.forgive(stood);
+    }
+}
+
 impl Connections {
     pub fn new(registry: Registry, persistence: Persistence, alloc: Global) -> Connections
         ensures { persistence_of result ≡ persistence }
@@ -133,7 +151,9 @@ impl Connections {
 
     /// Looks at the clock. While a turn stood still, as one does whose disk does, nobody was heard: what is more than a turn may take
     /// is nobody's delay.
-    pub fn look_at_clock(&mut self, machine: &HostRuntime) {
+    pub fn look_at_clock(&mut self, machine: &HostRuntime)
+        ensures { AllContinue self.old self.new }
+    {
         if let Ok(now) = machine.monotonic() {
             let stood = now.saturating_sub(self.clock.saturating_add(Duration::from_millis(MOST)));
             self.clock = now;
@@ -144,11 +164,20 @@ impl Connections {
     }
 
     /// Gives everybody so much more time.
-    fn forgive(&mut self, stood: Duration) {
+    fn forgive(&mut self, stood: Duration)
+        ensures { AllContinue self.old self.new }
+    {
         for place in 0..self.places.len() {
-            if let Some(Some(open)) = self.places.get_mut(place) {
-                open.forgive(stood);
-            }
+            self.forgive_at(place, stood);
+        }
+    }
+
+    /// The same of one place.
+    fn forgive_at(&mut self, place: usize, stood: Duration)
+        ensures { AllContinue self.old self.new }
+    {
+        if place < self.places.len() {
+            forgive_there(&mut self.places[place], stood);
         }
     }
 
@@ -242,9 +271,11 @@ impl Connections {
     }
 
     /// The poll has told of a place; whether the other end sends no more.
-    pub(crate) fn was_told(&mut self, place: usize, is_ended: bool) {
-        if let Some(Some(open)) = self.places.get_mut(place) {
-            open.socket.was_told(is_ended);
+    pub(crate) fn was_told(&mut self, place: usize, is_ended: bool)
+        ensures { AllContinue self.old self.new }
+    {
+        if place < self.places.len() {
+            was_told_there(&mut self.places[place], is_ended);
         }
     }
 

@@ -64,6 +64,14 @@ impl Connections {
         is_heard
     }
 
+    /// The poll has told of a place; whether it is to be gone on with. A client whose connection has broken is closed.
+    pub(crate) fn is_reported(&mut self, place: usize, is_ended: bool, is_broken: bool) -> bool
+        ensures { AllContinue self.old self.new }
+    {
+        self.was_told(place, is_ended);
+        !is_broken || !self.close_broken(place)
+    }
+
     /// Reads a piece of what a client goes on sending, and gives its length; none where nothing has come yet.
     fn read_away(socket: &mut Socket) -> Option<usize>
         ensures { went_of socket.new ≡ went_of socket.old }

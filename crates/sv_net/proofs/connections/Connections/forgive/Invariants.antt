@@ -1,0 +1,5 @@
+use Rattle.sv_net.specs.Exchange.{AllContinue}
+use Rattle.sv_net.proofs.connections.Connections.forgive.Given as goal
+
+abbrev pub invariant-loop-place : goal.invariant-loop-place
+invariant-loop-place l = AllContinue l.fn.self l.self
