@@ -1,9 +1,9 @@
 -- Each output is handed on.
 use Rattle.std.proofs.Common.{◌≡◌, ◌<◌, ◌≤◌, ℕ, ◌+◌, Bool, false, List, [], ◌∷◌, Vec, length, drop, get_or, None, Result, Ok, refl, ap, sym, ◌∙◌, subst, true≢false, arith}
-use Rattle.std.specs.Prelude.{is_none}
+use Rattle.std.specs.Prelude.{IfSome, is_none}
 use Rattle.std.specs.declared.alloc.Global.{Global}
 use Rattle.std.proofs.lemmas.List.{drop_all, drop_more}
-use Rattle.sv_host.specs.HandingOut.{ConcludesRefused, HandsOn, HandsOnAll, HandsOut, HandsOutFrom, HandsOutGroup, RefusesAll, TellsNobody, TellsOne, way_at}
+use Rattle.sv_host.specs.HandingOut.{Concludes, ConcludesRefused, HandsOn, HandsOnAll, HandsOut, HandsOutFrom, HandsOutGroup, RefusesAll, TellsNobody, TellsOne, way_at}
 use Rattle.sv_model.specs.Cause.{cause_of}
 use Rattle.sv_host.specs.Outcome.{last_taken}
 use Rattle.sv_host.specs.Packets.{Passes}
@@ -12,7 +12,7 @@ use Rattle.sv_host.specs.declared.outcome.Taken.{Taken}
 use Rattle.sv_host.specs.declared.packets.Sending.{Sending}
 use Rattle.sv_host.specs.declared.packets.Sending.TheVariants.{All, Share, Nothing}
 use Rattle.sv_host.specs.declared.group.Asker.{Asker}
-use Rattle.sv_host.specs.declared.group.Asker.TheVariants.{Client}
+use Rattle.sv_host.specs.declared.group.Asker.TheVariants.{Client, Command}
 use Rattle.sv_host.specs.declared.group.Way.{Way}
 use Rattle.sv_host.specs.declared.server.Server.{Server}
 use Rattle.sv_model.specs.Outputs.{packet_in}
@@ -20,8 +20,11 @@ use Rattle.sv_model.specs.declared.output.Output.{Output}
 use Rattle.sv_model.specs.declared.output.Output.TheVariants.{Answer, Refuse, Send, Moved, MoveRefused}
 use Rattle.sv_model.specs.declared.output.Cause.{Cause}
 use Rattle.sv_model.specs.declared.site.StepFault.{StepFault}
+use Rattle.sv_net.proofs.SendingLemmas.{sends_nothing}
 use Rattle.sv_net.proofs.SpareLemmas.{spares_same}
-use Rattle.sv_net.specs.Places.{naming_of}
+use Rattle.sv_host.specs.Parked.{clients_of}
+use Rattle.sv_net.specs.Exchange.{GoOnBut, Obeys}
+use Rattle.sv_net.specs.Places.{SparesClients, held_at, naming_of}
 use Rattle.sv_net.specs.Saying.{Answers, refused_as}
 
 -- a packet alone isn't sent
@@ -33,7 +36,7 @@ is_packet Nothing output passes none = true≢false (sym (passes ∙ ap (λ p. i
 packet_to_nobody : (output : Output) (now : ℕ) (server : Server) → (packet_in output ≡ None → ⊥) → HandsOn output now server server
 packet_to_nobody (Answer number response) now server packet = absurd (packet refl)
 packet_to_nobody (Refuse number cause) now server packet = absurd (packet refl)
-packet_to_nobody (Send p) now server packet = (refl, spares_same server.connections server.connections (λ place. refl))
+packet_to_nobody (Send p) now server packet = (refl, spares_same server.connections server.connections (λ place. refl), sends_nothing server.connections)
 packet_to_nobody Moved now server packet = absurd (packet refl)
 packet_to_nobody (MoveRefused why) now server packet = absurd (packet refl)
 
@@ -50,9 +53,18 @@ one_handed items rest output now before mid final is handed all = subst (λ xs. 
 
 -- the client that has asked
 pub client_refused : (asker : Asker) (place number : ℕ) (fault : StepFault) (cause : Cause) (now : ℕ) (old new : Server) → asker ≡ Client place number → cause ≡ cause_of fault
-    → TellsOne number (λ manner state. Answers (refused_as (naming_of old.connections) cause manner) now state) old new → ConcludesRefused asker fault now old new
+    → TellsOne number (λ manner was held. Answers (refused_as (naming_of old.connections) cause manner) now was held) old new → ConcludesRefused asker fault now old new
 client_refused asker place number fault cause now old new is by told =
-    subst (λ a. ConcludesRefused a fault now old new) (sym is) (subst (λ (c : Cause). TellsOne number (λ manner state. Answers (refused_as (naming_of old.connections) c manner) now state) old new) by told)
+    subst (λ a. ConcludesRefused a fault now old new) (sym is) (subst (λ (c : Cause). TellsOne number (λ manner was held. Answers (refused_as (naming_of old.connections) c manner) now was held) old new) by told)
+
+-- whoever gave a command
+pub commanded : (asker : Asker) (place byte : ℕ) (old new : Server) → asker ≡ Command place → clients_of new.parked ≡ clients_of old.parked → SparesClients old.connections new.connections
+    → GoOnBut place (λ held. IfSome (held_at old.connections place) (λ was. Obeys byte was held)) old.connections new.connections → Concludes asker old new
+commanded asker place byte old new is same spares told = subst (λ a. Concludes a old new) (sym is) (same, spares, (byte, told))
+
+pub command_refused : (asker : Asker) (place byte : ℕ) (fault : StepFault) (now : ℕ) (old new : Server) → asker ≡ Command place → clients_of new.parked ≡ clients_of old.parked → SparesClients old.connections new.connections
+    → GoOnBut place (λ held. IfSome (held_at old.connections place) (λ was. Obeys byte was held)) old.connections new.connections → ConcludesRefused asker fault now old new
+command_refused asker place byte fault now old new is same spares told = subst (λ a. ConcludesRefused a fault now old new) (sym is) (same, spares, (byte, told))
 
 -- one way, and then the others
 pub one_refused : (ways : List Way) (at : ℕ) (other way : Way) (fault : StepFault) (now : ℕ) (before mid final : Server) → at < length ways → way ≡ get_or ways at other

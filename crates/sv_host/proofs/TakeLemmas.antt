@@ -1,6 +1,6 @@
 -- What is given to the node is what has come.
-use Rattle.std.proofs.Common.{◌≡◌, ℕ, Bool, false, List, Vec, Option, Some, None, Result, Ok, Err, ap, sym, ◌∙◌, subst, true≢false}
-use Rattle.std.specs.Prelude.{IfOk, IfSome}
+use Rattle.std.proofs.Common.{◌≡◌, ◌⊎◌, ◌++◌, ℕ, Bool, false, List, [], Vec, Option, Some, None, Result, Ok, Err, inl, inr, ap, sym, ◌∙◌, subst, true≢false}
+use Rattle.std.specs.Prelude.{IfOk, IfSome, OnOk}
 use Rattle.std.specs.Option.{option_map}
 use Rattle.std.specs.declared.alloc.Global.{Global}
 use Rattle.sv_host.specs.declared.group.Came.{Came}
@@ -10,13 +10,19 @@ use Rattle.sv_host.specs.declared.serve.Progress.TheVariants as progress
 use Rattle.sv_host.specs.declared.server.Server.{Server}
 use Rattle.sv_host.specs.Group.{Comes}
 use Rattle.sv_host.specs.Heard.{IsGivenAs, IsOfBytes, input_of}
-use Rattle.sv_host.specs.Serve.{Brings, IsHeard, StaysAt, Takes, came_in, is_more}
+use Rattle.sv_host.specs.Serve.{Brings, IsHeard, Listens, StandsBy, StaysAt, Takes, came_in, is_more}
 use Rattle.sv_model.specs.declared.input.Input.TheVariants as input
 use Rattle.sv_model.specs.declared.request.Request.{Request}
 use Rattle.sv_net.specs.declared.client.Client.{Client}
 use Rattle.sv_net.specs.declared.hearing.Heard.{Heard}
 use Rattle.sv_net.specs.declared.hearing.Heard.TheVariants as heard
+use Rattle.sv_net.specs.declared.open.Open.{Open}
+use Rattle.sv_net.specs.declared.socket.Socket.{Socket}
 use Rattle.sv_net.specs.declared.state.State.{State}
+use Rattle.sv_net.specs.Bytes.{came_of}
+use Rattle.sv_net.specs.Exchange.{Continues, GoOnWith, parts}
+use Rattle.sv_net.specs.Places.{held_at}
+use Rattle.sv_net.proofs.PlaceLemmas.{holds_more}
 use Rattle.sv_net.specs.Hearing.{Finds, HearsAt}
 use Rattle.sv_record.specs.declared.frame.Frame.{Frame}
 
@@ -77,3 +83,44 @@ pub framed : (peers : Peers) (greets : Bool) (was begun : State) (piece : List �
 framed peers greets was begun piece number came frame rest o p is_heard is found hears inputs =
     taken peers greets was begun piece number came o p is found hears
     (subst (λ (h : Heard). IfSome o (λ c. IsGivenAs peers number h c.input)) (sym is_heard) (frames peers number frame rest o inputs))
+
+-- ---- what was read
+
+listens_one : (peers : Peers) (greets : Bool) (was : Open) (place number : ℕ) (old new : Server) (socket : Socket) (piece : List ℕ) (p : Progress) → Takes peers greets was.state piece number p → StaysAt greets was.state piece place new p
+    → StandsBy place socket old.connections new.connections → held_at old.connections place ≡ None → came_of socket ≡ came_of was.socket ++ piece → Listens peers greets was place number new p
+listens_one peers greets was place number old new socket piece p takes stays stands none read =
+    record {
+      piece = piece;
+      takes = takes;
+      stays = stays;
+      came =
+          holds_more (λ (held : Open). came_of held.socket ≡ came_of socket) (λ (held : Open). parts held.state ≡ false → came_of held.socket ≡ came_of was.socket ++ piece) (λ held is whole. is ∙ read)
+          (held_at new.connections place) (stands none);
+    }
+
+pub listens : {F : Type 0} (peers : Peers) (greets : Bool) (was : Open) (place number : ℕ) (old new : Server) (socket : Socket) (piece : List ℕ) (answer : Result Progress F) → IfOk answer (λ p. Takes peers greets was.state piece number p)
+    → IfOk answer (λ p. StaysAt greets was.state piece place new p) → OnOk answer (StandsBy place socket old.connections new.connections) → held_at old.connections place ≡ None → came_of socket ≡ came_of was.socket ++ piece
+    → IfOk answer (λ p. Listens peers greets was place number new p)
+listens peers greets was place number old new socket piece (Ok p) takes stays stands none read = listens_one peers greets was place number old new socket piece p takes stays stands none read
+listens peers greets was place number old new socket piece (Err stop) takes stays stands none read = tt
+
+-- nothing has come
+none_some : (o : Option Open) (was : Open) → o ≡ None → o ≡ Some was → ⊥
+none_some o was none is = cc
+
+quiet_one : (place : ℕ) (was one held : Open) (o : Option Open) → o ≡ None → came_of one.socket ≡ came_of was.socket ++ [] → ((w : Open) × (o ≡ Some w) × Continues w held) ⊎ ((place ≡ place) × Continues one held)
+    → parts held.state ≡ false → came_of held.socket ≡ came_of was.socket ++ []
+quiet_one place was one held o none read (inl (w, is, on)) whole = absurd (none_some o w none is)
+quiet_one place was one held o none read (inr (here, on)) whole = on.came whole ∙ read
+
+pub listens_not : (peers : Peers) (greets : Bool) (was one : Open) (place number : ℕ) (old new : Server) → GoOnWith place one old.connections new.connections → held_at old.connections place ≡ None
+    → came_of one.socket ≡ came_of was.socket ++ [] → Listens peers greets was place number new progress.Done
+listens_not peers greets was one place number old new on none read =
+    record {
+      piece = [];
+      takes = tt;
+      stays = tt;
+      came =
+          holds_more (λ (held : Open). ((w : Open) × (held_at old.connections place ≡ Some w) × Continues w held) ⊎ ((place ≡ place) × Continues one held))
+          (λ (held : Open). parts held.state ≡ false → came_of held.socket ≡ came_of was.socket ++ []) (λ held goes. quiet_one place was one held (held_at old.connections place) none read goes) (held_at new.connections place) (on place);
+    }

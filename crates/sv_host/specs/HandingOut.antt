@@ -15,6 +15,7 @@ use Rattle.sv_host.specs.declared.fault.Stop.{Stop}
 use Rattle.sv_host.specs.declared.outcome.Taken.{Taken}
 use Rattle.sv_host.specs.declared.server.Server.{Server}
 use Rattle.sv_model.specs.Engine.{EngineMeaning}
+use Rattle.sv_model.specs.Migration.{addressee}
 use Rattle.sv_model.specs.Site.{with_list}
 use Rattle.sv_model.specs.declared.output.Output.{Output}
 use Rattle.sv_model.specs.declared.output.Output.TheVariants.{Answer, Refuse, Send, Moved, MoveRefused}
@@ -22,9 +23,13 @@ use Rattle.sv_model.specs.declared.site.StepFault.{StepFault}
 use Rattle.sv_node.specs.Group.{GroupEnds}
 use Rattle.sv_node.specs.declared.node.Node.{Node}
 use Rattle.sv_net.specs.declared.connections.Connections.{Connections}
-use Rattle.sv_net.specs.declared.state.State.{State}
-use Rattle.sv_net.specs.Places.{HasStood, Spares, SparesClients, elsewhere, held_at, manner_at, naming_of, places_of}
+use Rattle.sv_net.specs.declared.open.Open.{Open}
+use Rattle.sv_net.specs.Exchange.{GoOnBut, Obeys}
+use Rattle.sv_net.specs.Places.{HasStood, Spares, SparesClients, TellsAt, elsewhere, held_at, naming_of, places_of}
 use Rattle.sv_net.specs.Saying.{Answers, Tells, refused_as}
+use Rattle.sv_net.specs.Sending.{Sends}
+use Rattle.sv_record.specs.Frame.{spelling}
+use Rattle.sv_record.specs.declared.frame.Frame.TheVariants.{Peer}
 
 -- nothing has changed at any place but this one
 abbrev pub SameElsewhere : Option ℕ → Connections → Connections → Type 0
@@ -32,12 +37,11 @@ SameElsewhere None old new = places_of new ≡ places_of old
 SameElsewhere (Some place) old new = elsewhere place new ≡ elsewhere place old
 
 -- whoever waits under a number at this place was told something, by how it wants a refusal, or its connection is closed
-abbrev pub IsToldAt : Option ℕ → ℕ → (Bool × Bool → State → Type 0) → Connections → Connections → Type 0
-IsToldAt at number told old new =
-    IfSome at (λ place. IfSome (manner_at old place number) (λ manner. IfSome (held_at new place) (λ held. told manner held.state)))
+abbrev pub IsToldAt : Option ℕ → ℕ → (Bool × Bool → Open → Open → Type 0) → Connections → Connections → Type 0
+IsToldAt at number told old new = IfSome at (λ place. TellsAt place number told old new)
 
 -- the same of the client that waits under it, which waits no more; nobody else is told anything
-abbrev pub TellsOne : ℕ → (Bool × Bool → State → Type 0) → Server → Server → Type 0
+abbrev pub TellsOne : ℕ → (Bool × Bool → Open → Open → Type 0) → Server → Server → Type 0
 TellsOne number told old new =
     (clients_of new.parked ≡ without number (clients_of old.parked))
     × IsToldAt (place_under number (clients_of old.parked)) number told old.connections new.connections
@@ -47,11 +51,13 @@ TellsOne number told old new =
 abbrev pub TellsNobody : Server → Server → Type 0
 TellsNobody old new = (clients_of new.parked ≡ clients_of old.parked) × (places_of new.connections ≡ places_of old.connections)
 
--- what is handed on of one output: an answer and a refusal to the client that waits for it, a packet to no client
+-- what is handed on of one output: an answer and a refusal to the client that waits for it, a packet to its node
 abbrev pub HandsOn : Output → ℕ → Server → Server → Type 0
-HandsOn (Answer number response) now old new = TellsOne number (λ _ state. Tells response now state) old new
-HandsOn (Refuse number cause) now old new = TellsOne number (λ manner state. Answers (refused_as (naming_of old.connections) cause manner) now state) old new
-HandsOn (Send packet) now old new = (clients_of new.parked ≡ clients_of old.parked) × Spares old.connections new.connections
+HandsOn (Answer number response) now old new = TellsOne number (λ _ was held. Tells response now was held) old new
+HandsOn (Refuse number cause) now old new = TellsOne number (λ manner was held. Answers (refused_as (naming_of old.connections) cause manner) now was held) old new
+HandsOn (Send packet) now old new =
+    (clients_of new.parked ≡ clients_of old.parked) × Spares old.connections new.connections
+    × Sends (addressee packet) (spelling (Peer packet)) old.connections new.connections
 HandsOn Moved now old new = TellsNobody old new
 HandsOn (MoveRefused why) now old new = TellsNobody old new
 
@@ -60,20 +66,26 @@ abbrev pub HandsOnAll : List Output → ℕ → Server → Server → Type 0
 HandsOnAll [] now old new = TellsNobody old new
 HandsOnAll (output ∷ outputs) now old new = (mid : Server) × HandsOn output now old mid × HandsOnAll outputs now mid new
 
--- behind the outputs of a step: whoever gave a command is told a byte, and a client that waits is watched from now on, or its
--- connection is closed
+-- whoever gave a command at this place is told a byte, once, or its connection is closed; nobody else is told anything
+abbrev pub Commands : ℕ → Server → Server → Type 0
+Commands place old new =
+    (clients_of new.parked ≡ clients_of old.parked) × SparesClients old.connections new.connections
+    × ((byte : ℕ) × GoOnBut place (λ held. IfSome (held_at old.connections place) (λ was. Obeys byte was held)) old.connections new.connections)
+
+-- behind the outputs of a step: whoever gave a command is told, and a client that waits is watched from now on, or its connection is
+-- closed
 abbrev pub Concludes : Asker → Server → Server → Type 0
 Concludes (Client place number) old new =
     (clients_of new.parked ≡ clients_of old.parked) × HasStood place old.connections new.connections
     × (elsewhere place new.connections ≡ elsewhere place old.connections)
-Concludes (Command place) old new = (clients_of new.parked ≡ clients_of old.parked) × SparesClients old.connections new.connections
+Concludes (Command place) old new = Commands place old new
 Concludes Nobody old new = TellsNobody old new
 
 -- of a step that was refused: the client that has asked is refused by the fault's cause
 abbrev pub ConcludesRefused : Asker → StepFault → ℕ → Server → Server → Type 0
 ConcludesRefused (Client place number) fault now old new =
-    TellsOne number (λ manner state. Answers (refused_as (naming_of old.connections) (cause_of fault) manner) now state) old new
-ConcludesRefused (Command place) fault now old new = (clients_of new.parked ≡ clients_of old.parked) × SparesClients old.connections new.connections
+    TellsOne number (λ manner was held. Answers (refused_as (naming_of old.connections) (cause_of fault) manner) now was held) old new
+ConcludesRefused (Command place) fault now old new = Commands place old new
 ConcludesRefused Nobody fault now old new = TellsNobody old new
 
 -- what came of one input

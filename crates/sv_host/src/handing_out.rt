@@ -6,12 +6,16 @@ ghost use Rattle.sv_node.specs.Call.{step_ends};
 ghost use Rattle.std.specs.List.{AllByRecursion};
 ghost use Rattle.sv_host.specs.Outputs.{AreHandedOn, AreSendable, IsHandedOn, IsSendable};
 ghost use Rattle.sv_host.specs.Clients.{refused_of};
-ghost use Rattle.sv_host.specs.HandingOut.{Concludes, ConcludesRefused, HandsOn, HandsOnAll, HandsOut, HandsOutFrom, HandsOutGroup, RefusesAll, SameElsewhere, TellsNobody, way_at};
+ghost use Rattle.sv_host.specs.HandingOut.{Concludes, ConcludesRefused, HandsOn, HandsOnAll, HandsOut, HandsOutFrom, HandsOutGroup, IsToldAt, RefusesAll, SameElsewhere, TellsNobody, way_at};
 ghost use Rattle.sv_host.specs.Outcome.{group_taken, last_taken, refused, taken_of};
 ghost use Rattle.sv_host.specs.Packets.{LeavesRound, sending_after};
 ghost use Rattle.sv_host.specs.Parked.{clients_of, place_under, without};
 ghost use Rattle.sv_host.specs.declared.outcome.Taken.TheVariants.{Quiet};
-ghost use Rattle.sv_net.specs.Places.{Spares, held_at, manner_at, naming_of};
+ghost use Rattle.sv_model.specs.Migration.{addressee};
+ghost use Rattle.sv_net.specs.Places.{Spares, naming_of};
+ghost use Rattle.sv_net.specs.Sending.{Sends};
+ghost use Rattle.sv_record.specs.Frame.{spelling};
+ghost use Rattle.sv_record.specs.declared.frame.Frame.TheVariants.{Peer as PeerFrame};
 ghost use Rattle.sv_host.specs.Time.{seconds_of};
 ghost use Rattle.sv_net.specs.Saying.{Answers, Tells, refused_as};
 
@@ -47,6 +51,7 @@ impl Server {
         requires { IsPacket packet }
         ensures clients { clients_of self.new.parked ≡ clients_of self.old.parked }
         ensures spares { Spares self.old.connections self.new.connections }
+        ensures sends { Sends (addressee packet) (spelling (PeerFrame packet)) self.old.connections self.new.connections }
         ensures round { self.new.round ≡ self.old.round }
     {
         let to = packet.addressee();
@@ -59,8 +64,8 @@ impl Server {
     /// Answers the client that waits under a token.
     fn answer(&mut self, token: u64, response: &Response, now: u64)
         ensures clients { clients_of self.new.parked ≡ without token (clients_of self.old.parked) }
-        ensures answered { IfSome (place_under token (clients_of self.old.parked)) (λ place. IfSome (manner_at self.old.connections place token)
-            (λ _. IfSome (held_at self.new.connections place) (λ held. Tells response.now now held.state))) }
+        ensures answered { IsToldAt (place_under token (clients_of self.old.parked)) token (λ _ was held. Tells response.now now was held)
+            self.old.connections self.new.connections }
         ensures others { SameElsewhere (place_under token (clients_of self.old.parked)) self.old.connections self.new.connections }
         ensures round { self.new.round ≡ self.old.round }
     {
@@ -73,8 +78,8 @@ impl Server {
     /// Refuses the client that waits under a token.
     pub fn refuse(&mut self, token: u64, cause: Cause, now: u64)
         ensures clients { clients_of self.new.parked ≡ without token (clients_of self.old.parked) }
-        ensures refused { IfSome (place_under token (clients_of self.old.parked)) (λ place. IfSome (manner_at self.old.connections place token)
-            (λ manner. IfSome (held_at self.new.connections place) (λ held. Answers (refused_as (naming_of self.old.connections) cause manner) now held.state))) }
+        ensures refused { IsToldAt (place_under token (clients_of self.old.parked)) token
+            (λ manner was held. Answers (refused_as (naming_of self.old.connections) cause manner) now was held) self.old.connections self.new.connections }
         ensures others { SameElsewhere (place_under token (clients_of self.old.parked)) self.old.connections self.new.connections }
         ensures round { self.new.round ≡ self.old.round }
     {

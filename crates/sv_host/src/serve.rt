@@ -1,12 +1,16 @@
 //! What comes on one connection.
 
-ghost use Rattle.std.specs.Prelude.{◌≡◌, false, IfOk, IfErr, IfSome};
+ghost use Rattle.std.specs.Io.{ReadsAtMost};
+ghost use Rattle.std.specs.Prelude.{◌≡◌, ◌++◌, None, false, IfOk, IfErr, IfSome, OnOk};
 ghost use Rattle.sv_host.specs.Clients.{HasAsked, KeepsAll};
 ghost use Rattle.sv_host.specs.Group.{Comes};
 ghost use Rattle.sv_host.specs.Heard.{IsHeardOf};
 ghost use Rattle.sv_host.specs.Parked.{clients_of};
-ghost use Rattle.sv_host.specs.Serve.{Brings, IsHeard, StaysAt, Takes, came_in, is_more};
+ghost use Rattle.sv_host.specs.Serve.{Brings, IsHeard, Listens, StandsBy, StaysAt, Takes, came_in, is_more};
 ghost use Rattle.sv_host.specs.Stops.{IsTold};
+ghost use Rattle.sv_net.specs.Bytes.{came_of, moved, went_of};
+ghost use Rattle.sv_net.specs.Exchange.{GoOnWith};
+ghost use Rattle.sv_net.specs.Places.{held_at};
 
 use crate::fault::Stop;
 use crate::greeting::greeted;
@@ -52,6 +56,7 @@ fn take(
     ensures asked { IfOk result (λ progress. IfSome (came_in progress) (λ came. HasAsked (clients_of server.new.parked) came.input)) }
     ensures takes { IfOk result (λ progress. Takes server.old.peers server.old.connections.greets «open».state piece.now token progress) }
     ensures stays { IfOk result (λ progress. StaysAt server.old.connections.greets «open».state piece.now place server.new progress) }
+    ensures socket { OnOk result (StandsBy place «open».socket server.old.connections server.new.connections) }
 {
     let (socket, state, since) = server.connections.begun(open, piece);
     let from = Lifted { place, socket };
@@ -95,11 +100,15 @@ enum Missing {
     ForEver,
 }
 
-/// Reads once what has come on a connection.
-fn look<'a>(socket: &mut Socket, piece: &'a mut [u8; PIECE]) -> Result<&'a [u8], Missing> {
+/// Reads once what has come on a connection, and gives how much of the piece that is.
+fn look(socket: &mut Socket, piece: &mut [u8; PIECE]) -> Result<usize, Missing>
+    ensures most { ReadsAtMost result piece.new }
+    ensures came { came_of socket.new ≡ came_of socket.old ++ moved result piece.new }
+    ensures went { went_of socket.new ≡ went_of socket.old }
+{
     match socket.read(piece) {
         Ok(0) => Err(Missing::ForEver),
-        Ok(count) => Ok(&piece[..count]),
+        Ok(count) => Ok(count),
         Err(fault) if comes_later(&fault) => Err(Missing::Yet),
         Err(_) => Err(Missing::ForEver),
     }
@@ -107,7 +116,8 @@ fn look<'a>(socket: &mut Socket, piece: &'a mut [u8; PIECE]) -> Result<&'a [u8],
 
 /// Does with a connection on which nothing has come what is to be done.
 fn keep_or_leave(server: &mut Server, place: usize, open: Open, missing: Missing)
-    ensures { server.new.parked ≡ server.old.parked }
+    ensures clients { server.new.parked ≡ server.old.parked }
+    ensures go_on { GoOnWith place «open» server.old.connections server.new.connections }
 {
     match missing {
         Missing::Yet => server.connections.keep_in_time(place, open),
@@ -127,11 +137,13 @@ fn listen_once(
     ensures heard { IfOk result (λ progress. IsHeard token progress) }
     ensures told { IfErr result (IsTold server.new) }
     ensures clients { KeepsAll (clients_of server.old.parked) (clients_of server.new.parked) }
+    ensures listens { held_at server.old.connections place ≡ None
+        → IfOk result (λ progress. Listens server.old.peers server.old.connections.greets «open» place token server.new progress) }
     ensures asked { IfOk result (λ progress. IfSome (came_in progress) (λ came. HasAsked (clients_of server.new.parked) came.input)) }
 {
     let mut open = open;
     match look(&mut open.socket, piece) {
-        Ok(come) => take(server, place, open, come, token),
+        Ok(count) => take(server, place, open, &piece[..count], token),
         Err(missing) => {
             keep_or_leave(server, place, open, missing);
             Ok(Progress::Done)
