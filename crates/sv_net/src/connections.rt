@@ -394,7 +394,9 @@ impl Connections {
     }
 
     /// Puts somebody who has come to their place. They are gone on with once all have been who wait for that already.
-    pub fn put_off(&mut self, place: usize, open: Open) {
+    pub fn put_off(&mut self, place: usize, open: Open)
+        ensures { GoOnWith place «open» self.old self.new }
+    {
         self.seat(place, open);
         self.put_down(place);
     }

@@ -1,6 +1,7 @@
 //! How far a connection has come.
 
-ghost use Rattle.sv_net.specs.Exchange.{IsLike};
+ghost use Rattle.std.specs.Prelude.{◌≡◌};
+ghost use Rattle.sv_net.specs.Exchange.{IsLike, unread};
 ghost use Rattle.sv_net.specs.Hearing.{BeginsBy};
 
 use crate::client::Client;
@@ -125,7 +126,9 @@ pub enum Turn {
 
 impl Peer {
     /// It has sent a packet, with these bytes behind it.
-    pub fn taken(self) -> State {
+    pub fn taken(self) -> State
+        ensures { unread result ≡ self.bytes.items }
+    {
         if self.is_resting() {
             State::Peer(self)
         } else {
