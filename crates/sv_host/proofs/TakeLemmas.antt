@@ -1,6 +1,6 @@
 -- What is given to the node is what has come.
-use Rattle.std.proofs.Common.{◌≡◌, ◌⊎◌, ◌++◌, ℕ, Bool, false, List, [], Vec, Option, Some, None, Result, Ok, Err, inl, inr, ap, sym, ◌∙◌, subst, true≢false}
-use Rattle.std.specs.Prelude.{IfOk, IfSome, OnOk}
+use Rattle.std.proofs.Common.{◌≡◌, ◌++◌, ℕ, Bool, false, List, Vec, Option, Some, None, Result, Ok, Err, inl, ap, sym, ◌∙◌, subst, true≢false}
+use Rattle.std.specs.Prelude.{IfOk, IfSome}
 use Rattle.std.specs.Option.{option_map}
 use Rattle.std.specs.declared.alloc.Global.{Global}
 use Rattle.sv_host.specs.declared.group.Came.{Came}
@@ -10,7 +10,7 @@ use Rattle.sv_host.specs.declared.serve.Progress.TheVariants as progress
 use Rattle.sv_host.specs.declared.server.Server.{Server}
 use Rattle.sv_host.specs.Group.{Comes}
 use Rattle.sv_host.specs.Heard.{IsGivenAs, IsOfBytes, input_of}
-use Rattle.sv_host.specs.Serve.{Brings, IsHeard, Listens, StandsBy, StaysAt, Takes, came_in, is_more}
+use Rattle.sv_host.specs.Serve.{Brings, HearsOn, IsHeard, IsLeftBy, Listens, StaysAt, Takes, came_in, is_more}
 use Rattle.sv_model.specs.declared.input.Input.TheVariants as input
 use Rattle.sv_model.specs.declared.request.Request.{Request}
 use Rattle.sv_net.specs.declared.client.Client.{Client}
@@ -19,10 +19,7 @@ use Rattle.sv_net.specs.declared.hearing.Heard.TheVariants as heard
 use Rattle.sv_net.specs.declared.open.Open.{Open}
 use Rattle.sv_net.specs.declared.socket.Socket.{Socket}
 use Rattle.sv_net.specs.declared.state.State.{State}
-use Rattle.sv_net.specs.Bytes.{came_of}
-use Rattle.sv_net.specs.Exchange.{Continues, GoOnWith, parts}
-use Rattle.sv_net.specs.Places.{held_at}
-use Rattle.sv_net.proofs.PlaceLemmas.{holds_more}
+use Rattle.sv_net.specs.Bytes.{came_of, went_of}
 use Rattle.sv_net.specs.Hearing.{Finds, HearsAt}
 use Rattle.sv_record.specs.declared.frame.Frame.{Frame}
 
@@ -84,43 +81,26 @@ framed peers greets was begun piece number came frame rest o p is_heard is found
     taken peers greets was begun piece number came o p is found hears
     (subst (λ (h : Heard). IfSome o (λ c. IsGivenAs peers number h c.input)) (sym is_heard) (frames peers number frame rest o inputs))
 
--- ---- what was read
+-- ---- what was read, and what is still to be heard
 
-listens_one : (peers : Peers) (greets : Bool) (was : Open) (place number : ℕ) (old new : Server) (socket : Socket) (piece : List ℕ) (p : Progress) → Takes peers greets was.state piece number p → StaysAt greets was.state piece place new p
-    → StandsBy place socket old.connections new.connections → held_at old.connections place ≡ None → came_of socket ≡ came_of was.socket ++ piece → Listens peers greets was place number new p
-listens_one peers greets was place number old new socket piece p takes stays stands none read =
-    record {
-      piece = piece;
-      takes = takes;
-      stays = stays;
-      came =
-          holds_more (λ (held : Open). came_of held.socket ≡ came_of socket) (λ (held : Open). parts held.state ≡ false → came_of held.socket ≡ came_of was.socket ++ piece) (λ held is whole. is ∙ read)
-          (held_at new.connections place) (stands none);
-    }
+pub gives_asked : (peers : Peers) (number : ℕ) (came : Heard) (request : Request) (client : Client) (o : Option Came) (whole : Came) (p : Progress) → came ≡ heard.Request client request → came_in p ≡ o → whole.input ≡ input.Ask number request
+    → IfSome o (λ c. c ≡ whole) → IfSome (came_in p) (λ c. IsGivenAs peers number came c.input)
+gives_asked peers number came request client o whole p is_heard is is_input same =
+    subst (λ (x : Option Came). IfSome x (λ c. IsGivenAs peers number came c.input)) (sym is)
+    (subst (λ (h : Heard). IfSome o (λ c. IsGivenAs peers number h c.input)) (sym is_heard) (asks peers number request client o whole is_input same))
 
-pub listens : {F : Type 0} (peers : Peers) (greets : Bool) (was : Open) (place number : ℕ) (old new : Server) (socket : Socket) (piece : List ℕ) (answer : Result Progress F) → IfOk answer (λ p. Takes peers greets was.state piece number p)
-    → IfOk answer (λ p. StaysAt greets was.state piece place new p) → OnOk answer (StandsBy place socket old.connections new.connections) → held_at old.connections place ≡ None → came_of socket ≡ came_of was.socket ++ piece
-    → IfOk answer (λ p. Listens peers greets was place number new p)
-listens peers greets was place number old new socket piece (Ok p) takes stays stands none read = listens_one peers greets was place number old new socket piece p takes stays stands none read
-listens peers greets was place number old new socket piece (Err stop) takes stays stands none read = tt
+pub gives_framed : (peers : Peers) (number : ℕ) (came : Heard) (frame : Frame) (rest : Vec ℕ Global) (o : Option Came) (p : Progress) → came ≡ heard.Frame frame rest → came_in p ≡ o
+    → option_map (λ (c : Came). c.input) o ≡ input_of peers frame → IfSome (came_in p) (λ c. IsGivenAs peers number came c.input)
+gives_framed peers number came frame rest o p is_heard is inputs =
+    subst (λ (x : Option Came). IfSome x (λ c. IsGivenAs peers number came c.input)) (sym is)
+    (subst (λ (h : Heard). IfSome o (λ c. IsGivenAs peers number h c.input)) (sym is_heard) (frames peers number frame rest o inputs))
 
--- nothing has come
-none_some : (o : Option Open) (was : Open) → o ≡ None → o ≡ Some was → ⊥
-none_some o was none is = cc
+pub left_as : (came known : Heard) (mid socket : Socket) (o : Option Open) → came ≡ known → mid ≡ socket → IfSome o (λ held. IsLeftBy known mid held) → IfSome o (λ held. IsLeftBy came socket held)
+left_as came known mid socket o is on left =
+    subst (λ (h : Heard). IfSome o (λ held. IsLeftBy h socket held)) (sym is) (subst (λ (s : Socket). IfSome o (λ held. IsLeftBy known s held)) on left)
 
-quiet_one : (place : ℕ) (was one held : Open) (o : Option Open) → o ≡ None → came_of one.socket ≡ came_of was.socket ++ [] → ((w : Open) × (o ≡ Some w) × Continues w held) ⊎ ((place ≡ place) × Continues one held)
-    → parts held.state ≡ false → came_of held.socket ≡ came_of was.socket ++ []
-quiet_one place was one held o none read (inl (w, is, on)) whole = absurd (none_some o w none is)
-quiet_one place was one held o none read (inr (here, on)) whole = on.came whole ∙ read
-
-pub listens_not : (peers : Peers) (greets : Bool) (was one : Open) (place number : ℕ) (old new : Server) → GoOnWith place one old.connections new.connections → held_at old.connections place ≡ None
-    → came_of one.socket ≡ came_of was.socket ++ [] → Listens peers greets was place number new progress.Done
-listens_not peers greets was one place number old new on none read =
-    record {
-      piece = [];
-      takes = tt;
-      stays = tt;
-      came =
-          holds_more (λ (held : Open). ((w : Open) × (held_at old.connections place ≡ Some w) × Continues w held) ⊎ ((place ≡ place) × Continues one held))
-          (λ (held : Open). parts held.state ≡ false → came_of held.socket ≡ came_of was.socket ++ []) (λ held goes. quiet_one place was one held (held_at old.connections place) none read goes) (held_at new.connections place) (on place);
-    }
+pub listens : {F : Type 0} (peers : Peers) (greets : Bool) (was read : Open) (piece : List ℕ) (place number : ℕ) (old new : Server) (answer : Result Progress F) → read.state ≡ was.state → came_of read.socket ≡ came_of was.socket ++ piece
+    → went_of read.socket ≡ went_of was.socket → IfOk answer (λ p. HearsOn peers greets read piece place number old new p) → IfOk answer (λ p. Listens peers greets was place number old new p)
+listens peers greets was read piece place number old new (Ok p) state came went hears =
+    record { piece = piece; read = read; state = state; came = came; went = went; heard_as = inl hears }
+listens peers greets was read piece place number old new (Err stop) state came went hears = tt

@@ -1,17 +1,19 @@
 -- What comes on a connection.
-use Rattle.std.specs.Prelude.{◌≡◌, ◌++◌, ℕ, Bool, true, false, List, Option, Some, None, IfSome, ⊤}
+use Rattle.std.specs.Prelude.{◌≡◌, ◌⊎◌, ◌++◌, ℕ, Bool, true, false, List, [], Option, Some, None, IfSome, ⊤}
 use Rattle.sv_host.specs.Group.{Comes}
-use Rattle.sv_host.specs.Heard.{IsHeardOf, IsOfBytes}
+use Rattle.sv_connection.specs.Connection.{held_by}
+use Rattle.sv_host.specs.Heard.{IsGivenAs, IsHeardOf, IsOfBytes}
 use Rattle.sv_host.specs.declared.group.Came.{Came}
 use Rattle.sv_host.specs.declared.peers.Peers.{Peers}
 use Rattle.sv_host.specs.declared.serve.Progress.{Progress}
 use Rattle.sv_host.specs.declared.serve.Progress.TheVariants as progress
 use Rattle.sv_host.specs.declared.server.Server.{Server}
-use Rattle.sv_net.specs.Bytes.{came_of}
-use Rattle.sv_net.specs.Exchange.{parts}
+use Rattle.sv_net.specs.Bytes.{IsQuiet, came_of, went_of}
+use Rattle.sv_net.specs.Exchange.{GoOnWith, unread}
 use Rattle.sv_net.specs.Hearing.{Finds, HearsAt}
 use Rattle.sv_net.specs.Places.{held_at}
 use Rattle.sv_net.specs.declared.connections.Connections.{Connections}
+use Rattle.sv_net.specs.declared.hearing.Heard.{Heard}
 use Rattle.sv_net.specs.declared.hearing.Heard.TheVariants as heard
 use Rattle.sv_net.specs.declared.open.Open.{Open}
 use Rattle.sv_net.specs.declared.socket.Socket.{Socket}
@@ -41,9 +43,26 @@ Takes peers greets was piece number progress = IfSome (came_in progress) (λ cam
 abbrev pub IsHeard : ℕ → Progress → Type 0
 IsHeard number progress = IfSome (came_in progress) (λ came. IsHeardOf number came.input)
 
--- whoever stands at a place where nobody stood has this socket, on which nothing has come meanwhile
-abbrev pub StandsBy : ℕ → Socket → Connections → Connections → Type 0
-StandsBy place socket old new = held_at old place ≡ None → IfSome (held_at new place) (λ held. came_of held.socket ≡ came_of socket)
+-- whoever stands at a place where nobody stood has this socket, on which nothing has come or left meanwhile, and a state of this kind
+abbrev pub StandsBy : ℕ → Socket → (State → Type 0) → Connections → Connections → Type 0
+StandsBy place socket P old new = held_at old place ≡ None → IfSome (held_at new place) (λ held. IsQuiet socket held.socket × P held.state)
+
+-- the same of one to whom something may have been said
+abbrev pub HearsNoMore : ℕ → Socket → Connections → Connections → Type 0
+HearsNoMore place socket old new = held_at old place ≡ None → IfSome (held_at new place) (λ held. came_of held.socket ≡ came_of socket)
+
+-- what is still to be heard behind a frame: what came behind it, or nothing, as behind a command
+abbrev pub IsBehindFrame : List ℕ → State → Type 0
+IsBehindFrame rest state = (unread state ≡ rest) ⊎ (unread state ≡ [])
+
+-- a connection that was heard stands there by its socket: what is still to be heard of it is what came behind that
+abbrev pub IsLeftBy : Heard → Socket → Open → Type 0
+IsLeftBy (heard.More next) socket held = IsQuiet socket held.socket × (held.state ≡ next)
+IsLeftBy (heard.Request client request) socket held = IsQuiet socket held.socket × (unread held.state ≡ held_by client.connection)
+IsLeftBy (heard.Frame frame rest) socket held = IsQuiet socket held.socket × IsBehindFrame rest.items held.state
+IsLeftBy (heard.Refused client fault head_only) socket held = came_of held.socket ≡ came_of socket
+IsLeftBy (heard.Greeting greeting) socket held = came_of held.socket ≡ came_of socket
+IsLeftBy heard.Nothing socket held = came_of held.socket ≡ came_of socket
 
 -- less than a request or a frame has come: the connection stands at its place with all of it, or is closed
 abbrev pub StaysAt : Bool → State → List ℕ → ℕ → Server → Progress → Type 0
@@ -53,10 +72,24 @@ StaysAt greets was piece place new progress.More =
 StaysAt greets was piece place new progress.Done = ⊤
 StaysAt greets was piece place new (progress.Came came) = ⊤
 
--- what the kernel gave of a connection in one call is behind all that it gave before, and what is given to the node stands at the front of
--- it and of what was held; of one that parts nothing is heard
-pub record Listens (peers : Peers) (greets : Bool) (was : Open) (place number : ℕ) (new : Server) (progress : Progress) : Type 0 where
+-- a piece was heard of a connection: what is given to the node is what this gives, and what came behind that is still to be heard
+pub record HearsOn (peers : Peers) (greets : Bool) (was : Open) (piece : List ℕ) (place number : ℕ) (old new : Server) (progress : Progress) : Type 0 where
+  pub begun : State
+  pub found : Finds greets was.state piece begun
+  pub came : Heard
+  pub hears : HearsAt begun piece came
+  pub gives : IfSome (came_in progress) (λ given. IsGivenAs peers number came given.input)
+  pub left : held_at old.connections place ≡ None → IfSome (held_at new.connections place) (λ held. IsLeftBy came was.socket held)
+
+-- nothing has come, and the connection goes on, or is closed
+abbrev pub IsUnheard : Open → ℕ → Server → Server → Progress → Type 0
+IsUnheard was place old new ended = (ended ≡ progress.Done) × GoOnWith place was old.connections new.connections
+
+-- a connection was listened to once: a piece is what the kernel gave in that call, behind all that it gave before, and is heard
+pub record Listens (peers : Peers) (greets : Bool) (was : Open) (place number : ℕ) (old new : Server) (progress : Progress) : Type 0 where
   pub piece : List ℕ
-  pub takes : Takes peers greets was.state piece number progress
-  pub stays : StaysAt greets was.state piece place new progress
-  pub came : IfSome (held_at new.connections place) (λ held. parts held.state ≡ false → came_of held.socket ≡ came_of was.socket ++ piece)
+  pub read : Open
+  pub state : read.state ≡ was.state
+  pub came : came_of read.socket ≡ came_of was.socket ++ piece
+  pub went : went_of read.socket ≡ went_of was.socket
+  pub heard_as : HearsOn peers greets read piece place number old new progress ⊎ IsUnheard read place old new progress

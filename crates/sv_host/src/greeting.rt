@@ -1,7 +1,7 @@
 //! Greetings on their way: before a node serves, while it does, and the answers to those of others.
 
 ghost use Rattle.std.specs.Prelude.{◌≡◌, IfSome};
-ghost use Rattle.sv_host.specs.Serve.{StandsBy};
+ghost use Rattle.sv_host.specs.Serve.{HearsNoMore};
 ghost use Rattle.sv_model.specs.Keys.{IsNode};
 ghost use Rattle.sv_record.specs.Greeting.{IsGreeting};
 
@@ -34,7 +34,7 @@ fn spelled(server: &Server, greeting: &Greeting) -> Option<Vec<u8>>
 pub fn greeted(server: &mut Server, from: Lifted, said: &Greeting)
     requires { IsGreeting said.now }
     ensures clients { server.new.parked ≡ server.old.parked }
-    ensures socket { StandsBy from.place from.socket server.old.connections server.new.connections }
+    ensures socket { HearsNoMore from.place from.socket server.old.connections server.new.connections }
 {
     let Lifted { place, socket } = from;
     let mut socket = socket;

@@ -13,7 +13,9 @@ ghost use Rattle.sv_host.specs.Group.{Comes};
 ghost use Rattle.sv_host.specs.Parked.{clients_of, IsFull};
 ghost use Rattle.sv_host.specs.Peers.{came_of};
 ghost use Rattle.sv_host.specs.Heard.{input_of};
-ghost use Rattle.sv_host.specs.Serve.{StandsBy};
+ghost use Rattle.sv_connection.specs.Connection.{held_by};
+ghost use Rattle.sv_host.specs.Serve.{HearsNoMore, IsBehindFrame, StandsBy};
+ghost use Rattle.sv_net.specs.Exchange.{unread};
 ghost use Rattle.sv_host.specs.Stops.{IsTold};
 ghost use Rattle.sv_host.specs.declared.group.Asker.TheVariants.{Client as ClientAsker, Command, Nobody};
 ghost use Rattle.sv_host.specs.declared.packets.Packets.TheVariants.{All};
@@ -55,7 +57,7 @@ pub fn ask(
     ensures came { IfSome result (λ came. came ≡ record { input = Ask token request; asker = ClientAsker from.place token; packets = All }) }
     ensures clients { KeepsAll (clients_of server.old.parked) (clients_of server.new.parked) }
     ensures asked { IfSome result (λ came. HasAsked (clients_of server.new.parked) came.input) }
-    ensures socket { StandsBy from.place from.socket server.old.connections server.new.connections }
+    ensures left { StandsBy from.place from.socket (λ state. unread state ≡ held_by client.connection) server.old.connections server.new.connections }
 {
     let Lifted { place, socket } = from;
     if !server.parked.add(ParkedClient { token, place }) {
@@ -91,7 +93,7 @@ pub fn refuse(
     head_only: bool,
 )
     ensures clients { server.new.parked ≡ server.old.parked }
-    ensures socket { StandsBy from.place from.socket server.old.connections server.new.connections }
+    ensures socket { HearsNoMore from.place from.socket server.old.connections server.new.connections }
 {
     let Lifted { place, socket } = from;
     let mut client = client;
@@ -120,7 +122,7 @@ fn tell(server: &Server, socket: &mut Socket, byte: u8) {
 fn receive(server: &mut Server, from: Lifted, packet: Packet, rest: Vec<u8>) -> Option<Came>
     ensures came { result ≡ Some (record { input = PacketInput packet; asker = Nobody; packets = All }) }
     ensures clients { server.new.parked ≡ server.old.parked }
-    ensures socket { StandsBy from.place from.socket server.old.connections server.new.connections }
+    ensures left { StandsBy from.place from.socket (λ state. unread state ≡ rest.items) server.old.connections server.new.connections }
 {
     let Lifted { place, socket } = from;
     let peer = Peer {
@@ -139,7 +141,7 @@ fn receive(server: &mut Server, from: Lifted, packet: Packet, rest: Vec<u8>) -> 
 fn take_packet(server: &mut Server, from: Lifted, packet: Packet, rest: Vec<u8>) -> Option<Came>
     ensures came { result ≡ came_of server.old.peers packet }
     ensures clients { server.new.parked ≡ server.old.parked }
-    ensures socket { StandsBy from.place from.socket server.old.connections server.new.connections }
+    ensures left { StandsBy from.place from.socket (λ state. unread state ≡ rest.items) server.old.connections server.new.connections }
 {
     let node = packet.sender();
     if server.peers.takes(node) {
@@ -157,7 +159,7 @@ fn take_packet(server: &mut Server, from: Lifted, packet: Packet, rest: Vec<u8>)
 fn obey(server: &mut Server, from: Lifted, input: Input, packets: Packets) -> Option<Came>
     ensures came { result ≡ Some (record { input = input; asker = Command from.place; packets = packets }) }
     ensures clients { server.new.parked ≡ server.old.parked }
-    ensures socket { StandsBy from.place from.socket server.old.connections server.new.connections }
+    ensures left { StandsBy from.place from.socket (λ state. unread state ≡ []) server.old.connections server.new.connections }
 {
     let Lifted { place, socket } = from;
     server.connections.begin(place, socket, State::Ordering);
@@ -180,7 +182,7 @@ pub fn take_frame(
     ensures input { IfOk result (λ came. option_map (λ came. came.input) came ≡ input_of server.old.peers frame) }
     ensures told { IfErr result (λ stop. (frame ≡ HaltFrame) × IsTold server.new stop) }
     ensures clients { server.new.parked ≡ server.old.parked }
-    ensures socket { OnOk result (StandsBy from.place from.socket server.old.connections server.new.connections) }
+    ensures left { OnOk result (StandsBy from.place from.socket (IsBehindFrame rest.items) server.old.connections server.new.connections) }
     ensures asked { (clients : List ParkedClient) → IfOk result (λ came. IfSome came (λ came. HasAsked clients came.input)) }
 {
     match frame {

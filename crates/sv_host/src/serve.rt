@@ -1,12 +1,12 @@
 //! What comes on one connection.
 
 ghost use Rattle.std.specs.Io.{ReadsAtMost};
-ghost use Rattle.std.specs.Prelude.{◌≡◌, ◌++◌, None, false, IfOk, IfErr, IfSome, OnOk};
+ghost use Rattle.std.specs.Prelude.{◌≡◌, ◌++◌, None, false, IfOk, IfErr, IfSome};
 ghost use Rattle.sv_host.specs.Clients.{HasAsked, KeepsAll};
 ghost use Rattle.sv_host.specs.Group.{Comes};
 ghost use Rattle.sv_host.specs.Heard.{IsHeardOf};
 ghost use Rattle.sv_host.specs.Parked.{clients_of};
-ghost use Rattle.sv_host.specs.Serve.{Brings, IsHeard, Listens, StandsBy, StaysAt, Takes, came_in, is_more};
+ghost use Rattle.sv_host.specs.Serve.{Brings, HearsOn, IsHeard, Listens, StaysAt, Takes, came_in, is_more};
 ghost use Rattle.sv_host.specs.Stops.{IsTold};
 ghost use Rattle.sv_net.specs.Bytes.{came_of, moved, went_of};
 ghost use Rattle.sv_net.specs.Exchange.{GoOnWith};
@@ -56,7 +56,7 @@ fn take(
     ensures asked { IfOk result (λ progress. IfSome (came_in progress) (λ came. HasAsked (clients_of server.new.parked) came.input)) }
     ensures takes { IfOk result (λ progress. Takes server.old.peers server.old.connections.greets «open».state piece.now token progress) }
     ensures stays { IfOk result (λ progress. StaysAt server.old.connections.greets «open».state piece.now place server.new progress) }
-    ensures socket { OnOk result (StandsBy place «open».socket server.old.connections server.new.connections) }
+    ensures hears { IfOk result (λ progress. HearsOn server.old.peers server.old.connections.greets «open» piece.now place token server.old server.new progress) }
 {
     let (socket, state, since) = server.connections.begun(open, piece);
     let from = Lifted { place, socket };
@@ -137,8 +137,7 @@ fn listen_once(
     ensures heard { IfOk result (λ progress. IsHeard token progress) }
     ensures told { IfErr result (IsTold server.new) }
     ensures clients { KeepsAll (clients_of server.old.parked) (clients_of server.new.parked) }
-    ensures listens { held_at server.old.connections place ≡ None
-        → IfOk result (λ progress. Listens server.old.peers server.old.connections.greets «open» place token server.new progress) }
+    ensures listens { IfOk result (λ progress. Listens server.old.peers server.old.connections.greets «open» place token server.old server.new progress) }
     ensures asked { IfOk result (λ progress. IfSome (came_in progress) (λ came. HasAsked (clients_of server.new.parked) came.input)) }
 {
     let mut open = open;

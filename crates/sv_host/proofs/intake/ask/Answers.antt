@@ -1,5 +1,7 @@
 use Rattle.std.proofs.Common.{◌≡◌, Bool, false, ap, refl}
-use Rattle.sv_net.specs.Bytes.{came_of}
+use Rattle.sv_connection.specs.Connection.{held_by}
+use Rattle.sv_net.specs.Bytes.{IsQuiet}
+use Rattle.sv_net.specs.Exchange.{unread}
 use Rattle.sv_model.specs.Method.{is_head}
 use Rattle.sv_net.proofs.PlaceLemmas.{put_holds}
 use Rattle.sv_net.specs.declared.state.State.TheVariants.{Waiting}
@@ -12,6 +14,7 @@ returns-clause-stands c =
     c.args.server.now.connections c.begin.new.self c.begin.ensures.places
     (ap (λ (head_only : Bool). Waiting c.args.client head_only c.args.request.close c.args.token false) c.is_head-head_only.ensures)
 
-pub returns-clause-socket : goal.returns-clause-socket
-returns-clause-socket c = λ none.
-    put_holds (λ held. came_of held.socket ≡ came_of c.args.from.socket) c.args.from.place _ c.args.server.now.connections c.begin.new.self c.begin.ensures.places refl
+pub returns-clause-left : goal.returns-clause-left
+returns-clause-left c = λ none.
+    put_holds (λ held. IsQuiet c.args.from.socket held.socket × (unread held.state ≡ held_by c.args.client.connection)) c.args.from.place _ c.args.server.now.connections c.begin.new.self
+    c.begin.ensures.places (record { came = refl; went = refl }, refl)

@@ -1,4 +1,5 @@
-use Rattle.sv_host.proofs.TakeLemmas.{all_heard, listens, listens_not}
+use Rattle.std.proofs.Common.{[], inr, refl}
+use Rattle.sv_host.proofs.TakeLemmas.{all_heard, listens}
 use Rattle.sv_host.proofs.serve.listen_once.Goals as goal
 
 pub returns-in-Ok-clause-heard : goal.returns-in-Ok-clause-heard
@@ -7,12 +8,17 @@ returns-in-Ok-clause-heard c =
 
 -- the piece that was read
 pub returns-in-Ok-clause-listens : goal.returns-in-Ok-clause-listens
-returns-in-Ok-clause-listens c = λ none.
-    listens c.args.server.now.peers c.args.server.now.connections.greets c.args.open c.args.place c.args.token c.args.server.now c.take.new.server c.look.new.socket _ c.take.result
-    c.take.ensures.takes c.take.ensures.stays c.take.ensures.socket none c.in-Ok.ensures.came
+returns-in-Ok-clause-listens c =
+    listens c.args.server.now.peers c.args.server.now.connections.greets c.args.open (record c.args.open { socket = c.look.new.socket }) _ c.args.place c.args.token c.args.server.now c.take.new.server
+    c.take.result refl c.in-Ok.ensures.came c.in-Ok.ensures.went c.take.ensures.hears
 
 -- nothing was
 pub returns-in-Err-clause-listens : goal.returns-in-Err-clause-listens
-returns-in-Err-clause-listens c = λ none.
-    listens_not c.args.server.now.peers c.args.server.now.connections.greets c.args.open (record c.args.open { socket = c.look.new.socket }) c.args.place c.args.token c.args.server.now c.keep_or_leave.new.server
-    c.keep_or_leave.ensures.go_on none c.in-Err.ensures.came
+returns-in-Err-clause-listens c = record {
+  piece = [];
+  read = record c.args.open { socket = c.look.new.socket };
+  state = refl;
+  came = c.in-Err.ensures.came;
+  went = c.in-Err.ensures.went;
+  heard_as = inr (refl, c.keep_or_leave.ensures.go_on);
+}
