@@ -104,6 +104,7 @@ impl Connections {
     /// Says a greeting to whoever listens at an address, on a connection of its own. One that isn't taken is lost: another follows.
     pub fn greet(&mut self, machine: &HostRuntime, addr: SocketAddr, greeting: &Greeting)
         requires { IsGreeting greeting.now }
+        ensures { Spares self.old self.new }
     {
         let mut text = Vec::new(self.alloc);
         if write_greeting(greeting, &mut text).is_err() {
@@ -116,7 +117,9 @@ impl Connections {
     }
 
     /// Says a text on a connection that then ends. What isn't taken of it at once is said later, if there is a place for it.
-    fn begin_text(&mut self, socket: Socket, text: Vec<u8>) {
+    fn begin_text(&mut self, socket: Socket, text: Vec<u8>)
+        ensures { Spares self.old self.new }
+    {
         let (mut socket, mut text) = (socket, text);
         if socket.write(&mut text) != Written::Part {
             return;
