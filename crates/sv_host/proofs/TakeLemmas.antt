@@ -1,5 +1,5 @@
 -- What is given to the node is what has come.
-use Rattle.std.proofs.Common.{◌≡◌, ◌++◌, ℕ, Bool, false, List, Vec, Option, Some, None, Result, Ok, Err, inl, ap, sym, ◌∙◌, subst, true≢false}
+use Rattle.std.proofs.Common.{◌≡◌, ◌++◌, ℕ, Bool, false, List, [], Vec, Option, Some, None, Result, Ok, Err, inl, inr, ap, sym, ◌∙◌, subst, true≢false}
 use Rattle.std.specs.Prelude.{IfOk, IfSome}
 use Rattle.std.specs.Option.{option_map}
 use Rattle.std.specs.declared.alloc.Global.{Global}
@@ -10,7 +10,7 @@ use Rattle.sv_host.specs.declared.serve.Progress.TheVariants as progress
 use Rattle.sv_host.specs.declared.server.Server.{Server}
 use Rattle.sv_host.specs.Group.{Comes}
 use Rattle.sv_host.specs.Heard.{IsGivenAs, IsOfBytes, input_of}
-use Rattle.sv_host.specs.Serve.{Brings, HearsOn, IsHeard, IsLeftBy, Listens, StaysAt, Takes, came_in, is_more}
+use Rattle.sv_host.specs.Serve.{Brings, GoesOn, HearsOn, IsHeard, IsLeftBy, Listens, StaysAt, Takes, came_in, is_more}
 use Rattle.sv_model.specs.declared.input.Input.TheVariants as input
 use Rattle.sv_model.specs.declared.request.Request.{Request}
 use Rattle.sv_net.specs.declared.client.Client.{Client}
@@ -104,3 +104,13 @@ pub listens : {F : Type 0} (peers : Peers) (greets : Bool) (was read : Open) (pi
 listens peers greets was read piece place number old new (Ok p) state came went hears =
     record { piece = piece; read = read; state = state; came = came; went = went; heard_as = inl hears }
 listens peers greets was read piece place number old new (Err stop) state came went hears = tt
+
+pub served : {F : Type 0} (peers : Peers) (greets : Bool) (was : Open) (place number : ℕ) (old new : Server) (answer : Result Progress F) → IfOk answer (λ p. HearsOn peers greets was [] place number old new p)
+    → IfOk answer (λ p. GoesOn peers greets was place number old new p)
+served peers greets was place number old new (Ok p) hears = inl hears
+served peers greets was place number old new (Err stop) hears = tt
+
+pub read : {F : Type 0} (peers : Peers) (greets : Bool) (was : Open) (place number : ℕ) (old new : Server) (answer : Result Progress F) → IfOk answer (λ p. Listens peers greets was place number old new p)
+    → IfOk answer (λ p. GoesOn peers greets was place number old new p)
+read peers greets was place number old new (Ok p) listened = inr (inl listened)
+read peers greets was place number old new (Err stop) listened = tt

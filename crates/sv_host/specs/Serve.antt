@@ -93,3 +93,10 @@ pub record Listens (peers : Peers) (greets : Bool) (was : Open) (place number : 
   pub came : came_of read.socket ≡ came_of was.socket ++ piece
   pub went : went_of read.socket ≡ went_of was.socket
   pub heard_as : HearsOn peers greets read piece place number old new progress ⊎ IsUnheard read place old new progress
+
+-- a connection was gone on with: what it held was heard, or a piece was read and heard; or it has said more of what was to be said on it,
+-- and nothing was heard
+abbrev pub GoesOn : Peers → Bool → Open → ℕ → ℕ → Server → Server → Progress → Type 0
+GoesOn peers greets was place number old new ended =
+    HearsOn peers greets was [] place number old new ended ⊎ Listens peers greets was place number old new ended
+    ⊎ (held_at old.connections place ≡ None → IsUnheard was place old new ended)

@@ -6,7 +6,7 @@ ghost use Rattle.sv_host.specs.Clients.{HasAsked, KeepsAll};
 ghost use Rattle.sv_host.specs.Group.{Comes};
 ghost use Rattle.sv_host.specs.Heard.{IsHeardOf};
 ghost use Rattle.sv_host.specs.Parked.{clients_of};
-ghost use Rattle.sv_host.specs.Serve.{Brings, HearsOn, IsHeard, Listens, StaysAt, Takes, came_in, is_more};
+ghost use Rattle.sv_host.specs.Serve.{Brings, GoesOn, HearsOn, IsHeard, Listens, StaysAt, Takes, came_in, is_more};
 ghost use Rattle.sv_host.specs.Stops.{IsTold};
 ghost use Rattle.sv_net.specs.Bytes.{came_of, moved, went_of};
 ghost use Rattle.sv_net.specs.Exchange.{GoOnWith};
@@ -162,6 +162,7 @@ fn go_on_with(
     ensures heard { IfOk result (λ progress. IsHeard token progress) }
     ensures told { IfErr result (IsTold server.new) }
     ensures clients { KeepsAll (clients_of server.old.parked) (clients_of server.new.parked) }
+    ensures goes_on { IfOk result (λ progress. GoesOn server.old.peers server.old.connections.greets «open» place token server.old server.new progress) }
     ensures asked { IfOk result (λ progress. IfSome (came_in progress) (λ came. HasAsked (clients_of server.new.parked) came.input)) }
 {
     match open.state.turn() {
