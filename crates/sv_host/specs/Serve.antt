@@ -11,7 +11,7 @@ use Rattle.sv_host.specs.declared.server.Server.{Server}
 use Rattle.sv_net.specs.Bytes.{IsQuiet, came_of, went_of}
 use Rattle.sv_net.specs.Exchange.{GoOnWith, unread}
 use Rattle.sv_net.specs.Hearing.{Finds, HearsAt}
-use Rattle.sv_net.specs.Places.{held_at}
+use Rattle.sv_net.specs.Places.{elsewhere, held_at}
 use Rattle.sv_net.specs.declared.connections.Connections.{Connections}
 use Rattle.sv_net.specs.declared.hearing.Heard.{Heard}
 use Rattle.sv_net.specs.declared.hearing.Heard.TheVariants as heard
@@ -80,6 +80,7 @@ pub record HearsOn (peers : Peers) (greets : Bool) (was : Open) (piece : List �
   pub hears : HearsAt begun piece came
   pub gives : IfSome (came_in progress) (λ given. IsGivenAs peers number came given.input)
   pub left : held_at old.connections place ≡ None → IfSome (held_at new.connections place) (λ held. IsLeftBy came was.socket held)
+  pub others : elsewhere place new.connections ≡ elsewhere place old.connections
 
 -- nothing has come, and the connection goes on, or is closed
 abbrev pub IsUnheard : Open → ℕ → Server → Server → Progress → Type 0

@@ -2,6 +2,7 @@
 
 ghost use Rattle.std.specs.Prelude.{◌≡◌, IfSome};
 ghost use Rattle.sv_host.specs.Serve.{HearsNoMore};
+ghost use Rattle.sv_net.specs.Places.{elsewhere};
 ghost use Rattle.sv_model.specs.Keys.{IsNode};
 ghost use Rattle.sv_record.specs.Greeting.{IsGreeting};
 
@@ -35,6 +36,7 @@ pub fn greeted(server: &mut Server, from: Lifted, said: &Greeting)
     requires { IsGreeting said.now }
     ensures clients { server.new.parked ≡ server.old.parked }
     ensures socket { HearsNoMore from.place from.socket server.old.connections server.new.connections }
+    ensures others { elsewhere from.place server.new.connections ≡ elsewhere from.place server.old.connections }
 {
     let Lifted { place, socket } = from;
     let mut socket = socket;

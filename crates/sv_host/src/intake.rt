@@ -3,7 +3,7 @@
 ghost use Rattle.std.specs.Prelude.{◌≡◌, ◌++◌, ◌∷◌, [], false, Some, IfOk, IfErr, IfSome, IfNone, OnOk, ℕ, ◌<◌, List};
 ghost use Rattle.std.specs.Option.{option_map};
 ghost use Rattle.sv_model.specs.Method.{is_head};
-ghost use Rattle.sv_net.specs.Places.{held_at};
+ghost use Rattle.sv_net.specs.Places.{elsewhere, held_at};
 ghost use Rattle.sv_net.specs.declared.state.State.TheVariants.{Waiting};
 ghost use Rattle.sv_record.specs.Frame.{IsFrame};
 ghost use Rattle.sv_record.specs.declared.frame.Frame.TheVariants.{Halt as HaltFrame};
@@ -58,6 +58,7 @@ pub fn ask(
     ensures clients { KeepsAll (clients_of server.old.parked) (clients_of server.new.parked) }
     ensures asked { IfSome result (λ came. HasAsked (clients_of server.new.parked) came.input) }
     ensures left { StandsBy from.place from.socket (λ state. unread state ≡ held_by client.connection) server.old.connections server.new.connections }
+    ensures others { elsewhere from.place server.new.connections ≡ elsewhere from.place server.old.connections }
 {
     let Lifted { place, socket } = from;
     if !server.parked.add(ParkedClient { token, place }) {
@@ -94,6 +95,7 @@ pub fn refuse(
 )
     ensures clients { server.new.parked ≡ server.old.parked }
     ensures socket { HearsNoMore from.place from.socket server.old.connections server.new.connections }
+    ensures others { elsewhere from.place server.new.connections ≡ elsewhere from.place server.old.connections }
 {
     let Lifted { place, socket } = from;
     let mut client = client;
@@ -123,6 +125,7 @@ fn receive(server: &mut Server, from: Lifted, packet: Packet, rest: Vec<u8>) -> 
     ensures came { result ≡ Some (record { input = PacketInput packet; asker = Nobody; packets = All }) }
     ensures clients { server.new.parked ≡ server.old.parked }
     ensures left { StandsBy from.place from.socket (λ state. unread state ≡ rest.items) server.old.connections server.new.connections }
+    ensures others { elsewhere from.place server.new.connections ≡ elsewhere from.place server.old.connections }
 {
     let Lifted { place, socket } = from;
     let peer = Peer {
@@ -142,6 +145,7 @@ fn take_packet(server: &mut Server, from: Lifted, packet: Packet, rest: Vec<u8>)
     ensures came { result ≡ came_of server.old.peers packet }
     ensures clients { server.new.parked ≡ server.old.parked }
     ensures left { StandsBy from.place from.socket (λ state. unread state ≡ rest.items) server.old.connections server.new.connections }
+    ensures others { elsewhere from.place server.new.connections ≡ elsewhere from.place server.old.connections }
 {
     let node = packet.sender();
     if server.peers.takes(node) {
@@ -160,6 +164,7 @@ fn obey(server: &mut Server, from: Lifted, input: Input, packets: Packets) -> Op
     ensures came { result ≡ Some (record { input = input; asker = Command from.place; packets = packets }) }
     ensures clients { server.new.parked ≡ server.old.parked }
     ensures left { StandsBy from.place from.socket (λ state. unread state ≡ []) server.old.connections server.new.connections }
+    ensures others { elsewhere from.place server.new.connections ≡ elsewhere from.place server.old.connections }
 {
     let Lifted { place, socket } = from;
     server.connections.begin(place, socket, State::Ordering);
@@ -183,6 +188,7 @@ pub fn take_frame(
     ensures told { IfErr result (λ stop. (frame ≡ HaltFrame) × IsTold server.new stop) }
     ensures clients { server.new.parked ≡ server.old.parked }
     ensures left { OnOk result (StandsBy from.place from.socket (IsBehindFrame rest.items) server.old.connections server.new.connections) }
+    ensures others { OnOk result (elsewhere from.place server.new.connections ≡ elsewhere from.place server.old.connections) }
     ensures asked { (clients : List ParkedClient) → IfOk result (λ came. IfSome came (λ came. HasAsked clients came.input)) }
 {
     match frame {

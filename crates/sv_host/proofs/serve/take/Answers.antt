@@ -1,4 +1,4 @@
-use Rattle.std.proofs.Common.{◌≡◌, ◌∙◌, refl, subst}
+use Rattle.std.proofs.Common.{◌≡◌, ◌∙◌, None, ap, refl, slice_set, subst}
 use Rattle.sv_net.proofs.PlaceLemmas.{nobody_holds, put_holds, same_held}
 use Rattle.sv_net.specs.declared.hearing.Heard.{Heard}
 use Rattle.sv_net.specs.declared.hearing.Heard.TheVariants as heard
@@ -59,6 +59,7 @@ returns-in-More-clause-hears c = record {
       left_as c.hear.result (heard.More c.in-More.state) c.begun-socket.result.0 c.args.open.socket _ c.in-More.is c.begun-socket.ensures.socket
       (put_holds (λ held. IsLeftBy (heard.More c.in-More.state) c.begun-socket.result.0 held) c.args.place _ c.args.server.now.connections c.put.new.self c.put.ensures.places
       (record { came = refl; went = refl }, refl));
+  others = c.put.ensures.others;
 }
 
 pub returns-in-Request-clause-hears : goal.returns-in-Request-clause-hears
@@ -72,6 +73,7 @@ returns-in-Request-clause-hears c = record {
       c.ask.ensures.came;
   left = λ none.
       left_as c.hear.result (heard.Request c.in-Request.client c.in-Request.request) c.begun-socket.result.0 c.args.open.socket _ c.in-Request.is c.begun-socket.ensures.socket (c.ask.ensures.left none);
+  others = c.ask.ensures.others;
 }
 
 pub returns-in-Refused-clause-hears : goal.returns-in-Refused-clause-hears
@@ -84,6 +86,7 @@ returns-in-Refused-clause-hears c = record {
   left = λ none.
       left_as c.hear.result (heard.Refused c.in-Refused.client c.in-Refused.fault c.in-Refused.head_only) c.begun-socket.result.0 c.args.open.socket _ c.in-Refused.is c.begun-socket.ensures.socket
       (c.refuse.ensures.socket none);
+  others = c.refuse.ensures.others;
 }
 
 pub returns-in-Ok-clause-hears : goal.returns-in-Ok-clause-hears
@@ -97,6 +100,7 @@ returns-in-Ok-clause-hears c = record {
       c.in-Ok.ensures.input;
   left = λ none.
       left_as c.hear.result (heard.Frame c.in-Frame.frame c.in-Frame.rest) c.begun-socket.result.0 c.args.open.socket _ c.in-Frame.is c.begun-socket.ensures.socket (c.in-Ok.ensures.left none);
+  others = c.in-Ok.ensures.others;
 }
 
 pub returns-in-Greeting-clause-hears : goal.returns-in-Greeting-clause-hears
@@ -108,6 +112,7 @@ returns-in-Greeting-clause-hears c = record {
   gives = tt;
   left = λ none.
       left_as c.hear.result (heard.Greeting c.in-Greeting.said) c.begun-socket.result.0 c.args.open.socket _ c.in-Greeting.is c.begun-socket.ensures.socket (c.greeted.ensures.socket none);
+  others = c.greeted.ensures.others;
 }
 
 pub returns-in-Nothing-clause-hears : goal.returns-in-Nothing-clause-hears
@@ -118,4 +123,5 @@ returns-in-Nothing-clause-hears c = record {
   hears = c.hear.ensures.at;
   gives = tt;
   left = λ none. nobody_holds (λ held. IsLeftBy c.hear.result c.args.open.socket held) (same_held c.args.place c.args.server.now.connections c.leave.new.self c.leave.ensures.places ∙ none);
+  others = ap (λ xs. slice_set xs c.args.place None) c.leave.ensures.places;
 }
