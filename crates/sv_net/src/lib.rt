@@ -4,9 +4,9 @@
 //! whoever is connected, each at a place, with how far that connection has come ([`State`]). What has come on one is a whole request,
 //! a fault of one, or a frame ([`Heard`]); what is to be said on one is written as far as the other end takes it, and the rest later.
 //!
-//! What a socket or a clock does is outside what contracts can say. What they say is which connection a call may change, that an
-//! answer is for the client that waits under its number and for nobody else, and that a connection of a node brings packets of that
-//! node alone.
+//! What the kernel gives and takes of a socket is noted where it is asked (`stream`); what a clock does is outside what contracts can
+//! say. They say which connection a call may change, what was said on each and what has come there, that an answer is for the client that
+//! waits under its number and for nobody else, and that a connection of a node brings packets of that node alone.
 #![tactic(auto)]
 
 mod acceptor;
