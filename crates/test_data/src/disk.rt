@@ -6,6 +6,7 @@ mod failing;
 mod files;
 mod fixtures;
 mod format;
+mod small_file;
 mod stage;
 mod stopped_files;
 mod stories;
