@@ -20,3 +20,4 @@ pub mod ClientLemmas
 pub mod AskedLemmas
 pub mod TellingLemmas
 pub mod HavingLemmas
+pub mod RunningLemmas

@@ -15,6 +15,7 @@ pub mod Packets
 pub mod Turns
 pub mod Room
 pub mod Host
+pub mod Running
 pub mod Group
 pub mod Judging
 pub mod Peers

@@ -256,7 +256,13 @@ impl Host {
     }
 
     /// Has what happens told to the operator.
-    pub fn reporting(self, report: Report) -> Host {
+    pub fn reporting(self, report: Report) -> Host
+        ensures setting { setting_of result ≡ setting_of self }
+        ensures ports { ports_of result ≡ ports_of self }
+        ensures persistence { persistence_of result ≡ persistence_of self }
+        ensures naming { naming_of result ≡ naming_of self }
+        ensures secrets { counted_of result ≡ counted_of self }
+    {
         let mut host = self;
         host.server.report_by(report);
         host

@@ -1,5 +1,9 @@
 //! A node over the files of its journal.
 
+ghost use Rattle.std.specs.Prelude.{IfOk};
+ghost use Rattle.sv_host.specs.Host.{IsAt};
+ghost use Rattle.sv_host.specs.Running.{HasRun};
+
 use crate::fault::HostFault;
 use crate::host::{Ended, Host};
 use crate::paths::{IfLocked, Paths};
@@ -7,7 +11,7 @@ use crate::place::Place;
 use crate::time::read;
 use std::thread;
 use std::time::Duration;
-use sv_journal::{FileDisk, FileFault};
+use sv_journal::{Disk, FileDisk, FileFault};
 use sv_log::{Level, Milestone, Report, ReportFault};
 use sv_model::{Engine, Setting};
 use sv_net::{Persistence, port_of};
@@ -78,7 +82,9 @@ fn open_both(
     place: Place,
     persistence: Persistence,
     paths: Paths<'_>,
-) -> Result<(Host, FileDisk, FileDisk), HostFault> {
+) -> Result<(Host, FileDisk, FileDisk), HostFault>
+    ensures { IfOk result (λ opened. IsAt place persistence opened.0) }
+{
     match paths.if_locked {
         IfLocked::End => {
             let host = Host::at(machine, place, persistence)?;
@@ -99,7 +105,9 @@ fn open(
     place: Place,
     persistence: Persistence,
     paths: Paths<'_>,
-) -> Result<(Host, FileDisk, FileDisk), HostFault> {
+) -> Result<(Host, FileDisk, FileDisk), HostFault>
+    ensures { IfOk result (λ opened. IsAt place persistence opened.0) }
+{
     let report = report_of(machine, &place, paths)?;
     let (host, a, b) = open_both(machine, place, persistence, paths)?;
     Ok((host.reporting(report), a, b))
@@ -126,6 +134,8 @@ pub fn run_node<E: Engine + Drop>(
     paths: Paths<'_>,
 ) -> Result<(), HostFault>
     requires { E.valid engine }
+    ensures ran { IfOk result (λ _. HasRun ⟦<FileDisk as Disk>⟧.tells ⟦<FileDisk as Disk>⟧.seen ⟦<FileDisk as Disk>⟧.may_leave (E.meaning engine)
+        (E.heard engine) place persistence) }
 {
     let (host, a, b) = open(machine, place, persistence, paths)?;
     match host.run(machine, engine, a, b) {

@@ -1,6 +1,7 @@
 //! What a running node keeps beside its journal: its clients, its peers, its secrets, and the time.
 
 ghost use Rattle.std.specs.Prelude.{◌≡◌, ◌≤◌, ◌<◌, [], IfErr, IfOk, IsFalse, IsTrue};
+ghost use Rattle.sv_net.specs.Places.{naming_of, persistence_of};
 ghost use Rattle.sv_host.specs.Group.{inputs_of};
 ghost use Rattle.sv_host.specs.HandingOut.{IsHandedOut};
 ghost use Rattle.sv_host.specs.Parked.{clients_of};
@@ -242,7 +243,12 @@ impl Server {
     }
 
     /// Has what happens told to the operator.
-    pub fn report_by(&mut self, report: Report) {
+    pub fn report_by(&mut self, report: Report)
+        ensures ports { self.new.ports ≡ self.old.ports }
+        ensures secrets { self.new.secrets ≡ self.old.secrets }
+        ensures naming { naming_of self.new.connections ≡ naming_of self.old.connections }
+        ensures persistence { persistence_of self.new.connections ≡ persistence_of self.old.connections }
+    {
         self.connections.report_by(report);
     }
 

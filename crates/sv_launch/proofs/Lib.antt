@@ -2,3 +2,4 @@ mod OnceLemmas
 pub mod HistoryLemmas
 pub mod ObjectLemmas
 pub mod WordLemmas
+pub mod StartedLemmas

@@ -3,8 +3,9 @@ use Rattle.std.specs.Prelude.{◌≡◌, ℕ, List, map, Option}
 use Rattle.sv_config.specs.Values.{ContextData, context_data}
 use Rattle.sv_config.specs.declared.deployment.Context.{Context}
 use Rattle.sv_container.specs.Deployment.{IsDeployed, path_of}
-use Rattle.sv_container.specs.Serving.{Deployed}
+use Rattle.sv_container.specs.Serving.{Deployed, container_meaning}
 use Rattle.sv_container.specs.declared.named.Named.{Named}
+use Rattle.sv_model.specs.Engine.{EngineMeaning}
 use Rattle.sv_servlet.specs.Filter.{Filters}
 use Rattle.sv_servlet.specs.Servlet.{Serves}
 use Rattle.sv_launch.specs.Objects.{Hears, Lookup, lookups, object_data}
@@ -30,3 +31,11 @@ pub record IsLaunched {S F L : Type 0} (serves : S → Serves) (filtering : F �
   pub listeners_are : AreDeclared hears listener_of (λ c. c.listeners) contexts listeners
   pub paths : deployed.paths ≡ map path_of contexts
   pub objects : IsDeployed serves filtering contexts servlets filters listeners hears deployed.apps deployed.ears
+
+-- It is what such a container means.
+pub record IsMeant {S F L : Type 0} (serves : S → Serves) (filtering : F → Filters) (hears : L → Hears)
+    (servlet_of : ℕ → List ℕ → Option Serves) (filter_of : ℕ → List ℕ → Option Filters) (listener_of : ℕ → List ℕ → Option Hears)
+    (contexts : List Context) (meaning : EngineMeaning) : Type 0 where
+  pub deployed : Deployed
+  pub launched : IsLaunched serves filtering hears servlet_of filter_of listener_of contexts deployed
+  pub meaning_is : meaning ≡ container_meaning deployed

@@ -6,3 +6,4 @@ pub mod OneOf
 pub mod Files
 pub mod Served
 pub mod Launched
+pub mod Started

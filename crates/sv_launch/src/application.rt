@@ -1,9 +1,11 @@
 //! An application: what its names stand for, and what it is started for.
 
-ghost use Rattle.std.specs.Prelude.{◌≡◌, IfOk, None, Some};
+ghost use Rattle.std.specs.Prelude.{◌≡◌, ℕ, List, Option, IfOk, None, Some};
 ghost use Rattle.sv_container.specs.Life.{AreNamedNew};
 ghost use Rattle.sv_container.specs.Serving.{deployed};
-ghost use Rattle.sv_launch.specs.Launched.{AreDeclared, IsLaunched};
+ghost use Rattle.sv_model.specs.Engine.{EngineMeaning};
+ghost use Rattle.sv_launch.specs.Launched.{AreDeclared, IsLaunched, IsMeant};
+ghost use Rattle.sv_launch.specs.Started.{HasStreamed, IsStarted};
 ghost use Rattle.sv_launch.specs.Served.{files_or};
 ghost use Rattle.sv_web.specs.Work.{serving, surrounding};
 
@@ -12,8 +14,10 @@ use crate::kind::{FilesOr, FiltersOf, ListenersOf, ServletsOf};
 use crate::objects::objects_of;
 use crate::purpose::Purpose;
 use crate::served::ServedFiles;
+use crate::stream::once;
 use crate::table::{Empty, FilterTable, ListenerTable, ServletTable, With};
 use std::alloc::Global;
+use std::io::{Read, Write};
 use sv_config::{Context, Deployment};
 use sv_container::{Container, Named};
 use sv_model::Engine;
@@ -22,6 +26,15 @@ use sv_web::{HttpFilter, HttpServlet, Web};
 
 /// What a program of nodes serves by.
 pub trait Applications {
+    ghost use Rattle.sv_config.specs.declared.deployment.Deployment.{Deployment};
+    ghost use Rattle.sv_launch.specs.declared.served.ServedFiles.{ServedFiles};
+
+    /// What an engine means that is started for a deployment, with the files that it serves.
+    ghost means: { Self → Deployment → List ServedFiles → EngineMeaning → Type 0 };
+
+    /// How such an engine serves a stream at a moment, from the bytes to come and those written before to those behind it.
+    ghost streams: { Self → Deployment → List ServedFiles → ℕ → (to_come written left writes : Option (List ℕ)) → Type 0 };
+
     /// The descriptor that the program has built in, where it has one.
     fn built_in(&self) -> Option<&str>;
 
@@ -32,7 +45,21 @@ pub trait Applications {
         deployment: Deployment,
         files: &[ServedFiles],
         purpose: P,
-    ) -> Result<(), Fault>;
+    ) -> Result<(), Fault>
+        ensures started { IfOk result (λ _. IsStarted (means self.now deployment files.now) (λ m heard r. P.serves m heard purpose r) result) };
+
+    /// Starts them, and serves a stream of requests to its end, all of them at `now` in whole seconds since 1970.
+    fn stream<R: Read, W: Write>(
+        &self,
+        alloc: Global,
+        deployment: Deployment,
+        files: &[ServedFiles],
+        now: u64,
+        reader: &mut R,
+        writer: &mut W,
+    ) -> Result<(), Fault>
+        ensures streamed { IfOk result (λ _. streams self.now deployment files.now now (R.remaining reader.old) (W.contents writer.old)
+            (R.remaining reader.new) (W.contents writer.new)) };
 }
 
 /// An application: its servlets, its filters and its listeners, each by the name that a descriptor gives it.
@@ -257,6 +284,17 @@ impl<'a, S: ServletTable, F: FilterTable, L: ListenerTable> Application<'a, S, F
 
 impl<'a, S: ServletTable, F: FilterTable, L: ListenerTable> Applications
     for Application<'a, S, F, L> {
+    ghost means = { λ app deployment files. IsMeant ⟦<FilesOr<'static, S::Servlet> as Servlet>⟧.serves F.Filter.filtering L.Listener.hears
+        (λ context name. files_or files context name (S.servlets app.servlets name)) (λ context name. F.filters app.filters name)
+        (λ context name. L.listeners app.listeners name) deployment.contexts.items };
+
+    ghost streams = { λ app deployment files. HasStreamed
+        ⟦<Container<FilesOr<'static, S::Servlet>, F::Filter, L::Listener> as Engine>⟧.meaning
+        ⟦<Container<FilesOr<'static, S::Servlet>, F::Filter, L::Listener> as Engine>⟧.heard
+        (IsMeant ⟦<FilesOr<'static, S::Servlet> as Servlet>⟧.serves F.Filter.filtering L.Listener.hears
+        (λ context name. files_or files context name (S.servlets app.servlets name)) (λ context name. F.filters app.filters name)
+        (λ context name. L.listeners app.listeners name) deployment.contexts.items) };
+
     fn built_in(&self) -> Option<&str> {
         self.built_in
     }
@@ -270,5 +308,19 @@ impl<'a, S: ServletTable, F: FilterTable, L: ListenerTable> Applications
     ) -> Result<(), Fault> {
         let container = self.container(alloc, deployment, files)?;
         purpose.serve(alloc, container)
+    }
+
+    fn stream<R: Read, W: Write>(
+        &self,
+        alloc: Global,
+        deployment: Deployment,
+        files: &[ServedFiles],
+        now: u64,
+        reader: &mut R,
+        writer: &mut W,
+    ) -> Result<(), Fault> {
+        let container = self.container(alloc, deployment, files)?;
+        once(alloc, container, now, reader, writer)?;
+        Ok(())
     }
 }

@@ -1,13 +1,10 @@
 //! The descriptor that the program serves by.
 
-ghost use Rattle.std.specs.Prelude.{◌≡◌, ◌≢◌, IfErr, IfOk, Some, None};
-ghost use Rattle.toml.specs.Parse.{parse_document};
-ghost use Rattle.toml.specs.Data.{Members};
+ghost use Rattle.std.specs.Prelude.{◌≡◌, ◌≢◌, ℕ, List, IfErr, IfOk};
 ghost use Rattle.sv_config.specs.Fault.{IsFaultOf};
-ghost use Rattle.sv_config.specs.Fault as config;
-ghost use Rattle.sv_config.specs.Values.{deployment_data, deployment_of};
 ghost use Rattle.sv_config.specs.declared.fault.ConfigFault.{ConfigFault as FaultOfConfig};
 ghost use Rattle.sv_launch.specs.Fault.{fault_in};
+ghost use Rattle.sv_launch.specs.Started.{IsDescriptor};
 ghost use Rattle.sv_launch.specs.declared.fault.Fault.TheVariants.{Memory};
 
 use crate::fault::Fault;
@@ -21,8 +18,7 @@ const BUILT_IN_WORD: &str = "-";
 
 /// The deployment that a descriptor says, or the descriptor's least fault.
 pub fn deployment_in(alloc: Global, text: &str) -> Result<Deployment, Fault>
-    ensures deployment { IfOk result (λ deployment. (t : Members) × (parse_document text.now ≡ Some t) × (config.fault_of t ≡ None)
-        × (deployment_data deployment ≡ deployment_of t)) }
+    ensures deployment { IfOk result (IsDescriptor text.now) }
     ensures fault { IfErr result (λ fault. fault ≢ Memory → (c : FaultOfConfig) × IsFaultOf text.now c × (fault ≡ fault_in c)) }
 {
     Ok(Deployment::from_toml(alloc, text)?)
@@ -42,7 +38,9 @@ pub fn read_config(
     rt: &HostRuntime,
     built_in: Option<&str>,
     config: &str,
-) -> Result<Deployment, Fault> {
+) -> Result<Deployment, Fault>
+    ensures read { IfOk result (λ deployment. (text : List ℕ) × IsDescriptor text deployment) }
+{
     if config == BUILT_IN_WORD {
         return deployment_in(rt.alloc(), built_in.ok_or(Fault::Unreadable)?);
     }

@@ -34,7 +34,7 @@ pub use kind::{FilesOr, FiltersOf, Kind, ListenersOf, ServletsOf};
 pub use objects::objects_of;
 pub use one_of::OneOf;
 pub use program::{launch, number_of, words_of};
-pub use purpose::{Purpose, Running, Stream};
+pub use purpose::{Purpose, Running};
 pub use reading::{NotServed, ReadFault, WhyNot, read_served};
 pub use served::{ServedFiles, served_at};
 pub use stream::{OnceFault, once};

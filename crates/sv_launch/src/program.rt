@@ -1,11 +1,16 @@
 //! What a program of nodes does: as the words of its command line ask for, with applications of its own.
 
+ghost use Rattle.std.specs.Prelude.{◌≡◌, IfOk};
+ghost use Rattle.sv_host.specs.Place.{setting_in};
+ghost use Rattle.sv_host.specs.Running.{HasRun};
+ghost use Rattle.sv_launch.specs.Started.{RunsAsRead};
+
 use crate::application::Applications;
 use crate::descriptor::read_config;
 use crate::failure::log_failure;
 use crate::fault::Fault;
 use crate::files::refuse_shared;
-use crate::purpose::{Running, Stream};
+use crate::purpose::Running;
 use crate::reading::{ReadFault, read_served};
 use crate::served::ServedFiles;
 use crate::sums::summed;
@@ -15,6 +20,7 @@ use std::process::ExitCode;
 use std::{env, io};
 use sv_config::Deployment;
 use sv_host::Place;
+use sv_journal::{Disk, FileDisk};
 use sv_version::version;
 
 /// The words behind the program's name. One that is no UTF-8 text is [`Fault::Arguments`].
@@ -58,15 +64,13 @@ fn serve_input<A: Applications>(
     let files = files_of(rt, config, &deployment)?;
     let mut reader = rt.reader();
     let mut writer = io::writer(rt);
-    applications.start(
+    applications.stream(
         rt.alloc(),
         deployment,
         files.as_slice(),
-        Stream {
-            now,
-            reader: &mut reader,
-            writer: &mut writer,
-        },
+        now,
+        &mut reader,
+        &mut writer,
     )
 }
 
@@ -76,7 +80,9 @@ fn place_of(
     deployment: &Deployment,
     files: &[ServedFiles],
     node: &NodeWords<'_>,
-) -> Result<Place, Fault> {
+) -> Result<Place, Fault>
+    ensures { IfOk result (λ place. place.setting ≡ setting_in deployment.now.cluster node.now.number) }
+{
     let place = Place::new(machine.alloc(), &deployment.cluster, node.number)?;
     let place = place.naming(node.options.naming);
     Ok(match node.options.greetings {
@@ -90,7 +96,10 @@ fn serve_in_cluster<A: Applications>(
     applications: &A,
     machine: &HostRuntime,
     node: &NodeWords<'_>,
-) -> Result<(), Fault> {
+) -> Result<(), Fault>
+    ensures { IfOk result (λ _. RunsAsRead (A.means applications.now) (λ meaning heard place. HasRun ⟦<FileDisk as Disk>⟧.tells
+        ⟦<FileDisk as Disk>⟧.seen ⟦<FileDisk as Disk>⟧.may_leave meaning heard place node.now.options.persistence) node.now.number) }
+{
     refuse_shared(machine, node, None)?;
     let deployment = read_config(machine, applications.built_in(), node.config)?;
     refuse_shared(machine, node, deployment.cluster.secrets.as_deref())?;

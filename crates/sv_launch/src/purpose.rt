@@ -1,38 +1,27 @@
-//! What the applications of a deployment are started for: to serve one stream, or as a node of a cluster.
+//! What the applications of a deployment are started for.
+
+ghost use Rattle.std.specs.Prelude.{ℕ, List, Result, IfOk};
+ghost use Rattle.sv_model.specs.Engine.{EngineMeaning};
+ghost use Rattle.sv_host.specs.Running.{HasRun};
 
 use crate::fault::Fault;
-use crate::stream::once;
 use std::alloc::Global;
-use std::io::{Read, Write};
 use sv_host::{Paths, Place, run_node};
+use sv_journal::{Disk, FileDisk};
 use sv_model::Engine;
 use sv_net::Persistence;
 
 /// What an engine is made for.
 pub trait Purpose: Drop {
+    ghost use Rattle.sv_launch.specs.declared.fault.Fault.{Fault};
+
+    /// What was done with an engine that means this, and whose listeners had heard this, if it ended so.
+    ghost serves: { EngineMeaning → List (List ℕ) → Self → Result (Unit {0}) Fault → Type 0 };
+
     /// Serves by the engine, to the end.
     fn serve<E: Engine + Drop>(self, alloc: Global, engine: E) -> Result<(), Fault>
-        requires { E.valid engine };
-}
-
-/// One stream of requests, all of them at `now` in whole seconds since 1970.
-#[derive(Drop)]
-pub struct Stream<'a, R: Read, W: Write> {
-    pub now: u64,
-    pub reader: &'a mut R,
-    pub writer: &'a mut W,
-}
-
-impl<R: Read, W: Write> Purpose for Stream<'_, R, W> {
-    fn serve<E: Engine + Drop>(self, alloc: Global, engine: E) -> Result<(), Fault> {
-        let Stream {
-            now,
-            reader,
-            writer,
-        } = self;
-        once(alloc, engine, now, reader, writer)?;
-        Ok(())
-    }
+        requires { E.valid engine }
+        ensures served { serves (E.meaning engine) (E.heard engine) self result };
 }
 
 /// A node of a cluster, over its files.
@@ -45,6 +34,9 @@ pub struct Running<'a> {
 }
 
 impl Purpose for Running<'_> {
+    ghost serves = { λ meaning heard running result. IfOk result (λ _. HasRun ⟦<FileDisk as Disk>⟧.tells ⟦<FileDisk as Disk>⟧.seen
+        ⟦<FileDisk as Disk>⟧.may_leave meaning heard running.place running.persistence) };
+
     fn serve<E: Engine + Drop>(self, _alloc: Global, engine: E) -> Result<(), Fault> {
         let Running {
             machine,

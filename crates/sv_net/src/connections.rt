@@ -109,7 +109,13 @@ impl Connections {
     }
 
     /// Has what happens told to the operator.
-    pub fn report_by(&mut self, report: Report) {
+    pub fn report_by(&mut self, report: Report)
+        ensures naming { naming_of self.new ≡ naming_of self.old }
+        ensures persistence { persistence_of self.new ≡ persistence_of self.old }
+        ensures places { places_of self.new ≡ places_of self.old }
+        ensures count { count_of self.new ≡ count_of self.old }
+        ensures greets { self.new.greets ≡ self.old.greets }
+    {
         self.report = report;
     }
 

@@ -22,7 +22,7 @@ use crate::expect::expect;
 use std::alloc::Global;
 use std::process::Abort;
 use streams::{Input, Output, Way};
-use sv_launch::{Applications, Fault, Stream, deployment_in};
+use sv_launch::{Applications, Fault, deployment_in};
 use sv_showcase::showcase;
 
 const NOW: u64 = 784_111_777;
@@ -45,12 +45,7 @@ fn serve(
     writer: &mut Output,
 ) -> Result<(), Fault> {
     let deployment = deployment_in(alloc, descriptor)?;
-    let stream = Stream {
-        now: NOW,
-        reader,
-        writer,
-    };
-    showcase(alloc).start(alloc, deployment, &[], stream)
+    showcase(alloc).stream(alloc, deployment, &[], NOW, reader, writer)
 }
 
 /// All that is written for a stream that is served by a descriptor, and the fault that ends it.

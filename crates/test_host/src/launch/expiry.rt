@@ -73,6 +73,8 @@ fn serve_both<S: Site>(alloc: Global, two: Two, site: &mut S)
 }
 
 impl Purpose for Two<'_, '_> {
+    ghost serves = { λ _ _ _ _. Unit {0} };
+
     fn serve<E: Engine + Drop>(self, alloc: Global, engine: E) -> Result<(), Fault> {
         let mut site = Solo::new(alloc, engine);
         serve_both(alloc, self, &mut site);

@@ -49,6 +49,8 @@ struct Overhearing<'a> {
 }
 
 impl Purpose for Overhearing<'_> {
+    ghost serves = { λ _ _ _ _. Unit {0} };
+
     fn serve<E: Engine + Drop>(self, alloc: Global, engine: E) -> Result<(), Fault> {
         let Overhearing { input, noted } = self;
         let mut reader = input.as_bytes();
