@@ -243,16 +243,22 @@ but_more place P Q old new more but q =
     (λ held on. more_at place q P Q (held_at old q) held (more held) on) (held_at new q) (but q)
 
 -- a command's byte, said or held
-obeys_at : (byte : ℕ) (was held : Open) (socket : Socket) → was.state ≡ state.Ordering → socket ≡ was.socket → said_on held ≡ went_of socket ++ byte ∷ [] → came_of held.socket ≡ came_of socket → Obeys byte was held
-obeys_at byte was held socket is on said came =
-    record { said = said ∙ ap (λ xs. xs ++ byte ∷ []) (said_before was socket on (ap unsent is)); nothing_came = came ∙ ap came_of on }
+obeys_at : (byte : ℕ) (was held : Open) (socket : Socket) → was.state ≡ state.Ordering → socket ≡ was.socket → said_on held ≡ went_of socket ++ byte ∷ [] → came_of held.socket ≡ came_of socket → unread held.state ≡ [] → Obeys byte was held
+obeys_at byte was held socket is on said came nothing =
+    record {
+      ordered = is;
+      said = said ∙ ap (λ xs. xs ++ byte ∷ []) (said_before was socket on (ap unsent is));
+      nothing_came = came ∙ ap came_of on;
+      nothing_unread = nothing;
+    }
 
 pub obeys_saying : (byte : ℕ) (was held : Open) (socket : Socket) → was.state ≡ state.Ordering → socket ≡ was.socket → Says (byte ∷ []) Close (went_of socket) (came_of socket) held → Obeys byte was held
-obeys_saying byte was held socket is on says = obeys_at byte was held socket is on says.said says.nothing_came
+obeys_saying byte was held socket is on says =
+    obeys_at byte was held socket is on says.said says.nothing_came (closing_unread (byte ∷ []) held.state says.stands)
 
 pub obeys_holding : (byte : ℕ) (was held : Open) (socket : Socket) → was.state ≡ state.Ordering → socket ≡ was.socket → held.socket ≡ socket → held.state ≡ state.Holding byte → Obeys byte was held
 obeys_holding byte was held socket is on by holding =
-    obeys_at byte was held socket is on (λ i. went_of (by i) ++ unsent (holding i)) (ap came_of by)
+    obeys_at byte was held socket is on (λ i. went_of (by i) ++ unsent (holding i)) (ap came_of by) (ap unread holding)
 
 -- who was taken from a place
 taken_one : (p q : ℕ) (P : Open → Type 0) (old mid : Connections) (held : Open) → held_at mid p ≡ None → elsewhere p mid ≡ elsewhere p old

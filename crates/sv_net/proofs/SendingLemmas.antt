@@ -17,7 +17,7 @@ use Rattle.sv_net.specs.Bytes.{Leaves, went_of}
 use Rattle.sv_net.specs.Exchange.{unsent}
 use Rattle.sv_net.specs.Places.{HasStood, IsKept, Keeps, elsewhere, held_at, held_in, places_of, with_at}
 use Rattle.sv_net.specs.Sending.{Admits, AreAmong, IsLinkTo, IsOnItsWay, SamePeople, Sends, SendsBehind, is_to, links_of}
-use Rattle.sv_net.proofs.PlaceLemmas.{nobody_holds, set_holds}
+use Rattle.sv_net.proofs.PlaceLemmas.{keep_holds, nobody_holds, set_holds}
 use Rattle.sv_net.proofs.SpareLemmas.{apart_same, same_or_apart}
 
 -- ---- the links
@@ -106,6 +106,22 @@ kept_at P Q p q old mid new none keeps more came stood others (inr apart) =
 pub admits_kept : (P Q : Open → Type 0) (place : ℕ) (old mid new : Connections) → held_at old place ≡ None → ((was h : Open) → IsKept was h → P was → Q h) → ((h : Open) → P h → Q h) → Admits P old mid → HasStood place mid new
     → elsewhere place new ≡ elsewhere place mid → Admits Q old new
 admits_kept P Q place old mid new none keeps more came stood others q = kept_at P Q place q old mid new none keeps more came stood others (same_or_apart place q)
+
+-- and is kept where nobody stood
+kept_in : (P : Open → Type 0) (o n : Option Open) → IfSome n P → IfSome n (λ h. (o ≡ Some h) ⊎ P h)
+kept_in P o None good = tt
+kept_in P o (Some h) good = inr good
+
+keep_at : (P : Open → Type 0) (p q : ℕ) (old mid new : Connections) → SamePeople old mid → IfSome (held_at new p) P → elsewhere p new ≡ elsewhere p mid
+    → (p ≡ q) ⊎ ((xs : List (Option Open)) → held_in (slice_get (slice_set xs p None) q) ≡ held_in (slice_get xs q)) → IfSome (held_at new q) (λ held. (held_at old q ≡ Some held) ⊎ P held)
+keep_at P p q old mid new same good others (inl here) =
+    subst (λ place. IfSome (held_at new place) (λ held. (held_at old place ≡ Some held) ⊎ P held)) here (kept_in P (held_at old p) (held_at new p) good)
+keep_at P p q old mid new same good others (inr apart) = stays P (held_at old q) (held_at new q) (apart_same p q mid new others apart ∙ same q)
+
+pub admits_keep : (P : Open → Type 0) (place : ℕ) (was : Open) (old mid new : Connections) → SamePeople old mid → held_at mid place ≡ None → Keeps place was mid new → elsewhere place new ≡ elsewhere place mid
+    → ((held : Open) → IsKept was held → P held) → Admits P old new
+admits_keep P place was old mid new same none kept others good q =
+    keep_at P place q old mid new same (keep_holds P place was mid new kept none good) others (same_or_apart place q)
 
 -- whoever was taken out and put back has stood there
 back_in : (place : ℕ) (was : Open) (o n : Option Open) → o ≡ Some was → IfSome n (λ held. IsKept was held) → IfSome n (λ held. (one : Open) × (o ≡ Some one) × IsKept one held)

@@ -8,6 +8,8 @@ use Rattle.sv_net.specs.declared.open.Open.{Open}
 use Rattle.sv_net.specs.declared.state.Next.{Next}
 use Rattle.sv_net.specs.declared.state.Next.TheVariants.{Close, Part, Listen}
 use Rattle.sv_net.specs.declared.state.State.{State}
+use Rattle.sv_net.specs.declared.state.Turn.{Turn}
+use Rattle.sv_net.specs.declared.state.Turn.TheVariants as turn
 use Rattle.sv_net.specs.declared.state.State.TheVariants as state
 
 -- what is still to be said on a connection that is at a state: the rest of a text or of a packet, or the byte of a command
@@ -70,6 +72,23 @@ parts (state.Saying text next) = false
 parts (state.Parting bytes) = true
 parts (state.Calling to frame holder) = false
 
+-- a connection is gone on with by what has come already, by what is read, or by its socket alone
+abbrev pub turn_of : State → Turn
+turn_of state.New = turn.Read
+turn_of (state.Asking client) = turn.Read
+turn_of (state.Asked client) = turn.Serve
+turn_of (state.Resting client) = turn.Read
+turn_of (state.Framing bytes) = turn.Read
+turn_of (state.Greeting bytes) = turn.Read
+turn_of (state.Taken peer) = turn.Serve
+turn_of (state.Peer peer) = turn.Read
+turn_of (state.Waiting client head_only close token silent) = turn.Socket
+turn_of state.Ordering = turn.Socket
+turn_of (state.Holding byte) = turn.Socket
+turn_of (state.Saying text next) = turn.Socket
+turn_of (state.Parting bytes) = turn.Socket
+turn_of (state.Calling to frame holder) = turn.Socket
+
 -- a state at which as much is still to be said and to be heard
 pub record IsLike (was now : State) : Type 0 where
   pub unsent_is : unsent now ≡ unsent was
@@ -99,7 +118,13 @@ GoOnBut place P old new = (q : ℕ) → IfSome (held_at new q) (λ held. ((was :
 abbrev pub GoOnWith : ℕ → Open → Connections → Connections → Type 0
 GoOnWith place one old new = GoOnBut place (λ held. Continues one held) old new
 
--- a command is answered by this byte, which is behind all that was said on its connection
+-- a command is answered by this byte, which is behind all that was said on its connection; nothing is heard of it any more
 pub record Obeys (byte : ℕ) (was held : Open) : Type 0 where
+  pub ordered : was.state ≡ state.Ordering
   pub said : said_on held ≡ said_on was ++ byte ∷ []
   pub nothing_came : came_of held.socket ≡ came_of was.socket
+  pub nothing_unread : unread held.state ≡ []
+
+-- the same of whoever stood at a place
+abbrev pub ObeysThere : ℕ → Option Open → Open → Type 0
+ObeysThere byte before held = (was : Open) × (before ≡ Some was) × Obeys byte was held

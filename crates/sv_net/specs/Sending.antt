@@ -8,7 +8,8 @@ use Rattle.sv_net.specs.declared.connections.Connections.{Connections}
 use Rattle.sv_net.specs.declared.links.Link.{Link}
 use Rattle.sv_net.specs.declared.links.Links.{Links}
 use Rattle.sv_net.specs.declared.open.Open.{Open}
-use Rattle.sv_net.specs.declared.state.State.TheVariants.{Calling}
+use Rattle.sv_net.specs.declared.state.Next.TheVariants.{Close}
+use Rattle.sv_net.specs.declared.state.State.TheVariants.{Calling, Saying}
 
 -- the connections to other nodes that are kept
 abbrev pub links_in : Links → List Link
@@ -52,6 +53,10 @@ SamePeople old new = (place : ℕ) → held_at new place ≡ held_at old place
 -- whoever stands somewhere stood there before, or is a newcomer of this kind
 abbrev pub Admits : (Open → Type 0) → Connections → Connections → Type 0
 Admits P old new = (place : ℕ) → IfSome (held_at new place) (λ held. (held_at old place ≡ Some held) ⊎ P held)
+
+-- what is left of a text of the node's own waits on a connection that then ends
+abbrev pub IsOwn : Open → Type 0
+IsOwn held = (text : Vec ℕ Global) × (held.state ≡ Saying text Close)
 
 -- a text for a node is lost whole
 pub record Loses (old new : Connections) : Type 0 where

@@ -3,9 +3,9 @@
 ghost use Rattle.std.specs.Prelude.{◌≡◌, None, IfSome};
 ghost use Rattle.sv_model.specs.Ranges.{IsPacket};
 ghost use Rattle.sv_net.specs.Bytes.{went_of};
-ghost use Rattle.sv_net.specs.Exchange.{AllContinue, GoOnBut, GoOnWith, Obeys};
+ghost use Rattle.sv_net.specs.Exchange.{AllContinue, GoOnBut, GoOnWith, Obeys, ObeysThere};
 ghost use Rattle.sv_net.specs.Places.{HasStood, Spares, SparesClients, elsewhere, held_at, places_of};
-ghost use Rattle.sv_net.specs.Sending.{Admits, SamePeople, Sends, SendsBehind, links_of};
+ghost use Rattle.sv_net.specs.Sending.{Admits, IsOwn, SamePeople, Sends, SendsBehind, links_of};
 ghost use Rattle.sv_net.specs.declared.state.State.TheVariants.{Calling, Ordering};
 ghost use Rattle.sv_record.specs.Frame.{spelling};
 ghost use Rattle.sv_record.specs.Greeting.{IsGreeting};
@@ -104,7 +104,8 @@ impl Connections {
     /// Says a greeting to whoever listens at an address, on a connection of its own. One that isn't taken is lost: another follows.
     pub fn greet(&mut self, machine: &HostRuntime, addr: SocketAddr, greeting: &Greeting)
         requires { IsGreeting greeting.now }
-        ensures { Spares self.old self.new }
+        ensures spares { Spares self.old self.new }
+        ensures admits { Admits IsOwn self.old self.new }
     {
         let mut text = Vec::new(self.alloc);
         if write_greeting(greeting, &mut text).is_err() {
@@ -118,7 +119,8 @@ impl Connections {
 
     /// Says a text on a connection that then ends. What isn't taken of it at once is said later, if there is a place for it.
     fn begin_text(&mut self, socket: Socket, text: Vec<u8>)
-        ensures { Spares self.old self.new }
+        ensures spares { Spares self.old self.new }
+        ensures admits { Admits IsOwn self.old self.new }
     {
         let (mut socket, mut text) = (socket, text);
         if socket.write(&mut text) != Written::Part {
@@ -203,7 +205,7 @@ impl Connections {
     /// is told nothing.
     pub fn obeyed(&mut self, place: usize, byte: u8)
         ensures spares { SparesClients self.old self.new }
-        ensures told { GoOnBut place (λ held. IfSome (held_at self.old place) (λ was. Obeys byte was held)) self.old self.new }
+        ensures told { GoOnBut place (ObeysThere byte (held_at self.old place)) self.old self.new }
     {
         let Some(open) = self.take(place) else {
             return;

@@ -1,6 +1,6 @@
 //! The connections that are open.
 
-ghost use Rattle.std.specs.Prelude.{◌≡◌, ◌-◌, ℕ, None, IfSome, is_none};
+ghost use Rattle.std.specs.Prelude.{◌≡◌, ◌-◌, ℕ, None, true, IfSome, is_none};
 ghost use Rattle.sv_net.specs.Exchange.{AllContinue, GoOnWith, GoesOnThere};
 ghost use Rattle.sv_net.specs.Sending.{links_of};
 ghost use Rattle.sv_net.specs.Places.{places_of, count_of, elsewhere, held_at, with_at, naming_of, persistence_of, IsKept, Keeps, HasStood};
@@ -131,7 +131,13 @@ impl Connections {
     }
 
     /// Has greetings taken.
-    pub fn take_greetings(&mut self) {
+    pub fn take_greetings(&mut self)
+        ensures taken { self.new.greets ≡ true }
+        ensures places { places_of self.new ≡ places_of self.old }
+        ensures count { count_of self.new ≡ count_of self.old }
+        ensures naming { naming_of self.new ≡ naming_of self.old }
+        ensures persistence { persistence_of self.new ≡ persistence_of self.old }
+    {
         self.greets = true;
     }
 

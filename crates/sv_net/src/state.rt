@@ -1,7 +1,7 @@
 //! How far a connection has come.
 
 ghost use Rattle.std.specs.Prelude.{◌≡◌};
-ghost use Rattle.sv_net.specs.Exchange.{IsLike, unread};
+ghost use Rattle.sv_net.specs.Exchange.{IsLike, turn_of, unread};
 ghost use Rattle.sv_net.specs.Hearing.{BeginsBy};
 
 use crate::client::Client;
@@ -144,7 +144,9 @@ impl Peer {
 
 impl State {
     /// How a connection at this state is gone on with.
-    pub fn turn(&self) -> Turn {
+    pub fn turn(&self) -> Turn
+        ensures { result ≡ turn_of self.now }
+    {
         match self {
             State::Asked(_) | State::Taken(_) => Turn::Serve,
             State::New

@@ -1,11 +1,9 @@
-use Rattle.std.proofs.Common.{Option, ap, sym, ◌∙◌, subst}
-use Rattle.std.specs.Prelude.{IfSome}
+use Rattle.std.proofs.Common.{ap, sym, ◌∙◌}
 use Rattle.sv_net.proofs.ContinueLemmas.{all_but, but_all, but_more, continues_same, taken_but, taken_goes_on, with_put}
 use Rattle.sv_net.proofs.PlaceLemmas.{put_holds, taken_held}
 use Rattle.sv_net.proofs.SpareLemmas.{clients_after, clients_back}
-use Rattle.sv_net.specs.Exchange.{Continues, Obeys}
+use Rattle.sv_net.specs.Exchange.{Continues, Obeys, ObeysThere}
 use Rattle.sv_net.specs.Places.{held_at, waits}
-use Rattle.sv_net.specs.declared.open.Open.{Open}
 use Rattle.sv_net.proofs.connections.Connections.obeyed.Goals as goal
 
 -- nobody stands there
@@ -23,8 +21,8 @@ returns-in-Ordering-clause-told c =
     let mid = c.take.new.self in
     let one = c.in-Some.open in
     let none = taken_held place old mid c.take.ensures.places in
-    but_more place (Obeys byte one) (λ held. IfSome (held_at old place) (λ was. Obeys byte was held)) old c.tell_in_time.new.self
-    (λ held obeys. subst (λ (o : Option Open). IfSome o (λ was. Obeys byte was held)) (sym (sym c.take.ensures.taken ∙ c.in-Some.is)) obeys)
+    but_more place (Obeys byte one) (ObeysThere byte (held_at old place)) old c.tell_in_time.new.self
+    (λ held obeys. (one, sym c.take.ensures.taken ∙ c.in-Some.is, obeys))
     (taken_but place (Obeys byte one) old mid c.tell_in_time.new.self none c.take.ensures.others (c.tell_in_time.ensures.told none c.in-Ordering.is))
 
 pub returns-in-Ordering-clause-spares : goal.returns-in-Ordering-clause-spares
