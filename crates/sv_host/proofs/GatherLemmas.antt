@@ -36,4 +36,4 @@ more_on {group = group} first rest = record {
 -- no secret is left, or none can be read
 pub lacks : (old new : Option ℕ) (stop : Stop) → Draws old (Err stop) new → LacksSecrets new stop
 lacks None new stop drawn = subst (λ n. LacksSecrets n stop) (sym drawn.1) drawn.0
-lacks (Some last) new stop drawn = subst (λ n. LacksSecrets n stop) (sym drawn.2) (drawn.1, drawn.0)
+lacks (Some last) new stop drawn = subst (λ n. LacksSecrets n stop) (sym drawn.2) (record { is_last = drawn.1; stop_is = drawn.0 })

@@ -1,6 +1,6 @@
 -- Each output is handed on.
 use Rattle.std.proofs.Common.{◌≡◌, ◌<◌, ◌≤◌, ℕ, ◌+◌, Bool, false, List, [], ◌∷◌, Vec, length, drop, get_or, None, Result, Ok, refl, ap, sym, ◌∙◌, subst, true≢false, arith}
-use Rattle.std.specs.Prelude.{IfSome, is_none}
+use Rattle.std.specs.Prelude.{is_none}
 use Rattle.std.specs.declared.alloc.Global.{Global}
 use Rattle.std.proofs.lemmas.List.{drop_all, drop_more}
 use Rattle.sv_host.specs.HandingOut.{Concludes, ConcludesRefused, HandsOn, HandsOnAll, HandsOut, HandsOutFrom, HandsOutGroup, RefusesAll, TellsNobody, TellsOne, way_at}
@@ -23,7 +23,7 @@ use Rattle.sv_model.specs.declared.site.StepFault.{StepFault}
 use Rattle.sv_net.proofs.SendingLemmas.{sends_nothing}
 use Rattle.sv_net.proofs.SpareLemmas.{spares_same}
 use Rattle.sv_host.specs.Parked.{clients_of}
-use Rattle.sv_net.specs.Exchange.{GoOnBut, Obeys}
+use Rattle.sv_net.specs.Exchange.{GoOnBut, ObeysThere}
 use Rattle.sv_net.specs.Places.{SparesClients, held_at, naming_of}
 use Rattle.sv_net.specs.Saying.{Answers, refused_as}
 
@@ -59,11 +59,11 @@ client_refused asker place number fault cause now old new is by told =
 
 -- whoever gave a command
 pub commanded : (asker : Asker) (place byte : ℕ) (old new : Server) → asker ≡ Command place → clients_of new.parked ≡ clients_of old.parked → SparesClients old.connections new.connections
-    → GoOnBut place (λ held. IfSome (held_at old.connections place) (λ was. Obeys byte was held)) old.connections new.connections → Concludes asker old new
+    → GoOnBut place (ObeysThere byte (held_at old.connections place)) old.connections new.connections → Concludes asker old new
 commanded asker place byte old new is same spares told = subst (λ a. Concludes a old new) (sym is) (same, spares, (byte, told))
 
 pub command_refused : (asker : Asker) (place byte : ℕ) (fault : StepFault) (now : ℕ) (old new : Server) → asker ≡ Command place → clients_of new.parked ≡ clients_of old.parked → SparesClients old.connections new.connections
-    → GoOnBut place (λ held. IfSome (held_at old.connections place) (λ was. Obeys byte was held)) old.connections new.connections → ConcludesRefused asker fault now old new
+    → GoOnBut place (ObeysThere byte (held_at old.connections place)) old.connections new.connections → ConcludesRefused asker fault now old new
 command_refused asker place byte fault now old new is same spares told = subst (λ a. ConcludesRefused a fault now old new) (sym is) (same, spares, (byte, told))
 
 -- one way, and then the others

@@ -21,3 +21,8 @@ pub mod AskedLemmas
 pub mod TellingLemmas
 pub mod HavingLemmas
 pub mod RunningLemmas
+pub mod StoryLemmas
+pub mod DeedLemmas
+pub mod WholeLemmas
+pub mod HaltLemmas
+pub mod ReasonLemmas

@@ -24,7 +24,7 @@ use Rattle.sv_node.specs.Group.{GroupEnds}
 use Rattle.sv_node.specs.declared.node.Node.{Node}
 use Rattle.sv_net.specs.declared.connections.Connections.{Connections}
 use Rattle.sv_net.specs.declared.open.Open.{Open}
-use Rattle.sv_net.specs.Exchange.{GoOnBut, Obeys}
+use Rattle.sv_net.specs.Exchange.{GoOnBut, ObeysThere}
 use Rattle.sv_net.specs.Places.{HasStood, Spares, SparesClients, TellsAt, elsewhere, held_at, naming_of, places_of}
 use Rattle.sv_net.specs.Saying.{Answers, Tells, refused_as}
 use Rattle.sv_net.specs.Sending.{Sends}
@@ -70,7 +70,7 @@ HandsOnAll (output ∷ outputs) now old new = (mid : Server) × HandsOn output n
 abbrev pub Commands : ℕ → Server → Server → Type 0
 Commands place old new =
     (clients_of new.parked ≡ clients_of old.parked) × SparesClients old.connections new.connections
-    × ((byte : ℕ) × GoOnBut place (λ held. IfSome (held_at old.connections place) (λ was. Obeys byte was held)) old.connections new.connections)
+    × ((byte : ℕ) × GoOnBut place (ObeysThere byte (held_at old.connections place)) old.connections new.connections)
 
 -- behind the outputs of a step: whoever gave a command is told, and a client that waits is watched from now on, or its connection is
 -- closed

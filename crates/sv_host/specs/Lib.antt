@@ -13,6 +13,7 @@ pub mod Parked
 pub mod Clients
 pub mod Packets
 pub mod Turns
+pub mod Stories
 pub mod Room
 pub mod Host
 pub mod Running

@@ -7,7 +7,7 @@ use Rattle.sv_model.specs.declared.key.Secret.{Secret}
 use Rattle.sv_model.specs.NodeState.{last_number}
 use Rattle.sv_host.specs.declared.fault.Stop.{Stop}
 use Rattle.sv_host.specs.declared.fault.HostFault.TheVariants as host
-use Rattle.sv_host.specs.declared.fault.Stop.TheVariants.{Done, Fault}
+use Rattle.sv_host.specs.declared.fault.Stop.TheVariants.{Spent, Fault}
 use Rattle.sv_host.specs.declared.secrets.Secrets.{Secrets}
 use Rattle.sv_host.specs.declared.secrets.Source.{Source}
 use Rattle.sv_host.specs.declared.secrets.Source.TheVariants.{Read, Counted}
@@ -34,7 +34,7 @@ abbrev pub Draws : Option ℕ → Result Secret Stop → Option ℕ → Type 0
 Draws None (Ok secret) new = new ≡ None
 Draws None (Err stop) new = (stop ≡ Fault host.Secrets) × (new ≡ None)
 Draws (Some last) (Ok secret) new = (secret ≡ secret_of (last + 1)) × (new ≡ Some (last + 1))
-Draws (Some last) (Err stop) new = (stop ≡ Done) × (last ≡ last_number) × (new ≡ Some last)
+Draws (Some last) (Err stop) new = (stop ≡ Spent last) × (last ≡ last_number) × (new ≡ Some last)
 
 -- the secret of a moment
 abbrev pub secret_in : Result Moment Stop → Result Secret Stop

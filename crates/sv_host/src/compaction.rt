@@ -9,6 +9,7 @@ ghost use Rattle.sv_journal.specs.declared.journal_fault.JournalFault.TheVariant
 ghost use Rattle.sv_host.specs.Parked.{clients_of};
 ghost use Rattle.sv_host.specs.Serving.{IsServing, HasServed};
 ghost use Rattle.sv_host.specs.Stops.{HasFailed};
+ghost use Rattle.sv_host.specs.Stories.{CarryOn};
 ghost use Rattle.sv_host.specs.declared.fault.HostFault.TheVariants.{Device as HostDevice};
 ghost use Rattle.sv_host.specs.declared.fault.Stop.TheVariants.{Fault};
 
@@ -49,6 +50,7 @@ fn write_anew<E: Engine, D: Disk>(
     ensures runs { (low : ℕ) → RunsWithoutLoss E.meaning D.tells D.seen D.may_leave D.moment D.left_since low node.old node.new }
     ensures waiting { state_of node.new ≡ state_of node.old }
     ensures clients { server.new.parked ≡ server.old.parked }
+    ensures carried { CarryOn server.old.connections server.new.connections }
 {
     match node.compact() {
         Ok(()) => {
@@ -95,6 +97,7 @@ fn compact<E: Engine, D: Disk>(server: &mut Server, node: &mut Node<E, D>) -> Re
     ensures runs { (low : ℕ) → RunsWithoutLoss E.meaning D.tells D.seen D.may_leave D.moment D.left_since low node.old node.new }
     ensures waiting { state_of node.new ≡ state_of node.old }
     ensures clients { server.new.parked ≡ server.old.parked }
+    ensures carried { CarryOn server.old.connections server.new.connections }
 {
     let len = node.journal_len();
     server.connections.report.measure(len);
@@ -113,6 +116,7 @@ pub fn compact_in_turn<E: Engine, D: Disk>(
     requires { IsServing E.valid D.tells D.seen D.may_leave (clients_of server.old.parked) node.old group.old }
     ensures stops { IfErr result (HasFailed node.new) }
     ensures served { HasServed E.meaning E.heard E.valid D.tells D.seen D.may_leave D.moment D.left_since node.old group.old (clients_of server.new.parked) node.new group.new result }
+    ensures carried { CarryOn server.old.connections server.new.connections }
 {
     compact(server, node)
 }

@@ -1,6 +1,6 @@
 //! A node's turns: what has come on its connections is gathered, given to the node together, and handed out.
 
-ghost use Rattle.std.specs.Prelude.{◌≡◌, [], IsTrue};
+ghost use Rattle.std.specs.Prelude.{◌≡◌, [], IfErr, IsTrue};
 ghost use Rattle.sv_node.specs.History.{HasEnded};
 ghost use Rattle.sv_node.specs.Moments.{RunsWithoutLoss};
 ghost use Rattle.sv_node.specs.Node.{IsNode, journal_of, state_of};
@@ -8,6 +8,8 @@ ghost use Rattle.sv_host.specs.Clients.{GathersFor};
 ghost use Rattle.sv_host.specs.Group.{IsRising};
 ghost use Rattle.sv_host.specs.Parked.{clients_of};
 ghost use Rattle.sv_host.specs.Serving.{IsServing, HasServed, HasGathered};
+ghost use Rattle.sv_host.specs.Stops.{HasReason};
+ghost use Rattle.sv_host.specs.Stories.{CarryOn};
 
 use crate::compaction::compact_in_turn;
 use crate::fault::Stop;
@@ -29,7 +31,9 @@ fn wait_on<E: Engine, D: Disk>(
     group: &mut Group,
 ) -> Result<(), Stop>
     requires { IsServing E.valid D.tells D.seen D.may_leave (clients_of server.old.parked) node.old group.old }
-    ensures { HasServed E.meaning E.heard E.valid D.tells D.seen D.may_leave D.moment D.left_since node.old group.old (clients_of server.new.parked) node.new group.new result }
+    ensures served { HasServed E.meaning E.heard E.valid D.tells D.seen D.may_leave D.moment D.left_since node.old group.old (clients_of server.new.parked) node.new group.new result }
+    ensures carried { CarryOn server.old.connections server.new.connections }
+    ensures reason { IfErr result HasReason }
 {
     ask_again(machine, server, node, group)?;
     expire(machine, server, node, group)
@@ -43,7 +47,9 @@ fn keep_time<E: Engine, D: Disk>(
     group: &mut Group,
 ) -> Result<(), Stop>
     requires { IsServing E.valid D.tells D.seen D.may_leave (clients_of server.old.parked) node.old group.old }
-    ensures { HasServed E.meaning E.heard E.valid D.tells D.seen D.may_leave D.moment D.left_since node.old group.old (clients_of server.new.parked) node.new group.new result }
+    ensures served { HasServed E.meaning E.heard E.valid D.tells D.seen D.may_leave D.moment D.left_since node.old group.old (clients_of server.new.parked) node.new group.new result }
+    ensures carried { CarryOn server.old.connections server.new.connections }
+    ensures reason { IfErr result HasReason }
 {
     server.await_by(node.parked());
     tick(machine, server, node, group)?;
@@ -58,7 +64,9 @@ fn look_after<E: Engine, D: Disk>(
     group: &mut Group,
 ) -> Result<(), Stop>
     requires { IsServing E.valid D.tells D.seen D.may_leave (clients_of server.old.parked) node.old group.old }
-    ensures { HasServed E.meaning E.heard E.valid D.tells D.seen D.may_leave D.moment D.left_since node.old group.old (clients_of server.new.parked) node.new group.new result }
+    ensures served { HasServed E.meaning E.heard E.valid D.tells D.seen D.may_leave D.moment D.left_since node.old group.old (clients_of server.new.parked) node.new group.new result }
+    ensures carried { CarryOn server.old.connections server.new.connections }
+    ensures reason { IfErr result HasReason }
 {
     settle(machine, server, node, group)?;
     compact_in_turn(server, node, group)
@@ -72,7 +80,9 @@ fn end_turn<E: Engine, D: Disk>(
     group: &mut Group,
 ) -> Result<(), Stop>
     requires { IsServing E.valid D.tells D.seen D.may_leave (clients_of server.old.parked) node.old group.old }
-    ensures { HasServed E.meaning E.heard E.valid D.tells D.seen D.may_leave D.moment D.left_since node.old group.old (clients_of server.new.parked) node.new group.new result }
+    ensures served { HasServed E.meaning E.heard E.valid D.tells D.seen D.may_leave D.moment D.left_since node.old group.old (clients_of server.new.parked) node.new group.new result }
+    ensures carried { CarryOn server.old.connections server.new.connections }
+    ensures reason { IfErr result HasReason }
 {
     // A request whose session has come is served before the time is looked at: else it might be past its deadline by then.
     look_after(machine, server, node, group)?;
@@ -90,6 +100,8 @@ fn gather_own<E: Engine, D: Disk>(
     requires { IsRising group.old }
     ensures gathered { HasGathered group.old group.new }
     ensures clients { GathersFor group.old group.new (clients_of server.old.parked) (clients_of server.new.parked) }
+    ensures carried { CarryOn server.old.connections server.new.connections }
+    ensures reason { IfErr result HasReason }
 {
     server.keep_shares(node, group);
     let now = server.held_time(machine);
@@ -106,7 +118,9 @@ fn step_some<E: Engine, D: Disk>(
     group: &mut Group,
 ) -> Result<(), Stop>
     requires { IsServing E.valid D.tells D.seen D.may_leave (clients_of server.old.parked) node.old group.old }
-    ensures { HasServed E.meaning E.heard E.valid D.tells D.seen D.may_leave D.moment D.left_since node.old group.old (clients_of server.new.parked) node.new group.new result }
+    ensures served { HasServed E.meaning E.heard E.valid D.tells D.seen D.may_leave D.moment D.left_since node.old group.old (clients_of server.new.parked) node.new group.new result }
+    ensures carried { CarryOn server.old.connections server.new.connections }
+    ensures reason { IfErr result HasReason }
 {
     if group.is_empty() {
         return Ok(());
@@ -125,7 +139,9 @@ fn step_gathered<E: Engine, D: Disk>(
     group: &mut Group,
 ) -> Result<(), Stop>
     requires { IsServing E.valid D.tells D.seen D.may_leave (clients_of server.old.parked) node.old group.old }
-    ensures { HasServed E.meaning E.heard E.valid D.tells D.seen D.may_leave D.moment D.left_since node.old group.old (clients_of server.new.parked) node.new group.new result }
+    ensures served { HasServed E.meaning E.heard E.valid D.tells D.seen D.may_leave D.moment D.left_since node.old group.old (clients_of server.new.parked) node.new group.new result }
+    ensures carried { CarryOn server.old.connections server.new.connections }
+    ensures reason { IfErr result HasReason }
 {
     match gather_own(machine, server, node, group) {
         Ok(()) => step_some(machine, server, node, group),
@@ -142,7 +158,9 @@ fn finish_turn<E: Engine, D: Disk>(
     gathered: Result<(), Stop>,
 ) -> Result<(), Stop>
     requires { IsServing E.valid D.tells D.seen D.may_leave (clients_of server.old.parked) node.old group.old }
-    ensures { HasServed E.meaning E.heard E.valid D.tells D.seen D.may_leave D.moment D.left_since node.old group.old (clients_of server.new.parked) node.new group.new result }
+    ensures served { HasServed E.meaning E.heard E.valid D.tells D.seen D.may_leave D.moment D.left_since node.old group.old (clients_of server.new.parked) node.new group.new result }
+    ensures carried { CarryOn server.old.connections server.new.connections }
+    ensures reason { IfErr gathered HasReason → IfErr result HasReason }
 {
     step_gathered(machine, server, node, group)?;
     match gathered {
@@ -158,7 +176,8 @@ fn wait<E, D: Disk>(
     node: &Node<E, D>,
     acceptor: &mut Acceptor,
 )
-    ensures { server.new.parked ≡ server.old.parked }
+    ensures clients { server.new.parked ≡ server.old.parked }
+    ensures carried { CarryOn server.old.connections server.new.connections }
 {
     server.count_kept_in_time(node);
     server.tell_operator(machine);
@@ -180,7 +199,9 @@ fn take_turn<E: Engine, D: Disk>(
     acceptor: &mut Acceptor,
 ) -> Result<(), Stop>
     requires { IsServing E.valid D.tells D.seen D.may_leave (clients_of server.old.parked) node.old group.old }
-    ensures { HasServed E.meaning E.heard E.valid D.tells D.seen D.may_leave D.moment D.left_since node.old group.old (clients_of server.new.parked) node.new group.new result }
+    ensures served { HasServed E.meaning E.heard E.valid D.tells D.seen D.may_leave D.moment D.left_since node.old group.old (clients_of server.new.parked) node.new group.new result }
+    ensures carried { CarryOn server.old.connections server.new.connections }
+    ensures reason { IfErr result HasReason }
 {
     wait(machine, server, node, acceptor);
     let gathered = gather(machine, server, group, acceptor);
@@ -200,15 +221,19 @@ pub fn run<E: Engine, D: Disk>(
     ensures valid { IsNode E.valid D.tells D.seen D.may_leave node.new }
     ensures ended { HasEnded E.meaning E.heard D.tells D.may_leave node.old node.new }
     ensures runs { RunsWithoutLoss E.meaning D.tells D.seen D.may_leave D.moment D.left_since 0 node.old node.new }
+    ensures carried { CarryOn server.old.connections server.new.connections }
+    ensures reason { HasReason result }
 {
     let mut group = Group::new(server.alloc);
-    for _ in 0..u64::MAX {
+    let mut turns: u64 = 0;
+    for turn in 0..u64::MAX {
         if let Some(fault) = greet_in_time(machine, server, node) {
             return Stop::Fault(fault);
         }
         if let Err(stop) = take_turn(machine, server, node, &mut group, acceptor) {
             return stop;
         }
+        turns = turn + 1;
     }
-    Stop::Done
+    Stop::Spent(turns)
 }

@@ -1,7 +1,11 @@
-//! Why a node ends before it is told to.
+//! Why a node ends.
+
+ghost use Rattle.std.specs.Prelude.{◌≡◌};
+ghost use Rattle.sv_host.specs.Stops.{fault_in};
 
 use sv_journal::FileFault;
 use sv_log::ReportFault;
+use sv_net::Socket;
 use sv_node::OpenFault;
 use thiserror::Error;
 
@@ -83,9 +87,31 @@ impl From<OpenFault> for HostFault {
 }
 
 /// Why a node serves no longer.
-#[derive(Clone, Copy, Debug, PartialEq, Eq)]
 pub enum Stop {
-    /// It was told to stop, or the numbers of its connections or of its secrets are used up.
-    Done,
+    /// A command has told it to, on this connection.
+    Told(Socket),
+    /// The numbers of its requests or of its secrets are used up: this was the last.
+    Spent(u64),
     Fault(HostFault),
+}
+
+/// By hand, so that the proof of a caller has one step for it.
+impl Drop for Stop {
+    fn drop(self) {
+        match self {
+            Stop::Told(_) | Stop::Spent(_) | Stop::Fault(_) => {}
+        }
+    }
+}
+
+impl Stop {
+    /// What is at fault, if anything is.
+    pub fn fault(&self) -> Option<HostFault>
+        ensures { result ≡ fault_in self.now }
+    {
+        match self {
+            Stop::Told(_) | Stop::Spent(_) => None,
+            Stop::Fault(fault) => Some(*fault),
+        }
+    }
 }

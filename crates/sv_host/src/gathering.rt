@@ -1,12 +1,15 @@
 //! What has come on the connections, gathered as the next group.
 
-ghost use Rattle.std.specs.Prelude.{◌≡◌, ℕ, IfOk, IfErr, IfSome, ◌<◌};
+ghost use Rattle.std.specs.Prelude.{◌≡◌, ℕ, None, IfOk, IfErr, IfSome, ◌<◌};
 ghost use Rattle.sv_host.specs.Clients.{GathersFor, HasAsked};
 ghost use Rattle.sv_host.specs.Group.{Comes, HasMore, IsRising, number_of};
 ghost use Rattle.sv_host.specs.Heard.{IsHeardOf};
 ghost use Rattle.sv_host.specs.Parked.{clients_of};
 ghost use Rattle.sv_host.specs.Serving.{HasGathered};
 ghost use Rattle.sv_host.specs.Stops.{IsEnding, IsTold, LacksNumbers};
+ghost use Rattle.sv_host.specs.Stories.{CarryOn, IsNewcomer};
+ghost use Rattle.sv_net.specs.Bytes.{IsBlank};
+ghost use Rattle.sv_net.specs.Places.{held_at};
 
 use crate::fault::Stop;
 use crate::group::{Came, GROUP_LIMIT, Group};
@@ -29,7 +32,7 @@ fn next_number(group: &Group) -> Result<u64, Stop>
 {
     let number = group.number();
     if number == u64::MAX {
-        return Err(Stop::Done);
+        return Err(Stop::Spent(number));
     }
     Ok(number + 1)
 }
@@ -54,6 +57,7 @@ fn add(
     ensures more { HasMore group.old group.new }
     ensures clients { GathersFor group.old group.new (clients_of server.old.parked) (clients_of server.new.parked) }
     ensures ends { IfErr result (IsEnding server.new group.new) }
+    ensures carried { CarryOn server.old.connections server.new.connections }
 {
     let Came {
         input,
@@ -90,7 +94,8 @@ fn add_some(
     ensures gathered { HasGathered group.old group.new }
     ensures more { HasMore group.old group.new }
     ensures clients { GathersFor group.old group.new (clients_of server.old.parked) (clients_of server.new.parked) }
-    ensures ends { IfErr came (IsTold server.old) → IfErr result (IsEnding server.new group.new) }
+    ensures ends { IfErr came IsTold → IfErr result (IsEnding server.new group.new) }
+    ensures carried { CarryOn server.old.connections server.new.connections }
 {
     match came {
         Ok(Some(came)) => match add(machine, server, group, came, number) {
@@ -115,6 +120,7 @@ fn gather_one(
     ensures more { HasMore group.old group.new }
     ensures clients { GathersFor group.old group.new (clients_of server.old.parked) (clients_of server.new.parked) }
     ensures ends { IfErr result (IsEnding server.new group.new) }
+    ensures carried { CarryOn server.old.connections server.new.connections }
 {
     let number = next_number(group)?;
     let came = serve(server, place, piece, number);
@@ -135,6 +141,7 @@ fn gather_some(
     ensures more { HasMore group.old group.new }
     ensures clients { GathersFor group.old group.new (clients_of server.old.parked) (clients_of server.new.parked) }
     ensures ends { IfErr result (IsEnding server.new group.new) }
+    ensures carried { CarryOn server.old.connections server.new.connections }
 {
     for _ in 0..PACKETS {
         if !gather_one(machine, server, group, place, piece)? {
@@ -160,6 +167,7 @@ fn gather_reported(
     ensures more { HasMore group.old group.new }
     ensures clients { GathersFor group.old group.new (clients_of server.old.parked) (clients_of server.new.parked) }
     ensures ends { IfErr result (IsEnding server.new group.new) }
+    ensures carried { CarryOn server.old.connections server.new.connections }
 {
     let mut count: usize = 0;
     let (places, piece) = acceptor.turn();
@@ -176,7 +184,9 @@ fn gather_reported(
 
 /// Says at which place somebody is to be who was accepted; none if there is no memory.
 fn receive(machine: &HostRuntime, server: &mut Server, socket: Socket) -> Option<(usize, Open)>
-    ensures { server.new.parked ≡ server.old.parked }
+    ensures clients { server.new.parked ≡ server.old.parked }
+    ensures carried { CarryOn server.old.connections server.new.connections }
+    ensures newcomer { IsBlank socket.stream → IfSome result (λ newcomer. IsNewcomer newcomer.1 × (held_at server.new.connections newcomer.0 ≡ None)) }
 {
     server.connections.report.note(Event::Accepted);
     server.connections.look_at_clock(machine);
@@ -186,7 +196,8 @@ fn receive(machine: &HostRuntime, server: &mut Server, socket: Socket) -> Option
 
 /// The system has no room for somebody who stands at the door: one that is open gives way, and the next turn tries again.
 fn lacks_room(server: &mut Server, acceptor: &mut Acceptor)
-    ensures { server.new.parked ≡ server.old.parked }
+    ensures clients { server.new.parked ≡ server.old.parked }
+    ensures carried { CarryOn server.old.connections server.new.connections }
 {
     server.connections.report.note(Event::NoRoom);
     if acceptor.make_room(&mut server.connections) {
@@ -200,7 +211,9 @@ fn admit(
     server: &mut Server,
     acceptor: &mut Acceptor,
 ) -> Option<(usize, Open)>
-    ensures { server.new.parked ≡ server.old.parked }
+    ensures clients { server.new.parked ≡ server.old.parked }
+    ensures carried { CarryOn server.old.connections server.new.connections }
+    ensures newcomer { IfSome result (λ newcomer. IsNewcomer newcomer.1 × (held_at server.new.connections newcomer.0 ≡ None)) }
 {
     if !acceptor.may_accept() || !acceptor.has_room(&mut server.connections) {
         return None;
@@ -228,6 +241,7 @@ fn gather_behind(
     ensures more { HasMore group.old group.new }
     ensures clients { GathersFor group.old group.new (clients_of server.old.parked) (clients_of server.new.parked) }
     ensures ends { IfErr result (IsEnding server.new group.new) }
+    ensures carried { CarryOn server.old.connections server.new.connections }
 {
     if !server.connections.is_peer(place) {
         return Ok(());
@@ -252,6 +266,7 @@ fn gather_newcomer(
     ensures more { HasMore group.old group.new }
     ensures clients { GathersFor group.old group.new (clients_of server.old.parked) (clients_of server.new.parked) }
     ensures ends { IfErr result (IsEnding server.new group.new) }
+    ensures carried { IsNewcomer newcomer.1 → held_at server.old.connections newcomer.0 ≡ None → CarryOn server.old.connections server.new.connections }
 {
     let (place, open) = newcomer;
     let number = next_number(group)?;
@@ -277,6 +292,7 @@ fn take_in(
     ensures more { HasMore group.old group.new }
     ensures clients { GathersFor group.old group.new (clients_of server.old.parked) (clients_of server.new.parked) }
     ensures ends { IfErr result (IsEnding server.new group.new) }
+    ensures carried { IsNewcomer newcomer.1 → held_at server.old.connections newcomer.0 ≡ None → CarryOn server.old.connections server.new.connections }
 {
     if group.len() < GROUP_LIMIT {
         return gather_newcomer(machine, server, group, newcomer, piece);
@@ -298,6 +314,7 @@ fn gather_door(
     ensures more { HasMore group.old group.new }
     ensures clients { GathersFor group.old group.new (clients_of server.old.parked) (clients_of server.new.parked) }
     ensures ends { IfErr result (IsEnding server.new group.new) }
+    ensures carried { CarryOn server.old.connections server.new.connections }
 {
     for _ in 0..NEWCOMERS {
         let Some(newcomer) = admit(machine, server, acceptor) else {
@@ -321,6 +338,7 @@ pub fn gather(
     ensures more { HasMore group.old group.new }
     ensures clients { GathersFor group.old group.new (clients_of server.old.parked) (clients_of server.new.parked) }
     ensures ends { IfErr result (IsEnding server.new group.new) }
+    ensures carried { CarryOn server.old.connections server.new.connections }
 {
     gather_reported(machine, server, group, acceptor)?;
     gather_door(machine, server, group, acceptor)

@@ -1,7 +1,8 @@
 //! Greetings on their way: before a node serves, while it does, and the answers to those of others.
 
 ghost use Rattle.std.specs.Prelude.{◌≡◌, IfSome};
-ghost use Rattle.sv_host.specs.Serve.{HearsNoMore};
+ghost use Rattle.sv_host.specs.Serve.{StaysVacant};
+ghost use Rattle.sv_host.specs.Stories.{CarryOn};
 ghost use Rattle.sv_net.specs.Places.{elsewhere};
 ghost use Rattle.sv_model.specs.Keys.{IsNode};
 ghost use Rattle.sv_record.specs.Greeting.{IsGreeting};
@@ -35,7 +36,7 @@ fn spelled(server: &Server, greeting: &Greeting) -> Option<Vec<u8>>
 pub fn greeted(server: &mut Server, from: Lifted, said: &Greeting)
     requires { IsGreeting said.now }
     ensures clients { server.new.parked ≡ server.old.parked }
-    ensures socket { HearsNoMore from.place from.socket server.old.connections server.new.connections }
+    ensures vacant { StaysVacant from.place server.old.connections server.new.connections }
     ensures others { elsewhere from.place server.new.connections ≡ elsewhere from.place server.old.connections }
 {
     let Lifted { place, socket } = from;
@@ -59,7 +60,8 @@ fn homes_of<E, D: Disk>(node: &Node<E, D>) -> u8 {
 /// Greets another node.
 fn greet(machine: &HostRuntime, server: &mut Server, to: u8, addr: SocketAddr)
     requires { IsNode to }
-    ensures { server.new.parked ≡ server.old.parked }
+    ensures clients { server.new.parked ≡ server.old.parked }
+    ensures carried { CarryOn server.old.connections server.new.connections }
 {
     let time = server.time;
     if let Some(greeting) = server.peers.greeting(to, time) {
@@ -81,7 +83,8 @@ pub fn greet_in_time<E, D: Disk>(
     server: &mut Server,
     node: &Node<E, D>,
 ) -> Option<HostFault>
-    ensures { server.new.parked ≡ server.old.parked }
+    ensures clients { server.new.parked ≡ server.old.parked }
+    ensures carried { CarryOn server.old.connections server.new.connections }
 {
     if server.peers.is_due(server.time.steady_seconds()) {
         server.peers.serve(homes_of(node));

@@ -8,6 +8,7 @@ ghost use Rattle.sv_host.specs.Parked.{clients_of};
 ghost use Rattle.sv_host.specs.Secrets.{last_of};
 ghost use Rattle.sv_host.specs.Serving.{HasGathered};
 ghost use Rattle.sv_host.specs.Stops.{LacksSecrets};
+ghost use Rattle.sv_host.specs.Stories.{CarryOn};
 
 use crate::fault::Stop;
 use crate::group::{Asker, Group};
@@ -21,7 +22,8 @@ use sv_model::Parked;
 impl Server {
     /// A grant has come: how many requests wait for the session that it brings.
     fn note_grant(&mut self, parked: &[Parked], granted: Granted, now: u64) -> usize
-        ensures { self.new.parked ≡ self.old.parked }
+        ensures clients { self.new.parked ≡ self.old.parked }
+        ensures carried { CarryOn self.old.connections self.new.connections }
     {
         let count = waiting(parked, granted.key);
         if !self.holding.come(granted, count, now) {
@@ -41,6 +43,7 @@ impl Server {
         ensures others { others_in (inputs_of group.new) ≡ others_in (inputs_of group.old) }
         ensures stays { IsTrue result → inputs_of group.new ≡ inputs_of group.old }
         ensures left { IsFalse result → inputs_of group.new ≡ remove (inputs_of group.old) at }
+        ensures carried { CarryOn self.old.connections self.new.connections }
     {
         let Some(want) = group.want(at) else {
             return true;
@@ -66,6 +69,7 @@ impl Server {
         ensures gathered { HasGathered group.old group.new }
         ensures clients { GathersFor group.old group.new (clients_of self.old.parked) (clients_of self.new.parked) }
         ensures others { others_in (inputs_of group.new) ≡ others_in (inputs_of group.old) }
+        ensures carried { CarryOn self.old.connections self.new.connections }
     {
         match group.grant(at) {
             Some(granted) => (self.note_grant(parked, granted, now), true),
@@ -79,6 +83,7 @@ impl Server {
         ensures gathered { HasGathered group.old group.new }
         ensures clients { GathersFor group.old group.new (clients_of self.old.parked) (clients_of self.new.parked) }
         ensures others { others_in (inputs_of group.new) ≡ others_in (inputs_of group.old) }
+        ensures carried { CarryOn self.old.connections self.new.connections }
     {
         let mut come: usize = 0;
         let mut at: usize = 0;
@@ -104,6 +109,7 @@ impl Server {
         ensures clients { GathersFor group.old group.new (clients_of self.old.parked) (clients_of self.new.parked) }
         ensures more { HasMoreWants group.old group.new }
         ensures stops { IfErr result (LacksSecrets (last_of self.new.secrets)) }
+        ensures carried { CarryOn self.old.connections self.new.connections }
     {
         let moment = self.moment(machine)?;
         let _added = group.add(moment, want.input(), Asker::Nobody, Packets::All);
@@ -113,7 +119,8 @@ impl Server {
     /// The time by which wants are held, in milliseconds by the clock that nobody sets. Where none is held that is the time of the last
     /// input.
     pub fn held_time(&mut self, machine: &HostRuntime) -> u64
-        ensures { self.new.parked ≡ self.old.parked }
+        ensures clients { self.new.parked ≡ self.old.parked }
+        ensures carried { CarryOn self.old.connections self.new.connections }
     {
         if self.holding.is_empty() {
             self.time.steady
@@ -134,6 +141,7 @@ impl Server {
         ensures clients { GathersFor group.old group.new (clients_of self.old.parked) (clients_of self.new.parked) }
         ensures more { HasMoreWants group.old group.new }
         ensures stops { IfErr result (LacksSecrets (last_of self.new.secrets)) }
+        ensures carried { CarryOn self.old.connections self.new.connections }
     {
         for _ in 0..HELD_LIMIT {
             let Some(want) = self.holding.take_due(now) else {

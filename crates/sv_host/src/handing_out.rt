@@ -10,6 +10,7 @@ ghost use Rattle.sv_host.specs.HandingOut.{Concludes, ConcludesRefused, HandsOn,
 ghost use Rattle.sv_host.specs.Outcome.{group_taken, last_taken, refused, taken_of};
 ghost use Rattle.sv_host.specs.Packets.{LeavesRound, sending_after};
 ghost use Rattle.sv_host.specs.Parked.{clients_of, place_under, without};
+ghost use Rattle.sv_host.specs.Stories.{CarryOn};
 ghost use Rattle.sv_host.specs.declared.outcome.Taken.TheVariants.{Quiet};
 ghost use Rattle.sv_model.specs.Migration.{addressee};
 ghost use Rattle.sv_net.specs.Places.{Spares, naming_of};
@@ -53,6 +54,7 @@ impl Server {
         ensures spares { Spares self.old.connections self.new.connections }
         ensures sends { Sends (addressee packet) (spelling (PeerFrame packet)) self.old.connections self.new.connections }
         ensures round { self.new.round ≡ self.old.round }
+        ensures carried { CarryOn self.old.connections self.new.connections }
     {
         let to = packet.addressee();
         match address_of(self.ports.as_slice(), to) {
@@ -68,6 +70,7 @@ impl Server {
             self.old.connections self.new.connections }
         ensures others { SameElsewhere (place_under token (clients_of self.old.parked)) self.old.connections self.new.connections }
         ensures round { self.new.round ≡ self.old.round }
+        ensures carried { CarryOn self.old.connections self.new.connections }
     {
         if let Some(place) = self.parked.take(token) {
             self.connections
@@ -82,6 +85,7 @@ impl Server {
             (λ manner was held. Answers (refused_as (naming_of self.old.connections) cause manner) now was held) self.old.connections self.new.connections }
         ensures others { SameElsewhere (place_under token (clients_of self.old.parked)) self.old.connections self.new.connections }
         ensures round { self.new.round ≡ self.old.round }
+        ensures carried { CarryOn self.old.connections self.new.connections }
     {
         if let Some(place) = self.parked.take(token) {
             let session = self.awaited.key_of(token);
@@ -100,6 +104,7 @@ impl Server {
         requires { IsSendable output }
         ensures told { HandsOn output now self.old self.new }
         ensures round { self.new.round ≡ self.old.round }
+        ensures carried { CarryOn self.old.connections self.new.connections }
     {
         match output {
             Output::Send(packet) => self.send(machine, packet),
@@ -122,6 +127,7 @@ impl Server {
         ensures told { HandsOn output now self.old self.new }
         ensures round { self.new.round ≡ self.old.round }
         ensures after { sending.new ≡ sending_after sending.old output }
+        ensures carried { CarryOn self.old.connections self.new.connections }
     {
         if sending.takes(&output) {
             self.hand_on_one(machine, output, now);
@@ -139,6 +145,7 @@ impl Server {
         requires { AreSendable outputs.items }
         ensures told { HandsOnAll outputs.items now self.old self.new }
         ensures round { LeavesRound packets self.old.round outputs.items self.new.round }
+        ensures carried { CarryOn self.old.connections self.new.connections }
     {
         let mut sending = Sending::of(packets, self.round, outputs.as_slice());
         for output in outputs {
@@ -151,7 +158,8 @@ impl Server {
 
     /// Refuses whoever asked for what memory was refused for.
     pub fn turn_away(&mut self, asker: Asker)
-        ensures { clients_of self.new.parked ≡ refused_of asker (clients_of self.old.parked) }
+        ensures clients { clients_of self.new.parked ≡ refused_of asker (clients_of self.old.parked) }
+        ensures carried { CarryOn self.old.connections self.new.connections }
     {
         let now = self.time.seconds();
         self.conclude_refused(asker, StepFault::Memory, now);
@@ -159,7 +167,8 @@ impl Server {
 
     /// What came of a command, told to whoever gave it; a client that waits from now on is watched.
     fn conclude(&mut self, asker: Asker, taken: Taken)
-        ensures { Concludes asker self.old self.new }
+        ensures told { Concludes asker self.old self.new }
+        ensures carried { CarryOn self.old.connections self.new.connections }
     {
         match asker {
             Asker::Client { place, token } => {
@@ -174,7 +183,8 @@ impl Server {
 
     /// The step of an input was refused.
     fn conclude_refused(&mut self, asker: Asker, fault: StepFault, now: u64)
-        ensures { ConcludesRefused asker fault now self.old self.new }
+        ensures told { ConcludesRefused asker fault now self.old self.new }
+        ensures carried { CarryOn self.old.connections self.new.connections }
     {
         match asker {
             Asker::Client { token, .. } => self.refuse(token, fault.cause(), now),
@@ -201,6 +211,7 @@ impl Server {
         requires { IsHandedOn answer }
         ensures told { HandsOut way.asker answer now self.old self.new }
         ensures taken { result ≡ taken_of answer }
+        ensures carried { CarryOn self.old.connections self.new.connections }
     {
         match answer {
             Ok(outputs) => {
@@ -227,6 +238,7 @@ impl Server {
         requires { AllByRecursion (λ a. IsHandedOn a) answers.items }
         ensures told { HandsOutFrom 0 ways.now answers.items (seconds_of self.old.time) self.old self.new }
         ensures taken { result ≡ last_taken Quiet answers.items }
+        ensures carried { CarryOn self.old.connections self.new.connections }
     {
         let now = self.time.seconds();
         let steps = answers.len() as u64;
@@ -243,7 +255,8 @@ impl Server {
 
     /// Refuses all of a group, of which no step was taken.
     fn refuse_all(&mut self, ways: &[Way], fault: StepFault)
-        ensures { RefusesAll ways.now fault (seconds_of self.old.time) self.old self.new }
+        ensures told { RefusesAll ways.now fault (seconds_of self.old.time) self.old self.new }
+        ensures carried { CarryOn self.old.connections self.new.connections }
     {
         let now = self.time.seconds();
         for way in ways {
@@ -257,6 +270,7 @@ impl Server {
         ensures goes_on { OnOk result (step_ends fault ≡ false) }
         ensures told { OnOk result (RefusesAll ways.now fault (seconds_of self.old.time) self.old self.new) }
         ensures untold { IfErr result (λ stop. TellsNobody self.old self.new) }
+        ensures carried { CarryOn self.old.connections self.new.connections }
     {
         let taken = refused(fault)?;
         self.refuse_all(ways, fault);
@@ -274,6 +288,7 @@ impl Server {
         ensures taken { result ≡ group_taken answers }
         ensures goes_on { IfErr answers (λ fault. OnOk result (step_ends fault ≡ false)) }
         ensures told { HandsOutGroup ways.now answers result (seconds_of self.old.time) self.old self.new }
+        ensures carried { CarryOn self.old.connections self.new.connections }
     {
         match answers {
             Ok(answers) => Ok(self.hand_out_all(machine, ways, answers)),

@@ -10,6 +10,7 @@ ghost use Rattle.sv_node.specs.Opened.{LeavesStart, StartsWithoutLoss};
 ghost use Rattle.sv_node.specs.Stops.{Restores};
 ghost use Rattle.sv_host.specs.Secrets.{first_by, last_of};
 ghost use Rattle.sv_host.specs.Serving.{HasLived};
+ghost use Rattle.sv_host.specs.Stops.{HasReason};
 
 use crate::asking::Asking;
 use crate::awaited::Awaited;
@@ -60,8 +61,8 @@ pub struct Ended<E, D> {
     pub engine: E,
     pub a: D,
     pub b: D,
-    /// Why it ended; none where it was told to.
-    pub fault: Option<HostFault>,
+    /// Why it ended.
+    pub stop: Stop,
 }
 
 /// Listens at the node's port.
@@ -129,20 +130,21 @@ fn serve_ready<E: Engine, D: Disk>(
     node: &mut Node<E, D>,
     acceptor: &mut Acceptor,
     number: u8,
-) -> Option<HostFault>
+) -> Stop
     requires valid { IsNode E.valid D.tells D.seen D.may_leave node.old }
     requires live { IsTrue (journal_of node.old).live }
     requires nobody_waits { (state_of node.old).parked ≡ [] }
     ensures valid { IsNode E.valid D.tells D.seen D.may_leave node.new }
     ensures ended { HasEnded E.meaning E.heard D.tells D.may_leave node.old node.new }
     ensures runs { RunsWithoutLoss E.meaning D.tells D.seen D.may_leave D.moment D.left_since 0 node.old node.new }
+    ensures reason { HasReason result }
 {
     if let Some(fault) = begin(machine, server, node, number) {
-        return server.say_stopped(machine, Stop::Fault(fault));
+        return Stop::Fault(fault);
     }
     let stop = run(machine, server, node, acceptor);
     server.count_kept(node);
-    server.say_stopped(machine, stop)
+    stop
 }
 
 /// Writes the journal of a node anew that found records in it, says that it is ready, and serves until it is told to stop.
@@ -152,13 +154,14 @@ fn serve_all<E: Engine, D: Disk>(
     node: &mut Node<E, D>,
     acceptor: &mut Acceptor,
     number: u8,
-) -> Option<HostFault>
+) -> Stop
     requires valid { IsNode E.valid D.tells D.seen D.may_leave node.old }
     requires live { IsTrue (journal_of node.old).live }
     requires nobody_waits { (state_of node.old).parked ≡ [] }
     ensures valid { IsNode E.valid D.tells D.seen D.may_leave node.new }
     ensures ended { HasEnded E.meaning E.heard D.tells D.may_leave node.old node.new }
     ensures runs { RunsWithoutLoss E.meaning D.tells D.seen D.may_leave D.moment D.left_since 0 node.old node.new }
+    ensures reason { HasReason result }
 {
     server.count_kept(node);
     let bytes = node.journal_len();
@@ -169,7 +172,7 @@ fn serve_all<E: Engine, D: Disk>(
         .opened(bytes, records, steady(machine));
     match renew(server, node) {
         Ok(()) => serve_ready(machine, server, node, acceptor, number),
-        Err(stop) => server.say_stopped(machine, stop),
+        Err(stop) => stop,
     }
 }
 
@@ -184,17 +187,14 @@ fn live<E: Engine, D: Disk>(
     requires valid { IsNode E.valid D.tells D.seen D.may_leave node }
     requires live { IsTrue (journal_of node).live }
     requires nobody_waits { (state_of node).parked ≡ [] }
-    ensures { HasLived E.meaning E.heard E.valid D.tells D.seen D.may_leave D.moment D.left_since node result.engine result.a result.b }
+    ensures lived { HasLived E.meaning E.heard E.valid D.tells D.seen D.may_leave D.moment D.left_since node result.engine result.a result.b }
+    ensures reason { HasReason result.stop }
 {
     let mut node = node;
-    let fault = serve_all(machine, server, &mut node, acceptor, number);
+    let stop = serve_all(machine, server, &mut node, acceptor, number);
+    server.say_stopped(machine, &stop);
     let (engine, a, b) = node.stop();
-    Ended {
-        engine,
-        a,
-        b,
-        fault,
-    }
+    Ended { engine, a, b, stop }
 }
 
 impl Host {
@@ -249,7 +249,6 @@ impl Host {
                 holding: Holding::new(alloc),
                 awaited: Awaited::new(alloc),
                 compacted: 0,
-                was_told: false,
                 alloc,
             },
         })
@@ -283,6 +282,8 @@ impl Host {
         // And so does a stop at any moment between.
         ensures any_moment { IfOk result (λ r. D.tells a → D.tells b → (d : Durable) → Restores (setting_of self) (D.seen a) (D.seen b) d →
             LivesWithoutLoss D.seen D.may_leave D.moment D.left_since (E.meaning engine) (setting_of self) d a b r.a r.b) }
+        // It ends once it is told to, once numbers are spent, or by a fault.
+        ensures reason { IfOk result (λ r. HasReason r.stop) }
         // Where it isn't opened, what is lost is at most the start itself.
         ensures unopened { IfErr result (λ r. D.tells a → D.tells b → (d : Durable) → Restores (setting_of self) (D.seen a) (D.seen b) d →
             LeavesStart D.may_leave (setting_of self) a b d r.a r.b) }

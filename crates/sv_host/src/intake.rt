@@ -1,9 +1,9 @@
 //! What is done with what has come on a connection.
 
-ghost use Rattle.std.specs.Prelude.{◌≡◌, ◌++◌, ◌∷◌, [], false, Some, IfOk, IfErr, IfSome, IfNone, OnOk, ℕ, ◌<◌, List};
+ghost use Rattle.std.specs.Prelude.{◌≡◌, ◌++◌, ◌∷◌, [], false, Some, IfOk, IfErr, IfSome, IfNone, OnErr, OnOk, ℕ, ◌<◌, List};
 ghost use Rattle.std.specs.Option.{option_map};
 ghost use Rattle.sv_model.specs.Method.{is_head};
-ghost use Rattle.sv_net.specs.Places.{elsewhere, held_at};
+ghost use Rattle.sv_net.specs.Places.{elsewhere, held_at, places_of};
 ghost use Rattle.sv_net.specs.declared.state.State.TheVariants.{Waiting};
 ghost use Rattle.sv_record.specs.Frame.{IsFrame};
 ghost use Rattle.sv_record.specs.declared.frame.Frame.TheVariants.{Halt as HaltFrame};
@@ -14,9 +14,9 @@ ghost use Rattle.sv_host.specs.Parked.{clients_of, IsFull};
 ghost use Rattle.sv_host.specs.Peers.{came_of};
 ghost use Rattle.sv_host.specs.Heard.{input_of};
 ghost use Rattle.sv_connection.specs.Connection.{held_by};
-ghost use Rattle.sv_host.specs.Serve.{HearsNoMore, IsBehindFrame, StandsBy};
-ghost use Rattle.sv_net.specs.Exchange.{unread};
-ghost use Rattle.sv_host.specs.Stops.{IsTold};
+ghost use Rattle.sv_host.specs.Serve.{HearsNoMore, IsBehindFrame, IsSilent, StandsBy};
+ghost use Rattle.sv_host.specs.Stops.{IsToldBy};
+ghost use Rattle.sv_net.specs.Bytes.{came_of as socket_came};
 ghost use Rattle.sv_host.specs.declared.group.Asker.TheVariants.{Client as ClientAsker, Command, Nobody};
 ghost use Rattle.sv_host.specs.declared.packets.Packets.TheVariants.{All};
 ghost use Rattle.sv_host.specs.declared.parked.ParkedClient.{ParkedClient};
@@ -57,7 +57,7 @@ pub fn ask(
     ensures came { IfSome result (λ came. came ≡ record { input = Ask token request; asker = ClientAsker from.place token; packets = All }) }
     ensures clients { KeepsAll (clients_of server.old.parked) (clients_of server.new.parked) }
     ensures asked { IfSome result (λ came. HasAsked (clients_of server.new.parked) came.input) }
-    ensures left { StandsBy from.place from.socket (λ state. unread state ≡ held_by client.connection) server.old.connections server.new.connections }
+    ensures left { StandsBy from.place from.socket (IsSilent (held_by client.connection)) server.old.connections server.new.connections }
     ensures others { elsewhere from.place server.new.connections ≡ elsewhere from.place server.old.connections }
 {
     let Lifted { place, socket } = from;
@@ -113,7 +113,9 @@ pub fn refuse(
 }
 
 /// Tells a byte at once. Whoever gave the command may have gone away.
-fn tell(server: &Server, socket: &mut Socket, byte: u8) {
+fn tell(server: &Server, socket: &mut Socket, byte: u8)
+    ensures { socket_came socket.new ≡ socket_came socket.old }
+{
     let mut text = Vec::new(server.alloc);
     if text.push(byte).is_ok() {
         let _ = socket.write(&mut text);
@@ -124,7 +126,7 @@ fn tell(server: &Server, socket: &mut Socket, byte: u8) {
 fn receive(server: &mut Server, from: Lifted, packet: Packet, rest: Vec<u8>) -> Option<Came>
     ensures came { result ≡ Some (record { input = PacketInput packet; asker = Nobody; packets = All }) }
     ensures clients { server.new.parked ≡ server.old.parked }
-    ensures left { StandsBy from.place from.socket (λ state. unread state ≡ rest.items) server.old.connections server.new.connections }
+    ensures left { StandsBy from.place from.socket (IsSilent rest.items) server.old.connections server.new.connections }
     ensures others { elsewhere from.place server.new.connections ≡ elsewhere from.place server.old.connections }
 {
     let Lifted { place, socket } = from;
@@ -144,7 +146,7 @@ fn receive(server: &mut Server, from: Lifted, packet: Packet, rest: Vec<u8>) -> 
 fn take_packet(server: &mut Server, from: Lifted, packet: Packet, rest: Vec<u8>) -> Option<Came>
     ensures came { result ≡ came_of server.old.peers packet }
     ensures clients { server.new.parked ≡ server.old.parked }
-    ensures left { StandsBy from.place from.socket (λ state. unread state ≡ rest.items) server.old.connections server.new.connections }
+    ensures left { StandsBy from.place from.socket (IsSilent rest.items) server.old.connections server.new.connections }
     ensures others { elsewhere from.place server.new.connections ≡ elsewhere from.place server.old.connections }
 {
     let node = packet.sender();
@@ -163,7 +165,7 @@ fn take_packet(server: &mut Server, from: Lifted, packet: Packet, rest: Vec<u8>)
 fn obey(server: &mut Server, from: Lifted, input: Input, packets: Packets) -> Option<Came>
     ensures came { result ≡ Some (record { input = input; asker = Command from.place; packets = packets }) }
     ensures clients { server.new.parked ≡ server.old.parked }
-    ensures left { StandsBy from.place from.socket (λ state. unread state ≡ []) server.old.connections server.new.connections }
+    ensures left { StandsBy from.place from.socket (IsSilent []) server.old.connections server.new.connections }
     ensures others { elsewhere from.place server.new.connections ≡ elsewhere from.place server.old.connections }
 {
     let Lifted { place, socket } = from;
@@ -185,7 +187,8 @@ pub fn take_frame(
     requires { IsFrame frame }
     ensures comes { (number : ℕ) → IfOk result (λ came. IfSome came (λ came. Comes from.place number came)) }
     ensures input { IfOk result (λ came. option_map (λ came. came.input) came ≡ input_of server.old.peers frame) }
-    ensures told { IfErr result (λ stop. (frame ≡ HaltFrame) × IsTold server.new stop) }
+    ensures told { IfErr result (λ stop. (frame ≡ HaltFrame) × IsToldBy from.socket stop) }
+    ensures halted { OnErr result (places_of server.new.connections ≡ places_of server.old.connections) }
     ensures clients { server.new.parked ≡ server.old.parked }
     ensures left { OnOk result (StandsBy from.place from.socket (IsBehindFrame rest.items) server.old.connections server.new.connections) }
     ensures others { OnOk result (elsewhere from.place server.new.connections ≡ elsewhere from.place server.old.connections) }
@@ -205,8 +208,7 @@ pub fn take_frame(
             let mut socket = from.socket;
             server.connections.report.note(Event::HaltOrdered);
             tell(server, &mut socket, 0);
-            server.was_told = true;
-            Err(Stop::Done)
+            Err(Stop::Told(socket))
         }
     }
 }

@@ -41,7 +41,7 @@ mod server;
 mod time;
 mod want;
 
-pub use fault::HostFault;
+pub use fault::{HostFault, Stop};
 pub use host::{Ended, Host};
 pub use paths::{IfLocked, Paths};
 pub use place::{Place, PlaceFault};

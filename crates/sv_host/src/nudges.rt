@@ -11,6 +11,7 @@ ghost use Rattle.sv_host.specs.Parked.{clients_of};
 ghost use Rattle.sv_host.specs.Secrets.{last_of};
 ghost use Rattle.sv_host.specs.Serving.{IsServing, HasServed, HasGathered};
 ghost use Rattle.sv_host.specs.Stops.{IsSpent, LacksSecrets};
+ghost use Rattle.sv_host.specs.Stories.{CarryOn};
 ghost use Rattle.sv_host.specs.Time.{steady_of};
 ghost use Rattle.sv_host.specs.declared.nudges.Nudge.TheVariants.{LateTick, Poke};
 ghost use Rattle.sv_host.specs.declared.nudges.Ticked.TheVariants.{Refused as TickedRefused};
@@ -53,9 +54,6 @@ const MORE_TICKS: Nudges = Nudges {
 
 /// So many groups of them are given to the node in a turn, at most.
 const ENDING: u32 = 8;
-
-/// So many groups of pokes are given to the node in a turn, at most.
-const POKING: u32 = 8;
 
 /// What a node is told by itself.
 #[derive(Clone, Copy, Debug, PartialEq, Eq)]
@@ -131,6 +129,7 @@ fn add_nudge(
     ensures added { IfOk result (λ added. IsTrue added → HasNudge nudge (steady_of server.old.time) group.old group.new) }
     ensures never_back { steady_of server.old.time ≤ steady_of server.new.time }
     ensures stops { IfErr result (LacksSecrets (last_of server.new.secrets)) }
+    ensures carried { CarryOn server.old.connections server.new.connections }
 {
     let moment = server.moment(machine)?;
     Ok(group.add(nudge.at(moment), nudge.input(), Asker::Nobody, packets))
@@ -148,6 +147,7 @@ fn add_nudges(
     ensures clients { GathersFor group.old group.new (clients_of server.old.parked) (clients_of server.new.parked) }
     ensures added { IfOk result (λ added. IsTrue added → HasNudges nudges.nudge (steady_of server.old.time) nudges.count group.old group.new) }
     ensures stops { IfErr result (LacksSecrets (last_of server.new.secrets)) }
+    ensures carried { CarryOn server.old.connections server.new.connections }
 {
     for _done in 0..nudges.count {
         if !add_nudge(machine, server, group, nudges.nudge, nudges.packets)? {
@@ -168,6 +168,7 @@ pub fn add_pokes(
     ensures gathered { HasGathered group.old group.new }
     ensures clients { GathersFor group.old group.new (clients_of server.old.parked) (clients_of server.new.parked) }
     ensures stops { IfErr result (LacksSecrets (last_of server.new.secrets)) }
+    ensures carried { CarryOn server.old.connections server.new.connections }
 {
     let pokes = Nudges {
         nudge: Nudge::Poke,
@@ -194,6 +195,7 @@ fn tell<E: Engine, D: Disk>(
         group.old node.new taken) }
     ensures emptied { IfOk result (λ _. inputs_of group.new ≡ []) }
     ensures stops { IfErr result (IsSpent server.new) }
+    ensures carried { CarryOn server.old.connections server.new.connections }
 {
     match add_nudges(machine, server, group, nudges) {
         Ok(true) => server.step(machine, node, group),
@@ -217,6 +219,7 @@ pub fn settle<E: Engine, D: Disk>(
     ensures served { HasServed E.meaning E.heard E.valid D.tells D.seen D.may_leave D.moment D.left_since node.old group.old (clients_of server.new.parked) node.new group.new result }
     ensures settled { inputs_of group.old ≡ [] → IfOk result (λ settled. IsTrue settled → IsSettled (state_of node.new)) }
     ensures stops { IfErr result (IsSpent server.new) }
+    ensures carried { CarryOn server.old.connections server.new.connections }
 {
     let most = node.parked().len();
     let mut count: usize = 1;
@@ -291,6 +294,7 @@ fn tick_all<E: Engine, D: Disk>(
     ensures in_time { ticks.nudge ≢ Poke → 0 < ticks.count → IfOk result (λ ticked. ticked ≢ TickedRefused → IsInTime (setting_of node.new)
         (second_of ticks.nudge (steady_of server.old.time)) (state_of node.new)) }
     ensures stops { IfErr result (IsSpent server.new) }
+    ensures carried { CarryOn server.old.connections server.new.connections }
 {
     let before = node.journal_len();
     match tell(machine, server, node, group, ticks) {
@@ -314,6 +318,7 @@ fn end_waiting<E: Engine, D: Disk>(
     ensures in_time { ticked ≡ TickedRefused → IfOk result (λ ticked. ticked ≢ TickedRefused → IsInTime (setting_of node.new) second (state_of node.new)) }
     ensures same { ticked ≢ TickedRefused → (result ≡ Ok ticked) × (node.new ≡ node.old) }
     ensures stops { IfErr result (IsSpent server.new) }
+    ensures carried { CarryOn server.old.connections server.new.connections }
 {
     match ticked {
         Ticked::Refused => tick_all(machine, server, node, group, Nudges::late(second)),
@@ -332,6 +337,7 @@ fn tick_once<E: Engine, D: Disk>(
     ensures served { HasServed E.meaning E.heard E.valid D.tells D.seen D.may_leave D.moment D.left_since node.old group.old (clients_of server.new.parked) node.new group.new result }
     ensures in_time { IfOk result (λ ticked. ticked ≢ TickedRefused → IsInTime (setting_of node.new) (steady_of server.old.time) (state_of node.new)) }
     ensures stops { IfErr result (IsSpent server.new) }
+    ensures carried { CarryOn server.old.connections server.new.connections }
 {
     let second = server.time.steady_seconds();
     let ticked = tick_all(machine, server, node, group, THE_TICK)?;
@@ -351,6 +357,7 @@ pub fn tick<E: Engine, D: Disk>(
     ensures in_time { IsFalse server.old.is_spared → server.old.ticked < steady_of server.old.time → IfOk result (λ done. IsTrue done → IsInTime
         (setting_of node.new) (steady_of server.old.time) (state_of node.new)) }
     ensures stops { IfErr result (IsSpent server.new) }
+    ensures carried { CarryOn server.old.connections server.new.connections }
 {
     if !server.begins_second(machine) {
         return Ok(true);
@@ -374,6 +381,7 @@ pub fn ask_again<E: Engine, D: Disk>(
     requires { IsServing E.valid D.tells D.seen D.may_leave (clients_of server.old.parked) node.old group.old }
     ensures served { HasServed E.meaning E.heard E.valid D.tells D.seen D.may_leave D.moment D.left_since node.old group.old (clients_of server.new.parked) node.new group.new result }
     ensures stops { IfErr result (IsSpent server.new) }
+    ensures carried { CarryOn server.old.connections server.new.connections }
 {
     let now = server.time.steady;
     server.asking = server.asking.at(now, server.parked.may_wait());
@@ -397,6 +405,7 @@ fn end_some<E: Engine, D: Disk>(
     requires { IsServing E.valid D.tells D.seen D.may_leave (clients_of server.old.parked) node.old group.old }
     ensures served { HasServed E.meaning E.heard E.valid D.tells D.seen D.may_leave D.moment D.left_since node.old group.old (clients_of server.new.parked) node.new group.new result }
     ensures stops { IfErr result (IsSpent server.new) }
+    ensures carried { CarryOn server.old.connections server.new.connections }
 {
     match tick_all(machine, server, node, group, MORE_TICKS) {
         Ok(ticked) => {
@@ -417,6 +426,7 @@ pub fn expire<E: Engine, D: Disk>(
     requires { IsServing E.valid D.tells D.seen D.may_leave (clients_of server.old.parked) node.old group.old }
     ensures served { HasServed E.meaning E.heard E.valid D.tells D.seen D.may_leave D.moment D.left_since node.old group.old (clients_of server.new.parked) node.new group.new result }
     ensures stops { IfErr result (IsSpent server.new) }
+    ensures carried { CarryOn server.old.connections server.new.connections }
 {
     let begun = steady(machine);
     for _ in 0..ENDING {

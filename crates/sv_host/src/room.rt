@@ -8,6 +8,7 @@ ghost use Rattle.sv_host.specs.Parked.{clients_of};
 ghost use Rattle.sv_host.specs.Room.{awaited_by, count_in, counted, has_room, left_of, may_come, room_behind, room_of, KeepsOne};
 ghost use Rattle.sv_host.specs.Group.{inputs_of, IsRising};
 ghost use Rattle.sv_host.specs.Serving.{HasGathered};
+ghost use Rattle.sv_host.specs.Stories.{CarryOn};
 
 use crate::group::Group;
 use crate::peers::NODES;
@@ -80,6 +81,7 @@ impl Server {
         ensures stays { IsTrue result → inputs_of group.new ≡ inputs_of group.old }
         ensures kept { KeepsOne (awaited_by (E.meaning (engine_of node.now)) (setting_of node.now) (durable_of node.now)) at room.old group.old room.new
             group.new result }
+        ensures carried { CarryOn self.old.connections self.new.connections }
     {
         let Some((token, request)) = group.request(at) else {
             return true;
@@ -101,6 +103,7 @@ impl Server {
         ensures kept { HOME_LIMIT < length (clients_of self.old.parked) → inputs_of group.new
             ≡ left_of (awaited_by (E.meaning (engine_of node.now)) (setting_of node.now) (durable_of node.now)) (room_of (state_of node.now).parked)
             (inputs_of group.old) }
+        ensures carried { CarryOn self.old.connections self.new.connections }
     {
         if self.parked.len() <= HOME_LIMIT {
             return;

@@ -115,7 +115,7 @@ fn open(
 
 /// Why a node has ended, if not by a command.
 fn how_ended<E: Drop>(ended: Ended<E, FileDisk>) -> Result<(), HostFault> {
-    match ended.fault {
+    match ended.stop.fault() {
         Some(fault) => Err(fault),
         None => Ok(()),
     }

@@ -62,7 +62,7 @@ impl Source {
             Source::Read(file) => read_secret(file),
             Source::Counted { last } => {
                 let Some(number) = last.checked_add(1) else {
-                    return Err(Stop::Done);
+                    return Err(Stop::Spent(*last));
                 };
                 *last = number;
                 Ok(secret_of(number))

@@ -1,16 +1,18 @@
 //! What comes on one connection.
 
 ghost use Rattle.std.specs.Io.{ReadsAtMost};
-ghost use Rattle.std.specs.Prelude.{◌≡◌, ◌++◌, None, false, IfOk, IfErr, IfSome};
+ghost use Rattle.std.specs.Prelude.{◌≡◌, ◌≢◌, ◌++◌, ◌<◌, None, false, IfOk, IfErr, IfSome, OnErr};
 ghost use Rattle.sv_host.specs.Clients.{HasAsked, KeepsAll};
 ghost use Rattle.sv_host.specs.Group.{Comes};
 ghost use Rattle.sv_host.specs.Heard.{IsHeardOf};
 ghost use Rattle.sv_host.specs.Parked.{clients_of};
-ghost use Rattle.sv_host.specs.Serve.{Brings, GoesOn, HearsOn, IsHeard, Listens, StaysAt, Takes, came_in, is_more};
+ghost use Rattle.sv_host.specs.Serve.{Brings, GoesOn, Halts, HearsOn, IsHeard, Listens, StaysAt, Takes, came_in, is_more};
 ghost use Rattle.sv_host.specs.Stops.{IsTold};
+ghost use Rattle.sv_host.specs.Stories.{AllGoOnWith, CarryOn};
 ghost use Rattle.sv_net.specs.Bytes.{came_of, moved, went_of};
-ghost use Rattle.sv_net.specs.Exchange.{GoOnWith};
-ghost use Rattle.sv_net.specs.Places.{held_at};
+ghost use Rattle.sv_net.specs.Exchange.{GoOnWith, turn_of};
+ghost use Rattle.sv_net.specs.declared.state.Turn.TheVariants as turn;
+ghost use Rattle.sv_net.specs.Places.{held_at, places_of};
 
 use crate::fault::Stop;
 use crate::greeting::greeted;
@@ -51,12 +53,13 @@ fn take(
     token: u64,
 ) -> Result<Progress, Stop>
     ensures brings { IfOk result (λ progress. Brings place token progress) }
-    ensures told { IfErr result (IsTold server.new) }
+    ensures told { IfErr result (Halts server.old.connections.greets «open» piece.now) }
     ensures clients { KeepsAll (clients_of server.old.parked) (clients_of server.new.parked) }
     ensures asked { IfOk result (λ progress. IfSome (came_in progress) (λ came. HasAsked (clients_of server.new.parked) came.input)) }
     ensures takes { IfOk result (λ progress. Takes server.old.peers server.old.connections.greets «open».state piece.now token progress) }
     ensures stays { IfOk result (λ progress. StaysAt server.old.connections.greets «open».state piece.now place server.new progress) }
     ensures hears { IfOk result (λ progress. HearsOn server.old.peers server.old.connections.greets «open» piece.now place token server.old server.new progress) }
+    ensures halted { OnErr result (places_of server.new.connections ≡ places_of server.old.connections) }
 {
     let (socket, state, since) = server.connections.begun(open, piece);
     let from = Lifted { place, socket };
@@ -105,6 +108,7 @@ fn look(socket: &mut Socket, piece: &mut [u8; PIECE]) -> Result<usize, Missing>
     ensures most { ReadsAtMost result piece.new }
     ensures came { came_of socket.new ≡ came_of socket.old ++ moved result piece.new }
     ensures went { went_of socket.new ≡ went_of socket.old }
+    ensures some { IfOk result (λ count. 0 < count) }
 {
     match socket.read(piece) {
         Ok(0) => Err(Missing::ForEver),
@@ -135,9 +139,10 @@ fn listen_once(
 ) -> Result<Progress, Stop>
     ensures brings { IfOk result (λ progress. Brings place token progress) }
     ensures heard { IfOk result (λ progress. IsHeard token progress) }
-    ensures told { IfErr result (IsTold server.new) }
+    ensures told { IfErr result IsTold }
     ensures clients { KeepsAll (clients_of server.old.parked) (clients_of server.new.parked) }
     ensures listens { IfOk result (λ progress. Listens server.old.peers server.old.connections.greets «open» place token server.old server.new progress) }
+    ensures with_one { turn_of «open».state ≢ turn.Socket → held_at server.old.connections place ≡ None → AllGoOnWith place «open» server.old.connections server.new.connections }
     ensures asked { IfOk result (λ progress. IfSome (came_in progress) (λ came. HasAsked (clients_of server.new.parked) came.input)) }
 {
     let mut open = open;
@@ -160,9 +165,10 @@ fn go_on_with(
 ) -> Result<Progress, Stop>
     ensures brings { IfOk result (λ progress. Brings place token progress) }
     ensures heard { IfOk result (λ progress. IsHeard token progress) }
-    ensures told { IfErr result (IsTold server.new) }
+    ensures told { IfErr result IsTold }
     ensures clients { KeepsAll (clients_of server.old.parked) (clients_of server.new.parked) }
     ensures goes_on { IfOk result (λ progress. GoesOn server.old.peers server.old.connections.greets «open» place token server.old server.new progress) }
+    ensures with_one { held_at server.old.connections place ≡ None → AllGoOnWith place «open» server.old.connections server.new.connections }
     ensures asked { IfOk result (λ progress. IfSome (came_in progress) (λ came. HasAsked (clients_of server.new.parked) came.input)) }
 {
     match open.state.turn() {
@@ -185,9 +191,10 @@ pub fn serve(
 ) -> Result<Option<Came>, Stop>
     ensures comes { IfOk result (λ came. IfSome came (λ came. Comes place token came)) }
     ensures heard { IfOk result (λ came. IfSome came (λ came. IsHeardOf token came.input)) }
-    ensures told { IfErr result (IsTold server.new) }
+    ensures told { IfErr result IsTold }
     ensures clients { KeepsAll (clients_of server.old.parked) (clients_of server.new.parked) }
     ensures asked { IfOk result (λ came. IfSome came (λ came. HasAsked (clients_of server.new.parked) came.input)) }
+    ensures carried { CarryOn server.old.connections server.new.connections }
 {
     for _ in 0..PIECES {
         let Some(open) = server.connections.take(place) else {
@@ -213,9 +220,10 @@ pub fn serve_newcomer(
 ) -> Result<Option<Came>, Stop>
     ensures comes { IfOk result (λ came. IfSome came (λ came. Comes place token came)) }
     ensures heard { IfOk result (λ came. IfSome came (λ came. IsHeardOf token came.input)) }
-    ensures told { IfErr result (IsTold server.new) }
+    ensures told { IfErr result IsTold }
     ensures clients { KeepsAll (clients_of server.old.parked) (clients_of server.new.parked) }
     ensures asked { IfOk result (λ came. IfSome came (λ came. HasAsked (clients_of server.new.parked) came.input)) }
+    ensures with_one { turn_of «open».state ≢ turn.Socket → held_at server.old.connections place ≡ None → AllGoOnWith place «open» server.old.connections server.new.connections }
 {
     match listen_once(server, place, open, piece, token)? {
         Progress::More => serve(server, place, piece, token),

@@ -8,12 +8,13 @@ ghost use Rattle.sv_host.specs.Parked.{clients_of};
 ghost use Rattle.sv_host.specs.Secrets.{last_of, secret_in, Draws};
 ghost use Rattle.sv_host.specs.Serving.{IsServing, HasServed};
 ghost use Rattle.sv_host.specs.Stops.{IsLost};
+ghost use Rattle.sv_host.specs.Stories.{CarryOn};
 ghost use Rattle.sv_host.specs.Time.{seconds_of, steady_of};
 
 use crate::asking::Asking;
 use crate::awaited::Awaited;
 use crate::expiry::Expiry;
-use crate::fault::{HostFault, Stop};
+use crate::fault::Stop;
 use crate::group::Group;
 use crate::holding::Holding;
 use crate::outcome::Taken;
@@ -57,8 +58,6 @@ pub struct Server {
     pub awaited: Awaited,
     /// The length of the journal behind its last compaction; 0 before the first.
     pub compacted: u64,
-    /// A command has told it to stop.
-    pub was_told: bool,
     pub alloc: Global,
 }
 
@@ -81,7 +80,6 @@ impl Drop for Server {
             holding: _,
             awaited: _,
             compacted: _,
-            was_told: _,
             alloc: _,
         } = self;
     }
@@ -103,6 +101,7 @@ impl Server {
         ensures time { self.new.time ≡ self.old.time }
         ensures ticked { self.new.ticked ≡ self.old.ticked }
         ensures clients { self.new.parked ≡ self.old.parked }
+        ensures carried { CarryOn self.old.connections self.new.connections }
     {
         let (way, seconds) = match set {
             ClockSet::No => return,
@@ -121,6 +120,7 @@ impl Server {
         ensures clients { self.new.parked ≡ self.old.parked }
         ensures secrets { last_of self.new.secrets ≡ last_of self.old.secrets }
         ensures ticked { self.new.ticked ≡ self.old.ticked }
+        ensures carried { CarryOn self.old.connections self.new.connections }
     {
         let time = self.time.next(read(machine));
         let set = self.time.was_set(time);
@@ -149,6 +149,7 @@ impl Server {
         ensures none { IsFalse self.old.is_spared → IsFalse result → steady_of self.new.time ≤ self.new.ticked }
         ensures never_back { steady_of self.old.time ≤ steady_of self.new.time }
         ensures clients { self.new.parked ≡ self.old.parked }
+        ensures carried { CarryOn self.old.connections self.new.connections }
     {
         if self.is_spared {
             return false;
@@ -167,6 +168,7 @@ impl Server {
         ensures never_back { steady_of self.old.time ≤ steady_of self.new.time }
         ensures clients { self.new.parked ≡ self.old.parked }
         ensures secret { Draws (last_of self.old.secrets) (secret_in result) (last_of self.new.secrets) }
+        ensures carried { CarryOn self.old.connections self.new.connections }
     {
         let time = self.now(machine);
         let secret = self.secrets.next()?;
@@ -179,7 +181,8 @@ impl Server {
 
     /// The journal was written anew; its lengths in bytes.
     pub fn was_compacted(&mut self, before: u64, after: u64)
-        ensures { self.new.parked ≡ self.old.parked }
+        ensures clients { self.new.parked ≡ self.old.parked }
+        ensures carried { CarryOn self.old.connections self.new.connections }
     {
         self.compacted = after;
         self.connections.report.measure(after);
@@ -190,7 +193,8 @@ impl Server {
 
     /// Counts what the node keeps, for the figures: the keys that it knows, and the bytes of its journal.
     pub fn count_kept<E, D: Disk>(&mut self, node: &Node<E, D>)
-        ensures { self.new.parked ≡ self.old.parked }
+        ensures clients { self.new.parked ≡ self.old.parked }
+        ensures carried { CarryOn self.old.connections self.new.connections }
     {
         let Census {
             active,
@@ -212,7 +216,8 @@ impl Server {
 
     /// The same where the figures are about to be written.
     pub fn count_kept_in_time<E, D: Disk>(&mut self, node: &Node<E, D>)
-        ensures { self.new.parked ≡ self.old.parked }
+        ensures clients { self.new.parked ≡ self.old.parked }
+        ensures carried { CarryOn self.old.connections self.new.connections }
     {
         if self.connections.report.wants_census() {
             self.count_kept(node);
@@ -231,7 +236,8 @@ impl Server {
 
     /// The journal has so many bytes behind it: where it has grown the group was written and synced.
     fn end_write(&mut self, machine: &HostRuntime, write: Write, len: u64)
-        ensures { self.new.parked ≡ self.old.parked }
+        ensures clients { self.new.parked ≡ self.old.parked }
+        ensures carried { CarryOn self.old.connections self.new.connections }
     {
         if let Some(begun) = write.begun
             && len != write.len
@@ -254,7 +260,8 @@ impl Server {
 
     /// These requests wait at the node, as time passes.
     pub fn await_by(&mut self, parked: &[Parked])
-        ensures { self.new.parked ≡ self.old.parked }
+        ensures clients { self.new.parked ≡ self.old.parked }
+        ensures carried { CarryOn self.old.connections self.new.connections }
     {
         if self.connections.report.is_logging() {
             self.awaited.look(parked);
@@ -269,23 +276,19 @@ impl Server {
             .say(Level::Info, Milestone::Ready { node, port });
     }
 
-    /// Why the node has stopped, if not by a command; and whatever is still to be told to the operator.
-    pub fn say_stopped(&mut self, machine: &HostRuntime, stop: Stop) -> Option<HostFault> {
+    /// Tells the operator that the node has stopped, unless a fault does, and whatever else is still to be told.
+    pub fn say_stopped(&mut self, machine: &HostRuntime, stop: &Stop) {
         let (waiting, open) = (self.parked.len(), self.connections.len());
-        let fault = match stop {
-            Stop::Done => {
-                self.connections.report.say(Level::Info, Milestone::Stopped);
-                None
-            }
-            Stop::Fault(fault) => Some(fault),
-        };
+        if stop.fault().is_none() {
+            self.connections.report.say(Level::Info, Milestone::Stopped);
+        }
         self.connections.report.end(machine, waiting, open);
-        fault
     }
 
     /// Writes what is to be told to the operator.
     pub fn tell_operator(&mut self, machine: &HostRuntime)
-        ensures { self.new.parked ≡ self.old.parked }
+        ensures clients { self.new.parked ≡ self.old.parked }
+        ensures carried { CarryOn self.old.connections self.new.connections }
     {
         let (waiting, open) = (self.parked.len(), self.connections.len());
         self.connections.report.turn(machine, waiting, open);
@@ -303,6 +306,7 @@ impl Server {
         ensures told { IsHandedOut E.meaning E.heard D.failed node.old node.new group.old self.old self.new result }
         ensures emptied { inputs_of group.new ≡ [] }
         ensures stops { IfErr result IsLost }
+        ensures carried { CarryOn self.old.connections self.new.connections }
     {
         let (inputs, ways) = group.take();
         let write = self.begin_write(machine, node.journal_len());

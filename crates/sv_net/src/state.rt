@@ -1,7 +1,7 @@
 //! How far a connection has come.
 
-ghost use Rattle.std.specs.Prelude.{◌≡◌};
-ghost use Rattle.sv_net.specs.Exchange.{IsLike, turn_of, unread};
+ghost use Rattle.std.specs.Prelude.{◌≡◌, []};
+ghost use Rattle.sv_net.specs.Exchange.{IsLike, turn_of, unread, unsent};
 ghost use Rattle.sv_net.specs.Hearing.{BeginsBy};
 
 use crate::client::Client;
@@ -127,7 +127,8 @@ pub enum Turn {
 impl Peer {
     /// It has sent a packet, with these bytes behind it.
     pub fn taken(self) -> State
-        ensures { unread result ≡ self.bytes.items }
+        ensures unread { unread result ≡ self.bytes.items }
+        ensures unsent { unsent result ≡ [] }
     {
         if self.is_resting() {
             State::Peer(self)

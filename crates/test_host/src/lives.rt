@@ -33,7 +33,7 @@ fn life(
 
 /// The disks of a node that was told to stop.
 fn disks_of(rt: &impl Abort, ended: Ended<Counter, MemoryDisk>) -> (MemoryDisk, MemoryDisk) {
-    assert_eq!(rt; ended.fault, None, "ended by a fault");
+    assert_eq!(rt; ended.stop.fault(), None, "ended by a fault");
     let Ended { a, b, .. } = ended;
     (a, b)
 }

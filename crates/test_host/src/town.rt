@@ -136,7 +136,7 @@ pub fn live_anew(rt: &impl Abort, machine: &HostRuntime, host: Host) -> Ended<Co
 
 /// The same: why the node has ended.
 pub fn serve_all(rt: &impl Abort, machine: &HostRuntime, host: Host) -> Option<HostFault> {
-    live_anew(rt, machine, host).fault
+    live_anew(rt, machine, host).stop.fault()
 }
 
 /// Has somebody who has connected say this.

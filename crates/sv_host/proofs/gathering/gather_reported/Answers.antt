@@ -11,4 +11,5 @@ loop-place-preserved c = record {
   gathered = record { rising = c.gather_some.ensures.gathered.rising; before = c.gather_some.ensures.gathered.before ∙ c.loop-place.invariant.gathered.before };
   more = more_on c.loop-place.invariant.more c.gather_some.ensures.more;
   clients = gathers_on _ _ _ _ _ _ c.loop-place.invariant.gathered.before c.loop-place.invariant.clients c.gather_some.ensures.clients;
+  carried = λ first so_far. c.gather_some.ensures.carried first (c.loop-place.invariant.carried first so_far);
 }

@@ -1,3 +1,4 @@
+use Rattle.sv_host.specs.Stories.{CarryOn}
 use Rattle.sv_host.specs.Clients.{GathersFor}
 use Rattle.sv_host.specs.Group.{HasMore}
 use Rattle.sv_host.specs.Parked.{clients_of}
@@ -10,4 +11,5 @@ invariant-loop-place l = record {
   gathered : HasGathered l.initial.group l.group;
   more : HasMore l.initial.group l.group;
   clients : GathersFor l.initial.group l.group (clients_of l.initial.server.parked) (clients_of l.server.parked);
+  carried : CarryOn l.initial.server.connections l.server.connections;
 }

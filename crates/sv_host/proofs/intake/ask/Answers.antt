@@ -1,7 +1,7 @@
 use Rattle.std.proofs.Common.{◌≡◌, Bool, false, ap, refl}
 use Rattle.sv_connection.specs.Connection.{held_by}
 use Rattle.sv_net.specs.Bytes.{IsQuiet}
-use Rattle.sv_net.specs.Exchange.{unread}
+use Rattle.sv_host.specs.Serve.{IsSilent}
 use Rattle.sv_model.specs.Method.{is_head}
 use Rattle.sv_net.proofs.PlaceLemmas.{put_holds}
 use Rattle.sv_net.specs.declared.state.State.TheVariants.{Waiting}
@@ -16,5 +16,5 @@ returns-clause-stands c =
 
 pub returns-clause-left : goal.returns-clause-left
 returns-clause-left c = λ none.
-    put_holds (λ held. IsQuiet c.args.from.socket held.socket × (unread held.state ≡ held_by c.args.client.connection)) c.args.from.place _ c.args.server.now.connections c.begin.new.self
-    c.begin.ensures.places (record { came = refl; went = refl }, refl)
+    put_holds (λ held. IsQuiet c.args.from.socket held.socket × IsSilent (held_by c.args.client.connection) held.state) c.args.from.place _ c.args.server.now.connections c.begin.new.self
+    c.begin.ensures.places (record { came = refl; went = refl }, record { nothing_unsent = refl; rest_is = refl })

@@ -1,11 +1,11 @@
-use Rattle.std.proofs.Common.{◌≡◌, refl}
+use Rattle.std.proofs.Common.{refl}
 use Rattle.sv_net.proofs.PlaceLemmas.{put_holds}
 use Rattle.sv_net.specs.Bytes.{IsQuiet}
-use Rattle.sv_net.specs.Exchange.{unread}
+use Rattle.sv_host.specs.Serve.{IsSilent}
 use Rattle.sv_host.proofs.intake.receive.Goals as goal
 
 -- what came behind the packet is still to be heard
 pub returns-clause-left : goal.returns-clause-left
 returns-clause-left c = λ none.
-    put_holds (λ held. IsQuiet c.args.from.socket held.socket × (unread held.state ≡ c.args.rest.items)) c.args.from.place _ c.args.server.now.connections c.begin.new.self
-    c.begin.ensures.places (record { came = refl; went = refl }, c.taken.ensures)
+    put_holds (λ held. IsQuiet c.args.from.socket held.socket × IsSilent c.args.rest.items held.state) c.args.from.place _ c.args.server.now.connections c.begin.new.self
+    c.begin.ensures.places (record { came = refl; went = refl }, record { nothing_unsent = c.taken.ensures.unsent; rest_is = c.taken.ensures.unread })

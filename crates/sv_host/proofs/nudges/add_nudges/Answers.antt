@@ -19,4 +19,5 @@ loop-done-preserved c = record {
       (c.in_ok-add_nudge.ensures.added c.if-not-branch.false));
   clients = gathers_on _ _ _ _ _ _ c.loop-done.invariant.gathered.before c.loop-done.invariant.clients c.add_nudge.ensures.clients;
   later = omega arith;
+  carried = λ first so_far. c.add_nudge.ensures.carried first (c.loop-done.invariant.carried first so_far);
 }

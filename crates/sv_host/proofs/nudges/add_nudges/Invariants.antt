@@ -1,3 +1,4 @@
+use Rattle.sv_host.specs.Stories.{CarryOn}
 use Rattle.std.proofs.Common.{◌≤◌}
 use Rattle.sv_host.specs.Clients.{GathersFor}
 use Rattle.sv_host.specs.Nudges.{HasNudges}
@@ -13,4 +14,5 @@ invariant-loop-done l = record {
   has : HasNudges l.nudges.nudge (steady_of l.initial.server.time) l._done l.initial.group l.group;
   clients : GathersFor l.initial.group l.group (clients_of l.initial.server.parked) (clients_of l.server.parked);
   later : steady_of l.initial.server.time ≤ steady_of l.server.time;
+  carried : CarryOn l.initial.server.connections l.server.connections;
 }

@@ -6,7 +6,7 @@ use Rattle.sv_host.proofs.ServingLemmas.{served_none, served_out, served_then, s
 use Rattle.sv_host.proofs.nudges.settle.Goals as goal
 
 pub loop-done-init : goal.loop-done-init
-loop-done-init g c = record { served = served_none _ c.requires; empty = λ e. e; fewer = λ e. omega (arith, ap length c.parked-most.ensures); some = omega arith }
+loop-done-init g c = record { served = served_none _ c.requires; empty = λ e. e; fewer = λ e. omega (arith, ap length c.parked-most.ensures); some = omega arith; carried = λ first so_far. so_far }
 
 pub returns-in_err-tell-clause-served : goal.returns-in_err-tell-clause-served
 returns-in_err-tell-clause-served g c = served_then refl c.loop-done.invariant.served (served_out _ c.in_err-tell.was c.from_residual.ensures.0 c.tell.ensures.served)
@@ -37,4 +37,5 @@ loop-done-preserved g c =
       fewer = λ empty.
           omega (arith, was.fewer empty, served e.meaning e.heard g.D.Disk.failed (steady_of l.server.time) l.count l.node c.tell.new.node l.group taken (was.empty empty) (c.in_ok-tell.ensures.told busy.1) was.some busy.0 busy.1);
       some = omega arith;
+      carried = λ first so_far. c.tell.ensures.carried first (was.carried first so_far);
     }

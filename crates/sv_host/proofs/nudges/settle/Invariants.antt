@@ -1,3 +1,4 @@
+use Rattle.sv_host.specs.Stories.{CarryOn}
 use Rattle.std.proofs.Common.{◌≡◌, ◌≤◌, ◌<◌, ◌+◌, [], Ok, length}
 use Rattle.std.specs.Prelude.{⊤}
 use Rattle.sv_node.specs.Node.{state_of}
@@ -14,4 +15,5 @@ invariant-loop-done g l = record {
   empty : inputs_of l.initial.group ≡ [] → inputs_of l.group ≡ [];
   fewer : inputs_of l.initial.group ≡ [] → length (state_of l.node).parked + l._done ≤ l.most;
   some : 0 < l.count;
+  carried : CarryOn l.initial.server.connections l.server.connections;
 }

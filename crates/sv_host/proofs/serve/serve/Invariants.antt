@@ -1,7 +1,11 @@
+use Rattle.sv_host.specs.Stories.{CarryOn}
 use Rattle.sv_host.specs.Clients.{KeepsAll}
 use Rattle.sv_host.specs.Parked.{clients_of}
 use Rattle.sv_host.proofs.serve.serve.Given as goal
 
 -- whoever waits goes on waiting
 abbrev pub invariant-loop : goal.invariant-loop
-invariant-loop l = KeepsAll (clients_of l.initial.server.parked) (clients_of l.server.parked)
+invariant-loop l = record {
+  clients : KeepsAll (clients_of l.initial.server.parked) (clients_of l.server.parked);
+  carried : CarryOn l.initial.server.connections l.server.connections;
+}

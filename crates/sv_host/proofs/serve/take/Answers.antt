@@ -4,6 +4,7 @@ use Rattle.sv_net.specs.declared.hearing.Heard.{Heard}
 use Rattle.sv_net.specs.declared.hearing.Heard.TheVariants as heard
 use Rattle.sv_host.specs.Serve.{IsLeftBy}
 use Rattle.sv_net.specs.Hearing.{HearsAt}
+use Rattle.sv_host.proofs.HaltLemmas.{halts}
 use Rattle.sv_host.proofs.TakeLemmas.{asked, brings, framed, gives_asked, gives_framed, left_as, stays}
 use Rattle.sv_host.proofs.serve.take.Goals as goal
 
@@ -111,7 +112,7 @@ returns-in-Greeting-clause-hears c = record {
   hears = c.hear.ensures.at;
   gives = tt;
   left = λ none.
-      left_as c.hear.result (heard.Greeting c.in-Greeting.said) c.begun-socket.result.0 c.args.open.socket _ c.in-Greeting.is c.begun-socket.ensures.socket (c.greeted.ensures.socket none);
+      nobody_holds (λ held. IsLeftBy c.hear.result c.args.open.socket held) (c.greeted.ensures.vacant none);
   others = c.greeted.ensures.others;
 }
 
@@ -125,3 +126,9 @@ returns-in-Nothing-clause-hears c = record {
   left = λ none. nobody_holds (λ held. IsLeftBy c.hear.result c.args.open.socket held) (same_held c.args.place c.args.server.now.connections c.leave.new.self c.leave.ensures.places ∙ none);
   others = ap (λ xs. slice_set xs c.args.place None) c.leave.ensures.places;
 }
+
+-- the command to stop
+pub returns-in-Err-clause-told : goal.returns-in-Err-clause-told
+returns-in-Err-clause-told c =
+    halts c.args.server.now.connections.greets c.args.open c.begun-socket.result.1 c.args.piece.now c.hear.result c.in-Frame.rest c.begun-socket.result.0 c.in-Err.stop c.begun-socket.ensures.state c.hear.ensures.at
+    (c.in-Frame.is ∙ ap (λ f. heard.Frame f c.in-Frame.rest) c.in-Err.ensures.told.0) c.begun-socket.ensures.socket c.in-Err.ensures.told.1

@@ -17,4 +17,5 @@ loop-output-preserved c =
       handed = λ final all. was.handed final (one_handed (into_iter_items c.loop-output.output-iterator) rest c.in-Some.output c.args.now c.loop-output.self c.hand_on_some.new.self final steps.0 c.hand_on_some.ensures.told all);
       round = c.hand_on_some.ensures.round ∙ was.round;
       ends = ap (λ sending. sending_end sending rest) c.hand_on_some.ensures.after ∙ ap (λ xs. sending_end c.loop-output.sending xs) (sym steps.0) ∙ was.ends;
+      carried = λ first so_far. c.hand_on_some.ensures.carried first (was.carried first so_far);
     }

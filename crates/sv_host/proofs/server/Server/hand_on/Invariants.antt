@@ -1,3 +1,4 @@
+use Rattle.sv_host.specs.Stories.{CarryOn}
 use Rattle.std.proofs.Common.{◌≡◌, length}
 use Rattle.std.specs.Vec.Iter.{into_iter_items, into_iter_len}
 use Rattle.sv_host.specs.HandingOut.{HandsOnAll}
@@ -15,4 +16,5 @@ invariant-loop-output l = record {
       → HandsOnAll (into_iter_items l.initial.output-iterator) l.now l.initial.self final;
   round : l.self.round ≡ l.initial.self.round;
   ends : sending_end l.sending (into_iter_items l.output-iterator) ≡ sending_end l.initial.sending (into_iter_items l.initial.output-iterator);
+  carried : CarryOn l.initial.self.connections l.self.connections;
 }

@@ -21,6 +21,7 @@ loop-answer-preserved c =
           (one_more_out c.loop-answer.place c.saturating_add-place.result c.args.ways.now c.way_at-way.result (into_iter_items c.loop-answer.answer-iterator) rest c.in-Some.answer c.seconds-now.result
           c.loop-answer.self c.hand_out_one-taken.new.self final steps.0 c.way_at-way.ensures (omega (arith, steps.1, was.count, c.saturating_add-place.ensures)) c.hand_out_one-taken.ensures.told all);
       taken = was.taken ∙ ap (last_taken c.loop-answer.taken) steps.0 ∙ ap (λ t. last_taken t rest) (sym c.hand_out_one-taken.ensures.taken);
+      carried = λ first so_far. c.hand_out_one-taken.ensures.carried first (was.carried first so_far);
     }
 
 -- none is left

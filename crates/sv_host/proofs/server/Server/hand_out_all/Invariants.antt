@@ -1,3 +1,4 @@
+use Rattle.sv_host.specs.Stories.{CarryOn}
 use Rattle.std.proofs.Common.{◌≡◌, ◌+◌, ◌<◌, ◌^◌, length}
 use Rattle.std.specs.List.{AllByRecursion}
 use Rattle.std.specs.Vec.Iter.{into_iter_items, into_iter_len}
@@ -17,4 +18,5 @@ invariant-loop-answer l = record {
   handed : (final : Server) → HandsOutFrom l.place l.ways (into_iter_items l.answer-iterator) l.now l.self final
       → HandsOutFrom 0 l.ways (into_iter_items l.initial.answer-iterator) l.now l.initial.self final;
   taken : last_taken Quiet (into_iter_items l.initial.answer-iterator) ≡ last_taken l.taken (into_iter_items l.answer-iterator);
+  carried : CarryOn l.initial.self.connections l.self.connections;
 }

@@ -10,4 +10,5 @@ loop-done-preserved c =
       gathered = record { rising = one.gathered.rising; before = one.gathered.before ∙ was.gathered.before };
       clients = gathers_on _ _ _ _ _ _ was.gathered.before was.clients one.clients;
       others = one.others ∙ was.others;
+      carried = λ first so_far. one.carried first (was.carried first so_far);
     }

@@ -1,3 +1,4 @@
+use Rattle.sv_host.specs.Stories.{CarryOn}
 use Rattle.std.proofs.Common.{◌≡◌}
 use Rattle.sv_host.specs.Clients.{GathersFor}
 use Rattle.sv_host.specs.Group.{inputs_of}
@@ -12,4 +13,5 @@ invariant-loop-done l = record {
   gathered : HasGathered l.initial.group l.group;
   clients : GathersFor l.initial.group l.group (clients_of l.initial.self.parked) (clients_of l.self.parked);
   others : others_in (inputs_of l.group) ≡ others_in (inputs_of l.initial.group);
+  carried : CarryOn l.initial.self.connections l.self.connections;
 }

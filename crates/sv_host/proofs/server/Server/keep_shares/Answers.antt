@@ -34,6 +34,7 @@ loop-done-preserved g c =
             kept = on (to ∙ ap (λ (b : Bool). cond b (suc at) at) (sym is_b));
             long = omega (arith, same, to, before.long);
             at = omega (arith, to, before.at);
+            carried = λ first so_far. c.keep_one.ensures.carried first (before.carried first so_far);
           })
       | else-keep_one w ↦
           (let is_b = w.if-keep_one.false in
@@ -45,5 +46,6 @@ loop-done-preserved g c =
             kept = on (to ∙ ap (λ (b : Bool). cond b (suc at) at) (sym is_b));
             long = omega (arith, less, one_less is at within, to, before.long);
             at = omega (arith, to, before.at);
+            carried = λ first so_far. c.keep_one.ensures.carried first (before.carried first so_far);
           })
     ]

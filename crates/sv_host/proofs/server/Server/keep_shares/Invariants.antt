@@ -1,3 +1,4 @@
+use Rattle.sv_host.specs.Stories.{CarryOn}
 use Rattle.std.proofs.Common.{◌≡◌, ◌≤◌, ◌+◌, length}
 use Rattle.sv_node.specs.Node.{durable_of, engine_of, setting_of}
 use Rattle.sv_host.specs.Clients.{GathersFor}
@@ -17,4 +18,5 @@ invariant-loop-done g l = record {
       ≡ left_of (awaited_by (g.E.Engine.meaning (engine_of l.node)) (setting_of l.node) (durable_of l.node)) l.initial.room (inputs_of l.initial.group);
   long : length (inputs_of l.group) + l._done ≡ l.at + length (inputs_of l.initial.group);
   at : l.at ≤ l._done;
+  carried : CarryOn l.initial.self.connections l.self.connections;
 }

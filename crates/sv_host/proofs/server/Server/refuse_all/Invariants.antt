@@ -1,3 +1,4 @@
+use Rattle.sv_host.specs.Stories.{CarryOn}
 use Rattle.std.proofs.Common.{drop}
 use Rattle.sv_host.specs.HandingOut.{RefusesAll}
 use Rattle.sv_host.specs.declared.server.Server.{Server}
@@ -5,5 +6,7 @@ use Rattle.sv_host.proofs.server.Server.refuse_all.Given as goal
 
 -- whoever refuses those that are left has refused all
 abbrev pub invariant-loop-way : goal.invariant-loop-way
-invariant-loop-way l =
-    (final : Server) → RefusesAll (drop l.way-index l.ways) l.fault l.now l.self final → RefusesAll l.ways l.fault l.now l.initial.self final
+invariant-loop-way l = record {
+  refused : (final : Server) → RefusesAll (drop l.way-index l.ways) l.fault l.now l.self final → RefusesAll l.ways l.fault l.now l.initial.self final;
+  carried : CarryOn l.initial.self.connections l.self.connections;
+}

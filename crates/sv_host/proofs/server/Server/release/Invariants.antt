@@ -1,3 +1,4 @@
+use Rattle.sv_host.specs.Stories.{CarryOn}
 use Rattle.sv_host.specs.Clients.{GathersFor}
 use Rattle.sv_host.specs.Held.{HasMoreWants}
 use Rattle.sv_host.specs.Parked.{clients_of}
@@ -10,4 +11,5 @@ invariant-loop l = record {
   gathered : HasGathered l.initial.group l.group;
   more : HasMoreWants l.initial.group l.group;
   clients : GathersFor l.initial.group l.group (clients_of l.initial.self.parked) (clients_of l.self.parked);
+  carried : CarryOn l.initial.self.connections l.self.connections;
 }

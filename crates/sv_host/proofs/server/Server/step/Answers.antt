@@ -16,6 +16,7 @@ use Rattle.sv_node.proofs.MomentLemmas.{group_runs}
 use Rattle.sv_host.proofs.HavingLemmas.{have_group}
 use Rattle.sv_host.proofs.LifeLemmas.{group_served}
 use Rattle.sv_host.proofs.SendLemmas.{of_answers}
+use Rattle.sv_host.proofs.StoryLemmas.{carry_continue}
 use Rattle.sv_host.proofs.server.Server.step.Goals as goal
 
 pub hand_out-requires : goal.hand_out-requires
@@ -44,7 +45,7 @@ returns-clause-served g c =
           c.take-inputs.result.0.items c.args.group.now.before (subst (λ (xs : List (Moment × Input)). RiseIn c.args.group.now.before (all_given xs)) (sym t.inputs) rising.rises)
           (with_list (λ a. map (with_list vec_items) a.items) c.step_all-answers.result) c.step_all-answers.ensures.group;
       clients = have_group e.meaning e.heard d.failed c.args.node.now c.step_all-answers.new.self c.args.group.now c.take-inputs.new.self rising c.args.self.now start c.hand_out.new.self (seconds_of start.time)
-          (ap (λ p. clients_of p) c.end_write.ensures) c.requires.clients t.before t.empty t.nobody c.step_all-answers.result c.hand_out.result
+          (ap (λ p. clients_of p) c.end_write.ensures.clients) c.requires.clients t.before t.empty t.nobody c.step_all-answers.result c.hand_out.result
           (subst (λ (xs : List (Moment × Input)). GroupEnds e.meaning e.heard d.failed c.args.node.now xs (with_list (λ a. map (with_list vec_items) a.items) c.step_all-answers.result) c.step_all-answers.new.self)
           t.inputs c.step_all-answers.ensures.group.ends)
           (subst (λ (ways : List Way). HandsOutGroup ways c.step_all-answers.result c.hand_out.result (seconds_of start.time) start c.hand_out.new.self) (c.as_slice.ensures.value ∙ t.ways) c.hand_out.ensures.told)
@@ -62,7 +63,12 @@ returns-clause-told g c =
       ends = subst (λ (xs : List (Moment × Input)). GroupEnds e.meaning e.heard g.D.Disk.failed c.args.node.now xs (with_list (λ a. map (with_list vec_items) a.items) c.step_all-answers.result) c.step_all-answers.new.self)
           c.take-inputs.ensures.inputs c.step_all-answers.ensures.group.ends;
       start = start;
-      clients = ap (λ p. clients_of p) c.end_write.ensures;
+      clients = ap (λ p. clients_of p) c.end_write.ensures.clients;
       told = subst (λ (ways : List Way). HandsOutGroup ways c.step_all-answers.result c.hand_out.result (seconds_of start.time) start c.hand_out.new.self) (c.as_slice.ensures.value ∙ c.take-inputs.ensures.ways) c.hand_out.ensures.told;
       taken = c.hand_out.ensures.taken;
     }
+
+-- what came of it was told
+pub returns-clause-carried : goal.returns-clause-carried
+returns-clause-carried g c = λ first so_far.
+    c.hand_out.ensures.carried first (carry_continue c.end_write.new.self.connections c.look_at_clock.new.self c.look_at_clock.ensures first (c.end_write.ensures.carried first so_far))
