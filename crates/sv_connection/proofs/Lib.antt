@@ -1,10 +1,5 @@
-pub mod UnreadLemmas
+mod ArriveLemmas
+mod DirectLemmas
 mod SaidLemmas
-mod ServeLemmas
-pub mod QuietLemmas
-mod TableLemmas
-mod SoloLemmas
-mod FollowLemmas
-pub mod TraceLemmas
 mod RequestLemmas
 mod ReceiveLemmas

@@ -10,8 +10,7 @@ use Rattle.sv_message.specs.declared.fault.ReadFault.{ReadFault}
 use Rattle.sv_message.specs.declared.fault.ReadFault.TheVariants.{BadHead, HeadTooLong, BadHost, BadFraming, BodyTooLong, Coding, Expectation, Memory, Closed as ReaderClosed}
 use Rattle.sv_connection.specs.declared.outcome.RequestFault.TheVariants.{Read, Target}
 use Rattle.sv_connection.specs.declared.received.Received.TheVariants.{Request, Refused, More, Closed}
-use Rattle.sv_connection.specs.Receive.{MeetsFaults, HoldsNoMessage}
-use Rattle.sv_connection.specs.Serve.{StandsAt}
+use Rattle.sv_connection.specs.Receive.{MeetsFaults, HoldsNoMessage, StandsAt}
 
 -- what was taken is a prefix
 split : (s : List ℕ) (left : Option (List ℕ)) (text : List ℕ) → Consumes (Some s) left text → (rest : List ℕ) × (s ≡ text ++ rest)

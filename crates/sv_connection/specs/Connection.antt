@@ -3,7 +3,6 @@ use Rattle.std.specs.Prelude.{◌≡◌, ℕ, List, [], Bool, false, Option}
 use Rattle.std.specs.Io.KnownBytes.{prepend_known}
 use Rattle.sv_connection.specs.declared.connection.Connection.{Connection}
 use Rattle.sv_connection.specs.Receive.{Stand, stand}
-use Rattle.sv_connection.specs.Serve.{Sight, sight}
 
 -- one request is served, and the connection then closes
 abbrev pub is_single : Connection → Bool
@@ -32,10 +31,6 @@ pub record IsFresh (c : Connection) (single : Bool) : Type 0 where
   pub not_closed : is_closed c ≡ false
   pub not_waiting : is_waiting c ≡ false
   pub not_leaving : is_leaving c ≡ false
-
--- what a call sees of a connection, of what its reader has left, of what its writer holds, and of a site
-abbrev pub sight_of : {S : Type 0} → Connection → Option (List ℕ) → Option (List ℕ) → S → Sight S
-sight_of c to_come written site = sight (prepend_known c.requests.rest to_come) written site c.closed
 
 -- what a call for what has come sees of a connection, and of the bytes that come behind those that it holds
 abbrev pub stand_of : Connection → Option (List ℕ) → Stand

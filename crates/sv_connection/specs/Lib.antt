@@ -1,9 +1,6 @@
-pub mod Solo
-pub mod Table
 pub mod Request
 pub mod Reply
 pub mod Arrive
-pub mod Serve
+pub mod Speak
 pub mod Receive
 pub mod Connection
-pub mod Manner

@@ -8,7 +8,8 @@ use Rattle.sv_message.specs.Fault.{IsFaultAt, HasNoMessage}
 use Rattle.sv_message.specs.Calls.{BeginsNoMessage, IsHeadFault, MayStandUnseen}
 use Rattle.sv_message.specs.declared.fault.ReadFault.{ReadFault}
 use Rattle.sv_message.specs.declared.request.RawRequest.{RawRequest}
-use Rattle.sv_message.specs.declared.fault.ReadFault.TheVariants.{Memory}
+use Rattle.sv_message.specs.declared.fault.ReadFault.TheVariants.{BadHead, HeadTooLong, BadHost, BadFraming, BodyTooLong}
+use Rattle.sv_message.specs.declared.fault.ReadFault.TheVariants.{Coding, Expectation, Memory, Closed as ReaderClosed}
 use Rattle.sv_target.specs.declared.fault.TargetFault.{TargetFault}
 use Rattle.sv_target.specs.declared.target.Target.{Target as TargetValue}
 use Rattle.sv_target.specs.Target.{IsTarget}
@@ -17,7 +18,6 @@ use Rattle.sv_connection.specs.declared.outcome.RequestFault.TheVariants.{Read, 
 use Rattle.sv_connection.specs.declared.received.Received.{Received}
 use Rattle.sv_connection.specs.declared.received.Received.TheVariants.{Request, Refused, More, Closed}
 use Rattle.sv_connection.specs.Request.{request_of, HasTargetFault}
-use Rattle.sv_connection.specs.Serve.{StandsAt}
 
 -- what a call sees of a connection: the bytes that were not taken yet, and whether it is closed
 pub record Stand : Type 0 where
@@ -61,6 +61,18 @@ IsDirected single raw closed (Refused (Target fault) head_only) = (closed ≡ tr
 IsDirected single raw closed More = ⊥
 IsDirected single raw closed Closed = ⊥
 
+-- the fault stands at the front of the unread bytes; want of memory stands nowhere
+abbrev pub StandsAt : Option (List ℕ) → ReadFault → Type 0
+StandsAt unread BadHead = IfSome unread (λ xs. IsFaultAt xs BadHead)
+StandsAt unread HeadTooLong = IfSome unread (λ xs. IsFaultAt xs HeadTooLong)
+StandsAt unread BadHost = IfSome unread (λ xs. IsFaultAt xs BadHost)
+StandsAt unread BadFraming = IfSome unread (λ xs. IsFaultAt xs BadFraming)
+StandsAt unread BodyTooLong = IfSome unread (λ xs. IsFaultAt xs BodyTooLong)
+StandsAt unread Coding = IfSome unread (λ xs. IsFaultAt xs Coding)
+StandsAt unread Expectation = IfSome unread (λ xs. IsFaultAt xs Expectation)
+StandsAt unread Memory = ⊤
+StandsAt unread ReaderClosed = ⊥
+
 -- where the fault is: the reader's stands at the front, a target's in the message that was taken from there
 abbrev pub IsRefused : Option (List ℕ) → Option (List ℕ) → RequestFault → Bool → Type 0
 IsRefused old new (Read fault) head_only = (head_only ≡ false) × StandsAt old fault
@@ -72,13 +84,6 @@ Receives single old new (Request request) = (old.closed ≡ false) × (new.close
 Receives single old new (Refused fault head_only) = (old.closed ≡ false) × (new.closed ≡ true) × IsRefused old.unread new.unread fault head_only
 Receives single old new More = (old.closed ≡ false) × (new.closed ≡ false) × IfSome old.unread HasNoMessage × Keeps old.unread new.unread
 Receives single old new Closed = (old.closed ≡ true) × (new.closed ≡ true)
-
--- the same where nothing more comes: less than a message is then nothing
-abbrev pub Ends : Bool → Stand → Stand → Received → Type 0
-Ends single old new (Request request) = Receives single old new (Request request)
-Ends single old new (Refused fault head_only) = Receives single old new (Refused fault head_only)
-Ends single old new More = ⊥
-Ends single old new Closed = ((old.closed ≡ true) ⊎ IfSome old.unread HasNoMessage) × (new.closed ≡ true)
 
 -- this request's message stands at the front: it is given, or the fault of its target, unless memory is refused
 abbrev pub IsFound : Bool → RawRequest → Received → Type 0

@@ -1,11 +1,9 @@
--- What is said to a token: an answer, or a refusal with its cause (RFC 9110, section 15.6.4).
-use Rattle.std.specs.Prelude.{ℕ, ◌==◌, Bool, false, List, [], ◌∷◌, ◌++◌, codes}
+-- A refusal, with its cause (RFC 9110, section 15.6.4).
+use Rattle.std.specs.Prelude.{Bool, List, [], ◌∷◌, ◌++◌, codes}
 use Rattle.http_header.specs.FieldValue.{plain_value}
 use Rattle.sv_model.specs.declared.field.Field.{Field}
 use Rattle.sv_model.specs.declared.response.Response.{Response}
 use Rattle.sv_model.specs.declared.output.Cause.{Cause}
-use Rattle.sv_model.specs.declared.output.Output.{Output}
-use Rattle.sv_model.specs.declared.output.Output.TheVariants.{Answer, Refuse, Send, Moved, MoveRefused}
 use Rattle.sv_model.specs.Cause.{cause_name}
 use Rattle.sv_model.specs.Field.{plain_type}
 use Rattle.sv_connection.specs.declared.reply.Naming.{Naming}
@@ -23,15 +21,3 @@ refusal_fields InField cause = plain_type ∷ cause_field cause ∷ []
 abbrev pub refusal_by : Naming → Cause → Bool → Bool → Response
 refusal_by naming cause head_only close =
     record { status = 503; fields = refusal_fields naming cause; body = codes "503 " ++ cause_name cause ++ codes "\n"; head_only = head_only; close = close }
-
--- by the body alone
-abbrev pub refusal : Cause → Bool → Bool → Response
-refusal cause head_only close = refusal_by InBody cause head_only close
-
--- the output answers or refuses the token
-abbrev pub speaks_to : ℕ → Output → Bool
-speaks_to token (Answer to response) = to == token
-speaks_to token (Refuse to cause) = to == token
-speaks_to token (Send packet) = false
-speaks_to token Moved = false
-speaks_to token (MoveRefused why) = false

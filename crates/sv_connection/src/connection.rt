@@ -1,19 +1,17 @@
-//! Serves requests from a reader to a writer, over a site.
+//! Takes requests out of the bytes that come, and writes their answers.
 
-ghost use Rattle.std.specs.Prelude.{◌≡◌, true, []};
+ghost use Rattle.std.specs.Prelude.{◌≡◌, true};
 
-use crate::answer::{manner_of, outputs_of, request_of, say_step};
-use crate::arrive::{Arrived, Fed, READ_LIMIT, feed_once, take_in};
-use crate::outcome::{Outcome, RequestFault, Served};
+use crate::arrive::take_in;
+use crate::outcome::{Outcome, RequestFault};
 use crate::received::Received;
-use crate::request::read_request;
+use crate::request::{read_request, request_of};
 use crate::speak::{say, say_fault};
 use std::alloc::Global;
-use std::io::{Read, Write};
-use sv_message::fault::ReadFault;
+use std::io::Write;
 use sv_message::reader::RequestReader;
 use sv_message::request::RawRequest;
-use sv_model::{Input, Moment, Request, Response, Site, is_head};
+use sv_model::{Response, is_head};
 
 /// In bytes: a buffer that is no larger stays while a client is silent. So most requests and answers take no memory anew, and a
 /// silent client keeps little.
@@ -49,29 +47,13 @@ impl Drop for Connection {
     }
 }
 
-/// A call that has not stepped the site.
-fn unserved(alloc: Global, outcome: Outcome) -> Served
-    ensures outcome { result.outcome ≡ outcome }
-    ensures outputs { result.outputs.items ≡ [] }
-{
-    Served {
-        outcome,
-        outputs: Vec::new(alloc),
-    }
-}
-
 impl Connection {
-    ghost use Rattle.std.specs.Prelude.{◌≡◌, ◌==◌, ◌++◌, ℕ, List, true, false, [], Some, IfSome, length};
-    ghost use Rattle.std.specs.Io.KnownBytes.{prepend_known};
+    ghost use Rattle.std.specs.Prelude.{◌≡◌, ◌==◌, ◌++◌, ℕ, List, true, false, [], Some, length};
     ghost use Rattle.sv_message.specs.declared.request.RawRequest.{RawRequest as Raw};
-    ghost use Rattle.sv_target.specs.declared.target.Target.{Target as TargetValue};
-    ghost use Rattle.sv_connection.specs.Arrive.{Arrives};
-    ghost use Rattle.sv_connection.specs.Receive.{Ends, IsDirected, IsFound, Receives, is_request, is_taken};
+    ghost use Rattle.sv_connection.specs.Receive.{IsDirected, IsFound, Receives, is_request, is_taken};
     ghost use Rattle.sv_message.specs.Message.{IsMessage};
-    ghost use Rattle.sv_connection.specs.Request.{request_of};
-    ghost use Rattle.sv_connection.specs.Serve.{how, is_parked, IsAnswered, IsLateAnswer, IsPage, IsServed, status_of};
-    ghost use Rattle.sv_connection.specs.Connection.{IsFresh, held_by, is_closed, is_leaving, is_single, is_waiting, sight_of, stand_of};
-    ghost use Rattle.sv_connection.specs.declared.outcome.Outcome.TheVariants.{Closed};
+    ghost use Rattle.sv_connection.specs.Speak.{IsLateAnswer, IsPage, status_of};
+    ghost use Rattle.sv_connection.specs.Connection.{IsFresh, held_by, is_closed, is_leaving, is_single, is_waiting, stand_of};
 
     /// A connection that has read nothing; `single` has it close behind its first answer.
     pub fn new(alloc: Global, single: bool) -> Connection
@@ -85,34 +67,6 @@ impl Connection {
             waiting: false,
             leaving: false,
             alloc,
-        }
-    }
-
-    /// Steps the site by a request, and says what it answers.
-    fn ask<W: Write, S: Site>(
-        &mut self,
-        writer: &mut W,
-        site: &mut S,
-        moment: Moment,
-        token: u64,
-        request: Request,
-    ) -> Served
-        requires valid { S.site_valid site.old }
-        requires not_spent { self.old.requests.closed ≡ false }
-        ensures valid { S.site_valid site.new }
-        ensures requests { self.new.requests ≡ self.old.requests }
-        ensures single { self.new.single ≡ self.old.single }
-        ensures answered { (raw : Raw) (target : TargetValue) → request ≡ request_of self.old.single raw target
-            → IsAnswered S.steps (how moment token self.old.single) raw target site.old site.new (W.contents writer.old)
-            (W.contents writer.new) self.new.closed result }
-    {
-        let manner = manner_of(&request, moment.now);
-        let step = site.step(moment, Input::Ask { token, request });
-        let said = say_step(self.alloc, &mut self.buffer, writer, token, &step, manner);
-        self.closed = said.closed;
-        Served {
-            outcome: said.outcome,
-            outputs: outputs_of(self.alloc, step),
         }
     }
 
@@ -189,27 +143,6 @@ impl Connection {
         received
     }
 
-    /// Takes what stands at the front, where nothing more comes: the connection closes where that is less than a request.
-    pub fn end(&mut self) -> Received
-        requires answered { is_waiting self.old ≡ false }
-        ensures single { is_single self.new ≡ is_single self.old }
-        ensures waiting { is_waiting self.new ≡ is_request result }
-        ensures ended { Ends (is_single self.old) (stand_of self.old (Some [])) (stand_of self.new (Some [])) result }
-        ensures asked { (raw : Raw) (text rest : List ℕ) → is_closed self.old ≡ false → IsMessage text raw → held_by self.old ++ [] ≡ text ++ rest
-            → is_taken result ≡ true → is_leaving self.new ≡ raw.close }
-        ensures none_taken { is_taken result ≡ false → is_leaving self.new ≡ is_leaving self.old }
-    {
-        match self.receive(&[]) {
-            Received::More => {
-                self.closed = true;
-                Received::Closed
-            }
-            Received::Closed => Received::Closed,
-            Received::Request(request) => Received::Request(request),
-            Received::Refused { fault, head_only } => Received::Refused { fault, head_only },
-        }
-    }
-
     /// Writes the page of a fault, without its body where that is not wanted; `now` is in whole seconds since 1970. The
     /// connection is closed.
     ///
@@ -231,33 +164,6 @@ impl Connection {
         let page = say_fault(self.alloc, &mut self.buffer, writer, fault, head_only, now);
         self.closed = true;
         page.outcome
-    }
-
-    /// Reads one request, steps the site by it as an Ask with the token, and writes what the step says to the
-    /// token. Not called while an earlier request waits.
-    ///
-    /// A fault of the message, or of the method and the target, is answered with its plain page and not handed
-    /// on. Where the site's step is refused for want of room or memory, the answer is a 503 with the cause.
-    pub fn serve_next<R: Read, W: Write, S: Site>(
-        &mut self,
-        reader: &mut R,
-        writer: &mut W,
-        site: &mut S,
-        moment: Moment,
-        token: u64,
-    ) -> Served
-        requires valid { S.site_valid site.old }
-        requires answered { is_waiting self.old ≡ false }
-        ensures valid { S.site_valid site.new }
-        ensures single { is_single self.new ≡ is_single self.old }
-        ensures waiting { is_waiting self.new ≡ is_parked result.outcome }
-        ensures once_closed { is_closed self.old ≡ true → (result.outcome ≡ Closed) × (R.remaining reader.new ≡ R.remaining reader.old) }
-        ensures served { IsServed S.steps (how moment token (is_single self.old)) (sight_of self.old (R.remaining reader.old) (W.contents writer.old) site.old)
-            (sight_of self.new (R.remaining reader.new) (W.contents writer.new) site.new) result }
-    {
-        let served = self.serve(reader, writer, site, moment, token);
-        self.waiting = served.outcome.is_parked();
-        served
     }
 
     /// Nothing is read or served any more.
@@ -313,6 +219,18 @@ impl Connection {
         self.single = true;
     }
 
+    /// Nothing is read, served or answered any more.
+    pub fn close(&mut self)
+        ensures single { is_single self.new ≡ is_single self.old }
+        ensures held { held_by self.new ≡ held_by self.old }
+        ensures closed { is_closed self.new ≡ true }
+        ensures waiting { is_waiting self.new ≡ false }
+        ensures leaving { is_leaving self.new ≡ is_leaving self.old }
+    {
+        self.closed = true;
+        self.waiting = false;
+    }
+
     /// Writes the response to a request that was parked; `now` is in whole seconds since 1970.
     ///
     /// Where memory is refused in making its text, the lines that say so are written in its place, and the outcome is
@@ -336,76 +254,5 @@ impl Connection {
         self.closed = self.closed || said.closed;
         self.waiting = false;
         said.outcome
-    }
-
-    /// Reads until a request or a fault stands at the front, or the input ends; but for a request the connection closes.
-    fn arrive<R: Read>(&mut self, reader: &mut R) -> Arrived
-        requires answered { is_waiting self.old ≡ false }
-        requires was_open { is_closed self.old ≡ false }
-        ensures single { is_single self.new ≡ is_single self.old }
-        ensures arrived { Arrives (is_single self.old) (prepend_known (held_by self.old) (R.remaining reader.old))
-            (prepend_known (held_by self.new) (R.remaining reader.new)) (is_closed self.new) result }
-    {
-        for _ in 0..READ_LIMIT {
-            match self.receive(&[]) {
-                Received::Request(request) => return Arrived::Request(request),
-                Received::Refused { fault, head_only } => {
-                    return Arrived::Refused { fault, head_only };
-                }
-                Received::More => {}
-                Received::Closed => return Arrived::End,
-            }
-            match feed_once(&mut self.requests, reader) {
-                Fed::More => {}
-                Fed::End => {
-                    self.closed = true;
-                    return Arrived::End;
-                }
-                Fed::Broken => {
-                    self.closed = true;
-                    return Arrived::Broken;
-                }
-                Fed::Starved => {
-                    self.closed = true;
-                    return Arrived::Refused {
-                        fault: RequestFault::Read(ReadFault::Memory),
-                        head_only: false,
-                    };
-                }
-            }
-        }
-        self.closed = true;
-        Arrived::Broken
-    }
-
-    /// One call of `serve_next`, but for what waits behind it.
-    fn serve<R: Read, W: Write, S: Site>(
-        &mut self,
-        reader: &mut R,
-        writer: &mut W,
-        site: &mut S,
-        moment: Moment,
-        token: u64,
-    ) -> Served
-        requires valid { S.site_valid site.old }
-        requires answered { is_waiting self.old ≡ false }
-        ensures valid { S.site_valid site.new }
-        ensures single { is_single self.new ≡ is_single self.old }
-        ensures once_closed { is_closed self.old ≡ true → (result.outcome ≡ Closed) × (R.remaining reader.new ≡ R.remaining reader.old) }
-        ensures served { IsServed S.steps (how moment token (is_single self.old)) (sight_of self.old (R.remaining reader.old) (W.contents writer.old) site.old)
-            (sight_of self.new (R.remaining reader.new) (W.contents writer.new) site.new) result }
-    {
-        if self.closed {
-            return unserved(self.alloc, Outcome::Closed);
-        }
-        match self.arrive(reader) {
-            Arrived::Request(request) => self.ask(writer, site, moment, token, request),
-            Arrived::Refused { fault, head_only } => {
-                let outcome = self.refuse(writer, fault, head_only, moment.now);
-                unserved(self.alloc, outcome)
-            }
-            Arrived::End => unserved(self.alloc, Outcome::Closed),
-            Arrived::Broken => unserved(self.alloc, Outcome::ReadFailed),
-        }
     }
 }

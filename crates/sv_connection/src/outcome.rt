@@ -1,10 +1,6 @@
 //! How a call of a connection ends.
 
-ghost use Rattle.std.specs.Prelude.{◌≡◌};
-ghost use Rattle.sv_connection.specs.Serve.{is_parked};
-
 use sv_message::fault::ReadFault;
-use sv_model::Output;
 use sv_target::TargetFault;
 
 /// Why a request was refused by the connection.
@@ -33,21 +29,4 @@ pub enum Outcome {
     WriteFailed,
     /// The site has failed; nothing was written.
     Failed,
-}
-
-impl Outcome {
-    /// The site will answer later.
-    pub fn is_parked(self) -> bool
-        ensures { result ≡ is_parked self }
-    {
-        matches!(self, Outcome::Parked { .. })
-    }
-}
-
-/// What a call of a connection did.
-#[derive(Drop)]
-pub struct Served {
-    pub outcome: Outcome,
-    /// All that the site's step put out, in order; empty where it wasn't stepped.
-    pub outputs: Vec<Output>,
 }

@@ -3,11 +3,11 @@
 ghost use Rattle.std.specs.Prelude.{◌≡◌, ◌≢◌, codes, IfOk, IfErr};
 ghost use Rattle.sv_target.specs.Cookies.{cookies_of};
 ghost use Rattle.sv_target.specs.Target.{IsTarget};
-ghost use Rattle.sv_connection.specs.Request.{query_bytes, params_in, HasTargetFault};
+ghost use Rattle.sv_connection.specs.Request.{params_in, query_bytes, request_of, HasTargetFault};
 
 use std::alloc::{AllocError, Global};
 use sv_message::RawRequest;
-use sv_model::{Cookie, Param, Sequence};
+use sv_model::{Cookie, Param, Request, Sequence};
 use sv_target::{Target, TargetFault, cookies, form, params};
 
 /// The parts of a request that are read out of its message.
@@ -65,4 +65,28 @@ pub fn read_request(alloc: Global, raw: &RawRequest) -> Result<ReadRequest, Targ
         cookies,
         params,
     })
+}
+
+/// The request that the site is asked.
+pub fn request_of(raw: RawRequest, read: ReadRequest, single: bool) -> Request
+    requires cookies { read.cookies ≡ cookies_of raw.fields }
+    requires params { read.params ≡ params_in raw read.target }
+    ensures { result ≡ request_of single raw read.target }
+{
+    let ReadRequest {
+        target,
+        cookies,
+        params,
+    } = read;
+    Request {
+        method: raw.method,
+        raw_path: target.raw_path,
+        path: target.path,
+        query: target.query,
+        fields: raw.fields,
+        cookies,
+        params,
+        body: raw.body,
+        close: raw.close || single,
+    }
 }

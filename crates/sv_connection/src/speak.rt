@@ -3,8 +3,8 @@
 ghost use Rattle.std.specs.Prelude.{◌≡◌, true, false, [], IfSome, IfNone};
 ghost use Rattle.std.specs.Io.KnownBytes.{Appends};
 ghost use Rattle.sv_model.specs.Page.{plain_page};
-ghost use Rattle.sv_connection.specs.Serve.{AppendsFront, AppendsPart, IsWritten, IsSaid, IsStarved};
-ghost use Rattle.sv_connection.specs.Serve.{IsPage, memory_lines, status_of, status_of_read, status_of_target};
+ghost use Rattle.sv_connection.specs.Speak.{AppendsFront, AppendsPart, IsWritten, IsSaid, IsStarved};
+ghost use Rattle.sv_connection.specs.Speak.{IsPage, memory_lines, status_of, status_of_read, status_of_target};
 
 use crate::outcome::{Outcome, RequestFault};
 use http::StatusCode;
@@ -23,7 +23,7 @@ pub struct Said {
 }
 
 /// What is written where memory is refused in reading a request or in making a text.
-#[tactic(auto, unfolding(crate::specs::Serve::memory_lines))]
+#[tactic(auto, unfolding(crate::specs::Speak::memory_lines))]
 pub fn memory_lines() -> &'static [u8]
     ensures { result.now ≡ memory_lines }
 {

@@ -19,13 +19,13 @@ use Rattle.sv_model.specs.Step.{View}
 use Rattle.sv_model.specs.Alone.{Call, Leads, item_by, node_by, trace_of}
 use Rattle.sv_model.specs.Trace.{Item, asked_of, same_token, times, AreDistinct}
 use Rattle.sv_message.specs.declared.request.RawRequest.{RawRequest}
-use Rattle.sv_connection.specs.declared.outcome.Served.{Served}
-use Rattle.sv_connection.specs.declared.solo.Solo.{Solo}
-use Rattle.sv_connection.specs.Table.{alone, node_of}
-use Rattle.sv_connection.specs.Solo.{IsNew, IsHistory, solo_steps, view_of}
+use Rattle.sv_solo.specs.declared.served.Served.{Served}
+use Rattle.sv_solo.specs.declared.solo.Solo.{Solo}
+use Rattle.sv_solo.specs.Table.{alone, node_of}
+use Rattle.sv_solo.specs.Solo.{IsNew, IsHistory, solo_steps, view_of}
 use Rattle.sv_connection.specs.Request.{request_of}
-use Rattle.sv_connection.specs.Serve.{How, Sight, IsDirected, IsServed}
-use Rattle.sv_connection.proofs.TraceLemmas.{times-append, all_runs, one_container, acknowledged, served_once}
+use Rattle.sv_solo.specs.Serve.{How, Sight, IsDirected, IsServed}
+use Rattle.sv_solo.proofs.TraceLemmas.{times-append, all_runs, one_container, acknowledged, served_once}
 use Rattle.sv_launch.specs.declared.stream.OnceFault.{OnceFault}
 use Rattle.sv_launch.specs.Once.{turn_of, Reaches, AtStart, Behind, EndsWith, IsSpent, IsStream, directed_call, call_in, calls_to, call_at_end, calls_of, IsOneHistory}
 

@@ -6,11 +6,11 @@ use Rattle.sv_model.specs.Engine.{EngineMeaning}
 use Rattle.sv_connection.specs.declared.connection.Connection.{Connection}
 use Rattle.sv_connection.specs.declared.outcome.Outcome.{Outcome}
 use Rattle.sv_connection.specs.declared.outcome.Outcome.TheVariants.{Answered, Parked, Closed, Refused, ReadFailed, WriteFailed, Failed}
-use Rattle.sv_connection.specs.declared.outcome.Served.{Served}
-use Rattle.sv_connection.specs.declared.solo.Solo.{Solo}
-use Rattle.sv_connection.specs.Connection.{IsFresh, sight_of}
-use Rattle.sv_connection.specs.Serve.{how, is_parked, Sight, sight, IsServed}
-use Rattle.sv_connection.specs.Solo.{IsNew, solo_steps}
+use Rattle.sv_solo.specs.declared.served.Served.{Served}
+use Rattle.sv_solo.specs.declared.solo.Solo.{Solo}
+use Rattle.sv_connection.specs.Connection.{IsFresh}
+use Rattle.sv_solo.specs.Serve.{sight_of, how, is_parked, Sight, sight, IsServed}
+use Rattle.sv_solo.specs.Solo.{IsNew, solo_steps}
 use Rattle.sv_launch.specs.declared.stream.OnceFault.{OnceFault}
 use Rattle.sv_host.specs.Secrets.{secret_of}
 use Rattle.sv_launch.specs.Once.{turn_of, ending, Reaches, AtStart, Behind, IsUnderway, HasServed}

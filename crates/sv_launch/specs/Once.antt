@@ -9,17 +9,17 @@ use Rattle.sv_model.specs.declared.output.Output.{Output}
 use Rattle.sv_model.specs.declared.site.StepFault.{StepFault}
 use Rattle.sv_connection.specs.declared.outcome.Outcome.{Outcome}
 use Rattle.sv_connection.specs.declared.outcome.Outcome.TheVariants.{Answered, Parked, Closed, Refused, ReadFailed, WriteFailed, Failed}
-use Rattle.sv_connection.specs.declared.outcome.Served.{Served}
+use Rattle.sv_solo.specs.declared.served.Served.{Served}
 use Rattle.sv_model.specs.Engine.{EngineMeaning}
-use Rattle.sv_connection.specs.declared.solo.Solo.{Solo}
+use Rattle.sv_solo.specs.declared.solo.Solo.{Solo}
 use Rattle.sv_model.specs.Alone.{Call, trace_of}
 use Rattle.sv_model.specs.Trace.{asked_of, AreDistinct}
 use Rattle.sv_model.specs.OneContainer.{IsOneContainer, IsAcknowledged, IsServedOnce, active_at}
 use Rattle.sv_message.specs.declared.request.RawRequest.{RawRequest}
-use Rattle.sv_connection.specs.Table.{alone, node_of}
-use Rattle.sv_connection.specs.Solo.{IsNew, IsHistory, solo_steps, view_of}
+use Rattle.sv_solo.specs.Table.{alone, node_of}
+use Rattle.sv_solo.specs.Solo.{IsNew, IsHistory, solo_steps, view_of}
 use Rattle.sv_connection.specs.Request.{request_of}
-use Rattle.sv_connection.specs.Serve.{How, how, Sight, sight, IsDirected, IsServed}
+use Rattle.sv_solo.specs.Serve.{How, how, Sight, sight, IsDirected, IsServed}
 use Rattle.sv_launch.specs.declared.stream.OnceFault.{OnceFault}
 use Rattle.sv_host.specs.Secrets.{secret_of}
 use Rattle.sv_launch.specs.declared.stream.OnceFault.TheVariants.{Input as InputFault, Output as OutputFault}

@@ -1,15 +1,16 @@
 //! Serves one stream of requests on a node that stands alone.
 
 ghost use Rattle.std.specs.Prelude.{◌≡◌, false};
-ghost use Rattle.sv_connection.specs.Serve.{sight};
-ghost use Rattle.sv_connection.specs.Solo.{solo_steps};
+ghost use Rattle.sv_solo.specs.Serve.{sight};
+ghost use Rattle.sv_solo.specs.Solo.{solo_steps};
 ghost use Rattle.sv_launch.specs.Once.{ending, calls_of, HasServed, IsOneHistory};
 
 use std::alloc::Global;
 use std::io::{Read, Write};
-use sv_connection::{Connection, Outcome, Solo};
+use sv_connection::{Connection, Outcome};
 use sv_host::secret_of;
 use sv_model::{Engine, Moment};
+use sv_solo::{Solo, serve_next};
 use thiserror::Error;
 
 /// Why a stream was not served to its end.
@@ -64,7 +65,15 @@ pub fn once<E: Engine + Drop, R: Read, W: Write>(
             steady: now,
             secret: secret_of(number),
         };
-        let served = connection.serve_next(reader, writer, &mut site, moment, number);
+        let served = serve_next(
+            alloc,
+            &mut connection,
+            reader,
+            writer,
+            &mut site,
+            moment,
+            number,
+        );
         if let Some(end) = ending(served.outcome) {
             return end;
         }

@@ -6,7 +6,7 @@ use Rattle.std.proofs.lemmas.List.{append-nil}
 use Rattle.sv_connection.specs.declared.outcome.Outcome.{Outcome}
 use Rattle.sv_connection.specs.declared.outcome.Outcome.TheVariants.{Answered}
 use Rattle.sv_connection.specs.declared.reply.Naming.{Naming}
-use Rattle.sv_connection.specs.Serve.{memory_lines, IsLateAnswer, IsSaid}
+use Rattle.sv_connection.specs.Speak.{memory_lines, IsLateAnswer, IsSaid}
 use Rattle.sv_message.specs.Response.{IsResponseText}
 use Rattle.sv_model.specs.declared.output.Cause.{Cause}
 use Rattle.sv_model.specs.declared.response.Response.{Response}

@@ -4,7 +4,7 @@ use Rattle.std.specs.declared.alloc.Global.{Global}
 use Rattle.sv_connection.specs.Connection.{held_by, is_single, is_waiting, stand_of}
 use Rattle.sv_connection.specs.Reply.{refusal_by}
 use Rattle.sv_connection.specs.declared.reply.Naming.{Naming}
-use Rattle.sv_connection.specs.Serve.{memory_lines}
+use Rattle.sv_connection.specs.Speak.{memory_lines}
 use Rattle.sv_message.specs.Response.{IsResponseText}
 use Rattle.sv_model.specs.declared.output.Cause.{Cause}
 use Rattle.sv_model.specs.declared.output.Cause.TheVariants.{ParkFull, Deadline, TableFull, SerialsSpent, WantsSpent, JournalFull, Memory}

@@ -1,7 +1,7 @@
 //! What clients are told.
 
 ghost use Rattle.std.specs.Prelude.{◌≡◌, ◌∷◌, ◌||◌, [], None, IfSome, is_some};
-ghost use Rattle.sv_connection.specs.Serve.{memory_lines};
+ghost use Rattle.sv_connection.specs.Speak.{memory_lines};
 ghost use Rattle.sv_net.specs.Bytes.{came_of, went_of};
 ghost use Rattle.sv_net.specs.Exchange.{GoOnWith, said_on, unsent};
 ghost use Rattle.sv_net.specs.Places.{TellsAt, elsewhere, held_at, manner_at, naming_of};

@@ -12,10 +12,11 @@ use crate::shop::{Shop, shop};
 use crate::words::word;
 use crate::worlds::push_row;
 use std::alloc::{AllocError, Global};
-use sv_connection::{Connection, Outcome, Served};
+use sv_connection::{Connection, Outcome};
 use sv_journal::MemoryDisk;
 use sv_model::{Input, Key, Output, Packet, Setting, Site};
 use sv_node::Node;
+use sv_solo::{Served, serve_next};
 
 /// The number of the client's request.
 const TOKEN: u64 = 7;
@@ -150,7 +151,15 @@ fn asks<S: Site>(
     let mut connection = Connection::new(alloc, false);
     let mut written = Vec::new(alloc);
     let mut reader = request.as_bytes();
-    let served = connection.serve_next(&mut reader, &mut written, site, clock::start(), TOKEN);
+    let served = serve_next(
+        alloc,
+        &mut connection,
+        &mut reader,
+        &mut written,
+        site,
+        clock::start(),
+        TOKEN,
+    );
     tell_asked(told, alloc, &served, written.as_slice())?;
     Ok(connection)
 }

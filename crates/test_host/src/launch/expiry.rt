@@ -4,11 +4,12 @@ use super::streams::{Input, Output, Way};
 use crate::expect::expect;
 use std::alloc::Global;
 use std::process::Abort;
-use sv_connection::{Connection, Solo};
+use sv_connection::Connection;
 use sv_host::secret_of;
 use sv_launch::{Applications, Fault, Purpose, deployment_in};
 use sv_model::{Engine, Moment, Site};
 use sv_showcase::showcase;
+use sv_solo::{Solo, serve_next};
 
 /// A shop whose sessions expire after a minute.
 const SHORT: &str =
@@ -65,10 +66,26 @@ fn serve_both<S: Site>(alloc: Global, two: Two, site: &mut S)
         writer,
     } = two;
     let mut connection = Connection::new(alloc, false);
-    connection.serve_next(reader, writer, site, moment_of(first, 1), 1);
+    serve_next(
+        alloc,
+        &mut connection,
+        reader,
+        writer,
+        site,
+        moment_of(first, 1),
+        1,
+    );
     // At a node that stands alone no request waits; one that waited would have no second answer.
     if !connection.waiting() {
-        connection.serve_next(reader, writer, site, moment_of(second, 2), 2);
+        serve_next(
+            alloc,
+            &mut connection,
+            reader,
+            writer,
+            site,
+            moment_of(second, 2),
+            2,
+        );
     }
 }
 

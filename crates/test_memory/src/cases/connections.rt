@@ -4,9 +4,10 @@
 use crate::again::{Refusals, Unshown, again, done};
 use crate::{given, shown};
 use std::alloc::{AllocError, Global};
-use sv_connection::{Connection, Outcome, RequestFault, Solo, refusal};
+use sv_connection::{Connection, Outcome, RequestFault};
 use sv_message::fault::ReadFault;
 use sv_model::{Cause, Input, Moment, Response, Site, StepFault};
+use sv_solo::{Solo, refusal};
 use test_engine::{Counter, output_text, request};
 
 type Shown = Result<String, Unshown>;
@@ -47,7 +48,15 @@ fn serve(
     let mut connection = Connection::new(alloc, false);
     let mut reader = SENT.as_bytes();
     let mut writer = Vec::with_capacity(alloc, 1_000)?;
-    let served = connection.serve_next(&mut reader, &mut writer, site, MOMENT, token);
+    let served = sv_solo::serve_next(
+        alloc,
+        &mut connection,
+        &mut reader,
+        &mut writer,
+        site,
+        MOMENT,
+        token,
+    );
     Ok((served.outcome, writer))
 }
 

@@ -15,9 +15,10 @@ use std::alloc::Global;
 use std::io::{Read, Write};
 use std::process::Abort;
 use streams::{Drip, GULP, Sink, new_sink, slow_reader};
-use sv_connection::{Connection, Naming, Outcome, RequestFault, Served, refusal, refusal_by};
+use sv_connection::{Connection, Naming, Outcome, RequestFault, refusal_by};
 use sv_message::fault::ReadFault;
 use sv_model::{Cause, Field, Moment, Response, Secret, Sequence};
+use sv_solo::{Served, refusal, serve_next};
 
 /// Sun, 06 Nov 1994 08:49:37 GMT.
 const AT: Moment = Moment {
@@ -59,7 +60,7 @@ fn serve<R: Read, W: Write>(
     if connection.waiting() {
         let _ = connection.answer(writer, &bare_answer(site.alloc, false, false), AT.now);
     }
-    connection.serve_next(reader, writer, site, AT, token)
+    serve_next(site.alloc, connection, reader, writer, site, AT, token)
 }
 
 /// How a call ends, and how many outputs it hands out.

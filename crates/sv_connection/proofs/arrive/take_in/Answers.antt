@@ -1,6 +1,6 @@
 use Rattle.std.proofs.Common.{ap, ◌∙◌}
 use Rattle.sv_message.specs.Stream.{Stream}
-use Rattle.sv_connection.proofs.UnreadLemmas.{brings}
+use Rattle.sv_connection.proofs.ArriveLemmas.{brings}
 use Rattle.sv_connection.proofs.arrive.take_in.Goals as goal
 
 pub returns-in-Ok-clause-brings : goal.returns-in-Ok-clause-brings

@@ -1,4 +1,4 @@
-use Rattle.sv_connection.specs.Serve.{AppendsPart}
+use Rattle.sv_connection.specs.Speak.{AppendsPart}
 use Rattle.sv_connection.proofs.speak.write_whole.Given as goal
 
 -- what is gone from the rest was written

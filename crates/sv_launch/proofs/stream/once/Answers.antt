@@ -25,7 +25,7 @@ loop-count-preserved g c = record {
 
 pub returns-in-Some-clause-served : goal.returns-in-Some-clause-served
 returns-in-Some-clause-served g c =
-    stops _ _ c.args.engine c.args.now _ _ c.loop-count.count _ c.serve_next-served.new.self _ _ c.serve_next-served.new.site c.serve_next-served.result c.in-Some.end
+    stops _ _ c.args.engine c.args.now _ _ c.loop-count.count _ c.serve_next-served.new.connection _ _ c.serve_next-served.new.site c.serve_next-served.result c.in-Some.end
     c.loop-count.invariant.underway (sym c.ending.ensures ∙ c.in-Some.is)
     (as_turn _ _ c.args.now (c.loop-count.count + 1) c.secret_of.result (is_single c.loop-count.connection) _ _ c.serve_next-served.result c.secret_of.ensures
     c.loop-count.invariant.single c.serve_next-served.ensures.served)

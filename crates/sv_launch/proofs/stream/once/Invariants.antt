@@ -1,6 +1,7 @@
 use Rattle.std.proofs.Common.{◌≡◌}
 use Rattle.std.specs.Prelude.{false}
-use Rattle.sv_connection.specs.Connection.{is_single, is_waiting, sight_of}
+use Rattle.sv_connection.specs.Connection.{is_single, is_waiting}
+use Rattle.sv_solo.specs.Serve.{sight_of}
 use Rattle.sv_launch.specs.Once.{IsUnderway}
 use Rattle.sv_launch.proofs.stream.once.Given as goal
 

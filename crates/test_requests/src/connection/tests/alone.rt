@@ -8,8 +8,8 @@ use super::engines::{Greeter, Turner};
 use crate::requests::request_for;
 use std::alloc::Global;
 use std::process::Abort;
-use sv_connection::Solo;
 use sv_model::{Input, Key, Moment, MoveRefusal, Output, Packet, Secret, Site};
+use sv_solo::Solo;
 
 /// Steps a site as any caller of one does.
 fn step_at<S: Site>(rt: &impl Abort, site: &mut S, now: u64, input: Input) -> Vec<Output>

@@ -8,6 +8,7 @@ use std::alloc::Global;
 use std::process::Abort;
 use sv_connection::{Connection, Outcome, Received, RequestFault};
 use sv_model::{Request, is_head};
+use sv_solo::end;
 
 /// A request with a body.
 const FIRST: &str = "POST /a HTTP/1.1\r\nHost: h\r\nContent-Length: 3\r\n\r\nxyz";
@@ -123,7 +124,7 @@ impl Caller {
             if self.connection.waiting() {
                 break;
             }
-            let received = self.connection.end();
+            let received = end(&mut self.connection);
             if !self.tell(rt, received) {
                 break;
             }

@@ -6,7 +6,7 @@ use Rattle.sv_message.specs.declared.request.RawRequest.{RawRequest}
 use Rattle.sv_connection.specs.Arrive.{Brings}
 use Rattle.sv_connection.specs.Connection.{is_closed, is_leaving, is_single, stand_of}
 use Rattle.sv_connection.specs.Receive.{IsDirected}
-use Rattle.sv_connection.proofs.ServeLemmas.{received, found, not_found}
+use Rattle.sv_connection.proofs.DirectLemmas.{received, found, not_found}
 use Rattle.sv_connection.proofs.connection.Connection.look.Goals as goal
 
 pub returns-in-Ok-Some-clause-received : goal.returns-in-Ok-Some-clause-received

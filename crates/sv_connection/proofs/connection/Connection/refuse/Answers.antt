@@ -1,4 +1,4 @@
-use Rattle.sv_connection.proofs.ServeLemmas.{page_shut}
+use Rattle.sv_connection.proofs.SaidLemmas.{page_shut}
 use Rattle.sv_connection.proofs.connection.Connection.refuse.Goals as goal
 
 pub returns-clause-page : goal.returns-clause-page

@@ -3,7 +3,7 @@ use Rattle.std.specs.Prelude.{None, false}
 use Rattle.sv_model.specs.Engine.{EngineMeaning}
 use Rattle.sv_model.specs.declared.outcome.Fate.TheVariants.{Untouched}
 use Rattle.sv_model.specs.declared.outcome.Birth.TheVariants.{Absent}
-use Rattle.sv_connection.proofs.QuietLemmas.{notes_nothing}
+use Rattle.sv_solo.proofs.QuietLemmas.{notes_nothing}
 use Rattle.test_requests.proofs.connection.tests.engines.GreeterEngine.tell.Goals as goal
 
 pub returns-clause-heard : goal.returns-clause-heard

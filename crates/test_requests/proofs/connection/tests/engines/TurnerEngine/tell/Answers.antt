@@ -1,5 +1,5 @@
 use Rattle.std.proofs.Common.{[], sym, refl}
-use Rattle.sv_connection.proofs.QuietLemmas.{notes_nothing}
+use Rattle.sv_solo.proofs.QuietLemmas.{notes_nothing}
 use Rattle.test_requests.specs.Turns.{turns}
 use Rattle.test_requests.proofs.connection.tests.engines.TurnerEngine.tell.Goals as goal
 

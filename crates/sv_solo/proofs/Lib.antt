@@ -1,0 +1,7 @@
+mod UnreadLemmas
+mod ServeLemmas
+pub mod QuietLemmas
+mod TableLemmas
+mod SoloLemmas
+mod FollowLemmas
+pub mod TraceLemmas
