@@ -6,7 +6,7 @@ import threading
 import time
 
 from lib.client import rest_of
-from lib.expect import expect, in_one_try, skip
+from lib.expect import expect, in_one_try, say, skip
 from lib.patience import brief_deadline
 from subjects.common import HELLO, Cluster, asks_for, files_of_a_process, hellos, hellos_beside, hungry_client, stamp
 
@@ -73,24 +73,28 @@ def a_flood_of_newcomers_who_say_nothing():
 
 
 def takes_its_place():
-    """As many files as it may have are held by clients that don't take their answers; how long somebody else waits."""
+    """Whether somebody is answered beside clients that hold as many files as a node may have and don't take their answers, while most of
+    these are held still: a node that they hold up answers once they are closed, after their 30 seconds."""
     cluster = Cluster(1)
     stamp(cluster, "/hello")
     cluster.start(0, "--keep-alive", preexec_fn=files_of_a_process(20))
+    files = f"/proc/{cluster.running[0].pid}/fd"
+    alone = len(os.listdir(files))
     hungry = [hungry_client(cluster, HELLO * 150) for _ in range(16)]
     time.sleep(3)
-    begun = time.monotonic()
+    before = len(os.listdir(files)) - alone
     expect("the status of a login beside clients that take nothing", cluster.get(0, "/shop/login", form="user=me")[0], 200)
-    took = time.monotonic() - begun
+    after = len(os.listdir(files)) - alone
     for stream in hungry:
         stream.close()
     cluster.end()
-    return took
+    say(f"  a login beside {before} clients that take nothing, of whom {after} are held behind it")
+    return 0 < before < 2 * after
 
 
 def clients_that_take_nothing():
     """The first of them gives way, and nobody waits for the end of their 30 seconds."""
-    in_one_try("that nobody waited", lambda: takes_its_place() < 15)
+    in_one_try("that nobody waited", takes_its_place)
 
 
 def clients_that_ask(cluster, cookies, count):

@@ -3,6 +3,7 @@ import time
 
 from lib.client import Kept
 from lib.expect import expect, in_one_try
+from lib.patience import TRIES
 from lib.shims import shim
 from subjects.common import COUNT, HELLO, Cluster, asks_for, reset_at_close, standing_still
 
@@ -54,26 +55,45 @@ def ranks_of_newcomers(cluster, count, endless, newcomers):
     return ranks
 
 
+def is_greeted(stream):
+    """Whether its hello is answered; the node closes a client that is silent for two seconds."""
+    try:
+        return stream.recv(4096)[:12] == b"HTTP/1.1 200"
+    except ConnectionError:
+        return False
+
+
+def ranks_beside(others, newcomers, are_let_in):
+    """The ranks of so many newcomers beside so many others; none where the machine has spoilt it, which stood still between somebody's
+    connection and the first bytes on it."""
+    cluster = Cluster(1)
+    cluster.start(0, "--keep-alive")
+    _, cookie = cluster.count(0)
+
+    def connected(first=b""):
+        streams = []
+        for _ in range(others):
+            streams.append(cluster.connect(0))
+            streams[-1].sendall(first)
+        return streams
+
+    before = connected(HELLO) if are_let_in else []
+    try:
+        if not all([is_greeted(stream) for stream in before]):
+            return None
+        return ranks_of_newcomers(cluster, asks_for(cookie), (lambda: before) if are_let_in else connected, newcomers)
+    finally:
+        cluster.end()
+
+
 def requests_of_each_in_turn():
     """Somebody who comes is answered before any other has been answered more than three times, be those few or more than a turn goes on
     with, and be they let in already or at the door as well."""
     for others, newcomers, are_let_in in ((20, 5, True), (80, 20, True), (40, 5, False)):
-        cluster = Cluster(1)
-        cluster.start(0, "--keep-alive")
-        _, cookie = cluster.count(0)
-        count = asks_for(cookie)
-
-        def connected():
-            return [cluster.connect(0) for _ in range(others)]
-
-        before = connected() if are_let_in else []
-        for stream in before:
-            stream.sendall(HELLO)
-            expect("an answer before", stream.recv(4096)[:12], b"HTTP/1.1 200")
-        ranks = ranks_of_newcomers(cluster, count, (lambda: before) if are_let_in else connected, newcomers)
+        ranks = next(filter(None, (ranks_beside(others, newcomers, are_let_in) for _ in range(TRIES))), None)
+        expect(f"whether newcomers beside {others} were answered, in one of {TRIES} tries", ranks is not None, True)
         most = 3 * others + newcomers + 1
         expect(f"the ranks of newcomers beside {others} who send without end ({ranks}), {most} at most", max(ranks) <= most, True)
-        cluster.end()
 
 
 # The syncs of a process take so many microseconds longer each.
