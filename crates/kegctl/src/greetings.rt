@@ -15,7 +15,7 @@ const APART: u64 = 5;
 
 /// What a node says of itself, at a moment of this machine's clock in seconds since 1970.
 #[derive(Clone, Copy, Debug)]
-pub struct Said {
+pub struct TimedGreeting {
     greeting: Greeting,
     clock: u64,
 }
@@ -31,7 +31,7 @@ pub enum Difference {
     Clock { node: u8, seconds: u64 },
 }
 
-impl fmt::Display for Said {
+impl fmt::Display for TimedGreeting {
     fn fmt<W: fmt::Write>(&self, f: &mut fmt::Formatter<W>) -> fmt::Result {
         let Greeting { start, nodes, .. } = self.greeting;
         write!(f, "start {start}, told of {nodes} nodes")
@@ -77,7 +77,7 @@ fn question(from: u8, to: u8) -> Greeting
 }
 
 /// What a node says of itself; none where it doesn't greet.
-pub fn said_by(machine: &HostRuntime, node: usize, port: u16) -> Option<Said> {
+pub fn said_by(machine: &HostRuntime, node: usize, port: u16) -> Option<TimedGreeting> {
     let node = u8::try_from(node).ok()?;
     if node >= NODE_LIMIT {
         return None;
@@ -90,7 +90,7 @@ pub fn said_by(machine: &HostRuntime, node: usize, port: u16) -> Option<Said> {
         Ok(time) => time.as_secs(),
         Err(_) => greeting.clock,
     };
-    Some(Said { greeting, clock })
+    Some(TimedGreeting { greeting, clock })
 }
 
 /// Whether a node answers a question that is asked in the name of another: what joins machines lets that through, and no command.
@@ -108,7 +108,7 @@ pub fn hears(machine: &HostRuntime, address: Address, from: u8, to: u8) -> bool 
     }
 }
 
-impl Said {
+impl TimedGreeting {
     /// Where what it says doesn't go with a descriptor of so many nodes.
     pub fn against_nodes(&self, nodes: usize) -> Option<Difference> {
         let Greeting {
@@ -139,7 +139,7 @@ impl Said {
     }
 
     /// Where it has another context than another node, at a place where both have one.
-    pub fn against(&self, other: &Said) -> Option<Difference> {
+    pub fn against(&self, other: &TimedGreeting) -> Option<Difference> {
         let (here, there) = (&self.greeting.contexts, &other.greeting.contexts);
         for place in 0..CONTEXTS_LEN {
             if here[place] != there[place] && here[place] != 0 && there[place] != 0 {

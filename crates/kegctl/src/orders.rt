@@ -22,7 +22,7 @@ use std::fmt::Display;
 use sv_client::{NodeNumber, session_named};
 use sv_config::Deployment;
 use sv_control::{
-    Look, RecordPlace, Replayed, SessionLine, Shown, ShownRecord, look_at, losses, places_of,
+    Disclosure, Look, RecordPlace, Replayed, SessionLine, ShownRecord, look_at, losses, places_of,
     replay, session_line, shown_key,
 };
 use sv_model::{Key, Record};
@@ -142,10 +142,10 @@ fn text_of<L: Display + Serialize>(
 fn line_of(
     machine: &HostRuntime,
     record: &Record,
-    shown: Shown,
+    disclosure: Disclosure,
 ) -> Result<Option<SessionLine>, Fault> {
     match record {
-        Record::State { key, state } => Ok(session_line(machine.alloc(), *key, state, shown)?),
+        Record::State { key, state } => Ok(session_line(machine.alloc(), *key, state, disclosure)?),
         _ => Ok(None),
     }
 }
@@ -154,10 +154,10 @@ fn line_of(
 fn show_session(
     machine: &HostRuntime,
     record: &Record,
-    shown: Shown,
+    disclosure: Disclosure,
     form: Form,
 ) -> Result<(), Fault> {
-    let Some(line) = line_of(machine, record, shown)? else {
+    let Some(line) = line_of(machine, record, disclosure)? else {
         return Ok(());
     };
     match text_of(machine, &line, form) {
@@ -166,9 +166,14 @@ fn show_session(
     }
 }
 
-fn show_all(machine: &HostRuntime, kept: &[Record], shown: Shown, form: Form) -> Result<(), Fault> {
+fn show_all(
+    machine: &HostRuntime,
+    kept: &[Record],
+    disclosure: Disclosure,
+    form: Form,
+) -> Result<(), Fault> {
     for record in kept {
-        show_session(machine, record, shown, form)?;
+        show_session(machine, record, disclosure, form)?;
     }
     Ok(())
 }
@@ -188,10 +193,10 @@ fn show_found(
     machine: &HostRuntime,
     found: &Replayed,
     keys: Option<Keys>,
-    shown: Shown,
+    disclosure: Disclosure,
     form: Form,
 ) -> Result<(), Fault> {
-    show_all(machine, &found.kept, shown, form)?;
+    show_all(machine, &found.kept, disclosure, form)?;
     match keys {
         Some(keys) => show_keys(machine, keys, found, form),
         None => Ok(()),
@@ -201,12 +206,12 @@ fn show_found(
 fn show_sessions(
     machine: &HostRuntime,
     listing: Listing<'_>,
-    shown: Shown,
+    disclosure: Disclosure,
     form: Form,
 ) -> Result<(), Fault> {
     let keys = keys_by(machine, listing.keys)?;
     let found = kept(machine, listing.journal)?;
-    show_found(machine, &found, keys, shown, form)
+    show_found(machine, &found, keys, disclosure, form)
 }
 
 /// A line for a record, behind its place.
@@ -313,9 +318,9 @@ pub fn carry_out(machine: &HostRuntime, order: Order<'_>) -> Result<(), Fault> {
         Order::Compare { old, new } => compare_configs(machine, old, new),
         Order::Sessions {
             listing,
-            shown,
+            disclosure,
             form,
-        } => show_sessions(machine, listing, shown, form),
+        } => show_sessions(machine, listing, disclosure, form),
         Order::Records(listing) => show_records(machine, listing),
         Order::Move { port, session, to } => move_session(machine, port, session, to),
         Order::Tick { port } => tick_node(machine, port),

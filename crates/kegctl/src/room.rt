@@ -2,7 +2,7 @@
 
 use crate::fault::Fault;
 use sv_config::Cluster;
-use sv_control::{KeysLine, Replayed, Room, known_in};
+use sv_control::{KeyRoom, KeysLine, Replayed, known_in};
 use sv_model::{KEY_MOST, Record};
 
 /// What a descriptor says of keys.
@@ -43,8 +43,8 @@ impl Keys {
         KeysLine::of(found, self.limit)
     }
 
-    fn room(self, kept: &[Record]) -> Room {
-        Room {
+    fn room(self, kept: &[Record]) -> KeyRoom {
+        KeyRoom {
             known: known_in(kept),
             limit: self.limit,
         }

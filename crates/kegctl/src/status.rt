@@ -3,7 +3,7 @@
 use crate::cluster::{port_of, read_cluster};
 use crate::commands::{address, tick};
 use crate::fault::Fault;
-use crate::greetings::{Difference, Said, said_by};
+use crate::greetings::{Difference, TimedGreeting, said_by};
 use crate::health::Health;
 use crate::limit::clock;
 use std::net::{Ipv4Addr, SocketAddr, TcpStream};
@@ -41,7 +41,12 @@ pub enum Question {
 }
 
 /// What a node says of itself, if it is asked and says something.
-fn said_of(machine: &HostRuntime, node: usize, port: u16, question: Question) -> Option<Said> {
+fn said_of(
+    machine: &HostRuntime,
+    node: usize,
+    port: u16,
+    question: Question,
+) -> Option<TimedGreeting> {
     match question {
         Question::WhetherItAnswers => None,
         Question::WhatItSays => said_by(machine, node, port),
@@ -54,7 +59,7 @@ fn show_node(
     node: usize,
     port: u16,
     question: Question,
-) -> Result<(Health, Option<Said>), Fault> {
+) -> Result<(Health, Option<TimedGreeting>), Fault> {
     let health = health_of(machine, port);
     let said = match health {
         Health::Well(_) => said_of(machine, node, port, question),
@@ -83,7 +88,11 @@ fn show_difference(machine: &HostRuntime, difference: Option<Difference>) -> Res
 
 /// Says where what nodes say of themselves differs: from the descriptor, from this machine's clock, and from the first that says
 /// something.
-fn show_differences(machine: &HostRuntime, all: &[Said], nodes: usize) -> Result<(), Fault> {
+fn show_differences(
+    machine: &HostRuntime,
+    all: &[TimedGreeting],
+    nodes: usize,
+) -> Result<(), Fault> {
     for said in all {
         show_difference(machine, said.against_nodes(nodes))?;
         show_difference(machine, said.against_clock())?;

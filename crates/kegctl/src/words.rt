@@ -9,7 +9,7 @@ use clap::ArgMatches;
 use clap::error::Error;
 use std::alloc::Global;
 use sv_client::NodeNumber;
-use sv_control::Shown;
+use sv_control::Disclosure;
 use sv_model::NODE_LIMIT;
 
 /// So many seconds a drain takes at most, if it isn't said; and it is never told to take longer than a day.
@@ -42,7 +42,7 @@ pub enum Order<'a> {
     },
     Sessions {
         listing: Listing<'a>,
-        shown: Shown,
+        disclosure: Disclosure,
         form: Form,
     },
     Records(Listing<'a>),
@@ -214,10 +214,10 @@ fn listing_of<'a>(matches: &ArgMatches<'a>) -> Listing<'a> {
 fn sessions_of<'a>(matches: &ArgMatches<'a>) -> Order<'a> {
     Order::Sessions {
         listing: listing_of(matches),
-        shown: if matches.get_flag("values") {
-            Shown::Values
+        disclosure: if matches.get_flag("values") {
+            Disclosure::Values
         } else {
-            Shown::Sizes
+            Disclosure::Sizes
         },
         form: if matches.get_flag("json") {
             Form::Json

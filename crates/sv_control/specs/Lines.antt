@@ -13,8 +13,8 @@ use Rattle.sv_control.specs.declared.lines.AttributeLine.{AttributeLine}
 use Rattle.sv_control.specs.declared.lines.SessionLine.{SessionLine}
 use Rattle.sv_control.specs.declared.lines.SessionPlace.{SessionPlace}
 use Rattle.sv_control.specs.declared.lines.SessionTimes.{SessionTimes}
-use Rattle.sv_control.specs.declared.lines.Shown.{Shown}
-use Rattle.sv_control.specs.declared.lines.Shown.TheVariants.{Sizes, Values}
+use Rattle.sv_control.specs.declared.lines.Disclosure.{Disclosure}
+use Rattle.sv_control.specs.declared.lines.Disclosure.TheVariants.{Sizes, Values}
 use Rattle.sv_control.specs.Naming.{key_text}
 
 -- printable ASCII, and neither a blank nor a backslash
@@ -40,13 +40,13 @@ pub record SeenAttribute : Type 0 where
   pub value : Option (List ℕ)
 
 -- the value, where values are shown
-abbrev pub value_to_see : Shown → List ℕ → Option (List ℕ)
+abbrev pub value_to_see : Disclosure → List ℕ → Option (List ℕ)
 value_to_see Sizes value = None
 value_to_see Values value = Some (value_text value)
 
 -- what is to be seen of an attribute
-abbrev pub attribute_to_see : Shown → Attribute → SeenAttribute
-attribute_to_see shown a = record { name = a.0; bytes = length a.1; value = value_to_see shown a.1 }
+abbrev pub attribute_to_see : Disclosure → Attribute → SeenAttribute
+attribute_to_see disclosure a = record { name = a.0; bytes = length a.1; value = value_to_see disclosure a.1 }
 
 -- what is seen of one
 abbrev pub seen_attribute : AttributeLine → SeenAttribute
@@ -84,18 +84,18 @@ abbrev pub seen_place : SessionPlace → SeenPlace
 seen_place p = record { state = p.state.now; epoch = p.epoch; to = p.to; context = p.context }
 
 -- what is to be seen of a session at a place
-abbrev pub session_to_see : Shown → Key → SeenPlace → Session → SeenSession
-session_to_see shown key place s =
-    record { key = key_text key; place = place; times = times_of s; attributes = map (attribute_to_see shown) s.attributes }
+abbrev pub session_to_see : Disclosure → Key → SeenPlace → Session → SeenSession
+session_to_see disclosure key place s =
+    record { key = key_text key; place = place; times = times_of s; attributes = map (attribute_to_see disclosure) s.attributes }
 
 -- what is to be seen of a key: of one whose session has gone or ended, nothing
-abbrev pub to_see : Shown → Key → KeyState → Option SeenSession
-to_see shown key (Active epoch s) =
-    Some (session_to_see shown key (record { state = codes "active"; epoch = epoch; to = None; context = s.context }) s)
-to_see shown key (Sent epoch s to) =
-    Some (session_to_see shown key (record { state = codes "sent"; epoch = epoch; to = Some to; context = s.context }) s)
-to_see shown key (Gone epoch) = None
-to_see shown key (Ended epoch) = None
+abbrev pub to_see : Disclosure → Key → KeyState → Option SeenSession
+to_see disclosure key (Active epoch s) =
+    Some (session_to_see disclosure key (record { state = codes "active"; epoch = epoch; to = None; context = s.context }) s)
+to_see disclosure key (Sent epoch s to) =
+    Some (session_to_see disclosure key (record { state = codes "sent"; epoch = epoch; to = Some to; context = s.context }) s)
+to_see disclosure key (Gone epoch) = None
+to_see disclosure key (Ended epoch) = None
 
 -- what is seen of a session
 abbrev pub seen_session : SessionLine → SeenSession

@@ -3,7 +3,7 @@ use Rattle.std.specs.Prelude.{◌≤◌, ◌*◌, ◌-◌, ℕ, List, [], ◌∷
 use Rattle.std.specs.List.{concat}
 use Rattle.sv_model.specs.declared.record.Record.{Record}
 use Rattle.sv_core.specs.declared.census.Census.{Census}
-use Rattle.sv_control.specs.declared.room.Room.{Room}
+use Rattle.sv_control.specs.declared.room.KeyRoom.{KeyRoom}
 use Rattle.sv_control.specs.declared.room.KeysLine.{KeysLine}
 
 -- how many keys are known by a snapshot: a record each, behind the first
@@ -11,14 +11,14 @@ abbrev pub known_in : List Record → ℕ
 known_in records = length records - 1
 
 -- four fifths of the keys, or more
-abbrev pub IsScarce : Room → Type 0
+abbrev pub IsScarce : KeyRoom → Type 0
 IsScarce room = 4 * room.limit ≤ 5 * room.known
 
 -- all of them
-abbrev pub IsFull : Room → Type 0
+abbrev pub IsFull : KeyRoom → Type 0
 IsFull room = room.limit ≤ room.known
 
-abbrev pub room_text : Room → List ℕ
+abbrev pub room_text : KeyRoom → List ℕ
 room_text room = decimal room.known ++ codes " of " ++ decimal room.limit ++ codes " keys are known"
 
 -- what is to be seen of the keys of a snapshot, which are counted so by what is known of them, at a node that may know so many; of one
@@ -36,7 +36,7 @@ keys_to_see records census limit =
     }
 
 -- how full the table is by such a line
-abbrev pub room_of : KeysLine → Room
+abbrev pub room_of : KeysLine → KeyRoom
 room_of line = record { known = line.known; limit = line.limit }
 
 abbrev pub keys_text : KeysLine → List ℕ

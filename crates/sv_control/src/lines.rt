@@ -14,7 +14,7 @@ use sv_model::{Attributes, Key, KeyState, Session};
 
 /// Whether the values of attributes are shown, which may be anybody's secrets.
 #[derive(Clone, Copy, Debug, PartialEq, Eq)]
-pub enum Shown {
+pub enum Disclosure {
     /// Names, and how many bytes each value has.
     Sizes,
     /// Names, sizes and values.
@@ -99,12 +99,16 @@ fn value_text(alloc: Global, value: &[u8]) -> Result<String, AllocError>
 }
 
 /// The value of an attribute, where values are shown.
-fn value_shown(alloc: Global, value: &[u8], shown: Shown) -> Result<Option<String>, AllocError>
-    ensures { IfOk result (λ text. option_map string_bytes text ≡ value_to_see shown value.now) }
+fn value_shown(
+    alloc: Global,
+    value: &[u8],
+    disclosure: Disclosure,
+) -> Result<Option<String>, AllocError>
+    ensures { IfOk result (λ text. option_map string_bytes text ≡ value_to_see disclosure value.now) }
 {
-    match shown {
-        Shown::Sizes => Ok(None),
-        Shown::Values => Ok(Some(value_text(alloc, value)?)),
+    match disclosure {
+        Disclosure::Sizes => Ok(None),
+        Disclosure::Values => Ok(Some(value_text(alloc, value)?)),
     }
 }
 
@@ -113,14 +117,14 @@ fn attribute_line(
     alloc: Global,
     name: &str,
     value: &[u8],
-    shown: Shown,
+    disclosure: Disclosure,
 ) -> Result<AttributeLine, AllocError>
-    ensures { IfOk result (λ line. seen_attribute line ≡ attribute_to_see shown (name.now, value.now)) }
+    ensures { IfOk result (λ line. seen_attribute line ≡ attribute_to_see disclosure (name.now, value.now)) }
 {
     Ok(AttributeLine {
         name: String::from_str(alloc, name)?,
         bytes: value.len(),
-        value: value_shown(alloc, value, shown)?,
+        value: value_shown(alloc, value, disclosure)?,
     })
 }
 
@@ -135,13 +139,13 @@ fn add_line(lines: &mut Vec<AttributeLine>, line: AttributeLine) -> Result<(), A
 fn attribute_lines(
     alloc: Global,
     attributes: &Attributes,
-    shown: Shown,
+    disclosure: Disclosure,
 ) -> Result<Vec<AttributeLine>, AllocError>
-    ensures { IfOk result (λ lines. map seen_attribute lines.items ≡ map (attribute_to_see shown) attributes.now) }
+    ensures { IfOk result (λ lines. map seen_attribute lines.items ≡ map (attribute_to_see disclosure) attributes.now) }
 {
     let mut lines = Vec::new(alloc);
     for (name, value) in attributes.iter() {
-        let line = attribute_line(alloc, name, value, shown)?;
+        let line = attribute_line(alloc, name, value, disclosure)?;
         add_line(&mut lines, line)?;
     }
     Ok(lines)
@@ -172,11 +176,11 @@ fn line_of(
     key: Key,
     place: SessionPlace,
     session: &Session,
-    shown: Shown,
+    disclosure: Disclosure,
 ) -> Result<SessionLine, AllocError>
-    ensures { IfOk result (λ line. seen_session line ≡ session_to_see shown key (seen_place place) session.now) }
+    ensures { IfOk result (λ line. seen_session line ≡ session_to_see disclosure key (seen_place place) session.now) }
 {
-    let attributes = attribute_lines(alloc, &session.attributes, shown)?;
+    let attributes = attribute_lines(alloc, &session.attributes, disclosure)?;
     Ok(SessionLine {
         key: key_text(alloc, key)?,
         place,
@@ -190,9 +194,9 @@ pub fn session_line(
     alloc: Global,
     key: Key,
     state: &KeyState,
-    shown: Shown,
+    disclosure: Disclosure,
 ) -> Result<Option<SessionLine>, AllocError>
-    ensures { IfOk result (λ line. option_map seen_session line ≡ to_see shown key state.now) }
+    ensures { IfOk result (λ line. option_map seen_session line ≡ to_see disclosure key state.now) }
 {
     let (place, session) = match state {
         KeyState::Active { epoch, session } => {
@@ -215,7 +219,7 @@ pub fn session_line(
         }
         KeyState::Gone { .. } | KeyState::Ended { .. } => return Ok(None),
     };
-    Ok(Some(line_of(alloc, key, place, session, shown)?))
+    Ok(Some(line_of(alloc, key, place, session, disclosure)?))
 }
 
 impl fmt::Display for AttributeLine {

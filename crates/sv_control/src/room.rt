@@ -18,12 +18,12 @@ pub fn known_in(kept: &[Record]) -> usize
 
 /// How many keys a node knows, and how many it may: `keys` of its descriptor. It prints so.
 #[derive(Clone, Copy, Debug, PartialEq, Eq)]
-pub struct Room {
+pub struct KeyRoom {
     pub known: usize,
     pub limit: usize,
 }
 
-impl Room {
+impl KeyRoom {
     /// Four fifths of the keys are known, or more.
     pub fn is_scarce(self) -> bool
         ensures { IsTrue result ↔ IsScarce self }
@@ -39,7 +39,7 @@ impl Room {
     }
 }
 
-impl fmt::Display for Room {
+impl fmt::Display for KeyRoom {
     ghost use Rattle.std.specs.Prelude.{Some};
     ghost use Rattle.sv_control.specs.Room.{room_text};
 
@@ -88,10 +88,10 @@ impl KeysLine {
     }
 
     /// How full the node's table is then.
-    fn room(self) -> Room
+    fn room(self) -> KeyRoom
         ensures { result ≡ room_of self }
     {
-        Room {
+        KeyRoom {
             known: self.known,
             limit: self.limit,
         }

@@ -3,7 +3,7 @@
 use crate::column::Column;
 use crate::figures::Figures;
 use crate::number::{percent_of, rate_of};
-use crate::row::{Row, Shown};
+use crate::row::{Measure, Row};
 use std::alloc::{AllocError, Global};
 use sv_log::names::{KNOWN, KNOWN_LIMIT, WRITE_SECONDS, WRITES};
 
@@ -125,8 +125,8 @@ fn number_cell(
         Some(before) => before.count(row.figure.name, row.label),
         None => None,
     };
-    match row.shown {
-        Shown::Counter => counter(alloc, number, before, column.passed()),
+    match row.measure {
+        Measure::Counter => counter(alloc, number, before, column.passed()),
         _ => level(alloc, number, before),
     }
 }
@@ -162,14 +162,14 @@ impl Cell {
         let Some(figures) = &column.latest else {
             return nothing(alloc);
         };
-        match row.shown {
-            Shown::Age => age(alloc, figures, now),
-            Shown::Limited => limited_in(alloc, figures),
-            Shown::Mean => match write_time(column) {
+        match row.measure {
+            Measure::Age => age(alloc, figures, now),
+            Measure::Limited => limited_in(alloc, figures),
+            Measure::Mean => match write_time(column) {
                 Some(nanoseconds) => mean(alloc, nanoseconds),
                 None => nothing(alloc),
             },
-            Shown::Level | Shown::Counter => cell_in(alloc, column, figures, row),
+            Measure::Level | Measure::Counter => cell_in(alloc, column, figures, row),
         }
     }
 }

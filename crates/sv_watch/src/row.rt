@@ -8,7 +8,7 @@ use sv_log::names::{
 
 /// What a row shows of its figure.
 #[derive(Clone, Copy, Debug, PartialEq, Eq)]
-pub enum Shown {
+pub enum Measure {
     /// How old the figures are.
     Age,
     /// A number as it is.
@@ -28,7 +28,7 @@ pub struct Row {
     pub figure: Family,
     /// Which of the figures of its name; all of them together where it is none.
     pub label: Option<&'static str>,
-    pub shown: Shown,
+    pub measure: Measure,
 }
 
 /// All rows: with the heading they have room on a screen of 24 lines.
@@ -37,132 +37,132 @@ pub static ROWS: [Row; 22] = [
         title: "written",
         figure: TIME,
         label: None,
-        shown: Shown::Age,
+        measure: Measure::Age,
     },
     Row {
         title: "sessions here",
         figure: SESSIONS,
         label: Some("state=\"active\""),
-        shown: Shown::Level,
+        measure: Measure::Level,
     },
     Row {
         title: "on their way",
         figure: SESSIONS,
         label: Some("state=\"sent\""),
-        shown: Shown::Level,
+        measure: Measure::Level,
     },
     Row {
         title: "known keys",
         figure: KNOWN,
         label: None,
-        shown: Shown::Limited,
+        measure: Measure::Limited,
     },
     Row {
         title: "answers 2xx",
         figure: REQUESTS,
         label: Some("class=\"2xx\""),
-        shown: Shown::Counter,
+        measure: Measure::Counter,
     },
     Row {
         title: "answers 3xx",
         figure: REQUESTS,
         label: Some("class=\"3xx\""),
-        shown: Shown::Counter,
+        measure: Measure::Counter,
     },
     Row {
         title: "answers 4xx",
         figure: REQUESTS,
         label: Some("class=\"4xx\""),
-        shown: Shown::Counter,
+        measure: Measure::Counter,
     },
     Row {
         title: "answers 5xx",
         figure: REQUESTS,
         label: Some("class=\"5xx\""),
-        shown: Shown::Counter,
+        measure: Measure::Counter,
     },
     Row {
         title: "503 Deadline",
         figure: REFUSED,
         label: Some("cause=\"Deadline\""),
-        shown: Shown::Counter,
+        measure: Measure::Counter,
     },
     Row {
         title: "503 ParkFull",
         figure: REFUSED,
         label: Some("cause=\"ParkFull\""),
-        shown: Shown::Counter,
+        measure: Measure::Counter,
     },
     Row {
         title: "503 TableFull",
         figure: REFUSED,
         label: Some("cause=\"TableFull\""),
-        shown: Shown::Counter,
+        measure: Measure::Counter,
     },
     Row {
         title: "503 JournalFull",
         figure: REFUSED,
         label: Some("cause=\"JournalFull\""),
-        shown: Shown::Counter,
+        measure: Measure::Counter,
     },
     Row {
         title: "503 Memory",
         figure: REFUSED,
         label: Some("cause=\"Memory\""),
-        shown: Shown::Counter,
+        measure: Measure::Counter,
     },
     Row {
         title: "503 SerialsSpent",
         figure: REFUSED,
         label: Some("cause=\"SerialsSpent\""),
-        shown: Shown::Counter,
+        measure: Measure::Counter,
     },
     Row {
         title: "503 WantsSpent",
         figure: REFUSED,
         label: Some("cause=\"WantsSpent\""),
-        shown: Shown::Counter,
+        measure: Measure::Counter,
     },
     Row {
         title: "waiting requests",
         figure: WAITING,
         label: None,
-        shown: Shown::Level,
+        measure: Measure::Level,
     },
     Row {
         title: "connections",
         figure: CONNECTIONS,
         label: None,
-        shown: Shown::Level,
+        measure: Measure::Level,
     },
     Row {
         title: "ordered moves",
         figure: MOVED,
         label: None,
-        shown: Shown::Counter,
+        measure: Measure::Counter,
     },
     Row {
         title: "packets sent",
         figure: SENT,
         label: None,
-        shown: Shown::Counter,
+        measure: Measure::Counter,
     },
     Row {
         title: "packets lost",
         figure: LOST,
         label: None,
-        shown: Shown::Counter,
+        measure: Measure::Counter,
     },
     Row {
         title: "journal bytes",
         figure: JOURNAL,
         label: None,
-        shown: Shown::Level,
+        measure: Measure::Level,
     },
     Row {
         title: "ms a write",
         figure: WRITES,
         label: None,
-        shown: Shown::Mean,
+        measure: Measure::Mean,
     },
 ];
