@@ -55,7 +55,7 @@ pub record Holds (xs : List (Option Session)) (store : Store) : Type 0 where
   pub map : Agree store.map (keys_of xs)
   pub made : (k : Key) → store.made k ≡ true → (i : ℕ) × (i < length xs) × (k ≡ own_key (i + 1))
 
--- a request's token has an arrival behind no more commits than these
+-- a request's token has an arrival after no more commits than these
 abbrev pub HasArrived : (Token → ℕ) → ℕ → Option Token → Type 0
 HasArrived arrival before None = ⊤
 HasArrived arrival before (Some t) = arrival t ≤ before
@@ -134,7 +134,7 @@ new_key xs store k Absent h is = tt
 new_key xs store k (Alive s) h is = ap store.made is ∙ not_made xs store h
 new_key xs store k BirthEnded h is = ap store.made is ∙ not_made xs store h
 
--- the keys that were made, behind a birth
+-- the keys that were made, after a birth
 grown : (ys : List (Option Session)) (x : Option Session) (i : ℕ) → i < length ys → i < length (ys ++ x ∷ [])
 grown ys x i less = let push : length (ys ++ x ∷ []) ≡ length ys + 1 = length-append ys (x ∷ []) in omega (arith, less, push)
 
@@ -154,7 +154,7 @@ made_with_birth made k ys Absent known is q set = known q set
 made_with_birth made k ys (Alive s) known is q set = made_behind made k ys (Some s) known is q set
 made_with_birth made k ys BirthEnded known is q set = made_behind made k ys None known is q set
 
--- behind an outcome the node still has the container's sessions
+-- after an outcome the node still has the container's sessions
 holds_behind : (xs : List (Option Session)) (store : Store) (named : Option (Key × Secret)) (place : Option ℕ) (k : Key) (out : Outcome) → Holds xs store → IsPlace xs named place
     → (held_in (keys_of xs) named ≡ None → out.fate ≡ Untouched) → k ≡ own_key (length xs + 1) → None ≡ no_birth alone (node_of xs).durable out.birth
     → Holds (born_behind out.birth (fated_at place out.fate xs)) (stored named k out store)

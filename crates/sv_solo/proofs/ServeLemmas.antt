@@ -66,7 +66,7 @@ module _ {S : Type 0} (steps : S → Moment → Input → Result (List Output) S
     directed = inl (record { fault = fault; has_fault = g.has_fault; site = site; outputs = none; closes = shut; page = rw (shut, ← g.without_body) page });
   })
 
--- the same, where the connection that asks it is single as that was which was given it, and holds as much
+-- the same, if the connection that asks it is single as that was which was given it, and holds as much
 pub asked_by : {S : Type 0} (steps : S → Moment → Input → Result (List Output) StepFault → S → Type 0) (moment : Moment) (token : ℕ) (single later : Bool) (old new : Sight S) (left : Option (List ℕ))
     (served : Served) (request : Request) → later ≡ single → new.unread ≡ left → GivesRequest single old.unread left request
     → ((raw : RawRequest) (target : TargetValue) → request ≡ request_of later raw target → IsAnswered steps (how moment token later) raw target old.site new.site old.written new.written new.closed served)
@@ -75,7 +75,7 @@ asked_by steps moment token single later old new left served request same holds 
     (subst (λ (u : Option (List ℕ)). GivesRequest single old.unread u request) (sym holds) g)
     (subst (λ (b : Bool). (raw : RawRequest) (target : TargetValue) → request ≡ request_of b raw target → IsAnswered steps (how moment token b) raw target old.site new.site old.written new.written new.closed served) same made)
 
--- and the fault, where the connection that writes its page holds as much
+-- and the fault, if the connection that writes its page holds as much
 pub refused_by : {S : Type 0} (steps : S → Moment → Input → Result (List Output) StepFault → S → Type 0) (h : How) (old new : Sight S) (left : Option (List ℕ)) (served : Served) (fault : RequestFault)
     (head_only : Bool) (outcome : Outcome) → new.unread ≡ left → IsRefused old.unread left fault head_only → new.site ≡ old.site → served.outputs.items ≡ [] → new.closed ≡ true
     → served.outcome ≡ outcome → IsPage (status_of fault) head_only h.moment.now fault old.written new.written true outcome → IsServed steps h old new served
@@ -83,7 +83,7 @@ refused_by steps h old new left served fault head_only outcome holds g site none
     (subst (λ (u : Option (List ℕ)). IsRefused old.unread u fault head_only) (sym holds) g) site none shut
     (subst (λ (o : Outcome). IsPage (status_of fault) head_only h.moment.now fault old.written new.written true o) (sym is) page)
 
--- ---- what was written, where nothing is parked
+-- ---- what was written, if nothing is parked
 
 -- what an open connection answers late is what it says
 pub said_now : (response : Response) (now : ℕ) (was : Bool) (wo wn : Option (List ℕ)) (closed : Bool) (outcome : Outcome) → was ≡ false

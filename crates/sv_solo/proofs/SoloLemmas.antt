@@ -85,7 +85,7 @@ pub ended_node : (xs : List (Option Session)) (place : ℕ) → place < length x
     → ◌≡◌ {A = Node} (record { durable = record { keys = insert (keys_of xs) (own_key (place + 1)) (Ended 1); boot = 1; next = length xs + 1; home = None }; parked = []; next_want = 1 }) (node_of (slice_set xs place None))
 ended_node xs place less = λ i. record { durable = record { keys = sym (put_own xs place None less) i; boot = 1; next = sym (length-set xs place None) i + 1; home = None }; parked = []; next_want = 1 }
 
--- what a tick leaves of a decision, where no request waits
+-- what a tick leaves of a decision, if no request waits
 abbrev pub tick_node : Decision → Node
 tick_node d = record { durable = d.durable; parked = []; next_want = d.next_want }
 
@@ -172,7 +172,7 @@ module _ (m : EngineMeaning) (xs : List (Option Session)) (moment : Moment) (r :
   pub stands_at : (zs : List (Option Session)) (named : Option (Key × Secret)) (place : Option ℕ) → zs ≡ xs → named ≡ m.names r → IsPlace zs named place → IsPlace xs (m.names r) place
   stands_at zs named place same names at = subst (λ n. IsPlace xs n place) names (subst (λ ys. IsPlace ys named place) same at)
 
--- the sessions behind an outcome, as the code has made them
+-- the sessions after an outcome, as the code has made them
 pub made_of : (xs us ys : List (Option Session)) (place : Option ℕ) (fate : Fate) (b : Birth) → us ≡ xs → ys ≡ born_behind b (fated_at place fate us)
     → ys ≡ born_behind b (fated_at place fate xs)
 made_of xs us ys place fate b same kept = kept ∙ ap (λ (zs : List (Option Session)). born_behind b (fated_at place fate zs)) same

@@ -274,7 +274,7 @@ next_is xs Absent = refl
 next_is xs (Alive s) = let push : length (xs ++ Some s ∷ []) ≡ length xs + 1 = length-append xs (Some s ∷ []) in omega (arith, push)
 next_is xs BirthEnded = let push : length (xs ++ None ∷ []) ≡ length xs + 1 = length-append xs (None ∷ []) in omega (arith, push)
 
--- what is kept behind an outcome
+-- what is kept after an outcome
 pub kept : (xs : List (Option Session)) (named : Option (Key × Secret)) (place : Option ℕ) (out : Outcome) → IsPlace xs named place
     → (node_of (born_behind out.birth (fated_at place out.fate xs))).durable ≡ kept_with named (own_key (length xs + 1)) out (node_of xs).durable
 kept xs named place out at =
@@ -344,7 +344,7 @@ room_left : (xs : List (Option Session)) (b : Bool) → nat_le 65_536 (length xs
 room_left xs true is none = absurd cc
 room_left xs false is none = leb-false 65_536 (length xs) is
 
--- behind a birth there are no more keys than there may be
+-- after a birth there are no more keys than there may be
 pub few_born : (xs ys : List (Option Session)) (b : Birth) → length xs ≤ 65_536 → None ≡ no_birth alone (node_of xs).durable b → length ys ≡ length xs → length (born_behind b ys) ≤ 65_536
 few_born xs ys Absent few none same = omega (arith, few, same)
 few_born xs ys (Alive s) few none same =

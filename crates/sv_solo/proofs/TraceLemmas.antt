@@ -42,7 +42,7 @@ times-append t (x ∷ xs) ys =
     sum : (a b c d : ℕ) → d ≡ b + c → a + d ≡ (a + b) + c
     sum a b c d is = omega (arith, is)
 
--- commits behind others
+-- commits after others
 after-append : (m : Meanings) (store : Store) (cs ds : List Commit) → after m store (cs ++ ds) ≡ after m (after m store cs) ds
 after-append m store [] ds = refl
 after-append m store (c ∷ cs) ds = after-append m (committed m store c) cs ds
@@ -196,7 +196,7 @@ module _ (m : EngineMeaning) (untouched : TouchesOnlyHanded m) (can : NamesKeys 
   step_at : (xs : List (Option Session)) (old : View) (moment : Moment) (input : Input) → IsAt old xs → decided old.meaning alone old.node moment input ≡ decided m alone (node_of xs) moment input
   step_at xs old moment input at = ap (λ e. decided e alone old.node moment input) at.meaning ∙ ap (λ n. decided m alone n moment input) at.node
 
-  -- one call, and those behind it
+  -- one call, and those after it
   one_more : (xs : List (Option Session)) (store : Store) (old between end : View) (moment : Moment) (input : Input) (answer : Result (List Output) StepFault) (cs : List Call)
       → Holds xs store → IsAt old xs → Steps alone old moment input answer between
       → ((ys : List (Option Session)) (after : Store) → Holds ys after → IsAt between ys → Runs m after (trace_of m alone (node_of ys) cs) end.node)
@@ -226,7 +226,7 @@ module _ (m : EngineMeaning) (untouched : TouchesOnlyHanded m) (can : NamesKeys 
   heard-append heard [] us = refl
   heard-append heard (t ∷ ts) us = heard-append (m.hear heard t) ts us
 
-  -- one call, and those behind it
+  -- one call, and those after it
   heard_more : (xs : List (Option Session)) (store : Store) (old between end : View) (moment : Moment) (input : Input) (answer : Result (List Output) StepFault) (cs : List Call)
       → Holds xs store → IsAt old xs → Steps alone old moment input answer between
       → ((ys : List (Option Session)) (after : Store) → Holds ys after → IsAt between ys → end.heard ≡ heard_all m between.heard (told_of (trace_of m alone (node_of ys) cs)))

@@ -18,7 +18,7 @@ use Rattle.sv_solo.specs.Reading.{Arrives, Ends, Hears}
 
 -- ---- bytes that were kept
 
--- what holds of unread bytes, and where they aren't known, holds of those that they keep
+-- what holds of unread bytes, and if they aren't known, holds of those that they keep
 moved : (P : Option (List ℕ) → Type 0) → P None → (v u : Option (List ℕ)) → Keeps v u → P u → P v
 moved P none None u kept p = none
 moved P none (Some x) None kept p = elim kept [ ]
@@ -74,7 +74,7 @@ arrives_behind single v u n closed (Faulty fault head_only) kept k = (k.0, refus
 arrives_behind single v u n closed End kept k = (k.0, none_behind v u kept k.1)
 arrives_behind single v u n closed Broken kept k = k
 
--- ---- bytes that are still to come behind all that have come
+-- ---- bytes that are still to come after all that have come
 
 fault_front : (all : List ℕ) (later : Option (List ℕ)) (f : ReadFault) → IsFaultAt all f → IfSome (prepend_known all later) (λ xs. IsFaultAt xs f)
 fault_front all None f k = tt
@@ -131,7 +131,7 @@ none_front all (Some y) ends none = subst HasNoMessage (sym (ap (λ (t : List �
 
 -- ---- a piece that was read
 
--- it stands behind what was held
+-- it stands after what was held
 joined : (held piece : List ℕ) (ro rn : Option (List ℕ)) → Consumes ro rn piece → Keeps (prepend_known held ro) (prepend_known (held ++ piece) rn)
 joined held piece None rn took = tt
 joined held piece (Some x) None took = elim took [ ]

@@ -1,4 +1,4 @@
--- What the reads of one call make of the unread bytes: those that a connection holds, and behind them those that are to come.
+-- What the reads of one call make of the unread bytes: those that a connection holds, and after them those that are to come.
 use Rattle.std.specs.Prelude.{◌≡◌, ◌⊎◌, ℕ, List, Bool, true, false, Option, Some, None, IfSome, ⊤}
 use Rattle.std.specs.Io.KnownBytes.{Keeps}
 use Rattle.sv_message.specs.Fault.{HasNoMessage}
@@ -8,14 +8,14 @@ use Rattle.sv_connection.specs.Receive.{Stand, GivesRequest, IsRefused, Receives
 use Rattle.sv_solo.specs.declared.reading.Arrived.{Arrived}
 use Rattle.sv_solo.specs.declared.reading.Arrived.TheVariants.{Request as Asked, Refused as Faulty, End, Broken}
 
--- what is given of the bytes that have come, where nothing more comes: less than a message is then nothing
+-- what is given of the bytes that have come, if nothing more comes: less than a message is then nothing
 abbrev pub Ends : Bool → Stand → Stand → Received → Type 0
 Ends single old new (Request request) = Receives single old new (Request request)
 Ends single old new (Refused fault head_only) = Receives single old new (Refused fault head_only)
 Ends single old new More = ⊥
 Ends single old new Closed = ((old.closed ≡ true) ⊎ IfSome old.unread HasNoMessage) × (new.closed ≡ true)
 
--- one read; where the bytes to come aren't known, nothing is said of them, and nothing at all where the reader fails
+-- one read; if the bytes to come aren't known, nothing is said of them, and nothing at all if the reader fails
 abbrev pub Hears : Bool → Option (List ℕ) → Option (List ℕ) → Bool → Option Received → Type 0
 Hears single old new closed (Some (Request request)) = (closed ≡ false) × GivesRequest single old new request
 Hears single old new closed (Some (Refused fault head_only)) = (closed ≡ true) × IsRefused old new fault head_only

@@ -95,7 +95,7 @@ is_parked ReadFailed = false
 is_parked WriteFailed = false
 is_parked SiteFailed = false
 
--- a request was answered, or is parked: the connection holds what it held, and waits where the request is parked
+-- a request was answered, or is parked: the connection holds what it held, and waits if the request is parked
 pub record Stays (old new : Connection) (outcome : Outcome) : Type 0 where
   pub held : held_by new ≡ held_by old
   pub single : is_single new ≡ is_single old

@@ -46,7 +46,7 @@ abbrev pub is_past : ℕ → Option Session → Bool
 is_past now None = false
 is_past now (Some s) = is_expired s now
 
--- the session at a place, where it is active
+-- the session at a place, if it is active
 abbrev pub active_in : Option (Option Session) → Option Session
 active_in None = None
 active_in (Some x) = x
@@ -56,7 +56,7 @@ if_active None place = None
 if_active (Some None) place = None
 if_active (Some (Some s)) place = Some place
 
--- the place of the session that is named, where it is active
+-- the place of the session that is named, if it is active
 pub record IsAt (sessions : List (Option Session)) (k : Key) (place : ℕ) : Type 0 where
   pub session : Session
   pub within : place < length sessions
@@ -68,20 +68,20 @@ IsPlace sessions named None = held_in (keys_of sessions) named ≡ None
 IsPlace sessions None (Some place) = ⊥
 IsPlace sessions (Some named) (Some place) = IsAt sessions named.0 place
 
--- the sessions behind what became of the one that was named
+-- the sessions after what became of the one that was named
 abbrev pub fated_at : Option ℕ → Fate → List (Option Session) → List (Option Session)
 fated_at None fate sessions = sessions
 fated_at (Some place) Untouched sessions = sessions
 fated_at (Some place) (Kept s) sessions = slice_set sessions place (Some s)
 fated_at (Some place) FateEnded sessions = slice_set sessions place None
 
--- the sessions behind what became of the one that was made
+-- the sessions after what became of the one that was made
 abbrev pub born_behind : Birth → List (Option Session) → List (Option Session)
 born_behind Absent sessions = sessions
 born_behind (Alive s) sessions = sessions ++ Some s ∷ []
 born_behind BirthEnded sessions = sessions ++ None ∷ []
 
--- the sessions without the one that has expired, where there is one
+-- the sessions without the one that has expired, if there is one
 abbrev pub without_at : Option ℕ → List (Option Session) → List (Option Session)
 without_at None sessions = sessions
 without_at (Some place) sessions = slice_set sessions place None
@@ -106,7 +106,7 @@ alone = setting_for 0 1 0
 abbrev pub node_of : List (Option Session) → Node
 node_of sessions = record { durable = record { keys = keys_of sessions; boot = 1; next = length sessions + 1; home = None }; parked = []; next_want = 1 }
 
--- why a session isn't handed over where there is no other node
+-- why a session isn't handed over if there is no other node
 abbrev pub refusal_for : Option KeyState → MoveRefusal
 refusal_for None = UnknownKey
 refusal_for (Some (Active e s)) = BadPeer

@@ -21,7 +21,7 @@ use sv_model::{Cause, Output, Request, Response, StepFault, is_head};
 pub struct Manner {
     /// Without its body, as to a HEAD request.
     pub head_only: bool,
-    /// The connection closes behind it.
+    /// The connection closes after it.
     pub close: bool,
     /// The seconds of its Date field.
     pub now: u64,

@@ -14,7 +14,7 @@ ghost use Rattle.sv_model.specs.Trace.{Item, asked_of, told_of, AreDistinct};
 ghost use Rattle.sv_model.specs.OneContainer.{IsOneContainer, IsAcknowledged, IsServedOnce, active_at};
 
 /// The commits of all steps are a run of one container, in which a request is served without the session that it names
-/// only where the container had none since the request came; and the node holds the container's sessions.
+/// only if the container had none since the request came; and the node holds the container's sessions.
 pub fn one_container()
     ensures { (m : EngineMeaning) → TouchesOnlyHanded m → NamesKeys m
         → (first end : View) (calls : List Call) → IsHistory m first calls end
@@ -22,7 +22,7 @@ pub fn one_container()
 {}
 
 /// Each answer is the container's reply to its request, at the place of the commit that served it; a token is served or
-/// refused no more often than a request came under it. So where each request has a token of its own no token is served
+/// refused no more often than a request came under it. So if each request has a token of its own no token is served
 /// twice, and none that is refused is served.
 pub fn acknowledged()
     ensures each { (m : EngineMeaning) → TouchesOnlyHanded m → NamesKeys m

@@ -32,7 +32,7 @@ pub enum Arrived {
     Broken,
 }
 
-/// Takes what stands at the front, where nothing more comes: the connection closes where that is less than a request.
+/// Takes what stands at the front, if nothing more comes: the connection closes if that is less than a request.
 pub fn end(connection: &mut Connection) -> Received
     requires answered { is_waiting connection.old ≡ false }
     ensures single { is_single connection.new ≡ is_single connection.old }
@@ -53,7 +53,7 @@ pub fn end(connection: &mut Connection) -> Received
     }
 }
 
-/// Reads once, and takes what then stands at the front; none where the reader fails.
+/// Reads once, and takes what then stands at the front; none if the reader fails.
 fn hear<R: Read>(connection: &mut Connection, reader: &mut R) -> Option<Received>
     requires answered { is_waiting connection.old ≡ false }
     requires was_open { is_closed connection.old ≡ false }

@@ -7,6 +7,6 @@ use sv_model::Output;
 #[derive(Drop)]
 pub struct Served {
     pub outcome: Outcome,
-    /// All that the site's step put out, in order; empty where it wasn't stepped.
+    /// All that the site's step put out, in order; empty if it wasn't stepped.
     pub outputs: Vec<Output>,
 }

@@ -22,13 +22,13 @@ use sv_model::{
 #[derive(Drop)]
 pub struct Solo<E> {
     pub engine: E,
-    /// The sessions by their serials from 1; where one has ended there is none.
+    /// The sessions by their serials from 1; of one that has ended there is none.
     sessions: Vec<Option<Session>>,
     alloc: Global,
     ghost few: { length sessions.items ≤ KEY_LIMIT },
 }
 
-/// The key and the secret of a session that is made behind these.
+/// The key and the secret of a session that is made after these.
 fn fresh_of(sessions: &[Option<Session>], moment: Moment) -> (Key, Secret)
     requires { length sessions.now ≤ KEY_LIMIT }
     ensures { result ≡ (own_key (length sessions.now + 1), moment.secret) }

@@ -36,7 +36,7 @@ pub fn state_at(sessions: &[Option<Session>], key: Key) -> Option<&Option<Sessio
     }
 }
 
-/// The session at a place, where it is active.
+/// The session at a place, if it is active.
 fn active_session(sessions: &[Option<Session>], place: usize) -> Option<&Session>
     ensures { option_copied result ≡ active_in (slice_get sessions.now place) }
 {
@@ -46,7 +46,7 @@ fn active_session(sessions: &[Option<Session>], place: usize) -> Option<&Session
     }
 }
 
-/// The place, where its session is active.
+/// The place, if its session is active.
 fn if_active(sessions: &[Option<Session>], place: usize) -> Option<usize>
     ensures { result ≡ if_active (slice_get sessions.now place) place }
 {
@@ -56,7 +56,7 @@ fn if_active(sessions: &[Option<Session>], place: usize) -> Option<usize>
     }
 }
 
-/// The place of a key's session, where it is active.
+/// The place of a key's session, if it is active.
 fn active_place(sessions: &[Option<Session>], key: Key, secret: Secret) -> Option<usize>
     ensures { IsPlace sessions.now (Some (key, secret)) result }
 {
@@ -66,7 +66,7 @@ fn active_place(sessions: &[Option<Session>], key: Key, secret: Secret) -> Optio
     }
 }
 
-/// The place of the session that is named, where it is active.
+/// The place of the session that is named, if it is active.
 pub fn named_place(sessions: &[Option<Session>], named: Option<(Key, Secret)>) -> Option<usize>
     ensures { IsPlace sessions.now named result }
 {
@@ -124,7 +124,7 @@ pub fn is_birth(birth: &Birth) -> bool
     }
 }
 
-/// Makes room for a session, where one was made.
+/// Makes room for a session, if one was made.
 pub fn make_room(sessions: &mut Vec<Option<Session>>, birth: &Birth) -> Result<(), AllocError>
     ensures items { sessions.new.items ≡ sessions.old.items }
     ensures room { IfOk result (λ _. is_birth birth.now ≡ true → vec_len sessions.new < vec_capacity sessions.new) }
