@@ -5,10 +5,11 @@ use Rattle.sv_connection.specs.Serve.{memory_lines}
 use Rattle.sv_host.specs.Stories.{AllGoOn, CarryOn, GoesBack, HasStory, Says as SaysDeed, Parts as PartsDeed}
 use Rattle.sv_host.proofs.StoryLemmas.{all_at, all_places, all_same, back_begins, back_same, carry, has_one, rests}
 use Rattle.sv_model.specs.declared.response.Response.{Response}
+use Rattle.sv_net.proofs.ContinueLemmas.{saying_unread}
 use Rattle.sv_net.specs.Bytes.{came_of}
-use Rattle.sv_net.specs.Exchange.{Continues, GoOnBut, Obeys, ObeysThere, parts, said_on, unread, unread_behind}
+use Rattle.sv_net.specs.Exchange.{Continues, GoOnBut, Obeys, ObeysThere, parts, said_on, unread}
 use Rattle.sv_net.specs.Places.{TellsAt, elsewhere, held_at, held_in, manner_at, manner_in, manner_of, places_of}
-use Rattle.sv_net.specs.Saying.{Answers, Follows, HearsNext, IsSaying, Says, Tells}
+use Rattle.sv_net.specs.Saying.{Answers, HearsNext, Says, Tells}
 use Rattle.sv_net.specs.Sending.{Admits, IsOnItsWay, IsOwn, Sends, SendsBehind}
 use Rattle.sv_net.specs.declared.connections.Connections.{Connections}
 use Rattle.sv_net.specs.declared.open.Open.{Open}
@@ -18,16 +19,6 @@ use Rattle.sv_net.specs.declared.state.State.{State}
 use Rattle.sv_net.specs.declared.state.State.TheVariants as state
 
 -- ---- a text
-
-follows_unread : (next : Next) (s : State) → Follows next s → unread s ≡ unread_behind next
-follows_unread Close s f = absurd f
-follows_unread Part s (bytes, is) = ap unread is
-follows_unread (Listen client) s (inl is) = ap unread is
-follows_unread (Listen client) s (inr (rested, is, at_rest)) = ap unread is ∙ at_rest.held
-
-saying_unread : (text : List ℕ) (next : Next) (s : State) → IsSaying text next s → unread s ≡ unread_behind next
-saying_unread text next s (inl (left, is, rest)) = ap unread is
-saying_unread text next s (inr f) = follows_unread next s f
 
 -- what is behind it is heard, or the connection closes
 said_story : (text : List ℕ) (next : Next) (was held : Open) → parts was.state ≡ false → Says text next (said_on was) (came_of was.socket) held → HearsNext (unread was.state) next → HasStory was held

@@ -186,6 +186,12 @@ pub lifted : (place : ℕ) (one : Open) (old mid new : Connections) → held_at 
 lifted place one old mid new there first with q =
     lifted_in place q one (held_at old q) (held_at mid q) (held_at new q) (λ is. subst (λ x. held_at old x ≡ Some one) (sym is) there) (first q) (with q)
 
+-- it was taken out
+pub carry_lifted : (place : ℕ) (one : Open) (old mid new : Connections) → held_at old place ≡ Some one → places_of mid ≡ elsewhere place old → elsewhere place mid ≡ elsewhere place old
+    → (held_at mid place ≡ None → AllGoOnWith place one mid new) → CarryOn old new
+carry_lifted place one old mid new there is others with =
+    carry old new (lifted place one old mid new there (all_taken place old mid is others) (with (taken_held place old mid is)))
+
 some_is : (a b : Open) → Some a ≡ Some b → a ≡ b
 some_is a b is = cc
 

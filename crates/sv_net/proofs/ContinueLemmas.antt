@@ -68,7 +68,7 @@ continues_leaving was held text left is_text rest same whole leaves =
       unread_is = same;
     }
 
--- what follows behind a text
+-- what is still to be heard behind a text
 follows_unread : (next : Next) (s : State) → Follows next s → unread s ≡ unread_behind next
 follows_unread Close s f = absurd f
 follows_unread Part s (bytes, is) = ap unread is
@@ -85,10 +85,11 @@ continues_following was held mid text left next is_text rest whole leaves none f
       unread_is = follows_unread next held.state f.stands ∙ sym rest;
     }
 
+pub saying_unread : (text : List ℕ) (next : Next) (s : State) → IsSaying text next s → unread s ≡ unread_behind next
+saying_unread text next s (inl (left, is, rest)) = ap unread is
+saying_unread text next s (inr f) = follows_unread next s f
+
 -- a command's byte
-closing_unread : (text : List ℕ) (s : State) → IsSaying text Close s → unread s ≡ []
-closing_unread text s (inl (left, is, rest)) = ap unread is
-closing_unread text s (inr f) = absurd f
 
 pub continues_telling : (was held : Open) (socket : Socket) (byte : ℕ) → was.state ≡ state.Holding byte → socket ≡ was.socket → Says (byte ∷ []) Close (went_of socket) (came_of socket) held → Continues was held
 continues_telling was held socket byte is on says =
@@ -96,7 +97,7 @@ continues_telling was held socket byte is on says =
       said = says.said ∙ (λ i. went_of (on i) ++ unsent (sym is i));
       parts_on = λ p. absurd (true≢false (sym p ∙ ap parts is));
       came = λ p. says.nothing_came ∙ ap came_of on;
-      unread_is = closing_unread (byte ∷ []) held.state says.stands ∙ sym (ap unread is);
+      unread_is = saying_unread (byte ∷ []) Close held.state says.stands ∙ sym (ap unread is);
     }
 
 -- what a client goes on sending behind its last answer is forgotten
@@ -254,7 +255,7 @@ obeys_at byte was held socket is on said came nothing =
 
 pub obeys_saying : (byte : ℕ) (was held : Open) (socket : Socket) → was.state ≡ state.Ordering → socket ≡ was.socket → Says (byte ∷ []) Close (went_of socket) (came_of socket) held → Obeys byte was held
 obeys_saying byte was held socket is on says =
-    obeys_at byte was held socket is on says.said says.nothing_came (closing_unread (byte ∷ []) held.state says.stands)
+    obeys_at byte was held socket is on says.said says.nothing_came (saying_unread (byte ∷ []) Close held.state says.stands)
 
 pub obeys_holding : (byte : ℕ) (was held : Open) (socket : Socket) → was.state ≡ state.Ordering → socket ≡ was.socket → held.socket ≡ socket → held.state ≡ state.Holding byte → Obeys byte was held
 obeys_holding byte was held socket is on by holding =
