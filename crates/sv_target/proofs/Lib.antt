@@ -5,5 +5,6 @@ mod DigitLemmas
 pub mod NamedLemmas
 mod OriginLemmas
 mod PathLemmas
+mod PlainLemmas
 mod SegmentLemmas
 pub mod SessionCookieLemmas

@@ -1,7 +1,7 @@
 -- The canonical path: without dot segments (RFC 3986, section 5.2.4) and decoded once (section 2.4).
-use Rattle.std.specs.Prelude.{ℕ, ◌-◌, Bool, ◌==◌, List, [], ◌∷◌, ◌++◌, length, take, drop}
+use Rattle.std.specs.Prelude.{ℕ, ◌-◌, Bool, ◌&&◌, not, nat_lt, ◌==◌, List, [], ◌∷◌, ◌++◌, length, slice_index, take, drop}
 use Rattle.std.specs.Prelude.{map, fold, codes, bytes_eq, if◌then◌else◌, slice_index_or, Option, Some, None, option_map}
-use Rattle.std.specs.List.{flat_map, slice_split}
+use Rattle.std.specs.List.{flat_map, list_all, slice_split}
 use Rattle.percent_encoding.specs.Percent.{percent_decode}
 use Rattle.sv_target.specs.Segment.{cut, is_dots, is_good_segment}
 
@@ -43,6 +43,17 @@ resolved ss = fold step (Some []) (ss ++ closing ss)
 -- `/` and a segment, for each
 abbrev pub path_text : List (List ℕ) → List ℕ
 path_text kept = flat_map (λ s. 47 ∷ s) kept
+
+-- a byte of ASCII that neither begins an escape nor ends what counts of a segment
+abbrev pub is_plain_byte : ℕ → Bool
+is_plain_byte b = nat_lt b 128 && (not (b == 37) && not (b == 59))
+
+abbrev pub begins_with_dot : List ℕ → Bool
+begins_with_dot s = nat_lt 0 (length s) && slice_index s 0 == 46
+
+-- a segment that stands for itself: by its bytes, and since it is neither `.` nor `..`
+abbrev pub is_plain_segment : List ℕ → Bool
+is_plain_segment s = not (begins_with_dot s) && list_all is_plain_byte s
 
 -- the canonical path of a path, if that begins with `/` and its segments can be resolved
 unfoldable pub canonical_path : List ℕ → Option (List ℕ)

@@ -2,7 +2,7 @@
 
 ghost use Rattle.std.specs.Prelude.{◌≡◌, [], Some, None, fold, map, string_bytes, IfOk, OnOk, IsErrOf};
 ghost use Rattle.std.specs.Cow.{cow_str_bytes};
-ghost use Rattle.std.specs.List.{slice_split};
+ghost use Rattle.std.specs.List.{list_all, slice_split};
 ghost use Rattle.sv_target.specs.Path as spec;
 ghost use Rattle.sv_target.specs.Path.{step};
 ghost use Rattle.sv_target.specs.Segment.{cut as cut_of};
@@ -116,6 +116,41 @@ fn kept_segments(alloc: Global, rest: &str) -> Result<Vec<CowStr<'_, Global>>, T
     resolve(alloc, &parts)
 }
 
+/// A byte of ASCII that neither begins an escape nor ends a segment's text.
+fn is_plain_byte(byte: u8) -> bool
+    ensures { result ≡ spec.is_plain_byte byte }
+{
+    byte < 128 && (byte != b'%' && byte != b';')
+}
+
+fn begins_with_dot(segment: &[u8]) -> bool
+    ensures { result ≡ spec.begins_with_dot segment.now }
+{
+    segment.len() > 0 && segment[0] == b'.'
+}
+
+fn has_plain_bytes(segment: &[u8]) -> bool
+    ensures { result ≡ list_all spec.is_plain_byte segment.now }
+{
+    segment.iter().all(|byte| is_plain_byte(*byte))
+}
+
+/// Whether a segment stands for itself.
+fn is_plain_segment(segment: &[u8]) -> bool
+    ensures { result ≡ spec.is_plain_segment segment.now }
+{
+    !begins_with_dot(segment) && has_plain_bytes(segment)
+}
+
+/// Whether each segment of a path behind its first slash stands for itself, as most do: the path is its own canonical one then.
+fn is_plain(rest: &str) -> bool
+    ensures { result ≡ list_all spec.is_plain_segment (slice_split spec.is_slash rest.now) }
+{
+    rest.as_bytes()
+        .split(|byte| *byte == b'/')
+        .all(|segment| is_plain_segment(segment))
+}
+
 /// The canonical path of a path; `BadTarget` where it has none.
 #[tactic(auto, unfolding(crate::specs::Path::canonical_path))]
 pub(crate) fn canonical_path(alloc: Global, path: &str) -> Result<String, TargetFault>
@@ -126,6 +161,9 @@ pub(crate) fn canonical_path(alloc: Global, path: &str) -> Result<String, Target
     let Some(rest) = path.strip_prefix('/') else {
         return Err(TargetFault::BadTarget);
     };
+    if is_plain(rest) {
+        return Ok(String::from_str(alloc, path)?);
+    }
     let kept = kept_segments(alloc, rest)?;
     Ok(path_text(alloc, &kept)?)
 }
