@@ -7,5 +7,6 @@ pub mod LengthLemmas
 pub mod MatchLemmas
 pub mod PrefixLemmas
 pub mod BestLemmas
+mod CompareLemmas
 pub mod ContextLemmas
 pub mod ChainLemmas
