@@ -8,9 +8,9 @@ ghost use Rattle.sv_model.specs.Field.{plain_type};
 ghost use Rattle.sv_servlet.specs.Reply.{Answers, addition_result, field_result};
 ghost use Rattle.sv_web.specs.Header.{header, html_type, visible_value};
 
-use http_header::{HeaderName, HeaderValue, HeaderValueError};
+use http_header::{CONTENT_TYPE, HeaderName, HeaderValue, HeaderValueError};
 use std::alloc::{AllocError, Global};
-use sv_model::{Field, plain_type};
+use sv_model::Field;
 use sv_servlet::{Reply, ReplyFault};
 
 /// A byte of visible ASCII, a blank or a tab.
@@ -80,11 +80,21 @@ pub fn add_header(
     reply.add(header(name, value))
 }
 
+/// `content-type: text/plain`, by the name's constant, for which no table is looked through.
+fn plain_text() -> Field
+    ensures { result ≡ plain_type }
+{
+    Field {
+        name: CONTENT_TYPE,
+        value: HeaderValue::from_static("text/plain"),
+    }
+}
+
 /// Says that the body is plain text: `content-type: text/plain` (`setContentType`).
 pub fn set_plain_text(reply: &mut Reply) -> Result<(), ReplyFault>
     ensures { Answers reply.old (field_result reply.old plain_type) result reply.new }
 {
-    reply.set(plain_type())
+    reply.set(plain_text())
 }
 
 /// Says that the body is HTML in UTF-8: `content-type: text/html; charset=utf-8` (`setContentType`).
