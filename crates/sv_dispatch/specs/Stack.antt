@@ -3,13 +3,13 @@ use Rattle.std.specs.Prelude.{ℕ, zero, suc, ◌+◌, ◌-◌, ◌*◌, ◌≤�
 use Rattle.sv_mapping.specs.declared.dispatcher.Dispatcher.{Dispatcher}
 use Rattle.sv_servlet.specs.Servlet.{Lent}
 use Rattle.sv_servlet.specs.declared.servlet.Next.{Next}
-use Rattle.sv_dispatch.specs.Dispatching.{Table, Outcome, outcome, answered, dispatched, performed, serving, closed, resumed}
+use Rattle.sv_dispatch.specs.Dispatching.{Table, Outcome, outcome, answered, dispatched, serving, closed, resumed}
 use Rattle.sv_dispatch.specs.Rows.{IsReadyAt}
 use Rattle.sv_dispatch.specs.Sight.{call_of}
 use Rattle.sv_dispatch.specs.declared.mode.Ending.TheVariants.{Abandoned}
 use Rattle.sv_dispatch.specs.declared.mode.Frame.{Frame}
 use Rattle.sv_dispatch.specs.declared.mode.Mode.{Mode}
-use Rattle.sv_dispatch.specs.declared.mode.Mode.TheVariants.{Enter, Begin, Serve, Nest, Leave}
+use Rattle.sv_dispatch.specs.declared.mode.Mode.TheVariants.{Enter, Serve, Nest, Leave}
 use Rattle.sv_dispatch.specs.declared.mode.Open.{Open}
 use Rattle.sv_dispatch.specs.declared.mode.Then.{Then}
 use Rattle.sv_dispatch.specs.declared.mode.Then.TheVariants.{Return, Resume}
@@ -42,7 +42,6 @@ at_depth (suc e) left l go = go e
 -- what is to come of a mode
 abbrev pub current : Table → ℕ → Mode → ℕ → Lent → Outcome
 current t e (Enter a) left l = dispatched t e a left l
-current t e (Begin v) left l = at_depth e left l (λ e'. performed t (dispatched t e') v left l)
 current t e (Serve o) left l = at_depth e left l (λ e'. opened t e' o left l)
 current t e (Nest f a) left l = at_depth e left l (λ e'. reentered t e' f (dispatched t e' a left l))
 current t e (Leave ended) left l = outcome ended left l
@@ -71,7 +70,6 @@ pub record IsOpen (t : Table) (o : Open) : Type 0 where
 
 abbrev pub IsModeOf : Table → Mode → Type 0
 IsModeOf t (Enter a) = Unit {0}
-IsModeOf t (Begin v) = Unit {0}
 IsModeOf t (Serve o) = IsOpen t o
 IsModeOf t (Nest f a) = IsOpen t f.held
 IsModeOf t (Leave ended) = Unit {0}
@@ -80,7 +78,6 @@ IsModeOf t (Leave ended) = Unit {0}
 abbrev pub weight : Mode → ℕ
 weight (Leave ended) = 0
 weight (Serve o) = 1
-weight (Begin v) = 2
 weight (Enter a) = 3
 weight (Nest f a) = 6
 
@@ -88,7 +85,6 @@ weight (Nest f a) = 6
 abbrev pub need : Mode → ℕ
 need (Leave ended) = 0
 need (Serve o) = 1
-need (Begin v) = 1
 need (Enter a) = 0
 need (Nest f a) = 1
 
@@ -102,7 +98,6 @@ pub record IsRunning (t : Table) (fs : List Frame) (m : Mode) : Type 0 where
 abbrev pub IsOn : List Frame → Mode → Type 0
 IsOn [] (Leave ended) = ⊥
 IsOn [] (Enter a) = Unit {0}
-IsOn [] (Begin v) = Unit {0}
 IsOn [] (Serve o) = Unit {0}
 IsOn [] (Nest f a) = Unit {0}
 IsOn (f ∷ fs) m = Unit {0}

@@ -1,7 +1,7 @@
 //! What a dispatch has come to: what is to be done next, and what waits for it.
 
 use crate::view::View;
-use crate::visit::{Ask, Visit};
+use crate::visit::Ask;
 use sv_model::Text;
 
 /// How one dispatch ended.
@@ -47,7 +47,6 @@ pub struct Frame<'a> {
 #[derive(Drop)]
 pub enum Mode<'a> {
     Enter(Ask<'a>),
-    Begin(Visit<'a>),
     Serve(Open<'a>),
     Nest(Frame<'a>, Ask<'a>),
     Leave(Ending),

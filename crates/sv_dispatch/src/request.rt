@@ -110,6 +110,7 @@ fn page_ended<S: Servlet, F: Filter>(stage: &mut Stage<S, F>, status: u16, ended
 }
 
 /// An error dispatch to a page from the request as it came.
+#[inline(never)]
 fn show_page<'a, S: Servlet, F: Filter>(
     alloc: Global,
     stage: &mut Stage<S, F>,

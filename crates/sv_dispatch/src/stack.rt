@@ -8,7 +8,7 @@ ghost use Rattle.sv_dispatch.specs.declared.mode.Mode.TheVariants.{Enter};
 
 use crate::mode::{Ending, Frame, Mode};
 use crate::stage::Stage;
-use crate::steps::{enter, leave, open, serve};
+use crate::steps::{enter, leave, serve};
 use crate::visit::Ask;
 use std::alloc::{AllocError, Global};
 use sv_servlet::{Filter, Servlet};
@@ -53,10 +53,9 @@ fn step<'a, S: Servlet, F: Filter>(
             if frames.len() >= DEPTH {
                 Ok(Mode::Leave(Ending::Abandoned))
             } else {
-                enter(alloc, stage, ask)
+                enter(alloc, stage, left, ask)
             }
         }
-        Mode::Begin(visit) => open(alloc, stage, visit),
         Mode::Serve(held) => serve(stage, left, held),
         Mode::Nest(frame, ask) => nest(frames, frame, ask),
         Mode::Leave(ended) => match frames.pop() {

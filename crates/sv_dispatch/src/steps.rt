@@ -33,25 +33,6 @@ fn sent(view: &View<'_>, code: u16, text: Text) -> Ending
     }
 }
 
-/// Reads and maps the path of a dispatch.
-pub fn enter<'a, S: Servlet, F: Filter>(
-    alloc: Global,
-    stage: &Stage<S, F>,
-    ask: Ask<'a>,
-) -> Result<Mode<'a>, AllocError>
-    ensures held { IfOk result (IsModeOf (table_of S.serves S.servlet_phase F.filtering F.filter_phase stage.now)) }
-    ensures need { IfOk result (λ mode. need mode ≤ 1) }
-    ensures less { IfOk result (λ mode. weight mode < 3) }
-    ensures current { IfOk result (λ mode. (e left : ℕ) → current (table_of S.serves S.servlet_phase F.filtering F.filter_phase stage.now) (suc e) mode left
-        (lent_of stage.now) ≡ dispatched (table_of S.serves S.servlet_phase F.filtering F.filter_phase stage.now) (suc e) ask.entry left (lent_of stage.now)) }
-{
-    let visit = visit_of(alloc, stage, ask)?;
-    match visit {
-        Some(visit) => Ok(Mode::Begin(visit)),
-        None => Ok(Mode::Leave(Ending::Faulted(Text::from_str(alloc, "bad-path")?))),
-    }
-}
-
 /// Ends a dispatch that was not abandoned.
 fn finish<'a, S: Servlet, F: Filter>(
     stage: &mut Stage<S, F>,
@@ -94,7 +75,7 @@ fn to_serve<S: Servlet, F: Filter>(
 }
 
 /// Calls the filters of a dispatch, up to the one that does not pass.
-pub fn open<'a, S: Servlet, F: Filter>(
+fn open<'a, S: Servlet, F: Filter>(
     alloc: Global,
     stage: &mut Stage<S, F>,
     visit: Visit<'a>,
@@ -145,6 +126,8 @@ fn close<'a, S: Servlet, F: Filter>(
 }
 
 /// A dispatch waits for the one that its servlet asks for.
+// Apart, as `leave` is, so that a dispatch that asks for none has no room cleared for one.
+#[inline(never)]
 fn nest<'a>(
     held: Open<'a>,
     then: Then,
@@ -226,6 +209,51 @@ pub fn serve<'a, S: Servlet, F: Filter>(
     follow(stage, held, next)
 }
 
+/// Calls the filters of a dispatch, and its servlet where they pass.
+fn perform<'a, S: Servlet, F: Filter>(
+    alloc: Global,
+    stage: &mut Stage<S, F>,
+    left: &mut u32,
+    visit: Visit<'a>,
+) -> Result<Mode<'a>, AllocError>
+    requires { IsSound (table_of S.serves S.servlet_phase F.filtering F.filter_phase stage.old) }
+    ensures same { table_of S.serves S.servlet_phase F.filtering F.filter_phase stage.new
+        ≡ table_of S.serves S.servlet_phase F.filtering F.filter_phase stage.old }
+    ensures held { IfOk result (IsModeOf (table_of S.serves S.servlet_phase F.filtering F.filter_phase stage.old)) }
+    ensures need { IfOk result (λ mode. need mode ≤ 1) }
+    ensures less { IfOk result (λ mode. weight mode + 7 * left.new < 7 * left.old + 2) }
+    ensures current { IfOk result (λ mode. (e : ℕ) → current (table_of S.serves S.servlet_phase F.filtering F.filter_phase stage.old) (suc e) mode left.new
+        (lent_of stage.new) ≡ performed (table_of S.serves S.servlet_phase F.filtering F.filter_phase stage.old)
+        (dispatched (table_of S.serves S.servlet_phase F.filtering F.filter_phase stage.old) e) visit.entry left.old (lent_of stage.old)) }
+{
+    match open(alloc, stage, visit)? {
+        Mode::Serve(held) => serve(stage, left, held),
+        other => Ok(other),
+    }
+}
+
+/// Reads and maps the path of a dispatch, and calls its filters and its servlet: most dispatches end there.
+pub fn enter<'a, S: Servlet, F: Filter>(
+    alloc: Global,
+    stage: &mut Stage<S, F>,
+    left: &mut u32,
+    ask: Ask<'a>,
+) -> Result<Mode<'a>, AllocError>
+    requires { IsSound (table_of S.serves S.servlet_phase F.filtering F.filter_phase stage.old) }
+    ensures same { table_of S.serves S.servlet_phase F.filtering F.filter_phase stage.new
+        ≡ table_of S.serves S.servlet_phase F.filtering F.filter_phase stage.old }
+    ensures held { IfOk result (IsModeOf (table_of S.serves S.servlet_phase F.filtering F.filter_phase stage.old)) }
+    ensures need { IfOk result (λ mode. need mode ≤ 1) }
+    ensures less { IfOk result (λ mode. weight mode + 7 * left.new < 7 * left.old + 3) }
+    ensures current { IfOk result (λ mode. (e : ℕ) → current (table_of S.serves S.servlet_phase F.filtering F.filter_phase stage.old) (suc e) mode left.new
+        (lent_of stage.new) ≡ dispatched (table_of S.serves S.servlet_phase F.filtering F.filter_phase stage.old) (suc e) ask.entry left.old (lent_of stage.old)) }
+{
+    match visit_of(alloc, stage, ask)? {
+        Some(visit) => perform(alloc, stage, left, visit),
+        None => Ok(Mode::Leave(Ending::Faulted(Text::from_str(alloc, "bad-path")?))),
+    }
+}
+
 /// The servlet of a dispatch is called once more, with a number.
 fn resume_with<'a>(held: Open<'a>, resume: u16) -> Open<'a>
     ensures { result ≡ record held.entry { resume = resume } }
@@ -236,6 +264,7 @@ fn resume_with<'a>(held: Open<'a>, resume: u16) -> Open<'a>
 }
 
 /// Goes on with the dispatch that waited.
+#[inline(never)]
 pub fn leave<'a, S: Servlet, F: Filter>(
     stage: &mut Stage<S, F>,
     frame: Frame<'a>,

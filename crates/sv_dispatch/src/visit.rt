@@ -7,7 +7,7 @@ ghost use Rattle.sv_dispatch.specs.Stages.{table_of};
 ghost use Rattle.sv_mapping.specs.declared.dispatcher.Dispatcher.TheVariants.{Request};
 
 use crate::destination::{Destination, destination_of};
-use crate::place::{Place, place_of};
+use crate::place::{Place, place_of, servlet_of};
 use crate::stage::Stage;
 use crate::view::View;
 use std::alloc::{AllocError, Global};
@@ -59,6 +59,8 @@ fn shown<'a>(
 }
 
 /// The dispatch to a target.
+// Apart, so that a request, which has none, has no room cleared for one.
+#[inline(never)]
 fn visit_at<'a, S: Servlet, F: Filter>(
     alloc: Global,
     stage: &Stage<S, F>,
@@ -82,22 +84,17 @@ fn visit_at<'a, S: Servlet, F: Filter>(
 }
 
 /// The dispatch of a request, whose path is as it came.
-fn visit_as_it_came<'a, S: Servlet, F: Filter>(
-    alloc: Global,
-    stage: &Stage<S, F>,
-    ask: Ask<'a>,
-) -> Result<Visit<'a>, AllocError>
-    ensures { IfOk result (λ v. v ≡ visit Request ask.entry.view ask.entry.path
-        (place_of (table_of S.serves S.servlet_phase F.filtering F.filter_phase stage.now).patterns ask.entry.path).servlet) }
+fn visit_as_it_came<'a, S: Servlet, F: Filter>(stage: &Stage<S, F>, ask: Ask<'a>) -> Visit<'a>
+    ensures { result ≡ visit Request ask.entry.view ask.entry.path
+        (place_of (table_of S.serves S.servlet_phase F.filtering F.filter_phase stage.now).patterns ask.entry.path).servlet }
 {
-    let place = place_of(alloc, &stage.patterns, ask.path.as_str())?;
-    let servlet = place.servlet;
-    Ok(Visit {
+    let servlet = servlet_of(&stage.patterns, ask.path.as_str());
+    Visit {
         dispatcher: Dispatcher::Request,
         view: ask.view,
         path: ask.path,
         servlet,
-    })
+    }
 }
 
 /// The dispatch that is asked for, or none where its path is refused.
@@ -110,7 +107,7 @@ pub fn visit_of<'a, S: Servlet, F: Filter>(
     ensures { IfOk result (λ visit. visit ≡ visit_of (table_of S.serves S.servlet_phase F.filtering F.filter_phase stage.now) ask.entry) }
 {
     if let Dispatcher::Request = ask.dispatcher {
-        return Ok(Some(visit_as_it_came(alloc, stage, ask)?));
+        return Ok(Some(visit_as_it_came(stage, ask)));
     }
     match destination_of(alloc, ask.view.context_path(), ask.path.as_str())? {
         Some(target) => Ok(Some(visit_at(alloc, stage, ask, target)?)),

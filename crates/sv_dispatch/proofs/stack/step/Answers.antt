@@ -1,7 +1,7 @@
 use Rattle.std.proofs.Common.{ap, arith, ◌≤◌, ◌<◌, length}
 use Rattle.std.proofs.lemmas.Result.{IfOk-weaker}
 use Rattle.sv_dispatch.specs.Stack.{need}
-use Rattle.sv_dispatch.specs.declared.mode.Mode.TheVariants.{Enter, Begin, Serve}
+use Rattle.sv_dispatch.specs.declared.mode.Mode.TheVariants.{Enter, Serve}
 use Rattle.sv_dispatch.proofs.StepLemmas.{keeps, too_deep, pushes_less, pushes_over, pushes_running_over, pops, pops_running}
 use Rattle.sv_dispatch.proofs.stack.step.Goals as goal
 
@@ -11,12 +11,7 @@ returns-then-len-ge-DEPTH-clause-whole g c = too_deep _ _ _ c.in-Enter.ask _ _ c
 pub returns-in-Enter-clause-whole : goal.returns-in-Enter-clause-whole
 returns-in-Enter-clause-whole g c =
     let h : length c.args.frames.now.items < 16 = omega (arith, c.len.ensures, c.args.frames.now.ok.0) in
-    IfOk-weaker c.enter.result _ _ (λ mode k. keeps _ _ _ (Enter c.in-Enter.ask) mode _ _ _ _ h c.in-Enter.is (λ e. k e c.args.left.now)) c.enter.ensures.current
-
-pub returns-in-Begin-clause-whole : goal.returns-in-Begin-clause-whole
-returns-in-Begin-clause-whole g c =
-    let h : length c.args.frames.now.items < 16 = omega (arith, ap need c.in-Begin.is, c.requires.running.room) in
-    IfOk-weaker c.open.result _ _ (λ mode k. keeps _ _ _ (Begin c.in-Begin.visit) mode _ _ _ _ h c.in-Begin.is (λ e. k e c.args.left.now)) c.open.ensures.current
+    IfOk-weaker c.enter.result _ _ (λ mode k. keeps _ _ _ (Enter c.in-Enter.ask) mode _ _ _ _ h c.in-Enter.is k) c.enter.ensures.current
 
 pub returns-in-Serve-clause-whole : goal.returns-in-Serve-clause-whole
 returns-in-Serve-clause-whole g c =
