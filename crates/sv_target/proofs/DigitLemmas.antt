@@ -8,7 +8,9 @@ use Rattle.std.proofs.lemmas.Option.{option_and_then_some, same_Some}
 use Rattle.hex.specs.Hex.{IsBytes, encode_lower, encode_with, lower_digits}
 use Rattle.hex.proofs.Pairs.{drop-pair}
 use Rattle.sv_target.proofs.ByteLemmas.{IsBytes-cons}
+use Rattle.std.specs.Prelude.{unwrap_or}
 use Rattle.sv_target.specs.Digits.{byte_of, bytes_of, digit_value}
+use Rattle.sv_target.specs.declared.digits.TheConstants.{VALUES}
 
 -- ---- the digits of values
 
@@ -47,6 +49,34 @@ lower_digits-digit_value : (c v : ℕ) → digit_value c ≡ Some v → (v < 16)
 lower_digits-digit_value c v value =
     let is = digit_of_value c v value in
     (is.0, lower_digits_at v is.0 ∙ is.1)
+
+-- ---- the table of values
+
+-- what the table has of a byte
+pub value_at : (b : ℕ) → b < 256 → unwrap_or (digit_value b) 16 ≡ slice_index VALUES b
+unfolding all_below
+value_at b below = eqb-true _ _ (below_all 256 (λ b. unwrap_or (digit_value b) 16 == slice_index VALUES b) b refl below)
+
+digit_of : (v : ℕ) (o : Option ℕ) → v ≡ unwrap_or o 16 → v ≤ 15 → o ≡ Some v
+digit_of v None is small = absurd (omega (arith, is))
+digit_of v (Some w) is small = ap Some (sym is)
+
+no_digit_of : (c v : ℕ) (o : Option ℕ) → digit_value c ≡ o → v ≡ unwrap_or o 16 → 15 < v → o ≡ None
+no_digit_of c v None value is large = refl
+no_digit_of c v (Some w) value is large =
+    let below = (digit_of_value c w value).0 in
+    absurd (omega (arith, is, below))
+
+pub no_byte_by_first : (high low v : ℕ) → v ≡ unwrap_or (digit_value high) 16 → 15 < v → None ≡ byte_of high low
+no_byte_by_first high low v is large = rw (no_digit_of high v (digit_value high) refl is large) refl
+
+pub no_byte_by_second : (high low v w : ℕ) → v ≡ unwrap_or (digit_value high) 16 → v ≤ 15 → w ≡ unwrap_or (digit_value low) 16 → 15 < w → None ≡ byte_of high low
+no_byte_by_second high low v w first small second large =
+    rw (digit_of v (digit_value high) first small, no_digit_of low w (digit_value low) refl second large) refl
+
+pub byte_by_values : (high low v w : ℕ) → v ≡ unwrap_or (digit_value high) 16 → v ≤ 15 → w ≡ unwrap_or (digit_value low) 16 → w ≤ 15 → Some (v * 16 + w) ≡ byte_of high low
+byte_by_values high low v w first small second smaller =
+    rw (digit_of v (digit_value high) first small, digit_of w (digit_value low) second smaller) refl
 
 -- ---- what is spelled is read back
 

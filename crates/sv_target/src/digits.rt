@@ -1,27 +1,46 @@
 //! The bytes of a session's cookie, in digits of `0-9a-f`, two each.
 
-ghost use Rattle.std.specs.Prelude.{◌≡◌};
+ghost use Rattle.std.specs.Prelude.{◌≡◌, unwrap_or};
 ghost use Rattle.sv_target.specs.Digits as spec;
 
 /// The bytes that a session's cookie spells.
 pub const BYTES: usize = 26;
 
-/// The value of a digit. One in upper case is none.
-fn digit_value(byte: u8) -> Option<u8>
-    ensures { result ≡ spec.digit_value byte }
+/// The value of each byte as a digit, and 16 of one that is none, as a digit in upper case.
+static VALUES: [u8; 256] = [
+    16, 16, 16, 16, 16, 16, 16, 16, 16, 16, 16, 16, 16, 16, 16, 16, 16, 16, 16, 16, 16, 16, 16, 16,
+    16, 16, 16, 16, 16, 16, 16, 16, 16, 16, 16, 16, 16, 16, 16, 16, 16, 16, 16, 16, 16, 16, 16, 16,
+    0, 1, 2, 3, 4, 5, 6, 7, 8, 9, 16, 16, 16, 16, 16, 16, 16, 16, 16, 16, 16, 16, 16, 16, 16, 16,
+    16, 16, 16, 16, 16, 16, 16, 16, 16, 16, 16, 16, 16, 16, 16, 16, 16, 16, 16, 16, 16, 16, 16, 10,
+    11, 12, 13, 14, 15, 16, 16, 16, 16, 16, 16, 16, 16, 16, 16, 16, 16, 16, 16, 16, 16, 16, 16, 16,
+    16, 16, 16, 16, 16, 16, 16, 16, 16, 16, 16, 16, 16, 16, 16, 16, 16, 16, 16, 16, 16, 16, 16, 16,
+    16, 16, 16, 16, 16, 16, 16, 16, 16, 16, 16, 16, 16, 16, 16, 16, 16, 16, 16, 16, 16, 16, 16, 16,
+    16, 16, 16, 16, 16, 16, 16, 16, 16, 16, 16, 16, 16, 16, 16, 16, 16, 16, 16, 16, 16, 16, 16, 16,
+    16, 16, 16, 16, 16, 16, 16, 16, 16, 16, 16, 16, 16, 16, 16, 16, 16, 16, 16, 16, 16, 16, 16, 16,
+    16, 16, 16, 16, 16, 16, 16, 16, 16, 16, 16, 16, 16, 16, 16, 16, 16, 16, 16, 16, 16, 16, 16, 16,
+    16, 16, 16, 16, 16, 16, 16, 16, 16, 16, 16, 16, 16, 16,
+];
+
+/// The value of a digit, and 16 of what is none.
+fn value_of(byte: u8) -> u8
+    ensures { result ≡ unwrap_or (spec.digit_value byte) 16 }
 {
-    match byte {
-        b'0'..=b'9' => Some(byte - b'0'),
-        b'a'..=b'f' => Some(byte - b'a' + 10),
-        _ => None,
-    }
+    VALUES[byte as usize]
 }
 
 /// The byte of two digits.
 fn byte_of(high: u8, low: u8) -> Option<u8>
     ensures { result ≡ spec.byte_of high low }
 {
-    Some(digit_value(high)? * 16 + digit_value(low)?)
+    let first = value_of(high);
+    let second = value_of(low);
+    if first > 15 {
+        return None;
+    }
+    if second > 15 {
+        return None;
+    }
+    Some(first * 16 + second)
 }
 
 /// The bytes that 52 digits spell; none of any other text.
