@@ -1,7 +1,7 @@
 pub mod ByteLemmas
 mod CookieLemmas
 pub mod CookieStringLemmas
-pub mod DigitLemmas
+mod DigitLemmas
 pub mod NamedLemmas
 mod OriginLemmas
 mod PathLemmas

@@ -1,7 +1,7 @@
 -- A path whose segments stand for themselves is its own canonical one.
-use Rattle.std.proofs.Common.{refl, sym, ◌∙◌, ap, ◌≡◌, ℕ, zero, suc, ◌-◌, ◌<◌, List, [], ◌∷◌, ◌++◌, length, map, take, Option, Some, true, false, inl, inr, arith}
-use Rattle.std.specs.Prelude.{Bool, ◌&&◌, ◌||◌, ◌==◌, bytes_eq, codes, not, nat_lt, fold, slice_index, slice_index_or}
-use Rattle.std.specs.List.{before_first, flat_map, position_or_len, list_all, list_any, onto_first, slice_split}
+use Rattle.std.proofs.Common.{refl, sym, ◌∙◌, ap, ◌≡◌, ℕ, zero, suc, List, [], ◌∷◌, ◌++◌, length, map, take, Some, true, false, inl, inr, arith}
+use Rattle.std.specs.Prelude.{Bool, ◌&&◌, ◌||◌, ◌==◌, bytes_eq, codes, not, nat_lt, fold}
+use Rattle.std.specs.List.{position_or_len, list_all, list_any, onto_first, slice_split}
 use Rattle.std.specs.Str.{IsAscii}
 use native.Mathlib.Numerals.{unary_clauses}
 use Rattle.std.proofs.lemmas.Bool.{cases_Bool, eqb-true, lt-ltb, ltb-true}
