@@ -15,11 +15,11 @@ use Rattle.sv_target.specs.declared.digits.TheConstants.{VALUES}
 -- ---- the digits of values
 
 -- a test of the numbers below n, which computes
-all_below : ℕ → (ℕ → Bool) → Bool
+unfoldable pub all_below : ℕ → (ℕ → Bool) → Bool
 all_below zero test = true
 all_below (suc n) test = test n && all_below n test
 
-below_all : (n : ℕ) (test : ℕ → Bool) (k : ℕ) → all_below n test ≡ true → k < n → test k ≡ true
+pub below_all : (n : ℕ) (test : ℕ → Bool) (k : ℕ) → all_below n test ≡ true → k < n → test k ≡ true
 unfolding all_below
 below_all zero test k all below = absurd (omega arith)
 below_all (suc n) test k all below =

@@ -1,5 +1,6 @@
 pub mod ByteLemmas
 mod CookieLemmas
+mod CommonLemmas
 pub mod CookieStringLemmas
 mod DigitLemmas
 pub mod NamedLemmas

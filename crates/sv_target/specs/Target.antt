@@ -1,14 +1,15 @@
 -- Targets of requests (RFC 9112, section 3.2; RFC 3986, section 3), in the words of the crate `http_uri`.
-use Rattle.std.specs.Prelude.{◌≡◌, ℕ, ◌⊎◌, Bool, true, false, ◌||◌, ◌&&◌, ◌==◌, nat_le, List, ◌∷◌}
+use Rattle.std.specs.Prelude.{◌≡◌, ℕ, ◌≤◌, ◌⊎◌, Bool, true, false, ◌||◌, ◌&&◌, ◌==◌, nat_le, nat_lt, List, ◌∷◌}
 use Rattle.std.specs.Prelude.{IsUtf8, length, take, codes, bytes_eq, if◌then◌else◌, Option, Some, None, is_none, option_map}
 use Rattle.std.specs.Option.{option_map_or}
-use Rattle.std.specs.List.{list_any, list_all}
+use Rattle.std.specs.Char.{is_ascii_alphanumeric}
+use Rattle.std.specs.List.{list_any, list_all, slice_split}
 use Rattle.http_uri.specs.Uri.{Spells, SpellsNone, uri_scheme, uri_authority, uri_path, uri_query}
 use Rattle.http_uri.specs.Grammar.{path_of, query_of}
 use Rattle.http_uri.specs.ByteClasses.{is_path_byte, is_query_byte, split_once_front, question_mark}
 use Rattle.http_uri.specs.declared.uri.Uri.{Uri}
 use Rattle.sv_target.specs.declared.target.Target.{Target}
-use Rattle.sv_target.specs.Path.{canonical_path}
+use Rattle.sv_target.specs.Path.{canonical_path, is_plain_segment, is_slash}
 
 -- `#` or a backslash, which no target has
 abbrev pub is_refused_byte : ℕ → Bool
@@ -58,6 +59,20 @@ unfoldable pub target_within : List ℕ → Option Target
 target_within text =
     if list_any is_refused_byte text then None
     else (if is_origin_form text then target_at (path_of text) (query_of text) else None)
+
+-- ---- the targets of most requests
+
+-- letters, digits, `-`, `.`, `_`, `~` and `/`
+abbrev pub is_common_byte : ℕ → Bool
+is_common_byte b = nat_lt b 128 && (is_ascii_alphanumeric b || (b == 45 || (b == 46 || (b == 95 || (b == 126 || b == 47)))))
+
+-- a path without a query, of such bytes, which is its own canonical one
+pub record IsCommon (text : List ℕ) : Type 0 where
+  pub rest : List ℕ
+  pub rooted : text ≡ 47 ∷ rest
+  pub short : length text ≤ 65534
+  pub segments : list_all is_plain_segment (slice_split is_slash rest) ≡ true
+  pub bytes : list_all is_common_byte rest ≡ true
 
 -- ---- the laws
 

@@ -1,18 +1,21 @@
 //! The target of a request (RFC 9112, section 3.2), and a path within a context.
 
-ghost use Rattle.std.specs.Prelude.{◌≡◌, ◌⊎◌, ◌↔◌, Some, None, codes, option_map, true, false, IfOk, IsErrOf};
-ghost use Rattle.std.specs.List.{list_any};
+ghost use Rattle.std.specs.Prelude.{◌≡◌, ◌⊎◌, ◌↔◌, Some, None, codes, option_map, true, false, IfOk, IsErrOf, IsTrue};
+ghost use Rattle.std.specs.List.{list_all, list_any};
 ghost use Rattle.http_uri.specs.declared.uri.Uri.{Uri as UriValue};
 ghost use Rattle.http_uri.specs.Uri.{Spells, SpellsNone, uri_authority, uri_path, uri_query, uri_scheme};
 ghost use Rattle.sv_target.specs.Target as spec;
-ghost use Rattle.sv_target.specs.Target.{IsBadTarget, IsTarget};
+ghost use Rattle.sv_target.specs.Target.{IsBadTarget, IsCommon, IsTarget};
 
 use crate::fault::TargetFault;
-use crate::path::canonical_path;
+use crate::path::{canonical_path, is_plain};
 use http::Method;
 use http_uri::{Uri, UriError};
 use std::alloc::{AllocError, Global};
 use sv_model::Text;
+
+/// The bytes of a target, at most, as `http_uri` reads them.
+const TARGET_LIMIT: usize = 65_534;
 
 /// What a target names.
 #[derive(Drop)]
@@ -98,12 +101,54 @@ fn read_form(alloc: Global, raw: &str) -> Result<Target, TargetFault>
     }
 }
 
+fn is_common_byte(byte: u8) -> bool
+    ensures { result ≡ spec.is_common_byte byte }
+{
+    byte < 128
+        && (byte.is_ascii_alphanumeric()
+            || (byte == b'-' || (byte == b'.' || (byte == b'_' || (byte == b'~' || byte == b'/')))))
+}
+
+fn has_common_bytes(text: &[u8]) -> bool
+    ensures { result ≡ list_all spec.is_common_byte text.now }
+{
+    text.iter().all(|byte| is_common_byte(*byte))
+}
+
+/// Whether a text is the target of most requests: a path without a query that stands for itself.
+fn is_common(raw: &str) -> bool
+    ensures { IsTrue result → IsCommon raw.now }
+{
+    if raw.len() > TARGET_LIMIT {
+        return false;
+    }
+    match raw.strip_prefix('/') {
+        Some(rest) => has_common_bytes(rest.as_bytes()) && is_plain(rest),
+        None => false,
+    }
+}
+
+/// The target that such a text is.
+fn common_target(alloc: Global, raw: &str) -> Result<Target, AllocError>
+    requires { IsCommon raw.now }
+    ensures { IfOk result (IsTarget raw.now) }
+{
+    Ok(Target {
+        raw_path: Text::from_str(alloc, raw)?,
+        path: Text::from_str(alloc, raw)?,
+        query: None,
+    })
+}
+
 /// The target that a text is.
 fn read_target(alloc: Global, raw: &str) -> Result<Target, TargetFault>
     ensures ok { IfOk result (IsTarget raw.now) }
     ensures bad { IsErrOf result TargetFault.BadTarget → IsBadTarget raw.now }
     ensures other { IsErrOf result TargetFault.Connect → ⊥ }
 {
+    if is_common(raw) {
+        return Ok(common_target(alloc, raw)?);
+    }
     if has_refused_byte(raw) {
         return Err(TargetFault::BadTarget);
     }
