@@ -1,12 +1,13 @@
 -- The target of most requests.
-use Rattle.std.proofs.Common.{refl, sym, ◌∙◌, ap, subst, ◌≡◌, ℕ, ◌<◌, ◌≤◌, List, [], ◌∷◌, length, take, Some, None, true, false, inl, inr, arith}
-use Rattle.std.specs.Prelude.{Bool, ◌&&◌, ◌||◌, ◌==◌, IsUtf8, not, nat_le, nat_lt}
+use Rattle.std.proofs.Common.{refl, sym, ◌∙◌, ap, subst, ◌≡◌, ℕ, ◌<◌, ◌≤◌, List, [], ◌∷◌, get_or, length, take, Some, None, true, false, inl, inr, arith}
+use Rattle.std.specs.Prelude.{Bool, ◌&&◌, ◌||◌, ◌==◌, IsUtf8, not, nat_le, nat_lt, if◌then◌else◌}
 use Rattle.std.specs.List.{list_all, list_any}
 use Rattle.std.proofs.Math.Seq.{take-length}
 use Rattle.std.proofs.lemmas.Bool.{and_parts, cases_Bool, eqb-true, le-leb, le-ltb, ltb-true}
 use Rattle.http_uri.specs.ByteClasses.{index_of, is_path_byte}
 use Rattle.http_uri.specs.Grammar.{query_of}
 use Rattle.sv_target.specs.declared.target.Target.{Target}
+use Rattle.sv_target.specs.declared.target.TheConstants.{COMMON_BYTES}
 use Rattle.sv_target.specs.Path.{canonical_path}
 use Rattle.sv_target.specs.Target.{IsCommon, IsTarget, is_common_byte, is_origin_form, is_refused_byte, target_at, target_within}
 use Rattle.sv_target.proofs.DigitLemmas.{all_below, below_all}
@@ -85,3 +86,18 @@ common_is_target text utf8 is =
     let short : length (47 ∷ is.rest) ≤ 65534 = subst (λ (t : List ℕ). length t ≤ 65534) is.rooted is.short in
     let found = found_within is.rest short is.bytes (canonical_plain is.rest is.segments) in
     subst (λ (t : List ℕ). IsTarget t (common t)) (sym is.rooted) ((read_within is.rest at).2 (common (47 ∷ is.rest)) found)
+
+-- ---- the table of such bytes
+
+abbrev same : Bool → Bool → Bool
+same a b = if a then b else not b
+
+same_bools : (a b : Bool) → same a b ≡ true → a ≡ b
+same_bools true true is = refl
+same_bools true false is = cc
+same_bools false true is = cc
+same_bools false false is = refl
+
+pub common_byte_at : (b : ℕ) → b < 256 → get_or COMMON_BYTES b false ≡ is_common_byte b
+unfolding all_below
+common_byte_at b below = same_bools _ _ (below_all 256 (λ b. same (get_or COMMON_BYTES b false) (is_common_byte b)) b refl below)

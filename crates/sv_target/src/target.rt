@@ -101,12 +101,33 @@ fn read_form(alloc: Global, raw: &str) -> Result<Target, TargetFault>
     }
 }
 
+/// Whether each byte is a letter, a digit, or one of `-._~/`.
+static COMMON_BYTES: [bool; 256] = [
+    false, false, false, false, false, false, false, false, false, false, false, false, false,
+    false, false, false, false, false, false, false, false, false, false, false, false, false,
+    false, false, false, false, false, false, false, false, false, false, false, false, false,
+    false, false, false, false, false, false, true, true, true, true, true, true, true, true, true,
+    true, true, true, true, false, false, false, false, false, false, false, true, true, true,
+    true, true, true, true, true, true, true, true, true, true, true, true, true, true, true, true,
+    true, true, true, true, true, true, true, false, false, false, false, true, false, true, true,
+    true, true, true, true, true, true, true, true, true, true, true, true, true, true, true, true,
+    true, true, true, true, true, true, true, true, false, false, false, true, false, false, false,
+    false, false, false, false, false, false, false, false, false, false, false, false, false,
+    false, false, false, false, false, false, false, false, false, false, false, false, false,
+    false, false, false, false, false, false, false, false, false, false, false, false, false,
+    false, false, false, false, false, false, false, false, false, false, false, false, false,
+    false, false, false, false, false, false, false, false, false, false, false, false, false,
+    false, false, false, false, false, false, false, false, false, false, false, false, false,
+    false, false, false, false, false, false, false, false, false, false, false, false, false,
+    false, false, false, false, false, false, false, false, false, false, false, false, false,
+    false, false, false, false, false, false, false, false, false, false, false, false, false,
+    false, false, false, false, false, false, false, false, false,
+];
+
 fn is_common_byte(byte: u8) -> bool
     ensures { result ≡ spec.is_common_byte byte }
 {
-    byte < 128
-        && (byte.is_ascii_alphanumeric()
-            || (byte == b'-' || (byte == b'.' || (byte == b'_' || (byte == b'~' || byte == b'/')))))
+    COMMON_BYTES[byte as usize]
 }
 
 fn has_common_bytes(text: &[u8]) -> bool
