@@ -1,7 +1,7 @@
 -- What is told on a connection, as what happens on it.
 use Rattle.std.proofs.Common.{◌≡◌, ◌⊎◌, ◌∷◌, ℕ, Bool, false, List, [], Option, Some, None, inl, inr, refl, ap, sym, ◌∙◌, subst}
 use Rattle.std.specs.Prelude.{IfSome, slice_get}
-use Rattle.sv_connection.specs.Serve.{memory_lines}
+use Rattle.sv_connection.specs.Speak.{memory_lines}
 use Rattle.sv_host.specs.Stories.{AllGoOn, CarryOn, GoesBack, HasStory, Says as SaysDeed, Parts as PartsDeed}
 use Rattle.sv_host.proofs.StoryLemmas.{all_at, all_places, all_same, back_begins, back_same, carry, has_one, rests}
 use Rattle.sv_model.specs.declared.response.Response.{Response}
