@@ -16,29 +16,29 @@ use Rattle.sv_config.specs.declared.place.TablePlace.{TablePlace}
 use Rattle.sv_config.specs.declared.place.TablePlace.TheVariants.{Document, OfNodes, OfContext, Within, Single}
 use Rattle.sv_config.specs.declared.place.Found.{Found}
 use Rattle.sv_config.specs.declared.place.Found.TheVariants.{Nothing, Words, Number, Count}
-use Rattle.sv_config.specs.declared.place.Place.{Place}
+use Rattle.sv_config.specs.declared.place.FaultPlace.{FaultPlace}
 use Rattle.sv_config.specs.declared.placed.Placed.{Placed}
 
 -- what stands at a place: nothing that is shown, a text, an integer, or so many
-pub data Shown : Type 0 where
-  nothing : Shown
-  words : Text → Shown
-  number : ℤ → Shown
-  count : ℕ → Shown
+pub data ShownValue : Type 0 where
+  nothing : ShownValue
+  words : Text → ShownValue
+  number : ℤ → ShownValue
+  count : ℕ → ShownValue
 
 -- a place: the field of a table, and the member of its array
 pub record Spot : Type 0 where
   pub table : TablePlace
   pub key : Text
   pub index : Option ℕ
-  pub shown : Shown
+  pub shown : ShownValue
 
-abbrev pub shown_in : Data → Shown
+abbrev pub shown_in : Data → ShownValue
 shown_in (string text) = words text
 shown_in (integer z) = number z
 shown_in _ = nothing
 
-abbrev pub shown_at : Text → Members → Shown
+abbrev pub shown_at : Text → Members → ShownValue
 shown_at key t = option_map_or shown_in (get_member key t) nothing
 
 -- the kind of the table at a place
@@ -143,13 +143,13 @@ is_some_place (spot ∷ spots) = true
 
 -- ---- places and tables of the code
 
-abbrev pub shown : Found → Shown
+abbrev pub shown : Found → ShownValue
 shown Nothing = nothing
 shown (Words text) = words text.now
 shown (Number z) = number z
 shown (Count n) = count n
 
-abbrev pub spot : Place → Spot
+abbrev pub spot : FaultPlace → Spot
 spot p = record { table = p.table; key = p.key.now; index = p.index; shown = shown p.found }
 
 abbrev pub placed : Placed → PlacedTable

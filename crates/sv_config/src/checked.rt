@@ -8,7 +8,7 @@ ghost use Rattle.sv_config.specs.Place.{spot};
 
 use crate::fault::ConfigFault;
 use crate::least::least_fault;
-use crate::place::Place;
+use crate::place::FaultPlace;
 use std::alloc::{AllocError, Global};
 use thiserror::Error;
 use toml::Table;
@@ -34,7 +34,7 @@ pub enum NotRead {
 #[derive(Debug, Drop)]
 pub struct Faulty<'a> {
     pub fault: ConfigFault,
-    pub places: Vec<Place<'a>>,
+    pub places: Vec<FaultPlace<'a>>,
 }
 
 impl Document {

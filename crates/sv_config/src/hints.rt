@@ -1,10 +1,10 @@
 //! What to write in the place of what is at fault.
 
 use crate::fault::ConfigFault;
-use crate::place::{Place, TablePlace, kind_of};
+use crate::place::{FaultPlace, TablePlace, kind_of};
 use crate::rules::TableKind;
 
-impl Place<'_> {
+impl FaultPlace<'_> {
     /// What the fault asks for at this place.
     pub fn hint(&self, fault: ConfigFault) -> &'static str {
         let kind = kind_of(self.table);
@@ -48,7 +48,7 @@ fn path_of(kind: TableKind) -> &'static str {
     }
 }
 
-fn wrong_kind(place: &Place<'_>) -> &'static str {
+fn wrong_kind(place: &FaultPlace<'_>) -> &'static str {
     if place.index.is_some() {
         return member_kind(place.key);
     }
@@ -77,7 +77,7 @@ fn member_kind(key: &str) -> &'static str {
 }
 
 /// A filter mapping names its filter and its servlet; a context lists them.
-fn text_or_tables(place: &Place<'_>) -> &'static str {
+fn text_or_tables(place: &FaultPlace<'_>) -> &'static str {
     match place.table {
         TablePlace::Document => "an array of tables",
         TablePlace::OfContext(_) => match place.key {
@@ -146,7 +146,7 @@ fn repeated(kind: TableKind, key: &str) -> &'static str {
     }
 }
 
-fn limit(kind: TableKind, place: &Place<'_>) -> &'static str {
+fn limit(kind: TableKind, place: &FaultPlace<'_>) -> &'static str {
     if kind == TableKind::Settings {
         return "at most 64 settings, with names of 1 to 128 bytes and texts of at most 8192";
     }

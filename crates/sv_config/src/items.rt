@@ -9,7 +9,7 @@ ghost use Rattle.sv_config.specs.Repeats as spec;
 
 use crate::document::{has_neither, integer_at, text_at, values_at};
 use crate::members::add_table;
-use crate::place::{Found, Place, TablePlace, inner_place};
+use crate::place::{FaultPlace, Found, TablePlace, inner_place};
 use crate::placed::{Placed, children};
 use crate::rules::TableKind;
 use std::alloc::{AllocError, Global};
@@ -22,7 +22,7 @@ pub(crate) fn text_items<'a>(
     kind: TableKind,
     array: &str,
     key: &'a str,
-) -> Result<Vec<(&'a str, Place<'a>)>, AllocError>
+) -> Result<Vec<(&'a str, FaultPlace<'a>)>, AllocError>
     ensures { IfOk result (λ items. map (λ i. (i.0.now, spot i.1)) items.items ≡ spec.text_items kind array.now key.now (placed at.entry)) }
 {
     let tables = children(alloc, at.table, array)?;
@@ -35,13 +35,13 @@ fn texts_of<'a>(
     kind: TableKind,
     key: &'a str,
     tables: &[(usize, &'a Table)],
-) -> Result<Vec<(&'a str, Place<'a>)>, AllocError>
+) -> Result<Vec<(&'a str, FaultPlace<'a>)>, AllocError>
     ensures { IfOk result (λ items. map (λ i. (i.0.now, spot i.1)) items.items ≡ flat_map (spec.text_item place kind key.now) (map child tables.now)) }
 {
     let mut items = Vec::new(alloc);
     for (index, table) in tables {
         if let Some(text) = text_at(table, key) {
-            let place = Place {
+            let place = FaultPlace {
                 table: inner_place(place, kind, *index),
                 key,
                 index: None,
@@ -60,7 +60,7 @@ pub(crate) fn integer_items<'a>(
     kind: TableKind,
     array: &str,
     key: &'a str,
-) -> Result<Vec<(i64, Place<'a>)>, AllocError>
+) -> Result<Vec<(i64, FaultPlace<'a>)>, AllocError>
     ensures { IfOk result (λ items. map (λ i. (i.0, spot i.1)) items.items ≡ spec.integer_items kind array.now key.now (placed at.entry)) }
 {
     let tables = children(alloc, at.table, array)?;
@@ -73,13 +73,13 @@ fn integers_of<'a>(
     kind: TableKind,
     key: &'a str,
     tables: &[(usize, &'a Table)],
-) -> Result<Vec<(i64, Place<'a>)>, AllocError>
+) -> Result<Vec<(i64, FaultPlace<'a>)>, AllocError>
     ensures { IfOk result (λ items. map (λ i. (i.0, spot i.1)) items.items ≡ flat_map (spec.integer_item place kind key.now) (map child tables.now)) }
 {
     let mut items = Vec::new(alloc);
     for (index, table) in tables {
         if let Some(integer) = integer_at(table, key) {
-            let place = Place {
+            let place = FaultPlace {
                 table: inner_place(place, kind, *index),
                 key,
                 index: None,
@@ -95,13 +95,13 @@ fn integers_of<'a>(
 pub(crate) fn port_items<'a>(
     alloc: Global,
     at: Placed<'a>,
-) -> Result<Vec<(i64, Place<'a>)>, AllocError>
+) -> Result<Vec<(i64, FaultPlace<'a>)>, AllocError>
     ensures { IfOk result (λ items. map (λ i. (i.0, spot i.1)) items.items ≡ spec.port_items (placed at.entry)) }
 {
     let mut items = Vec::new(alloc);
     for (index, value) in values_at(at.table, "ports").iter().enumerate() {
         if let Some(port) = value.as_integer() {
-            let place = Place {
+            let place = FaultPlace {
                 table: at.place,
                 key: "ports",
                 index: Some(index),
@@ -117,7 +117,7 @@ pub(crate) fn port_items<'a>(
 pub(crate) fn pattern_items<'a>(
     alloc: Global,
     at: Placed<'a>,
-) -> Result<Vec<(&'a str, Place<'a>)>, AllocError>
+) -> Result<Vec<(&'a str, FaultPlace<'a>)>, AllocError>
     ensures { IfOk result (λ items. map (λ i. (i.0.now, spot i.1)) items.items ≡ spec.pattern_items (placed at.entry)) }
 {
     let mut items = servlet_patterns(alloc, at)?;
@@ -129,7 +129,7 @@ pub(crate) fn pattern_items<'a>(
 fn servlet_patterns<'a>(
     alloc: Global,
     at: Placed<'a>,
-) -> Result<Vec<(&'a str, Place<'a>)>, AllocError>
+) -> Result<Vec<(&'a str, FaultPlace<'a>)>, AllocError>
     ensures { IfOk result (λ items. map (λ i. (i.0.now, spot i.1)) items.items ≡ spec.servlet_patterns (placed at.entry)) }
 {
     let servlets = children(alloc, at.table, "servlet")?;
@@ -140,7 +140,7 @@ fn patterns_of<'a>(
     alloc: Global,
     place: TablePlace,
     servlets: &[(usize, &'a Table)],
-) -> Result<Vec<(&'a str, Place<'a>)>, AllocError>
+) -> Result<Vec<(&'a str, FaultPlace<'a>)>, AllocError>
     ensures { IfOk result (λ items. map (λ i. (i.0.now, spot i.1)) items.items ≡ flat_map (spec.patterns_in place) (map child servlets.now)) }
 {
     let mut items = Vec::new(alloc);
@@ -152,7 +152,7 @@ fn patterns_of<'a>(
 }
 
 fn add_patterns<'a>(
-    items: &mut Vec<(&'a str, Place<'a>)>,
+    items: &mut Vec<(&'a str, FaultPlace<'a>)>,
     place: TablePlace,
     servlet: &'a Table,
 ) -> Result<(), AllocError>
@@ -161,7 +161,7 @@ fn add_patterns<'a>(
 {
     for (index, value) in values_at(servlet, "patterns").iter().enumerate() {
         if let Some(text) = value.as_str() {
-            let place = Place {
+            let place = FaultPlace {
                 table: place,
                 key: "patterns",
                 index: Some(index),
@@ -174,7 +174,10 @@ fn add_patterns<'a>(
 }
 
 /// The error pages of a context that are for all else.
-pub(crate) fn default_pages<'a>(alloc: Global, at: Placed<'a>) -> Result<Vec<Place<'a>>, AllocError>
+pub(crate) fn default_pages<'a>(
+    alloc: Global,
+    at: Placed<'a>,
+) -> Result<Vec<FaultPlace<'a>>, AllocError>
     ensures { IfOk result (λ pages. map spot pages.items ≡ spec.default_pages (placed at.entry)) }
 {
     let tables = children(alloc, at.table, "error-page")?;
@@ -185,7 +188,7 @@ fn defaults_of<'a>(
     alloc: Global,
     place: TablePlace,
     tables: &[(usize, &'a Table)],
-) -> Result<Vec<Place<'a>>, AllocError>
+) -> Result<Vec<FaultPlace<'a>>, AllocError>
     ensures { IfOk result (λ pages. map spot pages.items ≡ flat_map (spec.default_page place) (map child tables.now)) }
 {
     let mut pages = Vec::new(alloc);

@@ -7,7 +7,7 @@ ghost use Rattle.sv_config.specs.Keys as spec;
 ghost use Rattle.sv_config.specs.Place.{spot, placed, keys_where};
 ghost use Rattle.sv_config.specs.Rules.{rule_of};
 
-use crate::place::{Found, Place};
+use crate::place::{FaultPlace, Found};
 use crate::placed::Placed;
 use crate::rules::{FieldRule, TableKind, has_free_keys, rules};
 use crate::settings::is_bad_setting;
@@ -57,7 +57,7 @@ fn has_key(rules: &[FieldRule], key: &str) -> bool
 
 /// Adds each key of a table with which this is wrong.
 pub(crate) fn add_odd_keys<'a>(
-    places: &mut Vec<Place<'a>>,
+    places: &mut Vec<FaultPlace<'a>>,
     odd: OddKey,
     at: Placed<'a>,
 ) -> Result<(), AllocError>
@@ -66,7 +66,7 @@ pub(crate) fn add_odd_keys<'a>(
 {
     for (key, value) in at.table.iter() {
         if is_odd(odd, key, value) {
-            places.push(Place {
+            places.push(FaultPlace {
                 table: at.place,
                 key: key.as_str(),
                 index: None,

@@ -10,7 +10,7 @@ ghost use Rattle.sv_config.specs.Rules.{rule_of};
 use crate::document::member;
 use crate::keys::{OddKey, add_odd_keys};
 use crate::members::{Unfit, add_field, add_members};
-use crate::place::{Place, kind_of};
+use crate::place::{FaultPlace, kind_of};
 use crate::placed::Placed;
 use crate::rules::{FieldKind, FieldRule, has_free_keys, rules};
 use std::alloc::AllocError;
@@ -18,7 +18,7 @@ use toml::{Table, Value};
 
 /// Adds each field of another kind, of an array each member of another kind, and each setting that is no text.
 pub(crate) fn add_mistyped<'a>(
-    places: &mut Vec<Place<'a>>,
+    places: &mut Vec<FaultPlace<'a>>,
     at: Placed<'a>,
 ) -> Result<(), AllocError>
     ensures { OnOk result (map spot places.new.items ≡ map spot places.old.items ++ spec.mistyped_in (placed at.entry)) }
@@ -32,7 +32,7 @@ pub(crate) fn add_mistyped<'a>(
 }
 
 fn add_misfits<'a>(
-    places: &mut Vec<Place<'a>>,
+    places: &mut Vec<FaultPlace<'a>>,
     at: Placed<'a>,
     rules: &[FieldRule],
 ) -> Result<(), AllocError>
@@ -45,7 +45,7 @@ fn add_misfits<'a>(
 }
 
 fn add_misfit<'a>(
-    places: &mut Vec<Place<'a>>,
+    places: &mut Vec<FaultPlace<'a>>,
     at: Placed<'a>,
     rule: &FieldRule,
 ) -> Result<(), AllocError>

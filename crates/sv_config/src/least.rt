@@ -11,7 +11,7 @@ use crate::kinds::add_mistyped;
 use crate::limits::add_exceeding;
 use crate::missing::add_missing;
 use crate::misspelled::add_misspelled;
-use crate::place::Place;
+use crate::place::FaultPlace;
 use crate::placed::{Placed, placed_tables};
 use crate::repeats::add_repeated;
 use crate::unknown::add_unknown;
@@ -66,7 +66,7 @@ fn places_among<'a>(
     alloc: Global,
     tables: &[Placed<'a>],
     fault: ConfigFault,
-) -> Result<Vec<Place<'a>>, AllocError>
+) -> Result<Vec<FaultPlace<'a>>, AllocError>
     ensures { IfOk result (λ places. map spot places.items ≡ spec.places_among (map placed tables.now) fault) }
 {
     let mut places = Vec::new(alloc);
@@ -79,7 +79,7 @@ fn places_among<'a>(
 /// Adds the places in a table.
 fn add_places<'a>(
     alloc: Global,
-    places: &mut Vec<Place<'a>>,
+    places: &mut Vec<FaultPlace<'a>>,
     at: Placed<'a>,
     fault: ConfigFault,
 ) -> Result<(), AllocError>

@@ -44,6 +44,6 @@ pub use cookie::{CookieConfig, SameSite};
 pub use deployment::{Cluster, Context, Deployment, ErrorPage, Once, PageFor};
 pub use fault::ConfigFault;
 pub use files::{FileMapping, FileSource};
-pub use place::{Found, Place, TablePlace};
+pub use place::{FaultPlace, Found, TablePlace};
 pub use rules::TableKind;
 pub use settings::Setting;

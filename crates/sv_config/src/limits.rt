@@ -10,7 +10,7 @@ use crate::columns::all_patterns;
 use crate::document::{integer_at, is_empty_at, text_at, values_at};
 use crate::keys::{OddKey, add_odd_keys};
 use crate::members::{Unfit, add_count, add_field, add_members};
-use crate::place::{Place, kind_of};
+use crate::place::{FaultPlace, kind_of};
 use crate::placed::Placed;
 use crate::rules::TableKind;
 use crate::settings::{count_settings, has_too_many_settings};
@@ -44,7 +44,7 @@ const MAX_NAME_BYTES: usize = 64;
 /// Adds each array, number and name of a table that passes its limit.
 pub(crate) fn add_exceeding<'a>(
     alloc: Global,
-    places: &mut Vec<Place<'a>>,
+    places: &mut Vec<FaultPlace<'a>>,
     at: Placed<'a>,
 ) -> Result<(), AllocError>
     ensures { OnOk result (map spot places.new.items ≡ map spot places.old.items ++ spec.exceeding_in (kind_of at.entry.place) (placed at.entry)) }
@@ -68,7 +68,7 @@ pub(crate) fn add_exceeding<'a>(
     }
 }
 
-fn add_in_settings<'a>(places: &mut Vec<Place<'a>>, at: Placed<'a>) -> Result<(), AllocError>
+fn add_in_settings<'a>(places: &mut Vec<FaultPlace<'a>>, at: Placed<'a>) -> Result<(), AllocError>
     ensures { OnOk result (map spot places.new.items ≡ map spot places.old.items ++ spec.exceeding_in TableKind.Settings (placed at.entry)) }
 {
     let is_over = has_too_many_settings(at.table);
@@ -76,7 +76,7 @@ fn add_in_settings<'a>(places: &mut Vec<Place<'a>>, at: Placed<'a>) -> Result<()
     add_odd_keys(places, OddKey::BadSetting, at)
 }
 
-fn add_in_once<'a>(places: &mut Vec<Place<'a>>, at: Placed<'a>) -> Result<(), AllocError>
+fn add_in_once<'a>(places: &mut Vec<FaultPlace<'a>>, at: Placed<'a>) -> Result<(), AllocError>
     ensures { OnOk result (map spot places.new.items ≡ map spot places.old.items ++ spec.exceeding_in TableKind.Once (placed at.entry)) }
 {
     add_field(
@@ -94,7 +94,7 @@ fn add_in_once<'a>(places: &mut Vec<Place<'a>>, at: Placed<'a>) -> Result<(), Al
 }
 
 #[tactic(auto, unfolding(crate::specs::Limits::exceeding_in_cluster))]
-fn add_in_cluster<'a>(places: &mut Vec<Place<'a>>, at: Placed<'a>) -> Result<(), AllocError>
+fn add_in_cluster<'a>(places: &mut Vec<FaultPlace<'a>>, at: Placed<'a>) -> Result<(), AllocError>
     ensures { OnOk result (map spot places.new.items ≡ map spot places.old.items ++ spec.exceeding_in_cluster (placed at.entry)) }
 {
     let is_miscounted = is_empty_at(at.table, "ports") || has_over(at.table, "ports", MAX_NODES);
@@ -117,7 +117,7 @@ fn add_in_cluster<'a>(places: &mut Vec<Place<'a>>, at: Placed<'a>) -> Result<(),
 #[tactic(auto, unfolding(crate::specs::Limits::exceeding_in_context))]
 fn add_in_context<'a>(
     alloc: Global,
-    places: &mut Vec<Place<'a>>,
+    places: &mut Vec<FaultPlace<'a>>,
     at: Placed<'a>,
 ) -> Result<(), AllocError>
     ensures { OnOk result (map spot places.new.items ≡ map spot places.old.items ++ spec.exceeding_in_context (placed at.entry)) }
@@ -135,7 +135,7 @@ fn add_in_context<'a>(
 
 /// Adds an array of more members than the limit.
 fn add_too_many<'a>(
-    places: &mut Vec<Place<'a>>,
+    places: &mut Vec<FaultPlace<'a>>,
     at: Placed<'a>,
     key: &'a str,
     limit: usize,
@@ -147,7 +147,7 @@ fn add_too_many<'a>(
 
 /// Adds an array with the number of its members, where that is wrong.
 fn add_counted<'a>(
-    places: &mut Vec<Place<'a>>,
+    places: &mut Vec<FaultPlace<'a>>,
     holds: bool,
     at: Placed<'a>,
     key: &'a str,
@@ -161,7 +161,7 @@ fn add_counted<'a>(
 /// Adds the patterns of a context, where they are too many.
 fn add_too_many_patterns<'a>(
     alloc: Global,
-    places: &mut Vec<Place<'a>>,
+    places: &mut Vec<FaultPlace<'a>>,
     at: Placed<'a>,
 ) -> Result<(), AllocError>
     ensures { OnOk result (map spot places.new.items ≡ map spot places.old.items ++ spec.too_many_patterns (placed at.entry)) }

@@ -7,7 +7,7 @@ ghost use Rattle.sv_config.specs.Place.{spot, placed, shown, shown_in, shown_at,
 
 use crate::document::{member, values_at};
 use crate::limits::is_outside;
-use crate::place::{Found, Place};
+use crate::place::{FaultPlace, Found};
 use crate::placed::Placed;
 use std::alloc::AllocError;
 use sv_mapping::{Dispatcher, Pattern};
@@ -49,14 +49,14 @@ fn found_at<'a>(placed: Placed<'a>, key: &str) -> Found<'a>
 
 /// Adds the table as a whole, where the fault stands there.
 pub(crate) fn add_table<'a>(
-    places: &mut Vec<Place<'a>>,
+    places: &mut Vec<FaultPlace<'a>>,
     holds: bool,
     at: Placed<'a>,
 ) -> Result<(), AllocError>
     ensures { OnOk result (map spot places.new.items ≡ map spot places.old.items ++ table_where holds (placed at.entry)) }
 {
     if holds {
-        places.push(Place {
+        places.push(FaultPlace {
             table: at.place,
             key: "",
             index: None,
@@ -68,7 +68,7 @@ pub(crate) fn add_table<'a>(
 
 /// Adds a field, where the fault stands there.
 pub(crate) fn add_field<'a>(
-    places: &mut Vec<Place<'a>>,
+    places: &mut Vec<FaultPlace<'a>>,
     holds: bool,
     at: Placed<'a>,
     key: &'a str,
@@ -76,7 +76,7 @@ pub(crate) fn add_field<'a>(
     ensures { OnOk result (map spot places.new.items ≡ map spot places.old.items ++ field_where holds (placed at.entry) key.now) }
 {
     if holds {
-        places.push(Place {
+        places.push(FaultPlace {
             table: at.place,
             key,
             index: None,
@@ -88,7 +88,7 @@ pub(crate) fn add_field<'a>(
 
 /// Adds a field of so many, where they are too many or too few.
 pub(crate) fn add_count<'a>(
-    places: &mut Vec<Place<'a>>,
+    places: &mut Vec<FaultPlace<'a>>,
     holds: bool,
     at: Placed<'a>,
     key: &'a str,
@@ -97,7 +97,7 @@ pub(crate) fn add_count<'a>(
     ensures { OnOk result (map spot places.new.items ≡ map spot places.old.items ++ count_where holds (placed at.entry) key.now count) }
 {
     if holds {
-        places.push(Place {
+        places.push(FaultPlace {
             table: at.place,
             key,
             index: None,
@@ -109,7 +109,7 @@ pub(crate) fn add_count<'a>(
 
 /// Adds each member of an array with which this is wrong.
 pub(crate) fn add_members<'a>(
-    places: &mut Vec<Place<'a>>,
+    places: &mut Vec<FaultPlace<'a>>,
     unfit: Unfit,
     at: Placed<'a>,
     key: &'a str,
@@ -118,7 +118,7 @@ pub(crate) fn add_members<'a>(
 {
     for (index, value) in values_at(at.table, key).iter().enumerate() {
         if is_unfit(unfit, value) {
-            places.push(Place {
+            places.push(FaultPlace {
                 table: at.place,
                 key,
                 index: Some(index),

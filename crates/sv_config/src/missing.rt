@@ -10,14 +10,17 @@ ghost use Rattle.sv_config.specs.Rules.{rule_of};
 use crate::cookie::lacks_secure;
 use crate::document::{has, has_neither, is_empty_at};
 use crate::members::add_field;
-use crate::place::{Place, kind_of};
+use crate::place::{FaultPlace, kind_of};
 use crate::placed::Placed;
 use crate::rules::{FieldRule, TableKind, rules};
 use std::alloc::AllocError;
 use toml::Table;
 
 /// Adds each field that a table lacks.
-pub(crate) fn add_missing<'a>(places: &mut Vec<Place<'a>>, at: Placed<'a>) -> Result<(), AllocError>
+pub(crate) fn add_missing<'a>(
+    places: &mut Vec<FaultPlace<'a>>,
+    at: Placed<'a>,
+) -> Result<(), AllocError>
     ensures { OnOk result (map spot places.new.items ≡ map spot places.old.items ++ spec.missing_in (placed at.entry)) }
 {
     add_required(places, at, rules(kind_of(at.place)))?;
@@ -26,7 +29,7 @@ pub(crate) fn add_missing<'a>(places: &mut Vec<Place<'a>>, at: Placed<'a>) -> Re
 }
 
 fn add_required<'a>(
-    places: &mut Vec<Place<'a>>,
+    places: &mut Vec<FaultPlace<'a>>,
     at: Placed<'a>,
     rules: &[FieldRule],
 ) -> Result<(), AllocError>
@@ -40,7 +43,7 @@ fn add_required<'a>(
 }
 
 /// Adds what is missing beside single fields.
-fn add_contents<'a>(places: &mut Vec<Place<'a>>, at: Placed<'a>) -> Result<(), AllocError>
+fn add_contents<'a>(places: &mut Vec<FaultPlace<'a>>, at: Placed<'a>) -> Result<(), AllocError>
     ensures { OnOk result (map spot places.new.items ≡ map spot places.old.items ++ spec.lacking_in (kind_of at.entry.place) (placed at.entry)) }
 {
     let table = at.table;

@@ -7,7 +7,7 @@ ghost use Rattle.sv_config.specs.Spelling as spec;
 use crate::cookie::{has_stray_name, is_root};
 use crate::document::table_at;
 use crate::members::{Unfit, add_field, add_members};
-use crate::place::{Place, TablePlace, kind_of, number_of};
+use crate::place::{FaultPlace, TablePlace, kind_of, number_of};
 use crate::placed::Placed;
 use crate::rules::TableKind;
 use crate::spelling::{
@@ -19,7 +19,7 @@ use std::alloc::{AllocError, Global};
 /// Adds each text of a table that is badly spelled.
 pub(crate) fn add_misspelled<'a>(
     alloc: Global,
-    places: &mut Vec<Place<'a>>,
+    places: &mut Vec<FaultPlace<'a>>,
     at: Placed<'a>,
 ) -> Result<(), AllocError>
     ensures { OnOk result (map spot places.new.items ≡ map spot places.old.items ++ spec.misspelled_in (kind_of at.entry.place) (placed at.entry)) }
@@ -43,7 +43,7 @@ pub(crate) fn add_misspelled<'a>(
 
 fn add_misspelled_context<'a>(
     alloc: Global,
-    places: &mut Vec<Place<'a>>,
+    places: &mut Vec<FaultPlace<'a>>,
     at: Placed<'a>,
 ) -> Result<(), AllocError>
     ensures { OnOk result (map spot places.new.items ≡ map spot places.old.items ++ spec.misspelled_in TableKind.Context (placed at.entry)) }
@@ -54,7 +54,7 @@ fn add_misspelled_context<'a>(
 }
 
 /// Adds the name of a context's cookie that is for a context at the root alone.
-fn add_stray_cookie<'a>(places: &mut Vec<Place<'a>>, at: Placed<'a>) -> Result<(), AllocError>
+fn add_stray_cookie<'a>(places: &mut Vec<FaultPlace<'a>>, at: Placed<'a>) -> Result<(), AllocError>
     ensures { OnOk result (map spot places.new.items ≡ map spot places.old.items ++ spec.stray_cookie (placed at.entry)) }
 {
     let Some(cookie) = table_at(at.table, "cookie") else {
@@ -79,7 +79,7 @@ fn add_stray_cookie<'a>(places: &mut Vec<Place<'a>>, at: Placed<'a>) -> Result<(
 #[tactic(auto, unfolding(crate::specs::Spelling::misspelled_file))]
 fn add_misspelled_file<'a>(
     alloc: Global,
-    places: &mut Vec<Place<'a>>,
+    places: &mut Vec<FaultPlace<'a>>,
     at: Placed<'a>,
 ) -> Result<(), AllocError>
     ensures { OnOk result (map spot places.new.items ≡ map spot places.old.items ++ spec.misspelled_file (placed at.entry)) }
@@ -93,7 +93,7 @@ fn add_misspelled_file<'a>(
 /// Adds the path of a file or a folder that is badly spelled.
 fn add_bad_file_path<'a>(
     alloc: Global,
-    places: &mut Vec<Place<'a>>,
+    places: &mut Vec<FaultPlace<'a>>,
     at: Placed<'a>,
     key: &'a str,
 ) -> Result<(), AllocError>
@@ -103,7 +103,10 @@ fn add_bad_file_path<'a>(
     add_field(places, is_bad, at, key)
 }
 
-fn add_misspelled_servlet<'a>(places: &mut Vec<Place<'a>>, at: Placed<'a>) -> Result<(), AllocError>
+fn add_misspelled_servlet<'a>(
+    places: &mut Vec<FaultPlace<'a>>,
+    at: Placed<'a>,
+) -> Result<(), AllocError>
     ensures { OnOk result (map spot places.new.items ≡ map spot places.old.items ++ spec.misspelled_in TableKind.Servlet (placed at.entry)) }
 {
     add_field(places, has_bad_name(at.table), at, "name")?;

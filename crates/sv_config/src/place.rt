@@ -41,7 +41,7 @@ pub enum Found<'a> {
 
 /// Where a fault stands.
 #[derive(Clone, Copy, Debug, PartialEq, Eq)]
-pub struct Place<'a> {
+pub struct FaultPlace<'a> {
     pub table: TablePlace,
     /// The field; empty for the table as a whole.
     pub key: &'a str,
@@ -132,7 +132,7 @@ impl fmt::Display for Found<'_> {
     }
 }
 
-impl fmt::Display for Place<'_> {
+impl fmt::Display for FaultPlace<'_> {
     fn fmt<W: fmt::Write>(&self, f: &mut fmt::Formatter<W>) -> fmt::Result {
         write!(f, "{}", self.table)?;
         if self.table != TablePlace::Document && !self.key.is_empty() {

@@ -9,7 +9,7 @@ ghost use Rattle.sv_config.specs.Repeats as spec;
 use crate::document::has_both;
 use crate::items::{default_pages, integer_items, pattern_items, port_items, text_items};
 use crate::members::add_field;
-use crate::place::{Place, kind_of};
+use crate::place::{FaultPlace, kind_of};
 use crate::placed::Placed;
 use crate::rules::TableKind;
 use std::alloc::{AllocError, Global};
@@ -18,7 +18,7 @@ use std::collections::BTreeSet;
 /// Adds what stands again in a table.
 pub(crate) fn add_repeated<'a>(
     alloc: Global,
-    places: &mut Vec<Place<'a>>,
+    places: &mut Vec<FaultPlace<'a>>,
     at: Placed<'a>,
 ) -> Result<(), AllocError>
     ensures { OnOk result (map spot places.new.items ≡ map spot places.old.items ++ spec.repeated_in (kind_of at.entry.place) (placed at.entry)) }
@@ -51,7 +51,7 @@ pub(crate) fn add_repeated<'a>(
 #[tactic(auto, unfolding(crate::specs::Repeats::repeated_in_context))]
 fn add_in_context<'a>(
     alloc: Global,
-    places: &mut Vec<Place<'a>>,
+    places: &mut Vec<FaultPlace<'a>>,
     at: Placed<'a>,
 ) -> Result<(), AllocError>
     ensures { OnOk result (map spot places.new.items ≡ map spot places.old.items ++ spec.repeated_in_context (placed at.entry)) }
@@ -69,7 +69,7 @@ fn add_in_context<'a>(
 /// Adds each table of an array that has the text of one before it at the key.
 fn add_texts<'a>(
     alloc: Global,
-    places: &mut Vec<Place<'a>>,
+    places: &mut Vec<FaultPlace<'a>>,
     at: Placed<'a>,
     kind: TableKind,
     array: &'a str,
@@ -83,7 +83,7 @@ fn add_texts<'a>(
 
 fn add_patterns<'a>(
     alloc: Global,
-    places: &mut Vec<Place<'a>>,
+    places: &mut Vec<FaultPlace<'a>>,
     at: Placed<'a>,
 ) -> Result<(), AllocError>
     ensures { OnOk result (map spot places.new.items ≡ map spot places.old.items ++ spec.repeated bytes_eq (spec.pattern_items (placed at.entry))) }
@@ -94,7 +94,7 @@ fn add_patterns<'a>(
 
 fn add_ports<'a>(
     alloc: Global,
-    places: &mut Vec<Place<'a>>,
+    places: &mut Vec<FaultPlace<'a>>,
     at: Placed<'a>,
 ) -> Result<(), AllocError>
     ensures { OnOk result (map spot places.new.items ≡ map spot places.old.items ++ spec.repeated int_eq (spec.port_items (placed at.entry))) }
@@ -105,7 +105,7 @@ fn add_ports<'a>(
 
 fn add_statuses<'a>(
     alloc: Global,
-    places: &mut Vec<Place<'a>>,
+    places: &mut Vec<FaultPlace<'a>>,
     at: Placed<'a>,
 ) -> Result<(), AllocError>
     ensures { OnOk result (map spot places.new.items ≡ map spot places.old.items
@@ -118,7 +118,7 @@ fn add_statuses<'a>(
 /// Adds each error page that is for all else, but for the first.
 fn add_defaults<'a>(
     alloc: Global,
-    places: &mut Vec<Place<'a>>,
+    places: &mut Vec<FaultPlace<'a>>,
     at: Placed<'a>,
 ) -> Result<(), AllocError>
     ensures { OnOk result (map spot places.new.items ≡ map spot places.old.items ++ drop 1 (spec.default_pages (placed at.entry))) }
@@ -127,7 +127,10 @@ fn add_defaults<'a>(
     add_all_but_first(places, &pages)
 }
 
-fn add_all_but_first<'a>(places: &mut Vec<Place<'a>>, all: &[Place<'a>]) -> Result<(), AllocError>
+fn add_all_but_first<'a>(
+    places: &mut Vec<FaultPlace<'a>>,
+    all: &[FaultPlace<'a>],
+) -> Result<(), AllocError>
     ensures { OnOk result (map spot places.new.items ≡ map spot places.old.items ++ drop 1 (map spot all.now)) }
 {
     if all.is_empty() {
@@ -140,8 +143,8 @@ fn add_all_but_first<'a>(places: &mut Vec<Place<'a>>, all: &[Place<'a>]) -> Resu
 /// Adds each text that is equal to one before it.
 fn add_repeated_texts<'a>(
     alloc: Global,
-    places: &mut Vec<Place<'a>>,
-    items: &[(&'a str, Place<'a>)],
+    places: &mut Vec<FaultPlace<'a>>,
+    items: &[(&'a str, FaultPlace<'a>)],
 ) -> Result<(), AllocError>
     ensures { OnOk result (map spot places.new.items ≡ map spot places.old.items ++ spec.repeated bytes_eq (map (λ i. (i.0.now, spot i.1)) items.now)) }
 {
@@ -152,8 +155,8 @@ fn add_repeated_texts<'a>(
 /// Adds each integer that is equal to one before it.
 fn add_repeated_integers<'a>(
     alloc: Global,
-    places: &mut Vec<Place<'a>>,
-    items: &[(i64, Place<'a>)],
+    places: &mut Vec<FaultPlace<'a>>,
+    items: &[(i64, FaultPlace<'a>)],
 ) -> Result<(), AllocError>
     ensures { OnOk result (map spot places.new.items ≡ map spot places.old.items ++ spec.repeated int_eq (map (λ i. (i.0, spot i.1)) items.now)) }
 {
@@ -164,8 +167,8 @@ fn add_repeated_integers<'a>(
 /// Adds the place of each key that is equal to one before it.
 fn add_again<'a, K: Ord + Copy + Drop>(
     alloc: Global,
-    places: &mut Vec<Place<'a>>,
-    items: &[(K, Place<'a>)],
+    places: &mut Vec<FaultPlace<'a>>,
+    items: &[(K, FaultPlace<'a>)],
 ) -> Result<(), AllocError>
     ensures { OnOk result (map spot places.new.items ≡ map spot places.old.items ++ spec.repeated (eq_by_cmp K.cmp) (map (λ i. (i.0, spot i.1)) items.now)) }
 {
@@ -178,9 +181,9 @@ fn add_again<'a, K: Ord + Copy + Drop>(
 }
 
 fn add_where<'a>(
-    places: &mut Vec<Place<'a>>,
+    places: &mut Vec<FaultPlace<'a>>,
     holds: bool,
-    place: Place<'a>,
+    place: FaultPlace<'a>,
 ) -> Result<(), AllocError>
     ensures { OnOk result (map spot places.new.items ≡ map spot places.old.items ++ (if holds then spot place.entry ∷ [] else [])) }
 {

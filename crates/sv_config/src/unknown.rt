@@ -16,7 +16,7 @@ use crate::cookie::has_bad_same_site;
 use crate::document::text_at;
 use crate::keys::{OddKey, add_odd_keys};
 use crate::members::{Unfit, add_field, add_members};
-use crate::place::{Place, TablePlace, kind_of, number_of};
+use crate::place::{FaultPlace, TablePlace, kind_of, number_of};
 use crate::placed::{Placed, children};
 use crate::rules::TableKind;
 use std::alloc::{AllocError, Global};
@@ -26,7 +26,7 @@ use toml::Table;
 /// Adds each key, dispatcher, filter and servlet of a table that nothing declares.
 pub(crate) fn add_unknown<'a>(
     alloc: Global,
-    places: &mut Vec<Place<'a>>,
+    places: &mut Vec<FaultPlace<'a>>,
     at: Placed<'a>,
 ) -> Result<(), AllocError>
     ensures { OnOk result (map spot places.new.items ≡ map spot places.old.items ++ spec.unknown_in (placed at.entry)) }
@@ -37,7 +37,7 @@ pub(crate) fn add_unknown<'a>(
 
 fn add_strange<'a>(
     alloc: Global,
-    places: &mut Vec<Place<'a>>,
+    places: &mut Vec<FaultPlace<'a>>,
     at: Placed<'a>,
 ) -> Result<(), AllocError>
     ensures { OnOk result (map spot places.new.items ≡ map spot places.old.items ++ spec.strange_in (kind_of at.entry.place) (placed at.entry)) }
@@ -56,7 +56,7 @@ fn add_strange<'a>(
 /// Adds each filter mapping of a context that names at a key what the array at that key does not declare.
 fn add_undeclared<'a>(
     alloc: Global,
-    places: &mut Vec<Place<'a>>,
+    places: &mut Vec<FaultPlace<'a>>,
     at: Placed<'a>,
     key: &'a str,
 ) -> Result<(), AllocError>
@@ -71,7 +71,7 @@ fn add_undeclared<'a>(
 /// Adds each of these filter mappings of a context that names at the key what is not declared.
 fn add_strangers<'a>(
     alloc: Global,
-    places: &mut Vec<Place<'a>>,
+    places: &mut Vec<FaultPlace<'a>>,
     context: usize,
     key: &'a str,
     declared: &[&str],

@@ -10,7 +10,8 @@ ghost use Rattle.sv_config.specs.declared.fault.ConfigFault.{ConfigFault as Faul
 use crate::once::{push_once, warning_of};
 use std::alloc::{AllocError, Global};
 use sv_config::{
-    Cluster, ConfigFault, Context, Deployment, Document, ErrorPage, Faulty, NotRead, PageFor, Place,
+    Cluster, ConfigFault, Context, Deployment, Document, ErrorPage, FaultPlace, Faulty, NotRead,
+    PageFor,
 };
 use sv_mapping::{Dispatcher, Dispatchers, FilterMapping, FilterTarget};
 
@@ -113,7 +114,7 @@ fn faults_text(alloc: Global, faulty: &Faulty<'_>) -> Result<String, AllocError>
 fn push_place(
     alloc: Global,
     text: &mut String,
-    place: &Place<'_>,
+    place: &FaultPlace<'_>,
     faulty: &Faulty<'_>,
 ) -> Result<(), AllocError> {
     let hint = place.hint(faulty.fault);
