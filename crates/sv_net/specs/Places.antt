@@ -65,6 +65,11 @@ SparesClients old new = (place : ℕ) → IfSome (held_at old place) (λ was. wa
 abbrev pub count_of : Connections → ℕ
 count_of c = c.count
 
+-- whoever comes is served as before: greetings are taken or not, and refusals name their cause or not
+pub record ServesAlike (old new : Connections) : Type 0 where
+  pub greets : new.greets ≡ old.greets
+  pub naming : naming_of new ≡ naming_of old
+
 -- a connection as it was, but for what its socket knows of the poll
 pub record IsKept (was held : Open) : Type 0 where
   pub quiet : IsQuiet was.socket held.socket

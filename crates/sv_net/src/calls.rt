@@ -4,7 +4,7 @@ ghost use Rattle.std.specs.Prelude.{◌≡◌, None, IfSome};
 ghost use Rattle.sv_model.specs.Ranges.{IsPacket};
 ghost use Rattle.sv_net.specs.Bytes.{went_of};
 ghost use Rattle.sv_net.specs.Exchange.{AllContinue, GoOnBut, GoOnWith, Obeys, ObeysThere};
-ghost use Rattle.sv_net.specs.Places.{HasStood, Spares, SparesClients, elsewhere, held_at, places_of};
+ghost use Rattle.sv_net.specs.Places.{HasStood, ServesAlike, Spares, SparesClients, elsewhere, held_at, places_of};
 ghost use Rattle.sv_net.specs.Sending.{Admits, IsOwn, SamePeople, Sends, SendsBehind, links_of};
 ghost use Rattle.sv_net.specs.declared.state.State.TheVariants.{Calling, Ordering};
 ghost use Rattle.sv_record.specs.Frame.{spelling};
@@ -61,6 +61,7 @@ impl Connections {
         ensures admits { Admits (λ held. (held.socket ≡ socket) × (held.state ≡ state)) self.old self.new }
         ensures refused { result ≡ None → SamePeople self.old self.new }
         ensures links { links_of self.new ≡ links_of self.old }
+        ensures alike { ServesAlike self.old self.new }
     {
         if self.calls() >= CALL_LIMIT {
             return None;
@@ -94,6 +95,7 @@ impl Connections {
         requires { IsPacket packet }
         ensures spares { Spares self.old self.new }
         ensures sends { Sends to (spelling (PeerFrame packet)) self.old self.new }
+        ensures alike { ServesAlike self.old self.new }
     {
         match spelled(self.alloc, packet) {
             Some(frame) => self.send_frame(machine, to, addr, frame),
@@ -139,6 +141,7 @@ impl Connections {
     fn send_frame(&mut self, machine: &HostRuntime, to: u8, addr: SocketAddr, frame: Vec<u8>)
         ensures spares { Spares self.old self.new }
         ensures sends { Sends to frame.items self.old self.new }
+        ensures alike { ServesAlike self.old self.new }
     {
         match self.links.link_to(machine, to, addr, self.clock) {
             Some(link) => self.call(link, frame),
@@ -150,6 +153,7 @@ impl Connections {
     fn call(&mut self, link: Link, frame: Vec<u8>)
         ensures spares { Spares self.old self.new }
         ensures sends { SendsBehind link.node (went_of link.socket) frame.items self.old self.new }
+        ensures alike { ServesAlike self.old self.new }
     {
         let mut link = link;
         let mut frame = frame;
@@ -168,6 +172,7 @@ impl Connections {
         ensures spares { Spares self.old self.new }
         ensures admits { Admits (λ held. (held.state ≡ Calling to frame None) × (went_of held.socket ≡ went_of socket)) self.old self.new }
         ensures links { links_of self.new ≡ links_of self.old }
+        ensures alike { ServesAlike self.old self.new }
     {
         self.calling = self.admit_call(
             socket,
@@ -188,6 +193,7 @@ impl Connections {
         ensures stood { HasStood place self.old self.new }
         ensures others { elsewhere place self.new ≡ elsewhere place self.old }
         ensures links { links_of self.new ≡ links_of self.old }
+        ensures alike { ServesAlike self.old self.new }
     {
         if let Some(open) = self.take(place) {
             self.keep(place, open);

@@ -1,9 +1,9 @@
 //! The connections that are open.
 
-ghost use Rattle.std.specs.Prelude.{◌≡◌, ◌-◌, ℕ, None, true, IfSome, is_none};
+ghost use Rattle.std.specs.Prelude.{◌≡◌, ◌-◌, ◌≤◌, ℕ, None, true, IfSome, is_none};
 ghost use Rattle.sv_net.specs.Exchange.{AllContinue, GoOnWith, GoesOnThere};
 ghost use Rattle.sv_net.specs.Sending.{links_of};
-ghost use Rattle.sv_net.specs.Places.{places_of, count_of, elsewhere, held_at, with_at, naming_of, persistence_of, IsKept, Keeps, HasStood};
+ghost use Rattle.sv_net.specs.Places.{places_of, count_of, elsewhere, held_at, with_at, naming_of, persistence_of, IsKept, Keeps, HasStood, ServesAlike};
 
 use crate::links::Links;
 use crate::open::Open;
@@ -200,6 +200,7 @@ impl Connections {
         ensures count { count_of self.new ≡ count_of self.old }
         ensures others { elsewhere place self.new ≡ elsewhere place self.old }
         ensures links { links_of self.new ≡ links_of self.old }
+        ensures alike { ServesAlike self.old self.new }
     {
         if place >= self.places.len() {
             return None;
@@ -213,6 +214,7 @@ impl Connections {
         ensures count { count_of self.new ≡ count_of self.old }
         ensures others { elsewhere place self.new ≡ elsewhere place self.old }
         ensures links { links_of self.new ≡ links_of self.old }
+        ensures alike { ServesAlike self.old self.new }
     {
         let heard = self.clock;
         self.seat(
@@ -232,6 +234,7 @@ impl Connections {
         ensures count { count_of self.new ≡ count_of self.old }
         ensures others { elsewhere place self.new ≡ elsewhere place self.old }
         ensures links { links_of self.new ≡ links_of self.old }
+        ensures alike { ServesAlike self.old self.new }
     {
         if place < self.places.len() {
             self.places[place] = Some(open);
@@ -245,6 +248,7 @@ impl Connections {
         ensures count { count_of self.new ≡ count_of self.old }
         ensures others { elsewhere place self.new ≡ elsewhere place self.old }
         ensures links { links_of self.new ≡ links_of self.old }
+        ensures alike { ServesAlike self.old self.new }
     {
         let begun = self.clock;
         self.put(place, socket, state, begun);
@@ -255,6 +259,7 @@ impl Connections {
         ensures kept { Keeps place «open» self.old self.new }
         ensures others { elsewhere place self.new ≡ elsewhere place self.old }
         ensures links { links_of self.new ≡ links_of self.old }
+        ensures alike { ServesAlike self.old self.new }
     {
         let mut open = open;
         if self.watch(place, &mut open) {
@@ -360,6 +365,7 @@ impl Connections {
         ensures places { places_of self.new ≡ places_of self.old }
         ensures count { count_of self.new ≡ count_of self.old - 1 }
         ensures links { links_of self.new ≡ links_of self.old }
+        ensures alike { ServesAlike self.old self.new }
     {
         self.count = self.count.saturating_sub(1);
         let _: Result<(), AllocFailed<usize>> = self.free.push(place);
@@ -380,6 +386,8 @@ impl Connections {
         ensures vacant { IfSome result (λ place. held_at self.new place ≡ None) }
         ensures same { (place : ℕ) → held_at self.new place ≡ held_at self.old place }
         ensures links { links_of self.new ≡ links_of self.old }
+        ensures alike { ServesAlike self.old self.new }
+        ensures count { count_of self.new ≡ count_of self.old }
     {
         if let Some(place) = self.free.pop()
             && self.is_vacant(place)
@@ -396,6 +404,8 @@ impl Connections {
         ensures vacant { IfSome result (λ place. held_at self.new place ≡ None) }
         ensures same { (place : ℕ) → held_at self.new place ≡ held_at self.old place }
         ensures links { links_of self.new ≡ links_of self.old }
+        ensures alike { ServesAlike self.old self.new }
+        ensures more { count_of self.old ≤ count_of self.new }
     {
         if self.is_full() {
             return None;
