@@ -1,8 +1,7 @@
 //! The version of the programs, in one place.
 //!
-//! The first line is the version, as the newest heading of CHANGELOG.md has it. The second is written over when a program is copied
-//! out of the clone that it was made in (`check/stamp`): of which commit it was made, and whether it was proved. It has room for that,
-//! in blanks at its end.
+//! The first line is the version, as the newest heading of CHANGELOG.md has it. The second is written over when a program is
+//! installed (`deploy/install`): of which commit it was made, and whether it was proved. It has room for that, in blanks at its end.
 #![tactic(auto)]
 
 /// The version, a line feed, and how the program was made, with blanks behind.
