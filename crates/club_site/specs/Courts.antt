@@ -21,7 +21,7 @@ abbrev pub slot_html : ℕ → List ℕ
 slot_html slot =
     concat (codes "<li>" ∷ decimal (place_of slot).0 ∷ codes ", " ∷ []) ++ concat (decimal (place_of slot).1 ∷ codes ":00" ∷ [])
 
--- slots and the end of their list behind what is there of a page
+-- slots and the end of their list after what is there of a page
 unfoldable pub with_slots : List ℕ → List ℕ → List ℕ
 with_slots page slots = (page ++ flat_map slot_html slots) ++ codes "</ul>"
 

@@ -11,6 +11,6 @@ unfoldable pub begun : Asked → List ℕ → List ℕ → List ℕ
 begun call here said =
     concat (codes "<!DOCTYPE html><meta charset=utf-8><title>Tennis</title><base href=\"" ∷ escaped call.context_path ∷ say call LINKS.now LINKS_DE.now ∷ here ∷ codes "\">English / Deutsch</a></nav><p role=status>" ∷ escaped said ∷ [])
 
--- a text that a form has, with the markup before it and behind it
+-- a text that a form has, with the markup before it and after it
 unfoldable pub around : List ℕ → List ℕ → List ℕ → List ℕ
 around before text behind = concat (before ∷ escaped text ∷ behind ∷ [])

@@ -24,7 +24,7 @@ slot_of court hour =
 unfoldable pub is_booked : List ℕ → ℕ → Bool
 is_booked slots slot = list_any (λ other. other == slot) slots
 
--- the slot is booked behind the others, and what follows is told nothing; or it is told why not
+-- the slot is booked after the others, and what follows is told nothing; or it is told why not
 abbrev pub asked_for : Asked → List ℕ → (Option (List ℕ) → Work Next) → Option ℕ → Work Next
 asked_for call slots more None = more (Some (say call (codes "There is no such court.") (codes "Kein solcher Platz.")))
 asked_for call slots more (Some slot) =

@@ -30,7 +30,7 @@ pub fn begin<'a>(
     Ok(page)
 }
 
-/// Writes a text that a form has, with the markup before it and behind it.
+/// Writes a text that a form has, with the markup before it and after it.
 #[tactic(auto, unfolding(crate::specs::Frame::around))]
 pub fn write_around(
     page: &mut Page,

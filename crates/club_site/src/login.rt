@@ -24,7 +24,7 @@ pub struct Login;
 #[derive(Clone, Copy)]
 pub struct Logout;
 
-/// The SHA-256 sum of a salt and a password, in digits of `0-9a-f`, stands behind the eight bytes of the salt in what is kept of a member.
+/// The SHA-256 sum of a salt and a password, in digits of `0-9a-f`, stands after the eight bytes of the salt in what is kept of a member.
 ///
 /// A demonstration: such a sum takes so little time that passwords are found by trying them out, and a hash that takes time would stop
 /// the node. A real site lets its front server ask for passwords.

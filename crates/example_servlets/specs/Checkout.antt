@@ -23,7 +23,7 @@ use Rattle.example_servlets.specs.Visits.{around}
 unfoldable pub page_of : List Article → List ℕ → ℕ → Edit → List ℕ
 page_of articles base node e = order_page (around base node e) articles (order_in (seen e (codes "order")))
 
--- the cart is kept as the order behind the last one, nothing is left in it, and the browser is sent on to the order
+-- the cart is kept as the order after the last one, nothing is left in it, and the browser is sent on to the order
 unfoldable pub placed : ℕ → List ℕ → Work Next
 placed last cart =
     set_attribute (codes "order") (kept_order (record { number = last + 1; cart = cart })) (set_attribute (codes "cart") new_cart (sent_on (codes "checkout")))

@@ -21,7 +21,7 @@ pub fn login_keeps_the_cart()
         → answered (entered more) l ≡ answered more (lent (renewed l.edit) l.reply) }
 {}
 
-/// Whatever the login is asked, and whatever it answers, the cart behind it is the cart before it, and so is each other attribute
+/// Whatever the login is asked, and whatever it answers, the cart after it is the cart before it, and so is each other attribute
 /// but the name: the session is the one that was there under another id, or a new one where there was none.
 pub fn login_leaves_the_rest()
     ensures cart { (call : Asked) (l : Lent) → seen (answered (login call) l).lent.edit (codes "cart") ≡ seen l.edit (codes "cart") }

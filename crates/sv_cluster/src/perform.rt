@@ -130,7 +130,7 @@ fn run_lines(
     Ok(())
 }
 
-/// Runs these lines over a cluster. Nodes that still run behind the last line, or behind a fault, are halted.
+/// Runs these lines over a cluster. Nodes that still run after the last line, or after a fault, are halted.
 fn run_over(
     machine: &HostRuntime,
     words: Words<'_>,

@@ -11,7 +11,7 @@ use sv_client::NodeNumber;
 /// A node that was started.
 pub type Process = Child<<HostRuntime as Processes>::Started>;
 
-/// Adds words behind those of a command.
+/// Adds words after those of a command.
 fn add_words(command: &mut Command, words: &[&str]) -> io::Result<()> {
     for word in words {
         command.arg(word)?;

@@ -23,7 +23,7 @@ pub struct Words<'a> {
 #[error("the words are not `NODE CONFIG DIR SCRIPT`")]
 pub struct Arguments;
 
-/// What the words behind the program's name ask for.
+/// What the words after the program's name ask for.
 pub fn read_words(words: &[String]) -> Result<Words<'_>, Arguments>
     ensures { call_of result ≡ call_in (map string_bytes words.now) }
 {

@@ -11,7 +11,7 @@
 //! - `halt N`: halts the node, and waits for the end of its process; prints `done`;
 //! - `kill N`: ends the node's process by `kill -9`; prints `killed`.
 //!
-//! CONFIG and SCRIPT are read whole before the first line is run. Nodes that still run at the end are halted, also behind a
+//! CONFIG and SCRIPT are read whole before the first line is run. Nodes that still run at the end are halted, also after a
 //! fault. A fault prints one line `cluster_run: ` and its name on standard error and ends the program with its status.
 #![tactic(auto)]
 
@@ -43,7 +43,7 @@ Nodes that still run at the end are halted. Status 0: all lines were run. 2: wor
 4: a node didn't start, or didn't end well. 5: a node doesn't answer, or standard output can't be written.
 ";
 
-/// The words behind the program's name.
+/// The words after the program's name.
 fn words_of<R: Env + AllocGlobal>(rt: &R) -> Result<Vec<String>, Fault> {
     let mut words = Vec::new(rt.alloc());
     let Ok(args) = env::args(rt) else {

@@ -40,7 +40,7 @@ module _ {K : Type 0} (same : K → K → Bool) (items : List (K × FaultPlace))
       rw (drop_more items i d within, map_more (λ (j : K × FaultPlace). j.0) items i d within, ← is)
       (append_assoc out (cond holds (spot (get_or items i d).1 ∷ []) []) (repeated_behind same (keys_to i ++ (get_or items i d).0 ∷ []) (places_from (i + 1))))
 
--- ---- texts behind references
+-- ---- texts after references
 
 abbrev Lent : Type 0
 Lent = Bor (List ℕ)

@@ -149,7 +149,7 @@ abbrev pub with_files : ℕ → List Members → Table → Table
 with_files place [] table = table
 with_files place (f ∷ fs) table = with_files (place + 1) fs (with_pattern place table (text_or_empty (codes "path") f))
 
--- the servlets that serve files stand behind those that are declared
+-- the servlets that serve files stand after those that are declared
 unfoldable pub mappings_of : Members → Table
 mappings_of t =
     let servlets = tables_at (codes "servlet") t in

@@ -37,7 +37,7 @@ pub struct Context {
     pub path: String,
     /// For how many seconds an idle session is kept; 0 or less for ever.
     pub interval: i32,
-    /// The names of its servlets, in order: those that it declares, and behind them, for each of `files`, its path.
+    /// The names of its servlets, in order: those that it declares, and after them, for each of `files`, its path.
     pub servlets: Vec<String>,
     /// The patterns of its servlets, each with the place of its servlet in `servlets`.
     pub mappings: Mappings,

@@ -12,7 +12,7 @@ use std::alloc::{AllocError, Global};
 use sv_mapping::{Dispatchers, FilterMapping, FilterTarget, MappingFault, Mappings, Pattern};
 use toml::Table;
 
-/// The patterns of a context, each with the place of its servlet; those that serve files stand behind those that are declared.
+/// The patterns of a context, each with the place of its servlet; those that serve files stand after those that are declared.
 #[tactic(auto, unfolding(crate::specs::Values::mappings_of))]
 pub(crate) fn read_mappings(alloc: Global, context: &Table) -> Result<Mappings, AllocError>
     ensures { IfOk result (λ mappings. mappings ≡ spec.mappings_of (table_view context.now)) }

@@ -22,7 +22,7 @@ stands old after Expectation o k = k.1
 stands old after Memory o k = tt
 stands old after Closed o k = absurd (let e : true ≡ false = sym k.0 ∙ o in cc)
 
--- what `next` answers behind bytes that were put there is what they bring
+-- what `next` answers after bytes that were put there is what they bring
 pub brings : (old fed new : Stream) (piece : List ℕ) (r : Result (Option RawRequest) ReadFault) → old.closed ≡ false → fed ≡ record old { rest = old.rest ++ piece }
     → Reads fed r new → Brings old piece r new
 brings old fed new piece (Ok None) o m k =

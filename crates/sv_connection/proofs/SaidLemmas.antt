@@ -1,4 +1,4 @@
--- What was said of a response, and what closes behind it.
+-- What was said of a response, and what closes after it.
 use Rattle.std.proofs.Common.{◌≡◌, ℕ, List, [], subst, Option, Some, None, inl, inr, refl, ◌∙◌}
 use Rattle.std.specs.Prelude.{Bool, true}
 use Rattle.sv_model.specs.declared.response.Response.{Response}
@@ -28,7 +28,7 @@ page_closes (Some status) head_only now fault wo wn closed outcome h =
     said_shut (plain_page status [] head_only true) now (Refused fault) wo wn closed outcome refl h
 page_closes None head_only now fault wo wn closed outcome h = starved_shut wo wn closed outcome h
 
--- behind a page the connection is closed
+-- after a page the connection is closed
 pub page_shut : (status : Option ℕ) (head_only : Bool) (now : ℕ) (fault : RequestFault) (wo wn : Option (List ℕ)) (closed : Bool) (outcome : Outcome)
     → IsPage status head_only now fault wo wn closed outcome → IsPage status head_only now fault wo wn true outcome
 page_shut status head_only now fault wo wn closed outcome h =

@@ -32,6 +32,6 @@ pub record IsFresh (c : Connection) (single : Bool) : Type 0 where
   pub not_waiting : is_waiting c ≡ false
   pub not_leaving : is_leaving c ≡ false
 
--- what a call for what has come sees of a connection, and of the bytes that come behind those that it holds
+-- what a call for what has come sees of a connection, and of the bytes that come after those that it holds
 abbrev pub stand_of : Connection → Option (List ℕ) → Stand
 stand_of c to_come = stand (prepend_known c.requests.rest to_come) c.closed

@@ -26,7 +26,7 @@ AppendsPart wo wn text rest = (front : List ℕ) × (text ≡ front ++ rest) × 
 abbrev pub AppendsFront : Option (List ℕ) → Option (List ℕ) → List ℕ → Type 0
 AppendsFront wo wn text = (rest : List ℕ) × AppendsPart wo wn text rest
 
--- a text was written whole, or the writing failed behind its front
+-- a text was written whole, or the writing failed after its front
 abbrev pub IsWritten : List ℕ → Outcome → Bool → Option (List ℕ) → Option (List ℕ) → Bool → Outcome → Type 0
 IsWritten text done closes wo wn closed outcome =
     ((outcome ≡ done) × Appends wo wn text × (closed ≡ closes)) ⊎ ((outcome ≡ WriteFailed) × (closed ≡ true) × AppendsFront wo wn text)

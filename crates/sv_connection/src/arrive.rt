@@ -10,7 +10,7 @@ use sv_message::fault::ReadFault;
 use sv_message::reader::RequestReader;
 use sv_message::request::RawRequest;
 
-/// Puts bytes behind those that were read, and takes the message that then stands at the front; none where it isn't whole yet.
+/// Puts bytes after those that were read, and takes the message that then stands at the front; none where it isn't whole yet.
 pub fn take_in(requests: &mut RequestReader, piece: &[u8]) -> Result<Option<RawRequest>, ReadFault>
     requires { requests.old.closed ≡ false }
     ensures brings { Brings requests.old piece.now result requests.new }

@@ -55,7 +55,7 @@ impl Connection {
     ghost use Rattle.sv_connection.specs.Speak.{IsLateAnswer, IsPage, status_of};
     ghost use Rattle.sv_connection.specs.Connection.{IsFresh, held_by, is_closed, is_leaving, is_single, is_waiting, stand_of};
 
-    /// A connection that has read nothing; `single` has it close behind its first answer.
+    /// A connection that has read nothing; `single` has it close after its first answer.
     pub fn new(alloc: Global, single: bool) -> Connection
         ensures { IsFresh result single }
     {
@@ -93,7 +93,7 @@ impl Connection {
         }
     }
 
-    /// What stands at the front, with this behind what has come, but for what waits behind it.
+    /// What stands at the front, with this after what has come, but for what waits after it.
     fn look(&mut self, piece: &[u8]) -> Received
         ensures single { is_single self.new ≡ is_single self.old }
         ensures once_closed { is_closed self.old ≡ true → held_by self.new ≡ held_by self.old }
@@ -120,12 +120,12 @@ impl Connection {
         }
     }
 
-    /// Puts bytes that have come behind those that it holds, and takes the request that then stands at the front; where a fault
+    /// Puts bytes that have come after those that it holds, and takes the request that then stands at the front; where a fault
     /// stands there, the connection closes, and where there is less than a request, all is kept. It never waits, and asks and
     /// writes nothing: a request is to be asked, and answered by `answer`, and the page of a fault is written by `refuse`. Not
     /// called while an earlier request waits.
     ///
-    /// Where bytes behind a request came along, a call with no bytes takes the next.
+    /// Where bytes after a request came along, a call with no bytes takes the next.
     pub fn receive(&mut self, piece: &[u8]) -> Received
         requires answered { is_waiting self.old ≡ false }
         ensures single { is_single self.new ≡ is_single self.old }
@@ -208,7 +208,7 @@ impl Connection {
         }
     }
 
-    /// Has it close behind its next answer.
+    /// Has it close after its next answer.
     pub fn become_single(&mut self)
         ensures single { is_single self.new ≡ true }
         ensures held { held_by self.new ≡ held_by self.old }
@@ -234,7 +234,7 @@ impl Connection {
     /// Writes the response to a request that was parked; `now` is in whole seconds since 1970.
     ///
     /// Where memory is refused in making its text, the lines that say so are written in its place, and the outcome is
-    /// `Refused` with `Memory`. The connection closes where the response says so, and behind every outcome but
+    /// `Refused` with `Memory`. The connection closes where the response says so, and after every outcome but
     /// `Answered`.
     pub fn answer<W: Write>(&mut self, writer: &mut W, response: &Response, now: u64) -> Outcome
         ensures single { is_single self.new ≡ is_single self.old }

@@ -15,7 +15,7 @@ use sv_message::response::write_response;
 use sv_model::{Response, Sequence, plain_page};
 use sv_target::TargetFault;
 
-/// How a text was sent, and whether the connection is closed behind it.
+/// How a text was sent, and whether the connection is closed after it.
 #[derive(Clone, Copy, Debug, PartialEq, Eq)]
 pub struct Said {
     pub outcome: Outcome,
@@ -148,7 +148,7 @@ fn status_of_target(fault: TargetFault) -> Option<StatusCode>
     }
 }
 
-/// Sends the plain page of a status, behind which the connection closes.
+/// Sends the plain page of a status, after which the connection closes.
 fn say_page<W: Write>(
     alloc: Global,
     buffer: &mut Vec<u8>,

@@ -6,7 +6,7 @@ use Rattle.std.proofs.lemmas.List.{append_assoc, append-nil, drop_all, drop_more
 use Rattle.sv_container.specs.Deployment.{IsFoundAt, declared_from, label, label_of, labels_of}
 use Rattle.sv_container.specs.declared.named.Named.{Named}
 
--- an element that is swapped in stands behind those before it
+-- an element that is swapped in stands after those before it
 swapped_in : {X : Type 0} (xs : List X) (at place : ℕ) (d v : X) → at ≤ place → place < length xs → v ≡ get_or xs at d
     → take (at + 1) (set (set xs at (get_or xs place d)) place v) ≡ take at xs ++ get_or xs place d ∷ []
 swapped_in xs at place d v behind within e = ⊎_elim

@@ -92,7 +92,7 @@ module _ {S F : Type 0} (serves : S → Serves) (servlet_phase : S → Phase) (f
   live_filters at n hs h e same sound =
       subst (All (IsLive filter_phase)) (sym same) (live filtering filter_phase n.stage.filters.items (sound_there at n h e sound).filters)
 
-  -- the counts behind a turn
+  -- the counts after a turn
   module _ (at count one sum top : ℕ) (n : Application S F) (some : 0 < at) (within : at ≤ length old) (e : n ≡ get_or old (at - 1) n) (adds : sum ≡ min (count + one) top) where
     place : at - 1 < length (apps_of serves servlet_phase filtering filter_phase old)
     place = rw all_long (omega (arith, some, within))

@@ -81,7 +81,7 @@ module _ {X : Type 0} (R : X → X → Type 0) (xs ys : List X) where
   pub all_changed_behind : ChangedBehind R xs ys 0 → Pairwise R xs ys
   all_changed_behind c = record { long = c.long; each = λ k d l. c.done k d (omega arith) l }
 
--- the pairs behind the first
+-- the pairs after the first
 pub tail_pairs : {X : Type 0} (R : X → X → Type 0) (x y : X) (xs ys : List X) → Pairwise R (x ∷ xs) (y ∷ ys) → Pairwise R xs ys
 tail_pairs R x y xs ys p = record { long = tail_long p.long; each = λ k d h. p.each (suc k) d (omega (arith, h)) }
   where

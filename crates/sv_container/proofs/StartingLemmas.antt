@@ -91,7 +91,7 @@ module _ {O : Type 0} where
       let declared = ap (times its) named in
       omega (arith, first, shuffled, declared)
 
-  -- one that stands behind them is too many
+  -- one that stands after them is too many
   pub lacks_last : (xs ys : List (Named O)) (at : ℕ) (all : List (ℕ × List ℕ)) → at < length ys → IsPermutation xs ys → labels_of (take at ys) ≡ all → Lacks all (labels_of xs)
   lacks_last xs ys at all within same named =
       let d = an_element ys at within in

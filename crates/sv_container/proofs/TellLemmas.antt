@@ -7,7 +7,7 @@ use Rattle.sv_container.specs.Pairs.{Pairwise}
 use Rattle.sv_container.specs.declared.named.Named.{Named}
 use Rattle.sv_container.proofs.LoopLemmas.{head_pair, same_map, tail_pairs}
 
--- a listener behind an event
+-- a listener after an event
 pub record IsTold {L : Type 0} (hears : L → Told → List ℕ → List ℕ) (noted : L → List ℕ) (t : Told) (old new : Named L) : Type 0 where
   pub ear : ear_of hears new ≡ ear_of hears old
   pub notes : noted new.object ≡ heard_by (ear_of hears old) t (noted old.object)

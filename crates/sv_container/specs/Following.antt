@@ -8,7 +8,7 @@ use Rattle.sv_model.specs.declared.session.Session.{Session}
 use Rattle.sv_model.specs.Method.{is_head}
 use Rattle.sv_container.specs.Serving.{Deployed, served}
 
--- the connection closes behind it exactly where the request asks for that (RFC 9112, section 9.6), and its body is left
+-- the connection closes after it exactly where the request asks for that (RFC 9112, section 9.6), and its body is left
 -- out exactly where the method is HEAD (RFC 9110, section 9.3.2)
 pub record IsFollowed (r : Request) (response : Response) : Type 0 where
   pub close : response.close ≡ r.close

@@ -19,7 +19,7 @@ AreNamedNew phase ns = All (λ n. phase n.object ≡ New) ns
 abbrev pub AreNew : {O : Type 0} → (O → Phase) → List (Hosted O) → Type 0
 AreNew phase hs = All (λ h. phase h.object ≡ New) hs
 
--- an object behind its initialisation: its name and its meaning stay, and its mark tells its phase
+-- an object after its initialisation: its name and its meaning stay, and its mark tells its phase
 pub record IsInitialised {O M : Type 0} (meaning : O → M) (phase : O → Phase) (Keeps : M → Type 0) (old new : Hosted O) : Type 0 where
   pub name : new.name ≡ old.name
   pub same : meaning new.object ≡ meaning old.object

@@ -111,13 +111,13 @@ asked a r path =
 abbrev pub reply_of : Request → ReplyState → Response
 reply_of r reply = record { status = reply.status; fields = reply.fields; body = reply.body; head_only = is_head r.method; close = r.close }
 
--- the reply as the response, or the plain page of its status behind its fields
+-- the reply as the response, or the plain page of its status after its fields
 abbrev pub replied : Request → Ended → ReplyState → Response
 replied r Normal reply = reply_of r reply
 replied r (ErrorPage status) reply = reply_of r reply
 replied r (Plain status) reply = plain_page reply.status reply.fields (is_head r.method) r.close
 
--- a response, and the edit behind it
+-- a response, and the edit after it
 pub record Answered : Type 0 where
   pub response : Response
   pub edit : Edit

@@ -68,7 +68,7 @@ announced joined fresh fate Absent id_changed = changed_session joined fate id_c
 announced joined fresh fate (Alive s) id_changed = Some fresh
 announced joined fresh fate BirthEnded id_changed = changed_session joined fate id_changed
 
--- the session is named behind the application's fields; no other is named
+-- the session is named after the application's fields; no other is named
 abbrev pub fields_with : SessionCookie → ℕ → List ℕ → Option (Key × Secret) → List Field → List Field
 fields_with cookie context path None fields = fields
 fields_with cookie context path (Some named) fields = fields ++ cookie_field cookie context path named ∷ []

@@ -42,7 +42,7 @@ fn shown<'a>(patterns: &Mappings, path: &'a str) -> (&'a str, Option<&'a str>)
     }
 }
 
-/// The reply as the response, or the plain page of its status behind its fields.
+/// The reply as the response, or the plain page of its status after its fields.
 #[inline(always)]
 fn replied(
     alloc: Global,
@@ -117,7 +117,7 @@ impl<S: Servlet, F: Filter> Application<S, F> {
         run(alloc, &mut self.stage, call)
     }
 
-    /// The response to a request, and the edit behind it; edits stand, whatever follows.
+    /// The response to a request, and the edit after it; edits stand, whatever follows.
     #[inline(always)]
     #[tactic(auto, unfolding(crate::specs::Serving::answered_by))]
     fn answer(

@@ -43,7 +43,7 @@ fn find<O>(objects: &[Named<O>], from: usize, context: usize, name: &str) -> Opt
     None
 }
 
-/// Brings the objects of a context into the order of its names, from a place on; the place behind them, or none where
+/// Brings the objects of a context into the order of its names, from a place on; the place after them, or none where
 /// one is missing.
 fn arrange_context<O>(
     objects: &mut Vec<Named<O>>,

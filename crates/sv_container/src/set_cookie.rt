@@ -130,7 +130,7 @@ pub fn announced(
     }
 }
 
-/// Names the session, if one has to be known, behind the application's fields.
+/// Names the session, if one has to be known, after the application's fields.
 #[inline(always)]
 pub fn with_cookie(
     alloc: Global,

@@ -16,7 +16,7 @@ no_digit d c none small is = none (subst (λ n. digit_value n < 10) is small)
 one_more : (n m : ℕ) → n ≡ m → 1 + n ≡ suc m
 one_more n m same = omega (arith, same)
 
--- the point behind digits is the first
+-- the point after digits is the first
 point_behind : (ds ys : List ℕ) → AllDigits 10 ds → position_or_len is_point (ds ++ 46 ∷ ys) ≡ length ds
 point_behind [] ys digits = refl
 point_behind (d ∷ ds) ys digits =

@@ -7,7 +7,7 @@ use Rattle.sv_model.specs.declared.node.Stage.TheVariants.{Blank}
 use Rattle.sv_model.specs.Replay.{blank}
 use Rattle.sv_model.specs.Fitting.{AllFit}
 
--- each record may stand behind those before it at a node of this number, which knows as many keys as a node may know
+-- each record may stand after those before it at a node of this number, which knows as many keys as a node may know
 abbrev pub Fit : ℕ → List Record → Type 0
 Fit node records = AllFit (record { node = node; nodes = NODE_LIMIT; deadline = 1; keys = KEY_MOST; forget = false }) Blank blank records
 

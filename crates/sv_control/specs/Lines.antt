@@ -66,7 +66,7 @@ pub record SeenSession : Type 0 where
   pub times : SessionTimes
   pub attributes : List SeenAttribute
 
--- the second that is so many behind another, where 64 bits can say it
+-- the second that is so many after another, where 64 bits can say it
 abbrev pub second_behind : ℕ → ℕ → Option ℕ
 second_behind last seconds = if ltb (last + seconds) (2 ^ 64) then Some (last + seconds) else None
 
@@ -126,7 +126,7 @@ expiry_part (Some second) = codes "expires " ++ decimal second
 abbrev pub times_text : SessionTimes → List ℕ
 times_text t = concat (codes "made " ∷ decimal t.created ∷ codes ", last " ∷ decimal t.last ∷ codes ", " ∷ expiry_part t.expires ∷ [])
 
--- an attribute's text behind a blank
+-- an attribute's text after a blank
 abbrev pub attribute_part : AttributeLine → List ℕ
 attribute_part line = 32 ∷ attribute_text line
 

@@ -17,7 +17,7 @@ pub record Writes (digits : List ℕ) (n : ℕ) : Type 0 where
 abbrev pub is_point : ℕ → Bool
 is_point c = c == 46
 
--- what stands before the first point writes the home of a key that a node could have made, and what stands behind it the serial
+-- what stands before the first point writes the home of a key that a node could have made, and what stands after it the serial
 pub record Names (text : List ℕ) (k : Key) : Type 0 where
   pub pointed : position_or_len is_point text < length text
   pub home : Writes (before_first is_point text) k.home

@@ -2,7 +2,7 @@
 use Rattle.std.specs.Prelude.{ℕ, ◌+◌, ◌-◌, ◌^◌, min, List, [], ◌∷◌, ◌++◌, length, slice_index, codes, decimal}
 use Rattle.sv_control.specs.declared.places.RecordPlace.{RecordPlace}
 
--- the first entry stands behind the header of sixteen bytes
+-- the first entry stands after the header of sixteen bytes
 abbrev pub FIRST : ℕ
 FIRST = 16
 
@@ -10,7 +10,7 @@ FIRST = 16
 abbrev pub LARGEST : ℕ
 LARGEST = 2 ^ 64 - 1
 
--- behind an entry: its gate, four bytes of length and the payload
+-- after an entry: its gate, four bytes of length and the payload
 abbrev pub behind : ℕ → List ℕ → ℕ
 behind offset payload = min (min (offset + 5) LARGEST + length payload) LARGEST
 

@@ -48,7 +48,7 @@ gone_text k e = codes "gone " ++ key_text k ++ codes ", epoch " ++ decimal e
 abbrev pub counters_text : ℕ → ℕ → List ℕ
 counters_text boot next = codes "snapshot behind start " ++ decimal boot ++ codes ", next serial " ++ decimal next
 
--- the first start behind which the journal forgets
+-- the first start after which the journal forgets
 abbrev pub forgets_text : ℕ → ℕ → List ℕ
 forgets_text home boot = codes "node " ++ decimal home ++ codes " forgets from start " ++ decimal boot
 

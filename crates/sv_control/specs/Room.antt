@@ -6,7 +6,7 @@ use Rattle.sv_core.specs.declared.census.Census.{Census}
 use Rattle.sv_control.specs.declared.room.KeyRoom.{KeyRoom}
 use Rattle.sv_control.specs.declared.room.KeysLine.{KeysLine}
 
--- how many keys are known by a snapshot: a record each, behind the first
+-- how many keys are known by a snapshot: a record each, after the first
 abbrev pub known_in : List Record → ℕ
 known_in records = length records - 1
 

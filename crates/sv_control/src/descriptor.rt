@@ -18,7 +18,7 @@ use sv_mapping::{Dispatcher, Dispatchers, FilterMapping, FilterTarget};
 /// The keys that a node knows at most, where its descriptor says nothing of them.
 const USUAL_KEYS: u32 = 65_536;
 
-/// Which of a context's filter mappings are called first, and which behind them.
+/// Which of a context's filter mappings are called first, and which after them.
 #[derive(Clone, Copy, PartialEq, Eq)]
 enum MappedBy {
     Pattern,
@@ -96,7 +96,7 @@ fn look_of(alloc: Global, deployment: &Deployment, document: &Document) -> Resul
     })
 }
 
-/// Why a text is no document, behind the fault's name.
+/// Why a text is no document, after the fault's name.
 fn refusal_text(alloc: Global, refused: &NotRead) -> Result<String, AllocError> {
     let text = format!(in alloc; "NotToml\n{refused}")?;
     String::from_str(alloc, text.trim_end())

@@ -19,7 +19,7 @@ pub enum FoundFault {
     /// An entry is no record. Entries are counted from 0, the oldest first.
     #[error("entry {0} is no record")]
     NoRecord(usize),
-    /// A record doesn't fit behind those before it.
+    /// A record doesn't fit after those before it.
     #[error("the records don't fit behind one another")]
     Unfit,
     #[error("memory was refused")]

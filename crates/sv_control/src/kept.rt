@@ -118,7 +118,7 @@ fn replayed_at(alloc: Global, node: u8, records: &[Record]) -> Result<Replayed, 
     }
 }
 
-/// What the records give, one behind the other.
+/// What the records give, one after the other.
 pub fn replay(alloc: Global, records: &[Record]) -> Result<Replayed, FoundFault>
     ensures kept { IfOk result (λ found. found.kept.items ≡ snapshot_of (replayed blank records.now)) }
     ensures census { IfOk result (λ found. found.census ≡ census_of (replayed blank records.now)) }

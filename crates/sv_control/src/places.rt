@@ -45,7 +45,7 @@ fn place_at(offset: u64, payload: &[u8]) -> RecordPlace
     RecordPlace { offset, version }
 }
 
-/// The byte behind that entry.
+/// The byte after that entry.
 fn behind(offset: u64, payload: &[u8]) -> u64
     ensures { result ≡ spec.behind offset payload.now }
 {

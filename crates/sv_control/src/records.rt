@@ -56,7 +56,7 @@ fn write_state<W: fmt::Write>(f: &mut fmt::Formatter<W>, key: Key, state: &KeySt
     write!(f, ", epoch {}", epoch_of(state))
 }
 
-/// Writes two numbers, each behind its text.
+/// Writes two numbers, each after its text.
 fn write_two<W: fmt::Write>(
     f: &mut fmt::Formatter<W>,
     one: (&str, u64),

@@ -9,7 +9,7 @@ use serde::Serialize;
 use std::fmt;
 use sv_model::Record;
 
-/// How many keys a node knows by a snapshot of what it keeps: a record each, behind the first.
+/// How many keys a node knows by a snapshot of what it keeps: a record each, after the first.
 pub fn known_in(kept: &[Record]) -> usize
     ensures { result ≡ spec.known_in kept.now }
 {

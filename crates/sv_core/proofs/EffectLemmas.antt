@@ -1,4 +1,4 @@
--- A record that may stand behind others has its serial.
+-- A record that may stand after others has its serial.
 use Rattle.std.proofs.Common.{◌≡◌, ◌≢◌, ℕ, ◌+◌, ◌≤◌, Bool, true, false, arith, refl}
 use Rattle.std.specs.Prelude.{not, ◌==◌, ◌&&◌}
 use Rattle.std.proofs.lemmas.Bool.{eqb-false}

@@ -106,7 +106,7 @@ eq_equal Less is = absurd (cc)
 eq_equal Equal is = refl
 eq_equal Greater is = absurd (cc)
 
--- a key above the last one stands behind all
+-- a key above the last one stands after all
 pub behind_last : (k : Key) (ps : List Place) (last : Place) → Rises ps → 0 < length ps → ((d : Place) → get_or ps (length ps - 1) d ≡ last) → is_lt (key_cmp last.0 k) ≡ true → IsGap k ps (length ps)
 behind_last k ps last rises some at above =
     behind_at k ps (length ps - 1) rises (omega (arith, some)) (λ d. subst (λ (p : Place). key_cmp p.0 k ≡ Less) (sym (at d)) (lt_less _ above))

@@ -76,7 +76,7 @@ sent_by k at st old new p ps Equal is above there same rest =
 sent_by k at st old new p ps Greater is above there same rest =
     (λ i. cond (is_handed_over (same.0 (ap is_eq is) i)) (p ∷ rest i) (rest i)) ∙ greater_marked k at p (sent_among old ps) (is_handed_over st) (is_handed_over (state_at old p.1)) is
 
--- what a walk gives behind one state more, or another one
+-- what a walk gives after one state more, or another one
 pub sent_put : (k : Key) (at : ℕ) (st : KeyState) (old new : List KeyState) (ps : List Place) → Rises ps → state_at new at ≡ st → AreSame k old new ps → sent_among new (put key_cmp k at ps) ≡ marked k at (is_handed_over st) (sent_among old ps)
 sent_put k at st old new [] rises there same = ap (λ (s : KeyState). cond (is_handed_over s) ((k, at) ∷ []) []) there ∙ above_marked k at (is_handed_over st) [] tt
 sent_put k at st old new (p ∷ ps) rises there same = sent_by k at st old new p ps (key_cmp k p.0) refl (first _ _ rises) there same (sent_put k at st old new ps (second _ _ rises) there same.1)

@@ -1,4 +1,4 @@
--- The requests that can be served, behind a record.
+-- The requests that can be served, after a record.
 use Rattle.std.proofs.Common.{◌≡◌, ◌≢◌, ℕ, Bool, true, false, cond, Option, Some, None, List, refl, sym, ap, ◌∙◌, ⊎_elim}
 use Rattle.std.specs.FinMap.{get, insert, get-insert}
 use Rattle.sv_model.specs.declared.key.Key.{Key}
@@ -66,7 +66,7 @@ by_named : (o : Option (Key × Bool)) (one other : Parked → Bool) (p : Parked)
 by_named None one other p same = same
 by_named (Some change) one other p same = ap (λ b. cond (same_key p.key change.0) change.1 b) same
 
--- those that can be served behind a record
+-- those that can be served after a record
 here_behind : (keys : Keys) (r : Record) (p : Parked) → here (keys_behind None r keys) p ≡ settled_by (settles r) (here keys) p
 here_behind keys (Boot boot) p = refl
 here_behind keys (Commit c d) p = born (with_named None c keys) d p ∙ by_named (settles_born d) (here (with_named None c keys)) (here keys) p (named keys c p.key)

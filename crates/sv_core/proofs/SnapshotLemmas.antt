@@ -1,4 +1,4 @@
--- The records of a snapshot may stand behind one another, and give what the node keeps.
+-- The records of a snapshot may stand after one another, and give what the node keeps.
 use Rattle.std.proofs.Common.{◌≡◌, ℕ, suc, ◌+◌, ◌<◌, ◌≤◌, false, cond, Option, Some, None, List, [], ◌∷◌, ◌++◌, map, length, get_or, take, arith, refl, sym, ap, ◌∙◌, subst, inl, inr}
 use Rattle.std.specs.Prelude.{T, not, ◌&&◌, is_none}
 use Rattle.std.specs.Ordering.{is_eq}
@@ -52,7 +52,7 @@ with_last keys e es rises = entries-insert keys_total keys e.0 e.1 ∙ put_last 
 with_rest : (keys : Keys) (e : Entry) (es : List Entry) → Rises (entries keys ++ e ∷ es) → entries (insert keys e.0 e.1) ++ es ≡ entries keys ++ e ∷ es
 with_rest keys e es rises = ap (λ l. l ++ es) (with_last keys e es rises) ∙ append_assoc (entries keys) (e ∷ []) es
 
--- ---- all entries, one behind the other
+-- ---- all entries, one after the other
 
 abbrev added : List Entry → Keys → Keys
 added [] keys = keys

@@ -157,7 +157,7 @@ module _ (set : Setting) (keys : Keys) (boot next : ℕ) (home : Option ℕ) (pa
   pub ticks : (outs : List Output) → outs ≡ put_out → decision_of set there (ticked now steady (expiring (first_over now (entries keys))) outs) ≡ on_tick set there now steady
   ticks outs is = ap (λ l. decision_of set there (ticked now steady (expiring (first_over now (entries keys))) l)) is ∙ by_found (first_over now (entries keys)) refl
 
--- three lists, one behind the other
+-- three lists, one after the other
 pub put_three : (a b c d x y z : List Output) → a ≡ [] → b ≡ a ++ x → c ≡ b ++ y → d ≡ c ++ z → d ≡ x ++ y ++ z
 put_three a b c d x y z one two three four = four ∙ ap (λ l. l ++ z) (three ∙ ap (λ l. l ++ y) (two ∙ ap (λ l. l ++ x) one))
 

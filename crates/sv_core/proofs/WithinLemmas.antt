@@ -1,4 +1,4 @@
--- The numbers behind a decision are numbers still.
+-- The numbers after a decision are numbers still.
 use Rattle.std.proofs.Common.{◌≡◌, ℕ, ◌+◌, ◌≤◌, Bool, true, false, cond, Option, Some, None, List, [], arith, refl}
 use Rattle.std.specs.Prelude.{◌==◌, ◌||◌, nat_le, length}
 use Rattle.std.proofs.lemmas.Bool.{eqb-false, cond_both}

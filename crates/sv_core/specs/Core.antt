@@ -49,7 +49,7 @@ decision_at c d = decision_of (setting_of c) (node_at c) d
 abbrev pub starts : Setting → Node → model.Decision
 starts set n = record (model.idle n []) { entry = Some (boot_record set n.durable); durable = applied (boot_record set n.durable) n.durable }
 
--- the numbers behind a decision are numbers still
+-- the numbers after a decision are numbers still
 pub record IsWithin (d : model.Decision) : Type 0 where
   pub want : d.next_want ≤ last_number
   pub next : d.durable.next ≤ last_number

@@ -41,7 +41,7 @@ mark_in None (t ∷ ts) = Some (last_of t ts)
 abbrev pub with_want : ℕ → Arrival → Parked
 with_want want a = record { token = a.token; request = a.request; key = a.key; since = a.since; want = want }
 
--- the requests that wait behind it; one that joins them has the next want
+-- the requests that wait after it; one that joins them has the next want
 abbrev pub parked_by : Setting → ℕ → Waiting → List Parked → List Parked
 parked_by set next_want Stays parked = parked
 parked_by set next_want (Joins a) parked = parked ++ with_want next_want a ∷ []
@@ -67,11 +67,11 @@ decision_of set n d =
       next_want = want_by d.waiting n.next_want;
     }
 
--- the node behind what becomes of the requests that wait
+-- the node after what becomes of the requests that wait
 abbrev pub rearranged : Setting → Waiting → Node → Node
 rearranged set waiting n = record { durable = n.durable; parked = parked_by set n.next_want waiting n.parked; next_want = want_by waiting n.next_want }
 
--- the node behind a record and what becomes of the requests that wait
+-- the node after a record and what becomes of the requests that wait
 abbrev pub behind : Setting → Option Record → Waiting → Node → Node
 behind set entry waiting n = rearranged set waiting (record n { durable = applied_if entry n.durable })
 

@@ -82,7 +82,7 @@ AreHigh home ps = T (are_high home ps)
 abbrev pub state_at : List KeyState → ℕ → KeyState
 state_at states at = slice_index_or states at (Gone 0)
 
--- a state was put down at the last of the free places, or behind all others where there is none
+-- a state was put down at the last of the free places, or after all others where there is none
 abbrev pub IsPutDown : List KeyState → List ℕ → List KeyState → List ℕ → ℕ → KeyState → Type 0
 IsPutDown old free new left at st =
     ((free ≡ left ++ at ∷ []) × (new ≡ slice_set old at st)) ⊎ ((free ≡ []) × (left ≡ []) × (at ≡ length old) × (new ≡ old ++ st ∷ []))

@@ -12,7 +12,7 @@ use Rattle.sv_model.specs.NodeState.{Durable}
 use Rattle.sv_model.specs.Replay.{blank, replayed}
 use Rattle.sv_model.specs.Fitting.{stage_behind, AllFit}
 
--- how far records have come, one behind the other
+-- how far records have come, one after the other
 abbrev pub staged : Stage → List Record → Stage
 staged stage [] = stage
 staged stage (r ∷ rs) = staged (stage_behind r stage) rs
@@ -33,7 +33,7 @@ head_of d = head_by d.home d.boot d.next
 abbrev pub snapshot_of : Durable → List Record
 snapshot_of d = head_of d ∷ map state_record (entries d.keys)
 
--- its records may stand behind one another from the first on, give what is kept durably, and let records of any kind but a
+-- its records may stand after one another from the first on, give what is kept durably, and let records of any kind but a
 -- second head follow
 pub record IsWhole (set : Setting) (d : Durable) : Type 0 where
   pub fits : AllFit set Blank blank (snapshot_of d)

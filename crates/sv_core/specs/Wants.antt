@@ -43,7 +43,7 @@ is_here d = λ p. is_settled (known d p.key)
 abbrev pub wants_here : Durable → List Parked → List ℕ
 wants_here d parked = wants_where (is_here d) parked
 
--- the key whose requests can be served behind a record, or can't, at a node that forgets none
+-- the key whose requests can be served after a record, or can't, at a node that forgets none
 abbrev pub settles_born : Change → Option (Key × Bool)
 settles_born Unchanged = None
 settles_born (ChangeAlive k s) = Some (k, true)

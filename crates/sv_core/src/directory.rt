@@ -52,7 +52,7 @@ impl Directory {
         self.low.as_slice()
     }
 
-    /// The keys behind them, in order.
+    /// The keys after them, in order.
     pub fn high(&self) -> &[(Key, usize)]
         ensures { result.now ≡ self.now.high.items }
     {

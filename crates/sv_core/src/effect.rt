@@ -77,7 +77,7 @@ impl Table {
     }
 }
 
-/// How far the records have come, behind this one.
+/// How far the records have come, after this one.
 fn stage_behind(entry: &Record, stage: Stage) -> Stage
     ensures { result ≡ stage_behind entry.now stage }
 {
@@ -94,7 +94,7 @@ fn stage_behind(entry: &Record, stage: Stage) -> Stage
     }
 }
 
-/// The home whose keys are forgotten, behind this record.
+/// The home whose keys are forgotten, after this record.
 fn home_behind(entry: &Record, home: Option<u8>) -> Option<u8>
     ensures { result ≡ home_behind entry.now home }
 {
@@ -104,7 +104,7 @@ fn home_behind(entry: &Record, home: Option<u8>) -> Option<u8>
     }
 }
 
-/// The number of the last start, and the next serial, behind this record.
+/// The number of the last start, and the next serial, after this record.
 fn counts_behind(entry: &Record, boot: u64, next: u64) -> (u64, u64)
     requires { HasSerial entry.now next }
     ensures { result ≡ (boot_behind entry.now boot, next_behind entry.now next) }
@@ -123,7 +123,7 @@ fn counts_behind(entry: &Record, boot: u64, next: u64) -> (u64, u64)
 impl Kept {
     ghost use Rattle.sv_core.specs.Kept.{node_of, TakesRecord, IsReady};
 
-    /// What the records give, behind one more that leaves the node forgetting none.
+    /// What the records give, after one more that leaves the node forgetting none.
     fn take_plainly(&mut self, entry: Record)
         requires room { TakesRecord self.old }
         requires serial { HasSerial entry self.old.next }
@@ -145,7 +145,7 @@ impl Kept {
         self.keys.take_record(self.home, entry);
     }
 
-    /// What the records give, behind one more. Who can be served is seen anew: what is known of a key may change by a number
+    /// What the records give, after one more. Who can be served is seen anew: what is known of a key may change by a number
     /// alone.
     fn take_anew(&mut self, entry: Record)
         requires room { TakesRecord self.old }
@@ -168,7 +168,7 @@ impl Kept {
         settle_anew(&mut self.settled, &self.parked, &self.keys, home, next);
     }
 
-    /// What the records give, behind one more.
+    /// What the records give, after one more.
     pub fn take(&mut self, entry: Record)
         requires room { TakesRecord self.old }
         requires serial { HasSerial entry self.old.next }
@@ -187,7 +187,7 @@ impl Kept {
         }
     }
 
-    /// What the records give, behind the one of a decision, where it has one.
+    /// What the records give, after the one of a decision, where it has one.
     #[tactic(auto, using(crate::proofs::EffectLemmas::within_left))]
     fn take_if(&mut self, entry: Option<Record>)
         requires room { TakesRecord self.old }
@@ -205,7 +205,7 @@ impl Kept {
         }
     }
 
-    /// What is kept behind a decision.
+    /// What is kept after a decision.
     pub fn follow(&mut self, entry: Option<Record>, waiting: Waiting)
         requires ready { IsReady self.old }
         requires next { (applied_if entry (node_of self.old).durable).next ≤ last_number }

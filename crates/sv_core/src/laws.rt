@@ -10,7 +10,7 @@ ghost use Rattle.sv_model.specs.Replay.{blank, replayed};
 ghost use Rattle.sv_model.specs.Fitting.{AllFit};
 ghost use Rattle.sv_core.specs.Snapshot.{IsWhole};
 
-/// A snapshot of what records have given may stand in their place: its own records may stand behind one another, and give
+/// A snapshot of what records have given may stand in their place: its own records may stand after one another, and give
 /// the same.
 pub fn snapshots()
     ensures { (set : Setting) (records : List Record) → AllFit set Blank blank records → IsWhole set (replayed blank records) }

@@ -67,7 +67,7 @@ impl<E> Core<E> {
         Core { engine, kept }
     }
 
-    /// A node that has these records. Where one of them doesn't fit behind those before it, or memory is refused, the engine
+    /// A node that has these records. Where one of them doesn't fit after those before it, or memory is refused, the engine
     /// comes back.
     pub fn recover(
         alloc: Global,
@@ -94,7 +94,7 @@ impl<E> Core<E> {
         }
     }
 
-    /// Adds a record, where it may stand behind those before it. The requests that wait stay as they are.
+    /// Adds a record, where it may stand after those before it. The requests that wait stay as they are.
     pub fn apply(&mut self, entry: Record) -> Result<(), ApplyFault>
         ensures fits { OnOk result (Fits (setting_of self.old) (stage_of self.old) (durable_at self.old) entry) }
         ensures durable { OnOk result (durable_at self.new ≡ applied entry (durable_at self.old)) }
@@ -179,7 +179,7 @@ impl<E: Engine> Core<E> {
 
     /// What the node does at an input, before anything of it is done.
     ///
-    /// The record of the decision may stand behind those of the node, and is one that may be written where what the node
+    /// The record of the decision may stand after those of the node, and is one that may be written where what the node
     /// keeps and is given may be. After want of memory the node is as it was.
     pub fn decide(&mut self, moment: Moment, input: Input) -> Result<Decision, Memory>
         requires { E.valid (engine_of self.old) }
@@ -195,7 +195,7 @@ impl<E: Engine> Core<E> {
             → IfOk result (λ d. IsRangedStep (decision_at self.new d)) }
     {
         self.kept.reserve()?;
-        // the numbers behind the decision are numbers, since those before it are
+        // the numbers after the decision are numbers, since those before it are
         let _numbers = self.kept.numbers();
         row::decide(&mut self.engine, &self.kept, moment, input)
     }
@@ -215,7 +215,7 @@ impl<E: Engine> Core<E> {
             → IfOk result (λ o. IfSome o (λ d. IsRangedStep (decision_at self.new d))) }
     {
         self.kept.reserve()?;
-        // the numbers behind the decision are numbers, since those before it are
+        // the numbers after the decision are numbers, since those before it are
         let _numbers = self.kept.numbers();
         Ok(self.kept.start())
     }
@@ -237,7 +237,7 @@ impl<E: Engine> Core<E> {
         self.tell(held)
     }
 
-    /// Keeps what was decided, before its record is durable: further decisions are made behind it. Nobody is told, and
+    /// Keeps what was decided, before its record is durable: further decisions are made after it. Nobody is told, and
     /// nothing is put out. It takes no memory.
     pub fn take(&mut self, decision: Decision) -> Held
         requires { WasDecided E.meaning self.old decision }

@@ -1,4 +1,4 @@
-//! The requests that wait, behind what becomes of them, and the wants of those of them that can be served.
+//! The requests that wait, after what becomes of them, and the wants of those of them that can be served.
 
 ghost use Rattle.std.specs.Prelude.{◌≡◌, ◌<◌, ◌≤◌, ◌+◌, length, vec_len, vec_capacity};
 ghost use Rattle.sv_model.specs.NodeState.{last_number};
@@ -70,7 +70,7 @@ impl Kept {
         list_keys(&mut self.waited, &self.parked);
     }
 
-    /// The requests that wait, behind what becomes of them.
+    /// The requests that wait, after what becomes of them.
     pub fn rearrange(&mut self, waiting: Waiting)
         requires parked { vec_len self.old.parked < vec_capacity self.old.parked }
         requires waited { vec_len self.old.waited < vec_capacity self.old.waited }

@@ -1,4 +1,4 @@
-//! Which record may stand behind others, and a core that is made from its records.
+//! Which record may stand after others, and a core that is made from its records.
 
 ghost use Rattle.std.specs.Prelude.{◌≡◌, List, IfErr, OnOk, OnErr, IfOk, option_copied, drop};
 ghost use Rattle.std.specs.Bool.{Decides};
@@ -96,7 +96,7 @@ impl Kept {
             && self.has_space()
     }
 
-    /// The record may stand behind those before it.
+    /// The record may stand after those before it.
     pub fn fits(&self, entry: &Record) -> bool
         ensures { Decides result (Fits self.now.setting self.now.stage (node_of self.now).durable entry.now) }
     {
@@ -123,7 +123,7 @@ impl Kept {
         }
     }
 
-    /// Adds a record, where it may stand behind those before it.
+    /// Adds a record, where it may stand after those before it.
     pub fn apply(&mut self, entry: Record) -> Result<(), ApplyFault>
         ensures fits { OnOk result (Fits self.old.setting self.old.stage (node_of self.old).durable entry) }
         ensures durable { OnOk result ((node_of self.new).durable ≡ applied entry (node_of self.old).durable) }
@@ -143,7 +143,7 @@ impl Kept {
         Ok(())
     }
 
-    /// Adds records in order, where each may stand behind those before it.
+    /// Adds records in order, where each may stand after those before it.
     pub fn replay(&mut self, records: &[Record]) -> Result<(), ApplyFault>
         ensures fit { OnOk result (AllFit self.old.setting self.old.stage (node_of self.old).durable records.now) }
         ensures durable { OnOk result ((node_of self.new).durable ≡ replayed (node_of self.old).durable records.now) }

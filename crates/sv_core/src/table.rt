@@ -55,7 +55,7 @@ pub fn is_own(home: Option<u8>, key: Key) -> bool
     }
 }
 
-/// Puts a state down at a free place, and behind all others where there is none. Its place comes back.
+/// Puts a state down at a free place, and after all others where there is none. Its place comes back.
 fn put_down(states: &mut Vec<KeyState>, free: &mut Vec<usize>, state: KeyState) -> usize
     requires room { vec_len states.old < vec_capacity states.old }
     requires below { AreBelow (length states.old.items) free.old.items }

@@ -97,7 +97,7 @@ fn settle(wants: &mut Vec<u64>, all: &[Parked], key: Key, is_settled: bool)
     }
 }
 
-/// The key whose requests can be served behind a record, or can't.
+/// The key whose requests can be served after a record, or can't.
 fn settles(entry: &Record) -> Option<(Key, bool)>
     ensures { result ≡ settles entry.now }
 {
@@ -145,7 +145,7 @@ fn settle_if_waited(
     }
 }
 
-/// The wants of those that can be served, behind a record of a node that forgets none.
+/// The wants of those that can be served, after a record of a node that forgets none.
 pub fn settle_behind(wants: &mut Vec<u64>, all: &[Parked], waited: &[Key], entry: &Record)
     requires keyed { waited.now ≡ keys_in all.now }
     requires rise { Rise (wants_in all.now) }

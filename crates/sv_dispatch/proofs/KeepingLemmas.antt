@@ -63,7 +63,7 @@ closed_by_keeps fs ps call l o Abandoned h more = h
 emptied_keeps : (l : Lent) → KeepsLent l (emptied l)
 emptied_keeps l = record { edit = KeepsEdit-refl l.edit; reply = cleared_keeps l.reply }
 
--- what is held round a dispatch is let go behind it
+-- what is held round a dispatch is let go after it
 held_keeps : (l m : Lent) (b : Bool) → l.reply.is_held ≡ b → KeepsLent (holding true l) m → KeepsLent l (holding b m)
 held_keeps l m b is h =
     record { edit = h.edit; reply = record { hold = sym is; status = λ on. h.reply.status refl; fields = λ on. h.reply.fields refl } }
@@ -75,7 +75,7 @@ resumed_by_keeps again l r o (Failed code text) h more = KeepsLent-trans l o.len
 resumed_by_keeps again l r o (Faulted name) h more = h
 resumed_by_keeps again l r o Abandoned h more = h
 
--- ---- what a dispatch shows behind its filters
+-- ---- what a dispatch shows after its filters
 
 shown_included : (s : Sight) (b : Before) → (shown_behind s b).is_included ≡ s.is_included
 shown_included s Pass = refl

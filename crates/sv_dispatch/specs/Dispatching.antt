@@ -53,7 +53,7 @@ sent s code text = if s.is_included then Finished else Failed code text
 abbrev pub emptied : Lent → Lent
 emptied l = lent l.edit (cleared l.reply)
 
--- the reply is held before an include, and behind it as it was
+-- the reply is held before an include, and after it as it was
 abbrev pub holding : Bool → Lent → Lent
 holding is_held l = lent l.edit (held l.reply is_held)
 
@@ -69,7 +69,7 @@ pub record Begun : Type 0 where
 abbrev pub begun : List ℕ → Sight → Before → Lent → Begun
 begun ps s b l = record { passed = ps; view = s; before = b; lent = l }
 
--- what the dispatch shows behind a filter
+-- what the dispatch shows after a filter
 abbrev pub shown_behind : Sight → Before → Sight
 shown_behind s Pass = s
 shown_behind s (PassWith name value) = attributed s name value
@@ -77,7 +77,7 @@ shown_behind s Stop = s
 shown_behind s (RefuseBy code text) = s
 shown_behind s (RefuseFor name) = s
 
--- what stands behind the filter is called
+-- what stands after the filter is called
 abbrev pub passes : Before → Bool
 passes Pass = true
 passes (PassWith name value) = true
@@ -121,7 +121,7 @@ resumed_by again r o Abandoned = o
 abbrev pub let_go : Bool → Outcome → Outcome
 let_go is_held o = outcome o.ended o.left (holding is_held o.lent)
 
--- behind an included dispatch the reply is held as before, and the servlet goes on, unless that was abandoned or faulted
+-- after an included dispatch the reply is held as before, and the servlet goes on, unless that was abandoned or faulted
 unfoldable pub resumed : (ℕ → ℕ → Lent → Outcome) → Bool → ℕ → Outcome → Outcome
 resumed again is_held r o = resumed_by again r (let_go is_held o) o.ended
 
@@ -164,7 +164,7 @@ abbrev pub found_or_sent : Sight → Option ℕ → Result ℕ Ending
 found_or_sent s None = Err (sent s 404 [])
 found_or_sent s (Some k) = Ok k
 
--- the servlet that is to be called behind the filters, or how the dispatch ends without it
+-- the servlet that is to be called after the filters, or how the dispatch ends without it
 abbrev pub to_serve : List (Row Serves) → Visit → Before → Result ℕ Ending
 to_serve rs v Pass = found_or_sent v.view (ready_at (labels_of_rows rs) v.servlet)
 to_serve rs v (PassWith name value) = found_or_sent v.view (ready_at (labels_of_rows rs) v.servlet)

@@ -14,14 +14,14 @@ use std::alloc::{AllocError, Global};
 use sv_mapping::filters_for;
 use sv_servlet::{Before, Call, Filter, Servlet};
 
-/// What stands behind the filter is called.
+/// What stands after the filter is called.
 fn passes(before: &Before) -> bool
     ensures { result ≡ passes before.now }
 {
     matches!(before, Before::Pass | Before::PassWith { .. })
 }
 
-/// What the dispatch shows behind a filter.
+/// What the dispatch shows after a filter.
 fn shown_behind<'a>(alloc: Global, view: View<'a>, before: &Before) -> Result<View<'a>, AllocError>
     ensures { IfOk result (λ shown. shown ≡ shown_behind view.entry before.now) }
 {

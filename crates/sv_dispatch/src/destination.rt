@@ -13,7 +13,7 @@ pub struct Destination {
     pub request_uri: Text,
     /// The canonical path within the context, decoded.
     pub path: Text,
-    /// What stands behind the first `?`, as written; empty where nothing does.
+    /// What stands after the first `?`, as written; empty where nothing does.
     pub query: Option<Text>,
     /// The parameters of the query.
     pub params: Sequence<Param>,
@@ -57,7 +57,7 @@ fn query_params(alloc: Global, query: &Option<Text>) -> Result<Sequence<Param>, 
     }
 }
 
-/// A context path and the path of a target behind it.
+/// A context path and the path of a target after it.
 fn uri_of(alloc: Global, context_path: &str, raw_path: &Text) -> Result<Text, AllocError>
     ensures { IfOk result (λ uri. uri ≡ spec.uri_of context_path.now raw_path.now) }
 {

@@ -29,7 +29,7 @@ pub enum Ended {
     Normal,
     /// The reply is that of an error page, which was reached with this status.
     ErrorPage(u16),
-    /// The plain page of this status is sent, behind the fields of the reply.
+    /// The plain page of this status is sent, after the fields of the reply.
     Plain(u16),
 }
 
@@ -95,7 +95,7 @@ fn give_plain<S: Servlet, F: Filter>(stage: &mut Stage<S, F>) -> Ended
     Ended::Plain(500)
 }
 
-/// How a request ends behind the dispatch to its error page.
+/// How a request ends after the dispatch to its error page.
 fn page_ended<S: Servlet, F: Filter>(stage: &mut Stage<S, F>, status: u16, ended: Ending) -> Ended
     ensures same { table_of S.serves S.servlet_phase F.filtering F.filter_phase stage.new
         ≡ table_of S.serves S.servlet_phase F.filtering F.filter_phase stage.old }

@@ -53,7 +53,7 @@ fn finish<'a, S: Servlet, F: Filter>(
     Ok(Mode::Leave(ended))
 }
 
-/// The servlet that is to be called behind the filters, or how the dispatch ends without it.
+/// The servlet that is to be called after the filters, or how the dispatch ends without it.
 fn to_serve<S: Servlet, F: Filter>(
     alloc: Global,
     stage: &Stage<S, F>,

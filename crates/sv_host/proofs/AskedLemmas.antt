@@ -1,4 +1,4 @@
--- What is gathered has its clients: as one more comes, as one is left out, and one behind the other.
+-- What is gathered has its clients: as one more comes, as one is left out, and one after the other.
 use Rattle.std.proofs.Common.{◌≡◌, ℕ, zero, suc, ◌<◌, ◌≤◌, Bool, true, false, List, [], ◌∷◌, ◌++◌, Option, Some, None, arith, refl, sym, ap, subst, ◌∙◌}
 use Rattle.std.specs.Prelude.{IsTrue, IsFalse, remove, slice_get}
 use Rattle.sv_host.specs.declared.group.Asker.{Asker}

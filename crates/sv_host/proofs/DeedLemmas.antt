@@ -20,7 +20,7 @@ use Rattle.sv_net.specs.declared.state.State.TheVariants as state
 
 -- ---- a text
 
--- what is behind it is heard, or the connection closes
+-- what is after it is heard, or the connection closes
 said_story : (text : List ℕ) (next : Next) (was held : Open) → parts was.state ≡ false → Says text next (said_on was) (came_of was.socket) held → HearsNext (unread was.state) next → HasStory was held
 said_story text Close was held listened says hears =
     has_one (PartsDeed text) was held (record { said = says.said; nothing_came = says.nothing_came; listened = listened }, saying_unread text Close held.state says.stands)

@@ -1,4 +1,4 @@
--- What is gathered stands behind what was gathered before.
+-- What is gathered stands after what was gathered before.
 use Rattle.std.proofs.Common.{ℕ, List, [], ◌∷◌, ◌++◌, Option, Some, None, Err, ap, sym, subst, ◌∙◌, append_assoc}
 use Rattle.std.specs.List.{AllByRecursion}
 use Rattle.std.proofs.lemmas.List.{append-nil}

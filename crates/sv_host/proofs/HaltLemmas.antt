@@ -64,7 +64,7 @@ told greets was read count bytes stop some most came h =
       stop_is = h.by_it.1;
     }
 
--- it doesn't come behind a request or a packet
+-- it doesn't come after a request or a packet
 not_behind : (greets : Bool) (s : State) (bytes : Vec ℕ Global) → turn_of s ≡ turn.Serve → Finds greets s [] (state.Framing bytes) → ⊥
 not_behind greets state.New bytes serves f = absurd (let h = serves in cc)
 not_behind greets (state.Asking c) bytes serves f = absurd (let h = serves in cc)

@@ -1,4 +1,4 @@
--- Each request that waits at a node has its client: as more is gathered, and behind a group.
+-- Each request that waits at a node has its client: as more is gathered, and after a group.
 use Rattle.std.proofs.Common.{◌≡◌, ℕ, ◌+◌, List, [], map, Vec, vec_items, Global, Result, Ok, Err, arith, sym, ap, subst}
 use Rattle.std.specs.Prelude.{IfErr, OnOk, false}
 use Rattle.sv_host.specs.declared.group.Group.{Group}

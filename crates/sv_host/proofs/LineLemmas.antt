@@ -11,7 +11,7 @@ use Rattle.sv_host.proofs.RankLemmas.{behind, behind_all, behind_before, behind_
 use Rattle.sv_host.proofs.RunLemmas.{AreAmong, AreNext, last_moves, last_of, last_stays, taken, unsent_many, unsent_next}
 use Rattle.sv_host.proofs.PartLemmas.{both_sides, last_behind, last_front, part_end, part_sent, unsent_behind, unsent_front}
 
--- how many may be sent of these before a packet is and those behind it: those behind the last one, and all if it is not one of those
+-- how many may be sent of these before a packet is and those after it: those after the last one, and all if it is not one of those
 abbrev pub ahead : List Rank → Rank → Option Rank → ℕ
 ahead ranks q last = behind ranks last + cond (is_next last q) 0 (length ranks)
 
@@ -48,7 +48,7 @@ part_at l b f w = record { before = l; behind = b; front = f; wraps = w; last = 
 part_is : (l : Line) (after ahead most : ℕ) (part : Part) → IsPartOf l after ahead most part → part ≡ part_at l part.behind part.front part.wraps
 part_is l after ahead most part h = λ i. record { before = h.before i; behind = part.behind; front = part.front; wraps = part.wraps; last = h.last i }
 
--- those behind the last one are more than are let pass, and one of these is the packet
+-- those after the last one are more than are let pass, and one of these is the packet
 moves_behind : (ranks : List Rank) (q : Rank) (l : Line) (rs : List Rank) (b : ℕ) → IsRising rs → AreAmong ranks rs → stands_in q rs ≡ true
     → is_next l.last q ≡ true → stands_in q (taken (λ r. is_next l.last r) b rs) ≡ false → b ≤ count (λ r. is_next l.last r) rs
     → ahead ranks q (last_of (λ r. is_next l.last r) b l.last rs) + b ≤ ahead ranks q l.last
@@ -67,7 +67,7 @@ moves_round ranks q l rs b rising among next few =
     let moved = last_moves ranks f rs b l.last l.last rising among (next_itself l.last rs) few (λ z. refl) in
     rw next (omega (arith, moved, ahead_within ranks q (last_of f b l.last rs)))
 
--- all those behind the last one are sent, and some from the first one on, but not the packet
+-- all those after the last one are sent, and some from the first one on, but not the packet
 moves_front : (ranks : List Rank) (q : Rank) (l : Line) (rs : List Rank) (b n : ℕ) → IsRising rs → AreAmong ranks rs → stands_in q rs ≡ true
     → is_next l.last q ≡ false → stands_in q (taken (λ r. not (is_next l.last r)) n rs) ≡ false → b ≤ count (λ r. is_next l.last r) rs
     → n ≤ count (λ r. not (is_next l.last r)) rs → 0 < n

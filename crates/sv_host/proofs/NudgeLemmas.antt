@@ -161,7 +161,7 @@ module _ (m : EngineMeaning) (set : Setting) where
     tick_at Tick other end second n at a since done = tick_ends end second n at a since done
     tick_at (LateTick s) other end second n at a since done = tick_ends end (max second s) n (moment_of (LateTick s) at) a (omega (arith, since)) done
 
-    -- ---- all of them, one behind the other
+    -- ---- all of them, one after the other
 
     module _ (second : ℕ) where
       pokes_settle : (taken : Taken) (end : ℕ) (n : State) (i : Moment × Input) (is : List (Moment × Input)) (answers : List Coded) → AllByRecursion (IsNudge Poke second) (i ∷ is)
@@ -193,7 +193,7 @@ module _ (m : EngineMeaning) (set : Setting) where
       ticks_only nudge other taken end n i [] (a ∷ b ∷ answers) are h done = absurd h.1
       ticks_only nudge other taken end n i (j ∷ is) (a ∷ answers) are h done = ticks_only nudge other (taken_of a) _ (left_by n (decided m set n i.0 i.1) (plain a)) j is answers are.1 h.1 done
 
-      -- behind whatever else was gathered
+      -- after whatever else was gathered
       ticks_end : (nudge : Nudge) → nudge ≢ Poke → (taken : Taken) (end : ℕ) (n : State) (before more : List (Moment × Input)) (answers : List Coded)
           → AllByRecursion (IsNudge nudge second) more → 0 < length more → Answered m set len end n (before ++ more) (all_plain answers) → last_taken taken answers ≢ Refused
           → IsInTime set (second_of nudge second) (behind m set n (before ++ more) (all_plain answers))

@@ -14,7 +14,7 @@ use Rattle.sv_host.specs.Turns.{is_same, ranks_by, ranks_in, stands_in}
 use Rattle.sv_host.proofs.RankLemmas.{count, settled}
 use Rattle.sv_host.proofs.RunLemmas.{last_of, neither, taken}
 
--- a part behind packets, and those of them that are sent
+-- a part after packets, and those of them that are sent
 abbrev pub part_end : Part → List Rank → Part
 part_end p [] = p
 part_end p (r ∷ rs) = part_end (part_after p r) rs
@@ -28,7 +28,7 @@ one_behind f true true p q u v left right = left
 one_behind f true false p q u v left right = right
 one_behind f false y p q u v left right = right
 
--- where none from the first one on are sent, the last one is the last of those behind
+-- where none from the first one on are sent, the last one is the last of those after
 pub last_behind : (l : Line) (b : ℕ) (last : Option Rank) (rs : List Rank)
     → (part_end (record { before = l; behind = b; front = 0; wraps = false; last = last }) rs).last ≡ last_of (λ r. is_next l.last r) b last rs
 last_behind l b last [] = refl
@@ -53,7 +53,7 @@ last_front l b f last (r ∷ rs) =
 either_not : (a b : Bool) → a ≡ false → b ≡ false → (a || b) ≡ false
 either_not a b p q = grind (arith, p, q)
 
--- one that a part doesn't send is not of those behind that are sent, nor of those from the first one on
+-- one that a part doesn't send is not of those after that are sent, nor of those from the first one on
 pub unsent_behind : (q : Rank) (l : Line) (b f : ℕ) (w : Bool) (last : Option Rank) (rs : List Rank)
     → stands_in q (part_sent (record { before = l; behind = b; front = f; wraps = w; last = last }) rs) ≡ false
     → stands_in q (taken (λ r. is_next l.last r) b rs) ≡ false
@@ -94,7 +94,7 @@ unsent_front q l b f w last (r ∷ rs) unsent = elim (settled (is_next l.last r)
   ]
 ]
 
--- a line's part of a share behind a tick's outputs is that part behind the line's packets among them
+-- a line's part of a share after a tick's outputs is that part after the line's packets among them
 after_packet : (s : Share) (wants : Bool) (b : Bool) (p : Packet) (rs : List Rank) → is_want p ≡ b
     → part_end (part_of (share_after_packet b s (rank_of p)) wants) rs ≡ part_end (part_of s wants) (cond (is_in wants p) (rank_of p ∷ []) [] ++ rs)
 after_packet s true true p rs e = rw e refl

@@ -1,4 +1,4 @@
--- The order of a tick's packets, and how many stand behind one of them.
+-- The order of a tick's packets, and how many stand after one of them.
 use Rattle.std.proofs.Common.{◌≡◌, ◌⊎◌, ◌≤◌, ℕ, ◌+◌, Bool, true, false, cond, List, [], ◌∷◌, Option, Some, None, inl, inr, refl, ap, sym, ◌∙◌, arith, length}
 use Rattle.std.proofs.lemmas.Bool.Decides.{nat_tests}
 use Rattle.sv_host.specs.declared.round.Rank.{Rank}
@@ -12,7 +12,7 @@ settled false = inr refl
 pub behind_both : (a b c : Rank) → is_behind b a ≡ true → is_behind c b ≡ true → is_behind c a ≡ true
 behind_both a b c p q = grind (arith, nat_tests)
 
--- one that isn't behind a has all behind it that are behind a
+-- one that isn't after a has all after it that are after a
 pub behind_unless : (a b c : Rank) → is_behind b a ≡ false → is_behind c a ≡ true → is_behind c b ≡ true
 behind_unless a b c p q = grind (arith, nat_tests)
 
@@ -24,7 +24,7 @@ abbrev pub count : (Rank → Bool) → List Rank → ℕ
 count f [] = 0
 count f (r ∷ rs) = cond (f r) 1 0 + count f rs
 
--- how many stand behind one
+-- how many stand after one
 abbrev pub behind : List Rank → Option Rank → ℕ
 behind ranks last = count (λ r. is_next last r) ranks
 
@@ -70,7 +70,7 @@ next_of : (x : Option Rank) (r : Rank) → is_next x r ≡ true → (s : Rank) �
 next_of None r p s q = refl
 next_of (Some a) r p s q = behind_both a r s p q
 
--- fewer stand behind one of them than behind whatever that one is behind
+-- fewer stand after one of them than after whatever that one is after
 pub behind_next : (ranks : List Rank) (x : Option Rank) (r : Rank) → is_next x r ≡ true → stands_in r ranks ≡ true
     → behind ranks (Some r) + 1 ≤ behind ranks x
 behind_next ranks x r p at = count_lt (λ s. is_behind s r) (λ s. is_next x s) (next_of x r p) r (not_behind_itself r) p ranks at
@@ -79,7 +79,7 @@ later_of : (x : Option Rank) (r : Rank) → is_next x r ≡ false → (s : Rank)
 later_of None r p s q = grind arith
 later_of (Some a) r p s q = behind_unless a r s p q
 
--- no more stand behind one than behind another that it isn't behind
+-- no more stand after one than after another that it isn't after
 pub behind_before : (ranks : List Rank) (x : Option Rank) (r : Rank) → is_next x r ≡ false → behind ranks x ≤ behind ranks (Some r)
 behind_before ranks x r p = count_le (λ s. is_next x s) (λ s. is_behind s r) (later_of x r p) ranks
 

@@ -1,4 +1,4 @@
--- Requests of a group that stay, one behind the other.
+-- Requests of a group that stay, one after the other.
 use Rattle.std.proofs.Common.{◌≡◌, ◌<◌, ℕ, zero, suc, ◌+◌, Bool, true, false, cond, List, [], ◌∷◌, ◌++◌, Option, length, take, drop, ap, ◌∙◌, arith}
 use Rattle.std.specs.Prelude.{slice_get, remove}
 use Rattle.sv_model.specs.declared.input.Input.{Input}
@@ -8,7 +8,7 @@ use Rattle.sv_host.specs.declared.room.Room.{Room}
 use Rattle.sv_host.specs.Room.{awaited_in, left_of, may_come, room_behind, stays}
 
 module _ (waits : Input → Option Key) where
-  -- what is left of those from a place on, behind those before it
+  -- what is left of those from a place on, after those before it
   abbrev pub left_from : ℕ → Room → List (Moment × Input) → List (Moment × Input)
   left_from at r is = take at is ++ left_of waits r (drop at is)
 

@@ -4,7 +4,7 @@ use Rattle.std.proofs.lemmas.List.Sums.{sum_by-cons}
 use Rattle.std.specs.List.{sum_by}
 use Rattle.sv_model.specs.declared.output.Output.{Output}
 
--- the one at a place, and those behind it
+-- the one at a place, and those after it
 pub sum_on : (f : Output → ℕ) (os : List Output) (i : ℕ) (o : Output) → i < length os → o ≡ get_or os i o
     → sum_by f (drop i os) ≡ f o + sum_by f (drop (i + 1) os)
 sum_on f os i o within is =

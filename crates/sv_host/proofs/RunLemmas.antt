@@ -1,4 +1,4 @@
--- Packets of one side of a line in order, the first so many of which are sent: the last one sent, and how many stand behind that one.
+-- Packets of one side of a line in order, the first so many of which are sent: the last one sent, and how many stand after that one.
 use Rattle.std.proofs.Common.{◌≡◌, ◌≤◌, ◌<◌, ℕ, ◌+◌, ◌-◌, Bool, true, false, cond, ◌&&◌, ◌||◌, List, [], ◌∷◌, Option, Some, inl, inr, refl, ap, sym, ◌∙◌, arith}
 use Rattle.std.proofs.lemmas.Bool.Decides.{nat_tests}
 use Rattle.std.specs.Prelude.{nat_lt, IsTrue}
@@ -22,7 +22,7 @@ abbrev pub taken : (Rank → Bool) → ℕ → List Rank → List Rank
 taken f n [] = []
 taken f n (r ∷ rs) = cond (sends f n r) (r ∷ taken f (n - 1) rs) (taken f n rs)
 
--- each that passes the test is behind one
+-- each that passes the test is after one
 abbrev pub AreNext : (Rank → Bool) → Option Rank → List Rank → Type 0
 AreNext f x rs = AllByRecursion (λ r. f r ≡ true → is_next x r ≡ true) rs
 
@@ -42,7 +42,7 @@ sent_fits b n rest e few = (grind (arith, nat_tests), grind (arith, nat_tests))
 unsent_fits : (b : Bool) (n rest : ℕ) → (b && nat_lt 0 n) ≡ false → n ≤ cond b 1 0 + rest → n ≤ rest
 unsent_fits b n rest e few = grind (arith, nat_tests)
 
--- where as many are there as are sent, so many fewer stand behind the last one of them; from is what they are behind
+-- where as many are there as are sent, so many fewer stand after the last one of them; from is what they are after
 pub last_moves : (ranks : List Rank) (f : Rank → Bool) (rs : List Rank) (n : ℕ) (last from : Option Rank) → IsRising rs → AreAmong ranks rs
     → AreNext f from rs → n ≤ count f rs → (n ≡ 0 → last ≡ from) → behind ranks (last_of f n last rs) + n ≤ behind ranks from
 last_moves ranks f [] n last from rising among next few same =
@@ -106,7 +106,7 @@ pub last_stays : (f : Rank → Bool) (n : ℕ) (last : Option Rank) (rs : List R
 last_stays f n last [] none = refl
 last_stays f n last (r ∷ rs) none = rw (sends_none f n r none) (last_stays f n last rs none)
 
--- and stands behind the last one that is
+-- and stands after the last one that is
 pub unsent_next : (f : Rank → Bool) (q : Rank) (rs : List Rank) (n : ℕ) (last from : Option Rank) → IsRising rs → f q ≡ true
     → stands_in q rs ≡ true → stands_in q (taken f n rs) ≡ false → is_next from q ≡ true → (n ≡ 0 → last ≡ from)
     → is_next (last_of f n last rs) q ≡ true

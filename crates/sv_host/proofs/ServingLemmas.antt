@@ -1,4 +1,4 @@
--- Calls that serve, one behind the other.
+-- Calls that serve, one after the other.
 use Rattle.std.proofs.Common.{◌≡◌, refl, ℕ, List, Result, Ok, Err, sym, subst, arith}
 use Rattle.std.specs.Prelude.{IsErr, OnOk}
 use Rattle.sv_host.specs.declared.group.Group.{Group}
@@ -89,7 +89,7 @@ module _ {E D : Type 0} {meaning : E → EngineMeaning} {heard : E → List (Lis
     clients = on_err given (HaveClients waiters new next) err;
   }
 
-  -- one call behind another
+  -- one call after another
   pub served_then : {T F U G : Type 0} {old mid new : Node E D} {group between next : Group} {mid_waiters waiters : List ParkedClient} {answer : Result T F} {value : T} {given : Result U G} → answer ≡ Ok value
       → HasServed meaning heard fit tells seen may_leave moment left_since old group mid_waiters mid between answer → HasServed meaning heard fit tells seen may_leave moment left_since mid between waiters new next given → HasServed meaning heard fit tells seen may_leave moment left_since old group waiters new next given
   served_then {old = old} {mid = mid} {new = new} {group = group} {between = between} {next = next} {given = given} is first served = record {
@@ -100,7 +100,7 @@ module _ {E D : Type 0} {meaning : E → EngineMeaning} {heard : E → List (Lis
     clients = served.clients;
   }
 
-  -- behind what was gathered
+  -- after what was gathered
   pub gathered_then : {T F : Type 0} {old new : Node E D} {group between next : Group} {waiters : List ParkedClient} {answer : Result T F} → HasGathered group between → HasServed meaning heard fit tells seen may_leave moment left_since old between waiters new next answer → HasServed meaning heard fit tells seen may_leave moment left_since old group waiters new next answer
   gathered_then {T = T} {F = F} {old = old} {new = new} {group = group} {between = between} {next = next} {answer = answer} gathered served = record {
     valid = served.valid;

@@ -26,7 +26,7 @@ module _ {E D : Type 0} (meaning : E → EngineMeaning) (heard : E → List (Lis
   down_by journal.Memory s (inl why) = absurd (let h = why in cc)
   down_by journal.Memory s (inr why) = absurd (let h = why in cc)
 
-  -- a compaction behind which the node ends
+  -- a compaction after which the node ends
   pub compaction_stops : {U : Type 0} (fault : JournalFault) (answer : Result U Stop) → Compacted fault → IfErr answer (λ stop. ((fault ≡ journal.Device) ⊎ (fault ≡ journal.Failed)) × (stop ≡ Fault host.Device))
       → IfErr answer (HasFailed new)
   compaction_stops fault (Ok value) s why = tt

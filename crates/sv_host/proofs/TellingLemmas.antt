@@ -95,7 +95,7 @@ Handed = Result (Vec Output Global) StepFault
 abbrev pub answer_in : Handed → Result (List Output) StepFault
 answer_in a = with_list vec_items a
 
--- what holds of those that wait, and of those who come later, behind one input
+-- what holds of those that wait, and of those who come later, after one input
 record IsTold (n : State) (low : ℕ) (i : Input) (old new : Server) (next : State) : Type 0 where
   waits : WaitFor 0 (number_in low i) (clients_of new.parked) next.parked
   keeps : (token : ℕ) → number_in low i < token → Has token (clients_of old.parked) → Has token (clients_of new.parked)

@@ -1,4 +1,4 @@
--- Who waits at a node behind a step, and to whom the step tells something: to nobody who goes on waiting.
+-- Who waits at a node after a step, and to whom the step tells something: to nobody who goes on waiting.
 use Rattle.std.proofs.Common.{◌≡◌, ◌≢◌, ℕ, ◌<◌, ◌≤◌, ◌||◌, ◌==◌, Bool, true, false, cond, not, nat_le, Option, Some, None, List, [], ◌∷◌, ◌++◌, map, length, filter, filter_map, flat_map, arith, refl, ap}
 use Rattle.std.specs.Prelude.{⊤}
 use Rattle.std.specs.FinMap.{entries}
@@ -86,7 +86,7 @@ grants_tell set token ((k, Ended e) ∷ es) = grants_tell set token es
 
 -- ---- a decision
 
--- who waits behind a decision is told nothing by it, and nobody who comes later
+-- who waits after a decision is told nothing by it, and nobody who comes later
 pub record Spares (P : ℕ → Type 0) (high : ℕ) (d : Decision) : Type 0 where
   pub wait : Wait (λ token. P token × AreForOthers token d.outputs) 0 high d.parked
   pub later : (token : ℕ) → high < token → AreForOthers token d.outputs
@@ -271,7 +271,7 @@ module _ (P : ℕ → Type 0) where
     late_above token low high (p ∷ ps) le w =
         late_above_by (is_late set steady p) token p (filter (is_late set steady) ps) (omega (arith, le, w.0)) (late_above token p.token high ps (omega (arith, le, w.0)) w.2)
 
-    -- nor are those that come behind all of them
+    -- nor are those that come after all of them
     late_below_by : (b : Bool) (token : ℕ) (p : Parked) (xs : List Parked) → p.token < token → AreForOthers token (map late xs) → AreForOthers token (map late (cond b (p ∷ xs) xs))
     late_below_by true token p xs below rest = (λ same. omega (arith, same, below), rest)
     late_below_by false token p xs below rest = rest
@@ -344,7 +344,7 @@ module _ (m : EngineMeaning) (set : Setting) (n : Node) (moment : Moment) (i : I
   spares : Spares (λ token. Has token old) (number_in high i) d
   spares = step_spares (λ token. Has token old) m set n moment i high above (asked_comes i asked) w
 
-  -- behind a step whose outputs were handed on each request that waits has its client
+  -- after a step whose outputs were handed on each request that waits has its client
   pub step_waits : WaitFor 0 (number_in high i) new d.parked
   step_waits =
       wait_map (λ token. Has token old × AreForOthers token d.outputs) (λ token. Has token new) 0 (number_in high i) d.parked (λ token _ _ holds. keeps token holds.1 holds.0) spares.wait

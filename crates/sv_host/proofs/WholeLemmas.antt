@@ -71,7 +71,7 @@ begun_unread greets first (state.Saying text next) b = absurd b
 begun_unread greets first (state.Parting bytes) b = absurd b
 begun_unread greets first (state.Calling to frame holder) b = absurd b
 
--- what is still to be heard at the state that it finds, behind which nobody is who isn't heard; a newcomer stays one only if nothing came
+-- what is still to be heard at the state that it finds, after which nobody is who isn't heard; a newcomer stays one only if nothing came
 record IsFound (was begun : State) (piece : List ℕ) : Type 0 where
   unread_is : unread begun ≡ unread was
   heard_on : turn_of begun ≢ turn.Socket

@@ -56,7 +56,7 @@ pub record IsSame (group next : Group) : Type 0 where
   pub ways : ways_of next ≡ ways_of group
   pub number : number_of next ≡ number_of group
 
--- one more stands behind the others
+-- one more stands after the others
 pub record HasOneMore (one : Moment × Input) (way : Way) (group next : Group) : Type 0 where
   pub inputs : inputs_of next ≡ inputs_of group ++ one ∷ []
   pub ways : ways_of next ≡ ways_of group ++ way ∷ []
@@ -66,7 +66,7 @@ pub record HasOneMore (one : Moment × Input) (way : Way) (group next : Group) :
 abbrev pub IsFull : Group → Type 0
 IsFull g = (vec_capacity g.inputs ≤ vec_len g.inputs) ⊎ (vec_capacity g.ways ≤ vec_len g.ways)
 
--- what stands behind the others was heard on connections, each under a number
+-- what stands after the others was heard on connections, each under a number
 pub record HasMore (group next : Group) : Type 0 where
   pub more : List (Moment × Input)
   pub inputs : inputs_of next ≡ inputs_of group ++ more

@@ -72,7 +72,7 @@ Commands place old new =
     (clients_of new.parked ≡ clients_of old.parked) × SparesClients old.connections new.connections
     × ((byte : ℕ) × GoOnBut place (ObeysThere byte (held_at old.connections place)) old.connections new.connections)
 
--- behind the outputs of a step: whoever gave a command is told, and a client that waits is watched from now on, or its connection is
+-- after the outputs of a step: whoever gave a command is told, and a client that waits is watched from now on, or its connection is
 -- closed
 abbrev pub Concludes : Asker → Server → Server → Type 0
 Concludes (Client place number) old new =

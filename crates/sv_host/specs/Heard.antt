@@ -28,7 +28,7 @@ IsGivenAs peers number (heard.Refused client fault head_only) given = ⊥
 IsGivenAs peers number (heard.Greeting greeting) given = ⊥
 IsGivenAs peers number heard.Nothing given = ⊥
 
--- what is given to the node stands at the front of the bytes that a connection held and of those that have come there behind them
+-- what is given to the node stands at the front of the bytes that a connection held and of those that have come there after them
 pub record IsOfBytes (peers : Peers) (greets : Bool) (was : State) (piece : List ℕ) (number : ℕ) (given : Input) : Type 0 where
   pub begun : State
   pub found : Finds greets was piece begun

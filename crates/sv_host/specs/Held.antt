@@ -59,7 +59,7 @@ is_like key from h = is_for key h && (h.want.from == from)
 abbrev pub has : Key → List HeldWant → Bool
 has key hs = is_some (position (is_for key) hs)
 
--- one in the place of that of the same node for the same session, or behind the others
+-- one in the place of that of the same node for the same session, or after the others
 abbrev pub put_at : Option ℕ → HeldWant → List HeldWant → List HeldWant
 put_at None h hs = hs ++ h ∷ []
 put_at (Some at) h hs = slice_set hs at h
@@ -117,7 +117,7 @@ is_other i = not (is_want i.1)
 abbrev pub others_in : List (Moment × Input) → List (Moment × Input)
 others_in is = filter is_other is
 
--- what stands behind the others are wants
+-- what stands after the others are wants
 pub record HasMoreWants (group next : Group) : Type 0 where
   pub more : List (Moment × Input)
   pub inputs : inputs_of next ≡ inputs_of group ++ more

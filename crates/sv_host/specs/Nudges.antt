@@ -1,4 +1,4 @@
--- What a node is told by itself, and what holds behind it of those who wait.
+-- What a node is told by itself, and what holds after it of those who wait.
 use Rattle.std.specs.Prelude.{◌≡◌, ◌<◌, ◌+◌, ◌≤◌, ◌++◌, ◌∷◌, [], ℕ, max, List, Vec, Result, Ok, false, length, map, vec_items}
 use Rattle.std.specs.declared.alloc.Global.{Global}
 use Rattle.std.specs.List.{AllByRecursion}
@@ -54,7 +54,7 @@ pub record IsNudge (nudge : Nudge) (second : ℕ) (i : Moment × Input) : Type 0
   pub is : i ≡ (moment_of nudge at, input_of nudge)
   pub since : second ≤ at.steady
 
--- it stands behind the others of a group
+-- it stands after the others of a group
 pub record HasNudge (nudge : Nudge) (second : ℕ) (group next : Group) : Type 0 where
   pub one : Moment × Input
   pub is : IsNudge nudge second one
@@ -67,7 +67,7 @@ pub record HasNudges (nudge : Nudge) (second count : ℕ) (group next : Group) :
   pub are : AllByRecursion (IsNudge nudge second) more
   pub inputs : inputs_of next ≡ inputs_of group ++ more
 
--- a node was told so many, behind what was gathered, and this came of the last
+-- a node was told so many, after what was gathered, and this came of the last
 pub record IsTold {E D : Type 0} (meaning : E → EngineMeaning) (heard : E → List (List ℕ)) (failed : D → ℕ) (nudge : Nudge) (second count : ℕ)
     (old : Node E D) (group : Group) (new : Node E D) (taken : Taken) : Type 0 where
   pub more : List (Moment × Input)

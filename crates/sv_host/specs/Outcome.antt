@@ -49,7 +49,7 @@ answer_byte Busy = 0
 answer_byte (MoveRefused why) = refusal_byte why
 answer_byte Refused = 5
 
--- a node goes on behind a step that was refused, unless its disk has failed
+-- a node goes on after a step that was refused, unless its disk has failed
 abbrev pub refused : StepFault → Result Taken Stop
 refused step.Failed = Err (Fault host.Device)
 refused step.Full = Ok Refused

@@ -31,7 +31,7 @@ may_come r (Some key) = has_room r key.home
 abbrev pub counted : Room → ℕ → Room
 counted r home = record { counts = cond (has_room r home) (slice_set r.counts home (count_in r home + 1)) r.counts }
 
--- what room there is behind a request
+-- what room there is after a request
 abbrev pub room_behind : Room → Option Key → Room
 room_behind r None = r
 room_behind r (Some key) = counted r key.home
@@ -69,7 +69,7 @@ abbrev pub stays : {A : Type 0} → Bool → A → List A → List A
 stays true i is = i ∷ is
 stays false i is = is
 
--- those of several that may be given to the node, one behind the other, by what each of them waits for
+-- those of several that may be given to the node, one after the other, by what each of them waits for
 abbrev pub left_of : (Input → Option Key) → Room → List (Moment × Input) → List (Moment × Input)
 left_of waits r [] = []
 left_of waits r (i ∷ is) = stays (may_come r (waits i.1)) i (left_of waits (room_behind r (waits i.1)) is)

@@ -1,5 +1,5 @@
 -- Which packets of a tick are sent: of the wants in the order in which their requests came, and of the sessions by their keys, those
--- behind the last one of theirs that was sent before, and then those from the first one on.
+-- after the last one of theirs that was sent before, and then those from the first one on.
 use Rattle.std.specs.Prelude.{◌≡◌, ℕ, ◌+◌, ◌-◌, ◌&&◌, ◌||◌, ◌==◌, Bool, true, false, not, cond, nat_lt, min, List, [], ◌∷◌, ◌++◌, Option, Some, None}
 use Rattle.std.specs.List.{sum_by}
 use Rattle.sv_model.specs.declared.output.Output.{Output}
@@ -36,12 +36,12 @@ rank_of (No from to k boot want) = record { kind = 255; number = 0; node = 0 }
 abbrev pub is_behind : Rank → Rank → Bool
 is_behind a b = nat_lt b.kind a.kind || ((a.kind == b.kind) && (nat_lt b.number a.number || ((a.number == b.number) && nat_lt b.node a.node)))
 
--- behind the last one, if any was sent
+-- after the last one, if any was sent
 abbrev pub is_next : Option Rank → Rank → Bool
 is_next None rank = true
 is_next (Some last) rank = is_behind rank last
 
--- one packet, counted in the line of the wants, or in that of the others, where it comes behind the last one there, and where it doesn't
+-- one packet, counted in the line of the wants, or in that of the others, where it comes after the last one there, and where it doesn't
 abbrev pub is_in : Bool → Packet → Bool
 is_in true p = is_want p
 is_in false p = not (is_want p)
@@ -61,7 +61,7 @@ abbrev pub front_by : Bool → Option Rank → Option Packet → ℕ
 front_by wants last None = 0
 front_by wants last (Some p) = front_one wants last p
 
--- how many of these packets come behind it, and how many don't
+-- how many of these packets come after it, and how many don't
 abbrev pub behind_in : Bool → Option Rank → List Output → ℕ
 behind_in wants last outputs = sum_by (λ o. behind_by wants last (packet_in o)) outputs
 
@@ -72,7 +72,7 @@ front_in wants last outputs = sum_by (λ o. front_by wants last (packet_in o)) o
 abbrev pub most_wants : ℕ → ℕ
 most_wants others = ROUND_LIMIT - min others OTHERS
 
--- the part of a line of which so many come behind the last one, and so many don't: those behind it, and as many of the others as are then
+-- the part of a line of which so many come after the last one, and so many don't: those after it, and as many of the others as are then
 -- let pass
 pub record IsPartOf (line : Line) (after ahead most : ℕ) (part : Part) : Type 0 where
   pub before : part.before ≡ line
@@ -98,7 +98,7 @@ abbrev pub part_of : Share → Bool → Part
 part_of s true = s.wants
 part_of s false = s.others
 
--- a part has some left for a packet: of those behind the last one, or of those from the first one on
+-- a part has some left for a packet: of those after the last one, or of those from the first one on
 abbrev pub has_left : Part → Bool → Bool
 has_left p true = nat_lt 0 p.behind
 has_left p false = nat_lt 0 p.front
@@ -108,7 +108,7 @@ abbrev pub lets : Share → Option Packet → Bool
 lets s None = true
 lets s (Some p) = has_left (part_of s (is_want p)) (is_next (part_of s (is_want p)).before.last (rank_of p))
 
--- a part behind a packet that it was asked for: one fewer, if it has some left, and that one is the last, but for those behind the
+-- a part after a packet that it was asked for: one fewer, if it has some left, and that one is the last, but for those after the
 -- last one sent before where some from the first one on are sent too
 abbrev pub behind_after : Part → Rank → Part
 behind_after p rank = cond (nat_lt 0 p.behind) (record p { behind = p.behind - 1; last = cond p.wraps p.last (Some rank) }) p
@@ -123,16 +123,16 @@ abbrev pub share_after_packet : Bool → Share → Rank → Share
 share_after_packet true s rank = record s { wants = part_after s.wants rank }
 share_after_packet false s rank = record s { others = part_after s.others rank }
 
--- a share behind an output
+-- a share after an output
 abbrev pub share_after : Share → Option Packet → Share
 share_after s None = s
 share_after s (Some p) = share_after_packet (is_want p) s (rank_of p)
 
--- where the next tick's packets begin: each line behind the last one of its part
+-- where the next tick's packets begin: each line after the last one of its part
 abbrev pub round_at : Share → Round
 round_at s = record { wants = record { last = s.wants.last }; others = record { last = s.others.last } }
 
--- a share behind all that a tick puts out; what is handed on of it; and the round then
+-- a share after all that a tick puts out; what is handed on of it; and the round then
 abbrev pub share_end : Share → List Output → Share
 share_end s [] = s
 share_end s (o ∷ os) = share_end (share_after s (packet_in o)) os

@@ -72,11 +72,11 @@ pub record IsSilent (rest : List ℕ) (state : State) : Type 0 where
   pub nothing_unsent : unsent state ≡ []
   pub rest_is : unread state ≡ rest
 
--- what is still to be heard behind a frame: what came behind it, or nothing, as behind a command
+-- what is still to be heard after a frame: what came after it, or nothing, as after a command
 abbrev pub IsBehindFrame : List ℕ → State → Type 0
 IsBehindFrame rest state = IsSilent rest state ⊎ IsSilent [] state
 
--- a connection that was heard stands there by its socket: what is still to be heard of it is what came behind that
+-- a connection that was heard stands there by its socket: what is still to be heard of it is what came after that
 abbrev pub IsLeftBy : Heard → Socket → Open → Type 0
 IsLeftBy (heard.More next) socket held = IsQuiet socket held.socket × (held.state ≡ next)
 IsLeftBy (heard.Request client request) socket held = IsQuiet socket held.socket × IsSilent (held_by client.connection) held.state
@@ -93,7 +93,7 @@ StaysAt greets was piece place new progress.More =
 StaysAt greets was piece place new progress.Done = ⊤
 StaysAt greets was piece place new (progress.Came came) = ⊤
 
--- a piece was heard of a connection: what is given to the node is what this gives, and what came behind that is still to be heard
+-- a piece was heard of a connection: what is given to the node is what this gives, and what came after that is still to be heard
 pub record HearsOn (peers : Peers) (greets : Bool) (was : Open) (piece : List ℕ) (place number : ℕ) (old new : Server) (progress : Progress) : Type 0 where
   pub begun : State
   pub found : Finds greets was.state piece begun
@@ -114,7 +114,7 @@ pub record Halts (greets : Bool) (was : Open) (piece : List ℕ) (stop : Stop) :
 abbrev pub IsUnheard : Open → ℕ → Server → Server → Progress → Type 0
 IsUnheard was place old new ended = (ended ≡ progress.Done) × GoOnWith place was old.connections new.connections
 
--- a connection was listened to once: a piece is what the kernel gave in that call, behind all that it gave before, and is heard
+-- a connection was listened to once: a piece is what the kernel gave in that call, after all that it gave before, and is heard
 pub record Listens (peers : Peers) (greets : Bool) (was : Open) (place number : ℕ) (old new : Server) (progress : Progress) : Type 0 where
   pub piece : List ℕ
   pub read : Open

@@ -1,4 +1,4 @@
--- What stands before each call by which a node may be given what was gathered, and what holds behind it.
+-- What stands before each call by which a node may be given what was gathered, and what holds after it.
 use Rattle.std.specs.Prelude.{◌≡◌, ℕ, List, Result, IsTrue, OnOk}
 use Rattle.sv_host.specs.Clients.{HaveClients}
 use Rattle.sv_host.specs.declared.group.Group.{Group}
@@ -19,7 +19,7 @@ pub record IsServing {E D : Type 0} (fit : E → Type 0) (tells : D → Type 0) 
   pub rising : IsRising group
   pub clients : HaveClients waiters node group
 
--- by what came of it: some groups were given to the node, and what is gathered from now on comes behind them; these clients wait then
+-- by what came of it: some groups were given to the node, and what is gathered from now on comes after them; these clients wait then
 pub record HasServed {E D T F : Type 0} (meaning : E → EngineMeaning) (heard : E → List (List ℕ)) (fit : E → Type 0) (tells : D → Type 0)
     (seen : D → List ℕ) (may_leave : D → List ℕ → Type 0) (moment : D → ℕ) (left_since : D → ℕ → List ℕ → Type 0)
     (old : Node E D) (group : Group) (waiters : List ParkedClient) (new : Node E D) (next : Group) (answer : Result T F) : Type 0 where

@@ -22,16 +22,16 @@ use Rattle.sv_net.specs.declared.state.Turn.TheVariants as turn
 pub data Deed : Type 0 where
   -- it goes on: more of what was said leaves, and what it sends when it is told all is forgotten
   Rests : Deed
-  -- a piece came behind all that had come, and this was heard of what was held and of it
+  -- a piece came after all that had come, and this was heard of what was held and of it
   Hears : (piece : List ℕ) → (came : Heard) → Deed
-  -- a text was said behind all that had been said
+  -- a text was said after all that had been said
   Says : (text : List ℕ) → Deed
   -- the same, and nothing more is heard of it
   Parts : (text : List ℕ) → Deed
 
 -- ---- one of them
 
--- a connection whose piece was heard: nothing was said, and what is still to be heard is what came behind what was given
+-- a connection whose piece was heard: nothing was said, and what is still to be heard is what came after what was given
 abbrev pub IsHeardTo : Heard → State → Type 0
 IsHeardTo (heard.More next) now = now ≡ next
 IsHeardTo (heard.Request client request) now = IsSilent (held_by client.connection) now

@@ -22,7 +22,7 @@ abbrev pub ranks_in : Bool → List Output → List Rank
 ranks_in wants [] = []
 ranks_in wants (o ∷ os) = ranks_by wants (packet_in o) ++ ranks_in wants os
 
--- each is behind those in front of it, so that none is there twice
+-- each is after those in front of it, so that none is there twice
 abbrev pub IsRising : List Rank → Type 0
 IsRising [] = Unit {0}
 IsRising (r ∷ rs) = AllByRecursion (λ s. IsTrue (is_behind s r)) rs × IsRising rs

@@ -3,7 +3,7 @@
 ghost use Rattle.std.specs.Prelude.{◌≡◌};
 ghost use Rattle.sv_host.specs.Asking.{at, asked, is_due, sooner};
 
-/// In milliseconds: so long behind the first request that waits a node asks again.
+/// In milliseconds: so long after the first request that waits a node asks again.
 const FIRST: u64 = 50;
 
 /// In milliseconds: so long it waits until it asks once more, at most.
@@ -37,7 +37,7 @@ impl Asking {
         }
     }
 
-    /// What is due once a turn has come to its end, behind which requests wait or none does.
+    /// What is due once a turn has come to its end, after which requests wait or none does.
     pub fn at(self, now: u64, waits: bool) -> Asking
         ensures { result ≡ at self now waits }
     {

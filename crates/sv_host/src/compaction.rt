@@ -24,7 +24,7 @@ use sv_node::Node;
 /// The journal is written anew where it is longer than this, and twice as long as when it was last written anew.
 const COMPACTING: u64 = 4_194_304;
 
-/// What comes of a compaction that was refused: a node goes on, unless its disk has failed, and tries again behind the next
+/// What comes of a compaction that was refused: a node goes on, unless its disk has failed, and tries again after the next
 /// connection.
 fn not_compacted(fault: JournalFault) -> Result<(), Stop>
     ensures goes_on { OnOk result (compaction_ends fault ≡ false) }

@@ -25,7 +25,7 @@ const PACKETS: u32 = 16;
 /// So many who stand at the door are let in in a turn, at most.
 const NEWCOMERS: u32 = 64;
 
-/// The number of the next request; behind the last there is none.
+/// The number of the next request; after the last there is none.
 fn next_number(group: &Group) -> Result<u64, Stop>
     ensures above { IfOk result (λ number. number_of group.now < number) }
     ensures ends { IfErr result (LacksNumbers group.now) }

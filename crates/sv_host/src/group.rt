@@ -145,7 +145,7 @@ impl Group {
         Ok(())
     }
 
-    /// Adds an input behind the others; whether there was memory for it.
+    /// Adds an input after the others; whether there was memory for it.
     pub fn add(&mut self, moment: Moment, input: Input, asker: Asker, packets: Packets) -> bool
         requires rising { IsRising self.old }
         requires input { IsInput input }

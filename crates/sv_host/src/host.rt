@@ -277,7 +277,7 @@ impl Host {
         b: D,
     ) -> Result<Ended<E, D>, NotOpened<E, D>>
         requires { E.valid engine }
-        // What the disks give behind it is what some calls of the node lead to, from what they gave before it.
+        // What the disks give after it is what some calls of the node lead to, from what they gave before it.
         ensures life { IfOk result (λ r. IsLife E.meaning E.heard D.tells D.seen D.may_leave (setting_of self) engine a b r.engine r.a r.b) }
         // And so does a stop at any moment between.
         ensures any_moment { IfOk result (λ r. D.tells a → D.tells b → (d : Durable) → Restores (setting_of self) (D.seen a) (D.seen b) d →

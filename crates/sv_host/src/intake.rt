@@ -122,7 +122,7 @@ fn tell(server: &Server, socket: &mut Socket, byte: u8)
     }
 }
 
-/// Keeps the connection of a node for what it sends behind its packet, which is to be given to the node here.
+/// Keeps the connection of a node for what it sends after its packet, which is to be given to the node here.
 fn receive(server: &mut Server, from: Lifted, packet: Packet, rest: Vec<u8>) -> Option<Came>
     ensures came { result ≡ Some (record { input = PacketInput packet; asker = Nobody; packets = All }) }
     ensures clients { server.new.parked ≡ server.old.parked }

@@ -303,7 +303,7 @@ fn tick_all<E: Engine, D: Disk>(
     }
 }
 
-/// What is left to be done behind the tick of a second: one that was refused has ended nobody's waiting. It was to end a session, perhaps,
+/// What is left to be done after the tick of a second: one that was refused has ended nobody's waiting. It was to end a session, perhaps,
 /// of which the journal had no room for a record; so the node looks at the time once more, and ends none.
 fn end_waiting<E: Engine, D: Disk>(
     machine: &HostRuntime,
@@ -326,7 +326,7 @@ fn end_waiting<E: Engine, D: Disk>(
     }
 }
 
-/// The tick of a second, and what is left to be done behind it.
+/// The tick of a second, and what is left to be done after it.
 fn tick_once<E: Engine, D: Disk>(
     machine: &HostRuntime,
     server: &mut Server,

@@ -49,7 +49,7 @@ impl Rank {
         }
     }
 
-    /// It stands behind another.
+    /// It stands after another.
     fn is_behind(self, other: Rank) -> bool
         ensures { result ≡ is_behind self other }
     {
@@ -73,14 +73,14 @@ fn is_want(packet: &Packet) -> bool
     }
 }
 
-/// Packets that are sent in turn: the one that was sent last, so that the next tick's begin behind it. It is remembered by what it says,
+/// Packets that are sent in turn: the one that was sent last, so that the next tick's begin after it. It is remembered by what it says,
 /// and not by how many were in front of it: some of those are gone by then.
 #[derive(Clone, Copy, Debug, PartialEq, Eq)]
 struct Line {
     last: Option<Rank>,
 }
 
-/// How many packets of a line may still be sent of a tick: of those behind the last one that was sent before, and, where these are too
+/// How many packets of a line may still be sent of a tick: of those after the last one that was sent before, and, where these are too
 /// few, of those from the first one on.
 #[derive(Clone, Copy, Debug, PartialEq, Eq)]
 struct Part {
@@ -93,7 +93,7 @@ struct Part {
     last: Option<Rank>,
 }
 
-/// How many packets of a line a tick has put out: those behind the last one that was sent before, and the others.
+/// How many packets of a line a tick has put out: those after the last one that was sent before, and the others.
 #[derive(Clone, Copy, Debug, PartialEq, Eq)]
 struct Due {
     behind: usize,
@@ -153,7 +153,7 @@ impl Line {
     /// None was sent so far.
     const START: Line = Line { last: None };
 
-    /// It comes behind the last one.
+    /// It comes after the last one.
     fn is_next(self, rank: Rank) -> bool
         ensures { result ≡ is_next self.last rank }
     {
@@ -246,7 +246,7 @@ impl Part {
         }
     }
 
-    /// The same of one that comes behind the last one.
+    /// The same of one that comes after the last one.
     fn takes_behind(&mut self, rank: Rank) -> bool
         ensures taken { IsTrue result → left_of self.new + 1 ≡ left_of self.old }
         ensures left { IsFalse result → left_of self.new ≡ left_of self.old }

@@ -56,7 +56,7 @@ pub struct Server {
     pub asking: Asking,
     pub holding: Holding,
     pub awaited: Awaited,
-    /// The length of the journal behind its last compaction; 0 before the first.
+    /// The length of the journal after its last compaction; 0 before the first.
     pub compacted: u64,
     pub alloc: Global,
 }
@@ -234,7 +234,7 @@ impl Server {
         Write { begun, len }
     }
 
-    /// The journal has so many bytes behind it: where it has grown the group was written and synced.
+    /// The journal has so many bytes after it: where it has grown the group was written and synced.
     fn end_write(&mut self, machine: &HostRuntime, write: Write, len: u64)
         ensures clients { self.new.parked ≡ self.old.parked }
         ensures carried { CarryOn self.old.connections self.new.connections }

@@ -1,4 +1,4 @@
--- Entries that are added behind the others.
+-- Entries that are added after the others.
 use Rattle.std.proofs.Common.{◌≡◌, ◌≢◌, inl, inr, ℕ, ◌^◌, ◌+◌, ◌-◌, ◌<◌, max, List, [], ◌∷◌, ◌++◌, length, drop, set, refl, sym, ◌∙◌, ap, subst, arith, length-append, length-drop}
 use Rattle.std.proofs.lemmas.Bool.{cases_eq}
 use Rattle.std.proofs.lemmas.Grind.{flat_map-append}
@@ -18,7 +18,7 @@ regroup : (h f e z : List ℕ) → (h ++ (f ++ e)) ++ z ≡ (h ++ f) ++ (e ++ z)
 regroup h f e z = simp append_assoc
 
 module _ (news : List (List ℕ)) where
-  -- what is written behind the closed gate: the new entries but for the first one's gate, and the next closed gate
+  -- what is written after the closed gate: the new entries but for the first one's gate, and the next closed gate
   abbrev pub IsStaged : List ℕ → Type 0
   IsStaged bytes = 165 ∷ bytes ≡ flat_map entry news ++ 0 ∷ []
 
@@ -114,7 +114,7 @@ module _ {D : Type 0} (seen : D → List ℕ) (may_leave : D → List ℕ → Ty
           durable = settled.durable;
         }
 
-    -- each image that is left opens with the old entries or with all of the new ones behind them
+    -- each image that is left opens with the old entries or with all of the new ones after them
     pub moments : (moment : D → ℕ) (left_since : D → ℕ → List ℕ → Type 0) (b : List ℕ) (new : D) → IsOlder b journal.generation
         → LeavesOnly moment left_since journal.current new (IsCommitting (front journal.generation entries) keeps.image.gate (max (length keeps.image.rest) (length bytes)) (bytes ++ drop (length bytes) keeps.image.rest))
         → LeavesOnly moment left_since journal.current new (OpensEither b entries (entries ++ news))
@@ -126,7 +126,7 @@ module _ {D : Type 0} (seen : D → List ℕ) (may_leave : D → List ℕ → Ty
         (λ image c. either news journal.generation entries keeps.image.small keeps.image.payloads fits bytes staged b keeps.image.gate most junk image older keeps.image.shut c)
         left
 
-  -- what stands behind the header
+  -- what stands after the header
   pub live_part : HasEntries (drop 16 (seen journal.current)) entries
   live_part =
       let i = keeps.image in

@@ -15,7 +15,7 @@ nothing_written at bytes old new same = record {
     here : at ≡ at + 0
     here = omega arith
 
--- what is written at the end comes behind what is there
+-- what is written at the end comes after what is there
 pub behind : (at : ℕ) (bytes old : List ℕ) → at ≡ length old → written at bytes old ≡ old ++ bytes
 behind at bytes old end =
     ap (λ (l : List ℕ). l ++ bytes ++ drop (at + length bytes) old) (take_all at old (omega (arith, end)))

@@ -42,7 +42,7 @@ module _ {D : Type 0} (tells : D → Type 0) (seen : D → List ℕ) (may_leave 
         (take (n - end) zeros, record { reads = same ∙ put; durable = λ c left. only c left ∙ sym same }, omega (arith, size, length-take-le (n - end) zeros (omega (arith, to))))
 
 module _ {D : Type 0} (seen : D → List ℕ) (may_leave : D → List ℕ → Type 0) (journal : JournalView D) (entries : List (List ℕ)) (keeps : Keeps seen may_leave journal entries) where
-  -- an image with anything more behind it is a journal of the same entries
+  -- an image with anything more after it is a journal of the same entries
   pub journal_lengthened : (image : List ℕ) → IsLengthened (seen journal.current) image → IsJournal image journal.generation entries
   journal_lengthened image l =
       let i = keeps.image in

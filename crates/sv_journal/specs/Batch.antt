@@ -11,7 +11,7 @@ bytes_in batch = batch.bytes.items
 abbrev pub size_of : Batch → ℕ
 size_of batch = length batch.bytes.items
 
--- its bytes are these entries and a closed gate behind them
+-- its bytes are these entries and a closed gate after them
 pub record Stages (batch : Batch) (entries : List (List ℕ)) : Type 0 where
   pub payloads : AllByRecursion IsPayload entries
   pub bytes : bytes_in batch ≡ flat_map entry entries ++ 0 ∷ []

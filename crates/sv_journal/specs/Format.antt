@@ -21,8 +21,8 @@ front generation entries = header generation ++ flat_map entry entries
 abbrev pub IsPayload : List ℕ → Type 0
 IsPayload payload = length payload ≤ PAYLOAD_LIMIT
 
--- The image is that of an open disk of this generation with these entries: behind them stands a gate that isn't
--- open, and behind that anything.
+-- The image is that of an open disk of this generation with these entries: after them stands a gate that isn't
+-- open, and after that anything.
 pub record IsJournal (image : List ℕ) (generation : ℕ) (entries : List (List ℕ)) : Type 0 where
   pub small : generation < 2 ^ 64
   pub payloads : AllByRecursion IsPayload entries
@@ -36,7 +36,7 @@ pub record IsOpen (image : List ℕ) : Type 0 where
   pub long : 17 ≤ length image
   pub gate : slice_index image 0 ≡ 165
 
--- the image of a disk that has these entries and nothing behind the gate that ends them
+-- the image of a disk that has these entries and nothing after the gate that ends them
 abbrev pub snapshot : ℕ → List (List ℕ) → List ℕ
 snapshot generation entries = front generation entries ++ 0 ∷ []
 
@@ -79,7 +79,7 @@ abbrev pub HasEntries : List ℕ → List (List ℕ) → Type 0
 HasEntries bytes [] = (gate : ℕ) × (rest : List ℕ) × (gate ≢ 165) × (bytes ≡ gate ∷ rest)
 HasEntries bytes (payload ∷ entries) = (rest : List ℕ) × IsPayload payload × (bytes ≡ entry payload ++ rest) × HasEntries rest entries
 
--- the bytes begin with whole entries, and the rest stands behind them
+-- the bytes begin with whole entries, and the rest stands after them
 pub record Begins (bytes : List ℕ) (entries : List (List ℕ)) (rest : List ℕ) : Type 0 where
   pub payloads : AllByRecursion IsPayload entries
   pub whole : bytes ≡ flat_map entry entries ++ rest

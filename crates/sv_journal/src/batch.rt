@@ -27,7 +27,7 @@ impl Batch {
         Ok(Batch { bytes })
     }
 
-    /// Adds an entry of at most 524,288 bytes behind the others. Where memory is refused the batch is as it was.
+    /// Adds an entry of at most 524,288 bytes after the others. Where memory is refused the batch is as it was.
     pub fn add(&mut self, payload: &[u8]) -> Result<(), AllocError>
         requires batch { IsBatch self.old }
         requires payload { length payload.now ≤ PAYLOAD_LIMIT }
@@ -62,7 +62,7 @@ impl Batch {
     }
 }
 
-// Puts the length, the payload and the next closed gate behind the others. Where memory is refused, a part of that may
+// Puts the length, the payload and the next closed gate after the others. Where memory is refused, a part of that may
 // stand there.
 fn put_behind_gate(bytes: &mut Vec<u8>, payload: &[u8]) -> Result<(), AllocError>
     requires { length payload.now ≤ PAYLOAD_LIMIT }

@@ -84,7 +84,7 @@ impl<D: Disk> Journal<D> {
         }
     }
 
-    /// Adds an entry of at most 524,288 bytes behind the others: two writes and two syncs. After Device all calls but
+    /// Adds an entry of at most 524,288 bytes after the others: two writes and two syncs. After Device all calls but
     /// `len` and `into_disks` answer Failed until the disks are opened again, and whether the entry is there shows
     /// then; after the other faults the journal is as it was. Full where the file would be longer than
     /// 1,073,741,824 bytes.
@@ -123,18 +123,18 @@ impl<D: Disk> Journal<D> {
         self.append_all(&batch)
     }
 
-    /// Adds the entries of a batch behind the others, in order: two writes and two syncs however many they are, and no
+    /// Adds the entries of a batch after the others, in order: two writes and two syncs however many they are, and no
     /// call of a disk where there are none. A stop leaves all of them or none. After Device all calls but `len` and
     /// `into_disks` answer Failed until the disks are opened again, and whether the entries are there shows then; after
     /// the other faults the journal is as it was. Full where the file would be longer than 1,073,741,824 bytes. It takes
     /// no memory.
     pub fn append_all(&mut self, batch: &Batch) -> Result<(), JournalFault>
         requires { IsBatch batch.now }
-        // Once it is Ok, a stop leaves the entries before with those of the batch behind them.
+        // Once it is Ok, a stop leaves the entries before with those of the batch after them.
         ensures added { OnOk result ((before entries : List (List ℕ)) → D.tells self.old.current → Holds D.seen D.may_leave self.old before
             → Stages batch.now entries
             → Holds D.seen D.may_leave self.new (before ++ entries)) }
-        // A stop at any moment of the call leaves the entries before, or those with all of the batch's behind them.
+        // A stop at any moment of the call leaves the entries before, or those with all of the batch's after them.
         ensures any_moment { (before entries : List (List ℕ)) → D.tells self.old.current → Holds D.seen D.may_leave self.old before → Stages batch.now entries
             → LeavesOnly D.moment D.left_since self.old.current self.new.current (OpensEither (D.seen self.old.other) before (before ++ entries)) }
         ensures none { size_of batch.now ≡ 1 → self.new ≡ self.old }

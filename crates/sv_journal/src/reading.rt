@@ -13,9 +13,9 @@ use std::alloc::Global;
 // So many bytes are read at once: the longest entry fits in eight times.
 const PIECE: u64 = 1_048_576;
 
-// Puts the payloads of the whole entries at the beginning of a piece behind the others, where so many bytes are left of
+// Puts the payloads of the whole entries at the beginning of a piece after the others, where so many bytes are left of
 // the disk from the piece on. Answers how many bytes they take, or none where the gate that ends the entries stands
-// behind them.
+// after them.
 fn gather(
     alloc: Global,
     piece: &[u8],

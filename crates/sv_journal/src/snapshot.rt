@@ -25,7 +25,7 @@ pub fn snapshot_len(entries: &[Vec<u8>]) -> Option<u64>
     Some(len)
 }
 
-// Puts an entry behind the others.
+// Puts an entry after the others.
 fn put_entry(bytes: &mut Vec<u8>, payload: &[u8]) -> Result<(), AllocError>
     requires { length payload.now ≤ PAYLOAD_LIMIT }
     ensures { OnOk result (bytes.new.items ≡ bytes.old.items ++ entry payload.now) }
@@ -35,7 +35,7 @@ fn put_entry(bytes: &mut Vec<u8>, payload: &[u8]) -> Result<(), AllocError>
     bytes.extend_from_slice(payload)
 }
 
-/// What stands behind the gate of a disk of this generation with these entries alone.
+/// What stands after the gate of a disk of this generation with these entries alone.
 pub fn behind_gate(
     alloc: Global,
     generation: u64,

@@ -38,14 +38,14 @@ ending ReadFailed = Some (Err InputFault)
 ending WriteFailed = Some (Err OutputFault)
 ending Failed = Some (Ok tt)
 
--- so many requests in turn lead from the beginning of a stream to here, and behind each another is taken
+-- so many requests in turn lead from the beginning of a stream to here, and after each another is taken
 pub data Reaches {S : Type 0} (steps : S → Moment → Input → Result (List Output) StepFault → S → Type 0) (now : ℕ) (start : Sight S) : ℕ → Sight S
     → Type 0 where
   AtStart : Reaches steps now start 0 start
   Behind : (count : ℕ) (old new : Sight S) (served : Served) → Reaches steps now start count old → ending served.outcome ≡ None
       → IsServed steps (turn_of now (count + 1)) old new served → Reaches steps now start (count + 1) new
 
--- the last call, behind which no request is taken; it says what is answered
+-- the last call, after which no request is taken; it says what is answered
 pub record EndsWith {S : Type 0} (steps : S → Moment → Input → Result (List Output) StepFault → S → Type 0) (now count : ℕ) (old new : Sight S)
     (result : Result (Unit {0}) OnceFault) : Type 0 where
   pub served : Served
@@ -66,14 +66,14 @@ pub record IsStream {S : Type 0} (steps : S → Moment → Input → Result (Lis
   pub reached : Reaches steps now start count last
   pub ends : EndsWith steps now count last end result ⊎ IsSpent count last end result
 
--- a stream that is being served by a Solo over an engine, behind so many requests
+-- a stream that is being served by a Solo over an engine, after so many requests
 pub record IsUnderway {E : Type 0} (meaning : E → EngineMeaning) (heard : E → List (List ℕ)) (engine : E) (now : ℕ)
     (to_come written : Option (List ℕ)) (count : ℕ) (at : Sight (Solo E)) : Type 0 where
   pub first : Solo E
   pub new : IsNew first engine
   pub reached : Reaches (solo_steps meaning heard) now (sight to_come written first false) count at
 
--- a stream was served by a Solo over an engine: from the bytes to come and those written before, to those behind it.
+-- a stream was served by a Solo over an engine: from the bytes to come and those written before, to those after it.
 -- Of the bytes that were read some are held and served by nobody.
 pub record HasServed {E : Type 0} (meaning : E → EngineMeaning) (heard : E → List (List ℕ)) (engine : E) (now : ℕ)
     (to_come written left writes : Option (List ℕ)) (result : Result (Unit {0}) OnceFault) : Type 0 where
@@ -101,7 +101,7 @@ abbrev pub call_in : {S : Type 0} (steps : S → Moment → Input → Result (Li
 call_in steps how old new served (inl idle) = []
 call_in steps how old new served (inr taken) = directed_call steps how taken.raw old.site new.site old.written new.written new.closed served taken.directed
 
--- the steps of these requests in turn, and others behind them
+-- the steps of these requests in turn, and others after them
 abbrev pub calls_to : {S : Type 0} (steps : S → Moment → Input → Result (List Output) StepFault → S
     → Type 0) (now : ℕ) (start : Sight S) (count : ℕ) (at : Sight S) → Reaches steps now start count at → List Call → List Call
 calls_to steps now start count at AtStart behind = behind

@@ -27,7 +27,7 @@ pub record IsStarted (means : EngineMeaning → Type 0) (serves : EngineMeaning 
   pub is : means meaning
   pub served : serves meaning heard result
 
--- an engine that means what it should served a stream to its end, from the bytes to come and those written before to those behind it
+-- an engine that means what it should served a stream to its end, from the bytes to come and those written before to those after it
 pub record HasStreamed {E : Type 0} (meaning : E → EngineMeaning) (heard : E → List (List ℕ)) (means : EngineMeaning → Type 0) (now : ℕ)
     (to_come written left writes : Option (List ℕ)) : Type 0 where
   pub engine : E

@@ -64,7 +64,7 @@ file_of manner [] = (manner, [])
 file_of manner (first ∷ []) = (manner, first ∷ [])
 file_of manner (first ∷ second ∷ rest) = with_file manner first second rest
 
--- this word stands at the front of the words, with another behind it
+-- this word stands at the front of the words, with another after it
 abbrev pub is_first : List ℕ → List (List ℕ) → Bool
 is_first word [] = false
 is_first word (first ∷ []) = false

@@ -32,7 +32,7 @@ pub trait Applications {
     /// What an engine means that is started for a deployment, with the files that it serves.
     ghost means: { Self → Deployment → List ServedFiles → EngineMeaning → Type 0 };
 
-    /// How such an engine serves a stream at a moment, from the bytes to come and those written before to those behind it.
+    /// How such an engine serves a stream at a moment, from the bytes to come and those written before to those after it.
     ghost streams: { Self → Deployment → List ServedFiles → ℕ → (to_come written left writes : Option (List ℕ)) → Type 0 };
 
     /// The descriptor that the program has built in, where it has one.

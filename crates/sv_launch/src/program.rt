@@ -23,7 +23,7 @@ use sv_host::Place;
 use sv_journal::{Disk, FileDisk};
 use sv_version::version;
 
-/// The words behind the program's name. One that is no UTF-8 text is [`Fault::Arguments`].
+/// The words after the program's name. One that is no UTF-8 text is [`Fault::Arguments`].
 pub fn words_of(rt: &HostRuntime) -> Result<Vec<String>, Fault> {
     let mut words = Vec::new(rt.alloc());
     let args = match env::args(rt) {
@@ -127,7 +127,7 @@ fn run_in_cluster<A: Applications>(
     served
 }
 
-/// What the words may be, behind the program's name.
+/// What the words may be, after the program's name.
 const HELP: &str = " serves web applications over HTTP/1.1, and keeps their sessions in a journal.
 
     [OPTION ..] CONFIG JOURNAL NUMBER   runs a node of a cluster until it is told to halt; it says `ready` and its
@@ -171,7 +171,7 @@ fn name_of(rt: &HostRuntime) -> Result<String, Fault> {
     Ok(String::from_str(rt.alloc(), name)?)
 }
 
-/// Prints the program's name with a text behind it.
+/// Prints the program's name with a text after it.
 fn say(rt: &HostRuntime, text: &str) -> Result<(), Fault> {
     let name = name_of(rt)?;
     match print!(rt; "{name}{text}") {

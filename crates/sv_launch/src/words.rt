@@ -144,7 +144,7 @@ fn read_three<'a>(first: &'a str, second: &'a str, third: &str) -> Result<Words<
     }
 }
 
-/// This word stands at the front of the words, with another behind it.
+/// This word stands at the front of the words, with another after it.
 fn is_first(word: &str, words: &[String]) -> bool
     ensures { result ≡ is_first word.now (map string_bytes words.now) }
 {
@@ -154,7 +154,7 @@ fn is_first(word: &str, words: &[String]) -> bool
     }
 }
 
-/// The options, with one that names a file and stands at the front of the words, and the words behind it; as they are where none stands
+/// The options, with one that names a file and stands at the front of the words, and the words after it; as they are where none stands
 /// there.
 fn read_file<'a>(options: Options<'a>, words: &'a [String]) -> (Options<'a>, &'a [String])
     ensures options { options_of result.0 ≡ (file_of (options_of options.entry) (map string_bytes words.now)).0 }
@@ -225,7 +225,7 @@ fn flagged<'a>(options: Options<'a>, words: &[String]) -> Option<Options<'a>>
     }
 }
 
-/// The words behind the first.
+/// The words after the first.
 fn behind_first(words: &[String]) -> &[String]
     ensures { map string_bytes result.now ≡ drop 1 (map string_bytes words.now) }
 {
@@ -235,7 +235,7 @@ fn behind_first(words: &[String]) -> &[String]
     }
 }
 
-/// The options, with the one that stands at the front of the words, and the words behind it; as they are where none stands there.
+/// The options, with the one that stands at the front of the words, and the words after it; as they are where none stands there.
 fn read_option<'a>(options: Options<'a>, words: &'a [String]) -> (Options<'a>, &'a [String])
     ensures options { options_of result.0 ≡ (option_of (options_of options.entry) (map string_bytes words.now)).0 }
     ensures words { map string_bytes result.1.now ≡ (option_of (options_of options.entry) (map string_bytes words.now)).1 }
@@ -246,7 +246,7 @@ fn read_option<'a>(options: Options<'a>, words: &'a [String]) -> (Options<'a>, &
     }
 }
 
-/// The words of a node, behind its options.
+/// The words of a node, after its options.
 fn read_last<'a>(options: Options<'a>, words: &'a [String]) -> Result<Words<'a>, Arguments>
     ensures { command_of result ≡ last_of (options_of options.entry) (map string_bytes words.now) }
 {
@@ -275,7 +275,7 @@ fn read_more(words: &[String]) -> Result<Words<'_>, Arguments>
     read_last(options, words)
 }
 
-/// What the words behind the program's name ask for.
+/// What the words after the program's name ask for.
 ///
 /// NOW and NUMBER are decimal digits without a sign, within 64 and 8 bits.
 pub fn read_words(words: &[String]) -> Result<Words<'_>, Arguments>

@@ -27,7 +27,7 @@ impl fmt::Display for Kind {
 /// Figures of one name.
 #[derive(Clone, Copy)]
 pub struct Family {
-    /// Behind `kegbramble_`.
+    /// After `kegbramble_`.
     pub name: &'static str,
     pub kind: Kind,
     pub help: &'static str,

@@ -119,7 +119,7 @@ fn lines_in(bytes: &[u8]) -> u64 {
 }
 
 impl Log {
-    /// Opens the file at a path, which is made where it isn't there, to write behind what it has; `-` is standard error.
+    /// Opens the file at a path, which is made where it isn't there, to write after what it has; `-` is standard error.
     pub fn open<R: Files<File = File> + Env + AllocGlobal>(
         alloc: Global,
         files: &R,
@@ -159,7 +159,7 @@ impl Log {
         }
     }
 
-    /// Puts a whole line behind the others. One that there is no memory for is lost.
+    /// Puts a whole line after the others. One that there is no memory for is lost.
     fn put_down(&mut self, line: &str) {
         if self.lines.push_str(line).is_ok() {
             self.count = self.count.saturating_add(1);

@@ -13,13 +13,13 @@ pub struct Process {
     pub file_limit: Option<u64>,
 }
 
-/// The first number of a line, behind the words with which the line begins.
+/// The first number of a line, after the words with which the line begins.
 fn number_behind(text: &str, words: &str) -> Option<u64> {
     let rest = text.lines().find_map(|line| line.strip_prefix(words))?;
     rest.split_whitespace().next()?.parse().ok()
 }
 
-/// A number of a file: that behind the words with which a line begins.
+/// A number of a file: that after the words with which a line begins.
 fn number_in<R: Files<File = File> + Alloc>(machine: &R, path: &str, words: &str) -> Option<u64> {
     let text = fs::read_to_string(machine, path).ok()?;
     number_behind(text.as_str(), words)

@@ -3,7 +3,7 @@
 use httpdate::HttpDate;
 use std::{fmt, str};
 
-/// A moment in whole seconds since 1970, shown in UTC as RFC 3339 has it (section 5.6), such as `1994-11-06T08:49:37Z`. Behind the year
+/// A moment in whole seconds since 1970, shown in UTC as RFC 3339 has it (section 5.6), such as `1994-11-06T08:49:37Z`. After the year
 /// 9999 it is the number of seconds.
 #[derive(Clone, Copy)]
 pub struct Stamp(pub u64);

@@ -57,7 +57,7 @@ or_false : (b : Bool) → (b || (false || false)) ≡ b
 or_false true = refl
 or_false false = refl
 
--- what is new behind one more number
+-- what is new after one more number
 filter-one_more : (numbers : List ℕ) (x : ℕ) (ys : List ℕ) → filter (is_new (numbers ++ x ∷ [])) ys ≡ filter (is_new numbers) (filter (differs x) ys)
 filter-one_more numbers x [] = refl
 filter-one_more numbers x (y ∷ ys) =

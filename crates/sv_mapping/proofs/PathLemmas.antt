@@ -1,4 +1,4 @@
--- What lies below a path, and what stands behind the last place of a byte.
+-- What lies below a path, and what stands after the last place of a byte.
 use Rattle.std.proofs.Common.{◌≡◌, ◌≢◌, ℕ, suc, ◌+◌, ◌-◌, ◌<◌, ◌≤◌, ◌||◌, ◌⊎◌, true, false, not, eqb, List, [], ◌∷◌, ◌++◌, length, get_or, take, drop, refl, sym, ap, subst, ◌∙◌, inl, inr, Decides, arith, append_assoc, append-nil, length-append}
 use Rattle.std.specs.List.{after_last, list_any, suffix_len}
 use Rattle.std.proofs.lemmas.List.{append_cancel_left, take_all, take-append-le, take-append-drop, get_or-append_right, drop_more}
@@ -12,7 +12,7 @@ use Rattle.std.proofs.lemmas.Slice.Eq.{bytes_eq-Decides, starts_is}
 use Rattle.std.proofs.lemmas.Bool.Decides.{Decides-eqb, Decides-or, same_from_decides, nat_tests}
 use Rattle.sv_mapping.specs.Path.{Text, is_at_or_below}
 
--- the path is the front, or goes on behind it with a slash
+-- the path is the front, or goes on after it with a slash
 abbrev pub IsAtOrBelow : Text → Text → Type 0
 IsAtOrBelow front path = (path ≡ front) ⊎ ((rest : Text) × (path ≡ front ++ (47 ∷ rest)))
 

@@ -3,7 +3,7 @@ use Rattle.std.specs.Prelude.{ℕ, Bool, ◌==◌, List, [], ◌∷◌, ◌++◌
 use Rattle.std.specs.List.{list_any}
 use Rattle.sv_mapping.specs.declared.filter.FilterMapping.{FilterMapping}
 
--- a number behind a list that does not have it yet
+-- a number after a list that does not have it yet
 abbrev pub added : List ℕ → ℕ → List ℕ
 added numbers number = if list_any (λ its. its == number) numbers then numbers else numbers ++ number ∷ []
 

@@ -21,12 +21,12 @@ pub record IsChosen (contexts : List Text) (path : Text) (place : ℕ) : Type 0 
 abbrev pub HasNoContext : List Text → Text → Type 0
 HasNoContext contexts path = (place : ℕ) → place < length contexts → is_at_or_below (context_at contexts place) path ≡ false
 
--- the context path at a place is no shorter than one that is chosen behind it
+-- the context path at a place is no shorter than one that is chosen after it
 abbrev pub is_as_long : List Text → ℕ → Option ℕ → Bool
 is_as_long contexts place None = true
 is_as_long contexts place (Some later) = nat_le (length (context_at contexts later)) (length (context_at contexts place))
 
--- the one of a context path and the one chosen behind it that is chosen of both
+-- the one of a context path and the one chosen after it that is chosen of both
 abbrev pub chosen_of : Bool → Text → List Text → Option ℕ → Option ℕ
 chosen_of below context contexts None = if below then Some 0 else None
 chosen_of below context contexts (Some later) = if below && nat_le (length (context_at contexts later)) (length context) then Some 0 else Some (suc later)

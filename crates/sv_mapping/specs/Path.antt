@@ -16,11 +16,11 @@ is_dot c = c == 46
 unfoldable pub is_at_or_below : Text → Text → Bool
 is_at_or_below front path = bytes_eq path front || starts_with nat_eq path (front ++ codes "/")
 
--- what stands behind the last `/`, or the whole path where it has none
+-- what stands after the last `/`, or the whole path where it has none
 unfoldable pub last_segment : Text → Text
 last_segment path = after_last is_slash path
 
--- what stands behind the last `.` of the last segment, where that has one
+-- what stands after the last `.` of the last segment, where that has one
 unfoldable pub extension_of : Text → Option Text
 extension_of path =
     let segment = last_segment path in

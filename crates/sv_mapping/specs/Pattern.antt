@@ -28,7 +28,7 @@ form_of pattern =
 abbrev pub prefix_of : Text → Text
 prefix_of pattern = take (length pattern - 2) pattern
 
--- what an extension pattern has behind its `*.`
+-- what an extension pattern has after its `*.`
 abbrev pub suffix_of : Text → Text
 suffix_of pattern = drop 2 pattern
 

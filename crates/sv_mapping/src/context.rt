@@ -26,7 +26,7 @@ pub fn choose_context(contexts: &[String], path: &str) -> Option<usize>
     chosen
 }
 
-/// Whether the context at a place has the path, and is chosen before one that stands behind it.
+/// Whether the context at a place has the path, and is chosen before one that stands after it.
 fn is_preferred(contexts: &[String], path: &str, place: usize, later: Option<usize>) -> bool
     requires place_in { place < length contexts.now }
     requires later_in { ForSome later (λ k. k < length contexts.now) }
@@ -41,7 +41,7 @@ fn is_preferred(contexts: &[String], path: &str, place: usize, later: Option<usi
     is_as_long && is_at_or_below(context, path)
 }
 
-/// The path within its context: what stands behind the context path, and `/` where that is nothing.
+/// The path within its context: what stands after the context path, and `/` where that is nothing.
 pub fn path_in_context<'a>(context: &str, path: &'a str) -> &'a str
     requires { IsTrue (paths.is_at_or_below context.now path.now) }
     ensures { result.now ≡ spec.path_in_context context.now path.now }

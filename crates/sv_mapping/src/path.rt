@@ -14,7 +14,7 @@ pub fn is_at_or_below(front: &str, path: &str) -> bool
     }
 }
 
-/// What stands behind the last `/` of a path, or the whole path where it has none.
+/// What stands after the last `/` of a path, or the whole path where it has none.
 fn last_segment(path: &str) -> &str
     ensures { result.now ≡ spec.last_segment path.now }
 {
@@ -24,7 +24,7 @@ fn last_segment(path: &str) -> &str
     }
 }
 
-/// What stands behind the last `.` of a path's last segment.
+/// What stands after the last `.` of a path's last segment.
 pub(crate) fn extension_of(path: &str) -> Option<&str>
     ensures { option_map (λ x. x.now) result ≡ spec.extension_of path.now }
 {

@@ -138,7 +138,7 @@ fn prefix_of(pattern: &str) -> &str
     &pattern[..pattern.len() - 2]
 }
 
-/// What an extension pattern has behind its `*.`.
+/// What an extension pattern has after its `*.`.
 fn suffix_of(pattern: &str) -> &str
     requires { spec.form_of pattern.now ≡ PatternForm.Extension }
     ensures { result.now ≡ spec.suffix_of pattern.now }

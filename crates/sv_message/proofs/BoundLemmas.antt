@@ -15,7 +15,7 @@ use Rattle.sv_message.specs.Chunked.{Chunk, IsChunk, print_chunk, print_chunks, 
 use Rattle.sv_message.specs.Fault.{IsOpenBody}
 use Rattle.sv_message.specs.Calls.{IsBounded}
 
--- a chunk has at most 256 bytes of its line and two behind its content
+-- a chunk has at most 256 bytes of its line and two after its content
 chunk_short : (c : Chunk) → IsChunk c → length (print_chunk c) ≤ 258 + length c.content
 chunk_short c valid =
     omega (arith, valid.line.short, length-append (print_chunk_line c.line) (c.content ++ 13 ∷ 10 ∷ []), length-append c.content (13 ∷ 10 ∷ []))

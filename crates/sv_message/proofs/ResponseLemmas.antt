@@ -1,4 +1,4 @@
--- One text behind another.
+-- One text after another.
 use Rattle.std.proofs.Common.{◌≡◌, ◌≤◌, ℕ, List, ◌++◌, length, take, refl, sym, ap, ◌∙◌, arith}
 use Rattle.std.proofs.lemmas.List.{append_assoc, length-append, take_at, take-take}
 use Rattle.std.specs.List.{flat_map}

@@ -57,14 +57,14 @@ HasStarted rest (Ok (Some partial)) = IsPartial rest partial
 HasStarted rest (Ok None) = IsOpenHead rest
 HasStarted rest (Err fault) = FindsFault rest fault
 
--- what is in hand behind an answer; none waits for bytes only where no head is whole
+-- what is in hand after an answer; none waits for bytes only where no head is whole
 abbrev pub Leaves : List ℕ → Option Partial → Result (Option Message) ReadFault → Type 0
 Leaves rest in_hand (Ok (Some message)) = in_hand ≡ None
 Leaves rest None (Ok None) = IsOpenHead rest
 Leaves rest (Some partial) (Ok None) = IsPartial rest partial
 Leaves rest in_hand (Err fault) = Stands rest in_hand
 
--- what was read of a request in hand isn't read again: it stays in hand, at its place or behind it, until it is given
+-- what was read of a request in hand isn't read again: it stays in hand, at its place or after it, until it is given
 abbrev pub Resumes : Option Partial → Option Partial → Result (Option Message) ReadFault → Type 0
 Resumes None in_hand result = ⊤
 Resumes (Some old) (Some new) result = old.at ≤ new.at

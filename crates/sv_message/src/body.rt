@@ -18,7 +18,7 @@ pub enum Part {
     Missing(usize),
     /// A chunk line, or the last line.
     Line,
-    /// So many bytes of a chunk's data, and the line end behind them.
+    /// So many bytes of a chunk's data, and the line end after them.
     Data(usize),
     /// The trailer section.
     Trailer,
@@ -85,7 +85,7 @@ fn read_declared(partial: &mut Partial, rest: &[u8], missing: usize) -> Result<S
     }
 }
 
-/// Goes on behind a chunk line or the last line.
+/// Goes on after a chunk line or the last line.
 fn pass_line(partial: &mut Partial, rest: &[u8], start: ChunkStart) -> Result<Step, ReadFault>
     requires partial { IsPartial rest.now partial.old }
     requires part { partial.old.part ≡ Part.Line }
@@ -137,7 +137,7 @@ fn read_data(partial: &mut Partial, rest: &[u8], left: usize) -> Result<Step, Re
     Ok(Step::On)
 }
 
-/// Reads the line end behind the data of a chunk.
+/// Reads the line end after the data of a chunk.
 fn read_end(partial: &mut Partial, rest: &[u8]) -> Result<Step, ReadFault>
     requires partial { IsPartial rest.now partial.old }
     requires part { partial.old.part ≡ Part.Data 0 }

@@ -357,7 +357,7 @@ module _ (P : Attribute → Type 0) where
   All-without_attribute name [] all = all
   All-without_attribute name (e ∷ es) all = all_left (bytes_eq name e.0) e es (without_attribute es name) all (All-without_attribute name es (All-tail P e es all))
 
--- what holds of each name still holds behind a change, where it holds of the new one
+-- what holds of each name still holds after a change, where it holds of the new one
 pub All-names-with_attribute : (P : List ℕ → Type 0) (name value : List ℕ) (es : List Attribute) → P name → All (λ e. P e.0) es → All (λ e. P e.0) (with_attribute es name value)
 unfolding with_attribute
 All-names-with_attribute P name value [] one all = All-cons (λ (e : Attribute). P e.0) (name, value) [] one all
@@ -365,7 +365,7 @@ All-names-with_attribute P name value (e ∷ es) one all =
     let each : Attribute → Type 0 = λ d. P d.0 in
     all_put each (name_cmp name e.0) name value e es (with_attribute es name value) one (All-head each e es all) all (All-names-with_attribute P name value es one (All-tail each e es all))
 
--- what holds of each value still holds behind a change, where it holds of the new one
+-- what holds of each value still holds after a change, where it holds of the new one
 pub All-values-with_attribute : (P : List ℕ → Type 0) (name value : List ℕ) (es : List Attribute) → P value → All (λ e. P e.1) es → All (λ e. P e.1) (with_attribute es name value)
 unfolding with_attribute
 All-values-with_attribute P name value [] one all = All-cons (λ (e : Attribute). P e.1) (name, value) [] one all

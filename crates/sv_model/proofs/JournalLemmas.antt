@@ -1,4 +1,4 @@
--- The record of a step may stand behind those of the node, and gives what the step keeps.
+-- The record of a step may stand after those of the node, and gives what the step keeps.
 use Rattle.std.proofs.Common.{◌≡◌, ℕ, suc, ◌+◌, ◌<◌, ◌≤◌, Bool, true, false, cond, Option, Some, None, List, [], arith, refl, sym, ap, ◌∙◌, subst, ⊎_elim}
 use Rattle.std.specs.Prelude.{not, ◌==◌, ◌||◌, ◌&&◌, is_none, nat_le, nat_lt, length, IfSome}
 use Rattle.std.specs.Option.{option_map}

@@ -74,7 +74,7 @@ ended_agrees home map keys k (Some (Sent e old to)) agree touched = absurd (let 
 ended_agrees home map keys k (Some (Gone e)) agree touched = absurd (let never : FateEnded ≡ Untouched = touched refl in cc)
 ended_agrees home map keys k (Some (Ended e)) agree touched = absurd (let never : FateEnded ≡ Untouched = touched refl in cc)
 
--- behind what became of the session that is named
+-- after what became of the session that is named
 pub fated_agrees : (home : Option ℕ) (map : Key → Option Session) (keys : Keys) (named : Option (Key × Secret)) (fate : Fate) → Agree map keys → IsTouchedHeld keys named fate
     → Agree (fated named fate map) (fated_keys home named fate keys)
 fated_agrees home map keys None fate agree touched = agree
@@ -91,7 +91,7 @@ none_agrees home map keys k e agree unknown q =
     (keys_tell q k)
     ∙ over_agrees home map keys k e agree q
 
--- behind what became of the session that was made
+-- after what became of the session that was made
 pub born_agrees : (home : Option ℕ) (map : Key → Option Session) (keys : Keys) (k : Key) (b : Birth) → Agree map keys → get keys k ≡ None → Agree (born k b map) (born_keys home k b keys)
 born_agrees home map keys k Absent agree unknown = agree
 born_agrees home map keys k (Alive s) agree unknown = set_agrees map keys k (Active 1 s) agree

@@ -1,4 +1,4 @@
--- What a node knows of its keys, by what it keeps of them and behind each change of that; and the room for keys.
+-- What a node knows of its keys, by what it keeps of them and after each change of that; and the room for keys.
 use Rattle.std.proofs.Common.{◌≡◌, ◌≢◌, ◌⊎◌, ℕ, suc, ◌+◌, ◌<◌, ◌≤◌, ◌==◌, ◌&&◌, Bool, true, false, cond, Option, Some, None, arith, refl, sym, ap, ◌∙◌, inl, inr, ⊎_elim, eq-eqb}
 use Rattle.std.specs.Prelude.{nat_lt, nat_le}
 use Rattle.std.specs.FinMap.{get, insert, remove, len, get-insert, get-remove}

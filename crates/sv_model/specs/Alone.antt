@@ -23,7 +23,7 @@ pub record Call : Type 0 where
   pub input : Input
   pub answer : Result (List Output) StepFault
 
--- these calls, one behind the other, lead from a node to a node
+-- these calls, one after the other, lead from a node to a node
 abbrev pub Leads : Setting → View → List Call → View → Type 0
 Leads set old [] new = new ≡ old
 Leads set old (c ∷ cs) new = (between : View) × Steps set old c.moment c.input c.answer between × Leads set between cs new

@@ -62,26 +62,26 @@ handed_if false held = None
 abbrev pub outcome_of : EngineMeaning → Store → Request → ℕ → Bool → Key × Secret → Outcome
 outcome_of m store r now handed fresh = m.serve r (handed_if handed (held_by store.map (m.names r))) now fresh
 
--- the map behind what became of the session that is named
+-- the map after what became of the session that is named
 abbrev pub fated : Option (Key × Secret) → Fate → (Key → Option Session) → Key → Option Session
 fated None fate map = map
 fated (Some named) Untouched map = map
 fated (Some named) (Kept s) map = set_key map named.0 (Some s)
 fated (Some named) FateEnded map = set_key map named.0 None
 
--- the map behind what became of the session that was made
+-- the map after what became of the session that was made
 abbrev pub born : Key → Birth → (Key → Option Session) → Key → Option Session
 born k Absent map = map
 born k (Alive s) map = set_key map k (Some s)
 born k BirthEnded map = map
 
--- the keys that were ever created, behind a birth
+-- the keys that were ever created, after a birth
 abbrev pub made_with : Key → Birth → (Key → Bool) → Key → Bool
 made_with k Absent made = made
 made_with k (Alive s) made = set_key made k true
 made_with k BirthEnded made = set_key made k true
 
--- the store behind a request with its outcome
+-- the store after a request with its outcome
 abbrev pub stored : Option (Key × Secret) → Key → Outcome → Store → Store
 stored named fresh out store = record { map = born fresh out.birth (fated named out.fate store.map); made = made_with fresh out.birth store.made }
 
@@ -91,7 +91,7 @@ committed m store (Served token r now handed fresh) =
     stored ((meaning_of m token).names r) fresh.0 (outcome_of (meaning_of m token) store r now handed fresh) store
 committed m store (Expired k now) = record store { map = set_key store.map k None }
 
--- all of them, one behind the other
+-- all of them, one after the other
 abbrev pub after : Meanings → Store → List Commit → Store
 after m store [] = store
 after m store (c ∷ cs) = after m (committed m store c) cs
@@ -108,12 +108,12 @@ pub record IsExpiry (store : Store) (k : Key) (now : ℕ) : Type 0 where
   pub there : store.map k ≡ Some session
   pub expired : is_expired session now ≡ true
 
--- the commit may stand behind the store
+-- the commit may stand after the store
 abbrev pub IsLawful : Meanings → Store → Commit → Type 0
 IsLawful m store (Served token r now handed fresh) = IsNewKey store fresh.0 (outcome_of (meaning_of m token) store r now handed fresh).birth
 IsLawful m store (Expired k now) = IsExpiry store k now
 
--- a run of the container: each commit may stand behind those before it
+-- a run of the container: each commit may stand after those before it
 abbrev pub AreLawful : Meanings → Store → List Commit → Type 0
 AreLawful m store [] = ⊤
 AreLawful m store (c ∷ cs) = IsLawful m store c × AreLawful m (committed m store c) cs
@@ -156,7 +156,7 @@ pub record IsExcused (m : Meanings) (commits : List Commit) (arrival : ℕ) (k :
   pub within : place ≤ length commits
   pub lacks : (after m nothing_stored (take place commits)).map k ≡ None
 
--- a commit behind others: it stands behind its request's arrival, and where the session that it names wasn't handed
+-- a commit after others: it stands after its request's arrival, and where the session that it names wasn't handed
 -- in it has its excuse
 abbrev pub MayStand : Meanings → (Token → ℕ) → List Commit → Commit → Type 0
 MayStand m arrival before (Served token r now handed fresh) =

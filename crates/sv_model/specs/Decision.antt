@@ -10,7 +10,7 @@ use Rattle.sv_model.specs.declared.output.Output.{Output}
 use Rattle.sv_model.specs.NodeState.{Durable, Parked, Node}
 
 -- what is made durable, the commit that it is, what listeners are told of it, whether a session has come or gone, what
--- is put out, and what is kept behind it
+-- is put out, and what is kept after it
 pub record Decision : Type 0 where
   pub entry : Option Record
   pub commit : Option Commit

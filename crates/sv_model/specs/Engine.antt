@@ -14,10 +14,10 @@ pub record EngineMeaning : Type 0 where
   pub names : Request → Option (Key × Secret)
   -- a request, the session that it names where that is at hand, the seconds, and the key and secret of a birth
   pub serve : Request → Option (Key × Session) → ℕ → Key × Secret → Outcome
-  -- each listener's numbers behind an event
+  -- each listener's numbers after an event
   pub hear : List (List ℕ) → Told → List (List ℕ)
 
--- each listener's numbers behind a list of events
+-- each listener's numbers after a list of events
 abbrev pub heard_all : EngineMeaning → List (List ℕ) → List Told → List (List ℕ)
 heard_all m heard [] = heard
 heard_all m heard (t ∷ ts) = heard_all m (m.hear heard t) ts

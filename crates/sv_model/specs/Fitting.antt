@@ -95,7 +95,7 @@ Fits set stage d (Counters boot next) = fits_counters stage ≡ true
 Fits set stage d (Forgets home boot) = (home ≡ set.node) × (boot ≡ d.boot + 1)
 Fits set stage d (Counted home boot next) = (home ≡ set.node) × (fits_counters stage ≡ true)
 
--- each may stand behind those before it
+-- each may stand after those before it
 abbrev pub AllFit : Setting → Stage → Durable → List Record → Type 0
 AllFit set stage d [] = ⊤
 AllFit set stage d (r ∷ rs) = Fits set stage d r × AllFit set (stage_behind r stage) (applied r d) rs

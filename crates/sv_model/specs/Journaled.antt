@@ -1,4 +1,4 @@
--- What a step makes durable: its record stands behind those of the node, and gives what the step keeps.
+-- What a step makes durable: its record stands after those of the node, and gives what the step keeps.
 use Rattle.std.specs.Prelude.{◌≡◌, IfSome}
 use Rattle.sv_model.specs.declared.node.Setting.{Setting}
 use Rattle.sv_model.specs.declared.node.Stage.{Stage}

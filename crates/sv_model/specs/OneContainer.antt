@@ -15,7 +15,7 @@ abbrev pub active_at : Node → Key → Option Session
 active_at n k = session_in (get n.durable.keys k)
 
 -- the commits are a run of the container; a request that was served without the session that it names has its excuse
--- since it came; and behind all of them the container has these sessions
+-- since it came; and after all of them the container has these sessions
 pub record IsOneContainer (m : EngineMeaning) (trace : List Item) (sessions : Key → Option Session) : Type 0 where
   pub lawful : AreLawful (always m) nothing_stored (commits_of trace)
   pub stands : AllMayStand (always m) (arrival_behind 0 trace) [] (commits_of trace)

@@ -13,7 +13,7 @@ phrase status = unwrap_or (reason_phrase status) []
 abbrev pub plain_body : ℕ → List ℕ
 plain_body status = code_digits status ++ codes " " ++ phrase status ++ codes "\n"
 
--- the page of a status behind the fields set so far
+-- the page of a status after the fields set so far
 abbrev pub plain_page : ℕ → List Field → Bool → Bool → Response
 plain_page status fields head_only close =
     record { status = status; fields = with_field fields plain_type; body = plain_body status; head_only = head_only; close = close }

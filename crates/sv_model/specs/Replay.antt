@@ -1,4 +1,4 @@
--- What a record makes of what a node keeps. What is durable at a node is its records, one behind the other.
+-- What a record makes of what a node keeps. What is durable at a node is its records, one after the other.
 use Rattle.std.specs.Prelude.{ℕ, ◌+◌, cond, List, [], ◌∷◌, Option, Some, None}
 use Rattle.std.specs.FinMap.{get, insert, empty}
 use Rattle.sv_model.specs.declared.node.Setting.{Setting}
@@ -32,7 +32,7 @@ next_by Unchanged next = next
 next_by (ChangeAlive k s) next = next + 1
 next_by (ChangeEnded k) next = next + 1
 
--- the keys behind a record, at a node that forgets those of a home
+-- the keys after a record, at a node that forgets those of a home
 abbrev pub keys_behind : Option ℕ → Record → Keys → Keys
 keys_behind home (Boot boot) keys = keys
 keys_behind home (Commit named born) keys = with_born home born (with_named home named keys)
@@ -82,7 +82,7 @@ home_behind (Counters boot next) home = home
 home_behind (Forgets n boot) home = Some n
 home_behind (Counted n boot next) home = Some n
 
--- what is kept behind a record
+-- what is kept after a record
 abbrev pub applied : Record → Durable → Durable
 applied r d = record { keys = keys_behind d.home r d.keys; boot = boot_behind r d.boot; next = next_behind r d.next; home = home_behind r d.home }
 
@@ -94,7 +94,7 @@ applied_if (Some r) d = applied r d
 abbrev pub boot_record : Setting → Durable → Record
 boot_record set d = cond set.forget (Forgets set.node (d.boot + 1)) (Boot (d.boot + 1))
 
--- all of them, one behind the other
+-- all of them, one after the other
 abbrev pub replayed : Durable → List Record → Durable
 replayed d [] = d
 replayed d (r ∷ rs) = replayed (applied r d) rs

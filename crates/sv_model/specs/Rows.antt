@@ -45,7 +45,7 @@ first_key home = record { home = home; serial = 1 }
 abbrev pub second_key : ℕ → Key
 second_key home = record { home = home; serial = 2 }
 
--- a node behind its first start, that knows these keys and whose next serial is this
+-- a node after its first start, that knows these keys and whose next serial is this
 abbrev pub keeps : Keys → ℕ → Durable
 keeps keys next = record { keys = keys; boot = 1; next = next; home = None }
 
@@ -222,7 +222,7 @@ module _ (m : EngineMeaning) (secret : Secret) (first again : Request) (made kep
           parked = [];
           next_want = 1;
         }
-    -- behind 64 requests that wait another is refused
+    -- after 64 requests that wait another is refused
     pub park_full : (parked : List Parked) → length parked ≡ 64
         → decided m (of_three 1) (record { durable = keeps empty 1; parked = parked; next_want = 65 }) (at_second 1_000 secret) (Ask 1 again)
         ≡ idle (record { durable = keeps empty 1; parked = parked; next_want = 65 }) (Refuse 1 ParkFull ∷ [])

@@ -65,14 +65,14 @@ ended_at home k (Some (Sent e old to)) keys = keys
 ended_at home k (Some (Gone e)) keys = keys
 ended_at home k (Some (Ended e)) keys = keys
 
--- the keys behind what became of the session that is named
+-- the keys after what became of the session that is named
 abbrev pub fated_keys : Option ℕ → Option (Key × Secret) → Fate → Keys → Keys
 fated_keys home None fate keys = keys
 fated_keys home (Some named) Untouched keys = keys
 fated_keys home (Some named) (Kept s) keys = kept_at named.0 s (get keys named.0) keys
 fated_keys home (Some named) FateEnded keys = ended_at home named.0 (get keys named.0) keys
 
--- the keys behind what became of the session that was made: its epoch is 1
+-- the keys after what became of the session that was made: its epoch is 1
 abbrev pub born_keys : Option ℕ → Key → Birth → Keys → Keys
 born_keys home k Absent keys = keys
 born_keys home k (Alive s) keys = insert keys k (Active 1 s)
@@ -83,7 +83,7 @@ next_with Absent next = next
 next_with (Alive s) next = next + 1
 next_with BirthEnded next = next + 1
 
--- what is kept behind an outcome
+-- what is kept after an outcome
 abbrev pub kept_with : Option (Key × Secret) → Key → Outcome → Durable → Durable
 kept_with named fresh out d = record d { keys = born_keys d.home fresh out.birth (fated_keys d.home named out.fate d.keys); next = next_with out.birth d.next }
 

@@ -19,7 +19,7 @@ ghost use Rattle.sv_model.specs.Journaled.{IsJournaled};
 ghost use Rattle.sv_model.specs.Rows.{IsExample, IsHandedOver, AreLate, IsNeverMade, AreTicks, AreOrders, AreForgotten, AreFull, AreForgetting};
 ghost use Rattle.sv_model.specs.Ranges.{IsSetting, IsInput, IsRanged, IsRangedStep};
 
-/// The record of a step may stand behind those of the node, and makes of what the node kept durably what it keeps behind
+/// The record of a step may stand after those of the node, and makes of what the node kept durably what it keeps after
 /// the step: so what is durable at a node is the replay of its records.
 pub fn journaled()
     ensures { (m : EngineMeaning) → TouchesOnlyHanded m → (set : Setting) (n : Node) (moment : Moment) (input : Input)

@@ -32,7 +32,7 @@ pub fn plain_body(alloc: Global, status: StatusCode) -> Result<Sequence<u8>, All
     Ok(body)
 }
 
-/// The plain page of a status, behind the fields that were set so far; `content-type` becomes `text/plain`.
+/// The plain page of a status, after the fields that were set so far; `content-type` becomes `text/plain`.
 pub fn plain_page(
     alloc: Global,
     status: StatusCode,

@@ -30,7 +30,7 @@ pub struct Request {
     pub raw_path: Text,
     /// The path without dot segments, decoded once; it begins with `/`.
     pub path: Text,
-    /// What stands behind the first `?` of the target, as it was sent.
+    /// What stands after the first `?` of the target, as it was sent.
     pub query: Option<Text>,
     /// All fields in order, names in lower case.
     pub fields: Sequence<Field>,
@@ -39,7 +39,7 @@ pub struct Request {
     /// The parameters of the query, then those of a form in the body.
     pub params: Sequence<Param>,
     pub body: Sequence<u8>,
-    /// The connection closes behind the response.
+    /// The connection closes after the response.
     pub close: bool,
 }
 

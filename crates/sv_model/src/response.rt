@@ -16,7 +16,7 @@ pub struct Response {
     pub body: Sequence<u8>,
     /// The body isn't written, as in an answer to HEAD.
     pub head_only: bool,
-    /// The connection closes behind the response.
+    /// The connection closes after the response.
     pub close: bool,
 }
 

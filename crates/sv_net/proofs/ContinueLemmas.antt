@@ -68,7 +68,7 @@ continues_leaving was held text left is_text rest same whole leaves =
       unread_is = same;
     }
 
--- what is still to be heard behind a text
+-- what is still to be heard after a text
 follows_unread : (next : Next) (s : State) → Follows next s → unread s ≡ unread_behind next
 follows_unread Close s f = absurd f
 follows_unread Part s (bytes, is) = ap unread is
@@ -100,7 +100,7 @@ continues_telling was held socket byte is on says =
       unread_is = saying_unread (byte ∷ []) Close held.state says.stands ∙ sym (ap unread is);
     }
 
--- what a client goes on sending behind its last answer is forgotten
+-- what a client goes on sending after its last answer is forgotten
 pub continues_parting : (was held : Open) (bytes left : ℕ) → was.state ≡ state.Parting bytes → held.state ≡ state.Parting left → went_of held.socket ≡ went_of was.socket → Continues was held
 continues_parting was held bytes left is now went =
     record {

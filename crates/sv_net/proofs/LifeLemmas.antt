@@ -5,7 +5,7 @@ use Rattle.sv_connection.specs.Connection.{held_by}
 use Rattle.sv_connection.specs.declared.received.Received.TheVariants.{Request, Refused, More, Closed}
 use Rattle.sv_net.specs.Life.{Came, KeepsBytes, Splits, asked_in, came_in}
 
--- a piece behind what was held, and what comes behind it
+-- a piece after what was held, and what comes after it
 joined : (first was piece kept rest : List ℕ) → was ≡ first → was ++ piece ≡ kept → first ++ (piece ++ rest) ≡ kept ++ rest
 joined first was piece kept rest same is =
     ap (λ xs. xs ++ (piece ++ rest)) (sym same) ∙ sym (append_assoc was piece rest) ∙ ap (λ xs. xs ++ rest) is

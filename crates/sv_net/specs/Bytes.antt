@@ -13,7 +13,7 @@ pub record IsBlank (stream : Stream) : Type 0 where
   pub came : stream.came.bytes ≡ []
   pub went : stream.went.bytes ≡ []
 
--- this is left of a text, behind what was taken of it
+-- this is left of a text, after what was taken of it
 abbrev pub IsLeft : List ℕ → List ℕ → Type 0
 IsLeft left text = (taken : List ℕ) × (text ≡ taken ++ left)
 

@@ -51,7 +51,7 @@ unread (state.Saying text next) = unread_behind next
 unread (state.Parting bytes) = []
 unread (state.Calling to frame holder) = []
 
--- all that was said on a connection: what has left, and behind it what is still to leave
+-- all that was said on a connection: what has left, and after it what is still to leave
 abbrev pub said_on : Open → List ℕ
 said_on o = went_of o.socket ++ unsent o.state
 
@@ -118,7 +118,7 @@ GoOnBut place P old new = (q : ℕ) → IfSome (held_at new q) (λ held. ((was :
 abbrev pub GoOnWith : ℕ → Open → Connections → Connections → Type 0
 GoOnWith place one old new = GoOnBut place (λ held. Continues one held) old new
 
--- a command is answered by this byte, which is behind all that was said on its connection; nothing is heard of it any more
+-- a command is answered by this byte, which is after all that was said on its connection; nothing is heard of it any more
 pub record Obeys (byte : ℕ) (was held : Open) : Type 0 where
   pub ordered : was.state ≡ state.Ordering
   pub said : said_on held ≡ said_on was ++ byte ∷ []

@@ -14,7 +14,7 @@ alone (Some x) = Some x.0
 abbrev pub first_frame : List ℕ → Result (Option Frame) RecordFault
 first_frame bytes = frame_at bytes >>= λ o. Ok (alone o)
 
--- what stands behind the first frame; all of it where that isn't whole yet
+-- what stands after the first frame; all of it where that isn't whole yet
 abbrev pub left_by : List ℕ → Result (Option (Frame × ℕ)) RecordFault → List ℕ
 left_by bytes (Ok None) = bytes
 left_by bytes (Ok (Some x)) = drop x.1 bytes

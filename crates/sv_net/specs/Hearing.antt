@@ -44,7 +44,7 @@ IsOfPeer node (Frame frame rest) = is_of frame node ≡ true
 IsOfPeer node (Greeting greeting) = ⊥
 IsOfPeer node Nothing = ⊤
 
--- what a client's connection gives once these bytes stand behind those that it held: what the reader's definition finds at their front
+-- what a client's connection gives once these bytes stand after those that it held: what the reader's definition finds at their front
 pub record Hears (was next : Client) (piece : List ℕ) (given : Received) : Type 0 where
   pub single : is_single next.connection ≡ is_single was.connection
   pub waiting : is_waiting next.connection ≡ is_request given
@@ -62,7 +62,7 @@ HearsClient was piece (Frame frame rest) = ⊥
 HearsClient was piece (Greeting greeting) = ⊥
 HearsClient was piece Nothing = (is_waiting was.connection ≡ true) ⊎ (is_closed was.connection ≡ true)
 
--- the first frame of these bytes, and what stands behind it; nothing where that is no frame, or memory was refused
+-- the first frame of these bytes, and what stands after it; nothing where that is no frame, or memory was refused
 abbrev pub HearsFrame : List ℕ → FrameValue → List ℕ → Type 0
 HearsFrame bytes frame rest = (first_frame bytes ≡ Ok (Some frame)) × (rest ≡ behind_first bytes)
 

@@ -21,7 +21,7 @@ GoesOn (Refused fault head_only) = ⊥
 GoesOn More = Unit {0}
 GoesOn Closed = ⊥
 
--- one call behind the other; an answer between two of them takes nothing of what has come
+-- one call after the other; an answer between two of them takes nothing of what has come
 abbrev pub AreHeard : Client → List Heed → Client → Type 0
 AreHeard first [] last = held_by last.connection ≡ held_by first.connection
 AreHeard first (Came was next piece given ∷ heeds) last =
@@ -40,14 +40,14 @@ asked_in (Came was next piece (Refused fault head_only) ∷ heeds) = asked_in he
 asked_in (Came was next piece More ∷ heeds) = asked_in heeds
 asked_in (Came was next piece Closed ∷ heeds) = asked_in heeds
 
--- the bytes are the messages of these requests, one behind the other, and then the rest
+-- the bytes are the messages of these requests, one after the other, and then the rest
 abbrev pub Splits : List ℕ → List RequestValue → List ℕ → Type 0
 Splits bytes [] rest = bytes ≡ rest
 Splits bytes (request ∷ requests) rest =
     (text : List ℕ) × (next : List ℕ) × (raw : RawRequest) × (single : Bool) × IsMessage text raw × IsRead single raw request × (bytes ≡ text ++ next)
     × Splits next requests rest
 
--- what came of a client, behind what was there, is the messages of the requests that were given and what is kept, however it was cut
+-- what came of a client, after what was there, is the messages of the requests that were given and what is kept, however it was cut
 abbrev pub KeepsBytes : Type 0
 KeepsBytes =
     (first last : Client) (heeds : List Heed) → AreHeard first heeds last

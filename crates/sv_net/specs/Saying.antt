@@ -30,7 +30,7 @@ pub record IsAtRest (was rested : Client) : Type 0 where
 abbrev pub IsListenedTo : Client → State → Type 0
 IsListenedTo client state = (state ≡ Asked client) ⊎ ((rested : Client) × (state ≡ Resting rested) × IsAtRest client rested)
 
--- what is behind a text that was taken whole
+-- what is after a text that was taken whole
 abbrev pub Follows : Next → State → Type 0
 Follows Close state = ⊥
 Follows Part state = (bytes : ℕ) × (state ≡ Parting bytes)
@@ -45,7 +45,7 @@ pub record FollowsOn (next : Next) (socket : Socket) (held : Open) : Type 0 wher
 abbrev pub IsSaying : List ℕ → Next → State → Type 0
 IsSaying text next state = ((left : Vec ℕ Global) × (state ≡ Saying left next) × IsLeft left.items text) ⊎ Follows next state
 
--- a text was said on a connection, whole and once, behind all that was said there before; nothing was read of it meanwhile
+-- a text was said on a connection, whole and once, after all that was said there before; nothing was read of it meanwhile
 pub record Says (text : List ℕ) (next : Next) (before came : List ℕ) (held : Open) : Type 0 where
   pub stands : IsSaying text next held.state
   pub said : said_on held ≡ before ++ text
@@ -79,6 +79,6 @@ is_deadline WantsSpent = false
 is_deadline JournalFull = false
 is_deadline Memory = false
 
--- the refusal of a client, by how it wants one; behind one for its time its connection closes
+-- the refusal of a client, by how it wants one; after one for its time its connection closes
 abbrev pub refused_as : Naming → Cause → Bool × Bool → Response
 refused_as naming cause manner = refusal_by naming cause manner.0 (manner.1 || is_deadline cause)

@@ -35,12 +35,12 @@ pub record IsLinkTo (to : ℕ) (links : List Link) (link : Link) : Type 0 where
   pub node : link.node ≡ to
   pub left_by : HasLeft to links (went_of link.socket)
 
--- a text left whole by a link to that node, behind what had left by it
+-- a text left whole by a link to that node, after what had left by it
 pub record IsSentBy (to : ℕ) (before text : List ℕ) (link : Link) : Type 0 where
   pub node : link.node ≡ to
   pub went : went_of link.socket ≡ before ++ text
 
--- what is left of a text waits on a connection to that node, which was a link, behind what had left by it
+-- what is left of a text waits on a connection to that node, which was a link, after what had left by it
 pub record IsOnItsWay (to : ℕ) (before text : List ℕ) (held : Open) : Type 0 where
   pub frame : Vec ℕ Global
   pub calling : held.state ≡ Calling to frame None
@@ -75,7 +75,7 @@ pub record SendsOn (to : ℕ) (before text : List ℕ) (old new : Connections) :
   pub links : AreAmong (links_of old) (links_of new)
   pub people : Admits (IsOnItsWay to before text) old new
 
--- a text for a node is put behind what has left by a link to it, whole, and once, or it is lost; to nobody else is anything said
+-- a text for a node is put after what has left by a link to it, whole, and once, or it is lost; to nobody else is anything said
 abbrev pub SendsBehind : ℕ → List ℕ → List ℕ → Connections → Connections → Type 0
 SendsBehind to before text old new = SendsByLink to before text old new ⊎ SendsOn to before text old new ⊎ Loses old new
 

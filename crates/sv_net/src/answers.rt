@@ -18,7 +18,7 @@ use std::time::Duration;
 use sv_connection::{Outcome, memory_lines, refusal_by};
 use sv_model::{Cause, Response};
 
-/// Whether the connection of a client closes behind its refusal: where it wants that, and where it has waited in vain.
+/// Whether the connection of a client closes after its refusal: where it wants that, and where it has waited in vain.
 fn closes(cause: Cause, close: bool) -> bool
     ensures { result ≡ (close || is_deadline cause) }
 {

@@ -16,7 +16,7 @@ const REQUEST_LIMIT: u32 = 10_000;
 pub struct Client {
     pub connection: Connection,
     answered: u32,
-    /// More may lie unread behind the last request: a close would tear its answer away.
+    /// More may lie unread after the last request: a close would tear its answer away.
     unread: bool,
 }
 
@@ -63,7 +63,7 @@ impl Client {
         client
     }
 
-    /// What follows behind an answer (RFC 9112, section 9.6): the next request; or, where the connection closes, the close, at
+    /// What follows after an answer (RFC 9112, section 9.6): the next request; or, where the connection closes, the close, at
     /// once where the client asked for it, as it sends no more then.
     pub(crate) fn next(self) -> Next
         ensures { HearsNext (held_by self.connection) result }
@@ -77,7 +77,7 @@ impl Client {
         }
     }
 
-    /// It was answered once more. The last answer but one has it close behind the next, which says so.
+    /// It was answered once more. The last answer but one has it close after the next, which says so.
     fn counted(self) -> Client
         ensures { held_by result.connection ≡ held_by self.connection }
     {

@@ -18,7 +18,7 @@ use std::time::Duration;
 use sv_connection::Naming;
 use sv_log::Report;
 
-/// So many connections are open at once. Behind that one that has been silent for longest is closed for a new one.
+/// So many connections are open at once. After that one that has been silent for longest is closed for a new one.
 pub(crate) const OPEN_LIMIT: usize = 1_000;
 
 /// In thousandths of a second: so long a turn may take, a second of it to wait for somebody.

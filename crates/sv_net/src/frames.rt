@@ -8,7 +8,7 @@ ghost use Rattle.sv_net.specs.Frames.{first_frame, behind_first};
 use std::alloc::Global;
 use sv_record::{Frame, RecordFault, read_frame};
 
-/// Puts bytes behind those that came before, and takes the frame off their front that is then whole; none where it isn't yet.
+/// Puts bytes after those that came before, and takes the frame off their front that is then whole; none where it isn't yet.
 pub fn take_in(
     alloc: Global,
     bytes: &mut Vec<u8>,

@@ -34,7 +34,7 @@ pub enum Heard {
         fault: RequestFault,
         head_only: bool,
     },
-    /// A frame, and what has come behind it.
+    /// A frame, and what has come after it.
     Frame {
         frame: Frame,
         rest: Vec<u8>,
@@ -72,7 +72,7 @@ fn hear_client(client: Client, piece: &[u8]) -> Heard
     }
 }
 
-/// Puts a piece behind what came before it of a connection's first frame, and takes the frame that is then whole.
+/// Puts a piece after what came before it of a connection's first frame, and takes the frame that is then whole.
 fn hear_framer(alloc: Global, bytes: Vec<u8>, piece: &[u8]) -> Heard
     ensures heard { IsHeard result }
     ensures framer { HearsFramer (bytes.items ++ piece.now) result }
@@ -85,7 +85,7 @@ fn hear_framer(alloc: Global, bytes: Vec<u8>, piece: &[u8]) -> Heard
     }
 }
 
-/// Puts a piece behind what came before it of a greeting, which is all that its connection brings.
+/// Puts a piece after what came before it of a greeting, which is all that its connection brings.
 fn hear_greeter(bytes: Vec<u8>, piece: &[u8]) -> Heard
     ensures heard { IsHeard result }
     ensures greeter { HearsGreeter (bytes.items ++ piece.now) result }

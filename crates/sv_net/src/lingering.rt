@@ -13,7 +13,7 @@ use crate::open::Open;
 use crate::socket::{Sign, Socket, comes_later};
 use crate::state::State;
 
-/// So many bytes are read of what a client goes on sending behind its last answer.
+/// So many bytes are read of what a client goes on sending after its last answer.
 const LAST_BYTES: usize = 131_072;
 
 /// Pieces of them that are read in turn, before others come in.
@@ -100,7 +100,7 @@ impl Connections {
         Some((left, true))
     }
 
-    /// Reads what a client goes on sending behind its last answer, up to so many bytes, until it has closed too.
+    /// Reads what a client goes on sending after its last answer, up to so many bytes, until it has closed too.
     pub(crate) fn part(&mut self, place: usize, open: Open, bytes: usize)
         ensures { «open».state ≡ Parting bytes → GoOnWith place «open» self.old self.new }
     {

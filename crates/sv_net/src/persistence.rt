@@ -5,6 +5,6 @@
 pub enum Persistence {
     /// One: its answer says that the connection closes.
     Single,
-    /// As many as the client sends, up to 10,000; behind 30 seconds of silence it is closed.
+    /// As many as the client sends, up to 10,000; after 30 seconds of silence it is closed.
     Kept,
 }

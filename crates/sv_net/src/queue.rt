@@ -46,7 +46,7 @@ impl Queue {
         self.is_listed.get(place) == Some(&true)
     }
 
-    /// Adds a place behind the others, if it isn't among them. Where memory is refused it isn't added.
+    /// Adds a place after the others, if it isn't among them. Where memory is refused it isn't added.
     pub fn add(&mut self, place: usize) {
         if self.reach(place).is_err() || self.has(place) {
             return;

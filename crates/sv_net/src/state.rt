@@ -27,7 +27,7 @@ pub enum Next {
 pub struct Peer {
     /// Its number: what comes next is of the same node, or the connection is closed.
     pub node: u8,
-    /// What has come behind its last packet.
+    /// What has come after its last packet.
     pub bytes: Vec<u8>,
 }
 
@@ -54,7 +54,7 @@ pub enum State {
     Waiting {
         client: Client,
         head_only: bool,
-        /// Its request says that the connection closes behind the answer.
+        /// Its request says that the connection closes after the answer.
         close: bool,
         /// The number under which the node was asked.
         token: u64,
@@ -94,7 +94,7 @@ const SAYING: u64 = 30;
 /// In seconds: so long may a connection that is kept bring no request.
 const RESTING: u64 = 30;
 
-/// In seconds: so long is read what a client goes on sending behind its last answer.
+/// In seconds: so long is read what a client goes on sending after its last answer.
 const PARTING: u64 = 1;
 
 /// In seconds. A peer is on the same machine: it answers at once, or is not there.
@@ -125,7 +125,7 @@ pub enum Turn {
 }
 
 impl Peer {
-    /// It has sent a packet, with these bytes behind it.
+    /// It has sent a packet, with these bytes after it.
     pub fn taken(self) -> State
         ensures unread { unread result ≡ self.bytes.items }
         ensures unsent { unsent result ≡ [] }
@@ -137,7 +137,7 @@ impl Peer {
         }
     }
 
-    /// Nothing has come behind its last packet.
+    /// Nothing has come after its last packet.
     pub(crate) fn is_resting(&self) -> bool {
         self.bytes.is_empty()
     }

@@ -26,7 +26,7 @@ impl Tape {
         }
     }
 
-    /// These bytes are behind those before.
+    /// These bytes are after those before.
     pub(crate) fn note(&mut self, _bytes: &[u8])
         ensures { self.new.bytes ≡ self.old.bytes ++ _bytes.now }
     {}

@@ -1,4 +1,4 @@
--- The number of a start that records give is one of 64 bits, so a start stands only behind one that isn't the last.
+-- The number of a start that records give is one of 64 bits, so a start stands only after one that isn't the last.
 use Rattle.std.proofs.lemmas.Bool.{cond_both}
 use Rattle.std.proofs.Common.{◌≡◌, inl, inr, ℕ, ◌+◌, ◌≤◌, List, [], ◌∷◌, arith, refl, subst}
 use Rattle.sv_model.specs.declared.node.Setting.{Setting}

@@ -129,7 +129,7 @@ module _ {D : Type 0} (tells : D → Type 0) (seen : D → List ℕ) (may_leave 
       (λ r. record { entries = r.entries; opens = inl (subst (λ (l : List ℕ). OpensOn a l r.entries) (sym b_is) r.opens); replays = r.replays })
       (f a left_a)
 
-  -- behind it
+  -- after it
   pub left_alike : ((disk : D) (t : ℕ) (c : List ℕ) → tells disk → t ≤ moment disk → may_leave disk c → left_since disk t c)
       → (old new : JournalView D) (set : Setting) (d : Durable) → tells (written old new) → spared old new ≡ old.current → Only (seen old.current) (may_leave old.current)
       → LeavesOnly moment left_since old.other (written old new) (RestoresBeside set (seen old.current) d) → LeavesSame may_leave new set d
@@ -159,7 +159,7 @@ module _ {E D T : Type 0} (meaning : E → EngineMeaning) (heard : E → List (L
   compaction_ends (Err journal.Device) live len turned no_failed no_damaged full device same = let d = device refl in (view, d.0, d.1)
   compaction_ends (Err journal.Memory) live len turned no_failed no_damaged full device same = record { view = view; journal = same refl (λ e. cc) }
 
--- what the journal stores behind it
+-- what the journal stores after it
 module _ {D : Type 0} (tells : D → Type 0) (seen : D → List ℕ) (may_leave : D → List ℕ → Type 0) (failed : D → ℕ) (set : Setting) (d : Durable) (records : List Record) (old new : JournalView D) where
   abbrev At : JournalView D → Type 0
   At journal = Stores seen may_leave journal set d

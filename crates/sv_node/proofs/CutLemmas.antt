@@ -66,7 +66,7 @@ module _ {D : Type 0} (may_leave : D → List ℕ → Type 0) (m : EngineMeaning
         ⊎_elim (λ old_y. inl (old_x, old_y)) (λ gives. ⊎_elim (λ old_y. inl (old_x, old_y)) (λ left_x. inr (subst (λ (l : List ℕ). GivesStart set d l y) (sym (only x left_x)) gives)) t.b_before) (w.of_written.each y t.of_b))
         (λ (still : LeavesOnly moment left_since b new_b (may_leave b)). inl (old_x, still.each y t.of_b)) w.apart)
 
--- ---- an opening of disks that give one of two states, as those behind a failed disk do
+-- ---- an opening of disks that give one of two states, as those after a failed disk do
 
 module _ {D : Type 0} (may_leave : D → List ℕ → Type 0) (m : EngineMeaning) (set : Setting) (before after d : Durable) (a b new_a new_b : D) (all : LeaveEither may_leave set before after a b) (now : (d ≡ before) ⊎ (d ≡ after)) where
   abbrev Either : OpenFault → List ℕ → List ℕ → Type 0

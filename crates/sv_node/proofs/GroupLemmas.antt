@@ -1,4 +1,4 @@
--- Steps of a group, one behind the other.
+-- Steps of a group, one after the other.
 use Rattle.std.proofs.Common.{◌≡◌, ◌⊎◌, inl, inr, ℕ, ◌+◌, ◌<◌, ◌≤◌, max, IsErrOf, length-append, false, map, length, List, [], ◌∷◌, ◌++◌, Option, Some, None, Result, Ok, Err, IsTrue, IfSome, Vec, Global, vec_items, refl, sym, ◌∙◌, ap, subst, arith}
 use Rattle.std.proofs.lemmas.Grind.{flat_map-append}
 use Rattle.std.proofs.lemmas.List.{append_assoc, append-nil, map-append}
@@ -60,7 +60,7 @@ same_batch old new same = λ entries s. record {
 pub same_records : (set : Setting) (old new : State) → new ≡ old → ReplaysMore set old new []
 same_records set old new is = λ entries r. subst (λ (n : State). Replays set (entries ++ []) n.durable) (sym is) (subst (λ l. Replays set l old.durable) (sym (append-nil entries)) r)
 
--- a record, if there is one, that may stand behind
+-- a record, if there is one, that may stand after
 replays_if : (set : Setting) (old new : State) (o : Option Record) → IfSome o (λ r. HasSpelling r) → CanFollow set old.durable o → new.durable ≡ applied_if o old.durable → ReplaysMore set old new (option_to_list o)
 replays_if set old new None has fits gives = λ entries r. subst (λ (d : Durable). Replays set (entries ++ []) d) (sym gives) (subst (λ l. Replays set l old.durable) (sym (append-nil entries)) r)
 replays_if set old new (Some e) has fits gives = λ entries r. subst (λ (d : Durable). Replays set (entries ++ spelling e ∷ []) d) (sym gives) (replays_more set entries old.durable e r has fits)
@@ -100,7 +100,7 @@ refused journal m set n new at input e copied fault old batch is copy node same 
       replays = same_records set n new node;
     })
 
--- what is behind more records
+-- what is after more records
 bytes_join : (rs more : List Record) → bytes_of (rs ++ more) ≡ bytes_of rs + bytes_of more
 bytes_join rs more =
     ap (λ (l : List (List ℕ)). length (flat_map entry l)) (map-append spelling rs more) ∙ ap length (flat_map-append entry (map spelling rs) (map spelling more))

@@ -1,4 +1,4 @@
--- Histories one behind the other, and what a call of a node adds to its history.
+-- Histories one after the other, and what a call of a node adds to its history.
 use Rattle.std.proofs.Common.{◌≡◌, ◌≢◌, ◌⊎◌, inl, inr, ⊎_elim, ℕ, ◌≤◌, Bool, true, false, cond, IsTrue, Result, Ok, Err, List, [], ◌∷◌, ◌++◌, refl, sym, ap, ◌∙◌, subst, arith, append-nil}
 use Rattle.std.specs.Prelude.{IsErr}
 use Rattle.std.proofs.lemmas.List.Concat.{flat_map-append}
@@ -144,7 +144,7 @@ module _ {E D : Type 0} (meaning : E → EngineMeaning) (heard : E → List (Lis
   }
 
   module _ (low mid high : ℕ) (a b c : Node E D) (x : Goes low mid a b) where
-    -- where the calls behind lead
+    -- where the calls after lead
     pub on_from : (to : Stand) (told : List Told) → Leads (meaning (engine_of b)) (setting_of b) mid high (stand_of b) to told → Leads (meaning (engine_of a)) (setting_of a) low high (stand_of a) to (x.told ++ told)
     on_from to told leads =
         leads_join (meaning (engine_of a)) (setting_of a) low mid high (stand_of a) (stand_of b) to x.told told x.leads
@@ -234,7 +234,7 @@ module _ {E D : Type 0} (meaning : E → EngineMeaning) (heard : E → List (Lis
 
   module _ (seen : D → List ℕ) (set : Setting) (engine : E) (a b : D) (n new : Node E D) (s : IsStarted meaning heard n engine set)
       (first : tells a → tells b → (d : Durable) × Restores set (seen a) (seen b) d × (d.boot ≢ last_number) × (durable_of n ≡ restarted set d)) (both : tells a → tells b → TellsBoth tells (journal_of n)) where
-    -- calls of the opened node, behind its opening
+    -- calls of the opened node, after its opening
     pub behind_opening : (low high : ℕ) (d : Durable) (told : List Told) (to : Stand) → tells a → tells b → Restores set (seen a) (seen b) d
         → Leads (meaning (engine_of n)) (setting_of n) 0 high (stand_of n) to told → Leads (meaning engine) set low high (halted d) to told
     behind_opening low high d told to ta tb r leads =
@@ -326,7 +326,7 @@ module _ {E D : Type 0} (meaning : E → EngineMeaning) (heard : E → List (Lis
       as_call : (answer : Result (List Output) StepFault) → Stepped answer → IsStepCall meaning heard old at i answer new
       as_call answer s = stepped meaning heard failed old new at i tells seen may_leave moment left_since answer s
 
-      -- the node runs on, and this is behind the call
+      -- the node runs on, and this is after the call
       step_on : (answer : Result (List Output) StepFault) (a : After) → (s : Stepped answer) → IsAfterStep old decision answer new a → a.node ≡ state_of new
           → (journal_of new).live ≡ (journal_of old).live → (heard (engine_of new) ≡ heard_all (meaning (engine_of old)) (heard (engine_of old)) a.told) → Goes low (number_in low i) old new
       step_on answer a s after node same hears =
@@ -334,7 +334,7 @@ module _ {E D : Type 0} (meaning : E → EngineMeaning) (heard : E → List (Lis
           on low (number_in low i) (record { call = call answer; after = a }) (c.does a after) above same_number (λ j. record { up = sym c.runs j; node = node j })
           same c.setting c.meaning_is hears (both_tell answer s)
 
-      -- by its answer: only behind Device the node doesn't go on, and one that runs doesn't answer Failed
+      -- by its answer: only after Device the node doesn't go on, and one that runs doesn't answer Failed
       abbrev pub WentBy : Result (List Output) StepFault → Type 0
       WentBy (Ok outputs) = Goes low (number_in low i) old new
       WentBy (Err step.Failed) = ⊥
@@ -387,7 +387,7 @@ module _ {E D : Type 0} (meaning : E → EngineMeaning) (heard : E → List (Lis
           on low high (record { call = Compact (ending_of answer); after = quiet (state_of new) }) (c.does (meaning (engine_of old)) (quiet (state_of new)) after) tt le (λ j. record { up = sym c.runs j; node = state_of new })
           same c.setting c.meaning_is c.heard_is (written_tell answer s)
 
-      -- by its answer: only behind Device the node doesn't go on; it never answers Damaged, and one that runs not Failed
+      -- by its answer: only after Device the node doesn't go on; it never answers Damaged, and one that runs not Failed
       abbrev pub CompactedBy : Result T JournalFault → Type 0
       CompactedBy (Ok x) = Goes low high old new
       CompactedBy (Err journal.Failed) = ⊥

@@ -1,4 +1,4 @@
--- What a stop leaves at any moment: of a group, of a compaction, and of calls one behind the other.
+-- What a stop leaves at any moment: of a group, of a compaction, and of calls one after the other.
 use Rattle.std.proofs.Common.{◌≡◌, ◌≢◌, inl, inr, ⊎_elim, ℕ, Bool, true, false, cond, IsTrue, Result, Ok, Err, List, [], ◌∷◌, ◌++◌, refl, sym, ap, subst, arith}
 use Rattle.sv_journal.specs.Disk.{Only, LeavesOnly}
 use Rattle.sv_journal.specs.Journal.{disk_a, disk_b}
@@ -109,7 +109,7 @@ module _ {E D : Type 0} (meaning : E → EngineMeaning) (heard : E → List (Lis
   pub runs_nowhere : (low : ℕ) (n : Node E D) → Runs low n n
   runs_nowhere low n both = record { between = []; are = refl }
 
-  -- one behind the other
+  -- one after the other
   pub runs_join : (low mid high : ℕ) (a b c : Node E D) → GoesOn meaning heard tells low mid a b → Runs low a b → Runs mid b c → Runs low a c
   runs_join low mid high a b c goes first more both =
       let P = Reaches (meaning (engine_of a)) (setting_of a) low (stand_of a) in

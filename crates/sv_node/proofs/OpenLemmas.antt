@@ -94,7 +94,7 @@ one_state set a b d e r s =
 pub restarted_ranged : (set : Setting) (n : State) → IsSetting set → IsRanged n → IsRanged (record n { durable = restarted set n.durable })
 restarted_ranged set n is r = (starts_ranged set n is r).left_is
 
--- the record of a start may be written, and may stand behind the others
+-- the record of a start may be written, and may stand after the others
 pub start_ranged : (set : Setting) (d : Durable) → IsSetting set → IsRecord (boot_record set d)
 start_ranged set d is = cond_both set.forget (Forgets set.node (d.boot + 1)) (Boot (d.boot + 1)) (λ r. IsRecord r) (λ _. (omega (arith, is.few, is.inside), omega arith)) (λ _. omega arith)
 

@@ -47,7 +47,7 @@ module _ {D : Type 0} (tells : D → Type 0) (seen : D → List ℕ) (may_leave 
   pub refused_moments : (a' b' : D) → tells b' → OpensWithoutLoss seen may_leave moment left_since a b a' b' → StartsWithoutLoss seen may_leave moment left_since set d a b a' b'
   refused_moments a' b' told w = inl (found a' b' told w)
 
-  -- the start is written behind it
+  -- the start is written after it
   going_on : (on_a : Bool) (current other final : D) → tells (cond on_a other current) → OpensWithoutLoss seen may_leave moment left_since a b (cond on_a current other) (cond on_a other current)
       → (on_a ≡ false → LeavesOnly moment left_since a (cond on_a current other) (may_leave a)) → Only (seen other) (may_leave other)
       → LeavesOnly moment left_since current final (RestoresEither set (seen other) d (restarted set d)) → StartsWithoutLoss seen may_leave moment left_since set d a b (cond on_a final other) (cond on_a other final)

@@ -1,4 +1,4 @@
--- A call of a running node, seen from outside: what the node keeps behind it, what it puts out, and what its listeners are
+-- A call of a running node, seen from outside: what the node keeps after it, what it puts out, and what its listeners are
 -- told. No disk stands here: what a stop leaves of one is the state on one side of a call or on the other.
 use Rattle.std.specs.Prelude.{◌≡◌, ◌≢◌, ◌⊎◌, Bool, true, false, cond, Result, Ok, Err, List, [], ◌∷◌}
 use Rattle.sv_journal.specs.declared.journal_fault.JournalFault.{JournalFault}
@@ -35,7 +35,7 @@ pub record Given : Type 0 where
 pub data Call : Type 0 where
   Open : Ending OpenFault → Call
   Step : Moment → Input → Ending StepFault → Call
-  -- steps that become durable at once: a stop falls, or a disk fails, behind their records, and before anything of them has left
+  -- steps that become durable at once: a stop falls, or a disk fails, after their records, and before anything of them has left
   Unsaid : List Given → Call
   Compact : Ending JournalFault → Call
   -- the node is stopped, or its process ends between two calls
@@ -45,7 +45,7 @@ abbrev pub ending_of : {T F : Type 0} → Result T F → Ending F
 ending_of (Ok x) = Done
 ending_of (Err fault) = Refused fault
 
--- ---- what there is behind a call
+-- ---- what there is after a call
 
 pub record After : Type 0 where
   pub node : Node
@@ -56,25 +56,25 @@ pub record After : Type 0 where
 abbrev pub quiet : Node → After
 quiet n = record { node = n; outputs = []; told = [] }
 
--- all that is left of a node behind a stop, and all that one keeps that has just started
+-- all that is left of a node after a stop, and all that one keeps that has just started
 abbrev pub kept : Durable → Node
 kept d = record { durable = d; parked = []; next_want = 1 }
 
 abbrev pub carried_out : Decision → After
 carried_out d = record { node = left d; outputs = d.outputs; told = told d }
 
--- a node behind all of these steps, one behind the other
+-- a node after all of these steps, one after the other
 abbrev pub node_behind : EngineMeaning → Setting → Node → List Given → Node
 node_behind m set n [] = n
 node_behind m set n (g ∷ gs) = node_behind m set (left (decided m set n g.at g.input)) gs
 
 -- ---- what a call does
 
--- a stop falls inside a start, before its record or behind it; the last number is never gone past
+-- a stop falls inside a start, before its record or after it; the last number is never gone past
 abbrev pub StopsStart : Setting → Durable → After → Type 0
 StopsStart set d a = (a ≡ quiet (kept d)) ⊎ ((d.boot ≢ last_number) × (a ≡ quiet (kept (restarted set d))))
 
--- a stop falls inside a step, before its record or behind it
+-- a stop falls inside a step, before its record or after it
 abbrev pub StopsStep : Durable → Decision → After → Type 0
 StopsStep old d a = (a ≡ quiet (kept old)) ⊎ (a ≡ quiet (kept d.durable))
 
@@ -107,7 +107,7 @@ Does m set up n (Compact (Refused journal.Device)) a = a ≡ quiet (kept n.durab
 Does m set up n (Compact Cut) a = a ≡ quiet (kept n.durable)
 Does m set up n Stop a = a ≡ quiet (kept n.durable)
 
--- ---- whether the node runs behind it, with its disks at hand
+-- ---- whether the node runs after it, with its disks at hand
 
 -- a step that answers this has met a failed disk
 abbrev pub step_ends : StepFault → Bool

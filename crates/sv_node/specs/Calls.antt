@@ -16,7 +16,7 @@ use Rattle.sv_node.specs.Call.{Open, Step, Compact, Done, ending_of, After, quie
 use Rattle.sv_node.specs.Node.{engine_of, setting_of, state_of, durable_of, journal_of, decided_at}
 use Rattle.sv_node.specs.declared.node.Node.{Node}
 
--- behind a failed disk it is what the next opening may find, one of two
+-- after a failed disk it is what the next opening may find, one of two
 abbrev pub IsAfterStep : {E D : Type 0} → Node E D → Decision → Result (List Output) StepFault → Node E D → After → Type 0
 IsAfterStep old d (Ok outputs) new a = (a.node ≡ state_of new) × (a.outputs ≡ outputs) × (a.told ≡ (carried_out d).told)
 IsAfterStep old d (Err step.Failed) new a = a ≡ quiet (state_of new)
@@ -39,7 +39,7 @@ pub record IsStepCall {E D : Type 0} (meaning : E → EngineMeaning) (heard : E 
   pub meaning_is : meaning (engine_of new) ≡ meaning (engine_of old)
   pub heard_is : heard (engine_of new) ≡ heard_all (meaning (engine_of old)) (heard (engine_of old)) (told_by (decided_at meaning old at input) answer)
 
--- behind a failed disk it is what the next opening finds
+-- after a failed disk it is what the next opening finds
 abbrev pub IsAfterCompaction : {E D T : Type 0} → Result T JournalFault → Node E D → After → Type 0
 IsAfterCompaction (Ok x) new a = a ≡ quiet (state_of new)
 IsAfterCompaction (Err journal.Failed) new a = a ≡ quiet (state_of new)

@@ -17,11 +17,11 @@ use Rattle.sv_node.specs.Node.{view_of, setting_of, durable_of, journal_of, IsUn
 use Rattle.sv_node.specs.Stops.{TellsBoth, RestoresOn, Restores}
 use Rattle.sv_node.specs.declared.node.Node.{Node}
 
--- behind a compaction, the disk to which it wrote: the one that wasn't current before it
+-- after a compaction, the disk to which it wrote: the one that wasn't current before it
 abbrev pub written : {D : Type 0} → JournalView D → JournalView D → D
 written old new = cond old.on_a (disk_b new) (disk_a new)
 
--- behind a compaction, the disk to which it didn't write
+-- after a compaction, the disk to which it didn't write
 abbrev pub spared : {D : Type 0} → JournalView D → JournalView D → D
 spared old new = cond old.on_a (disk_a new) (disk_b new)
 
@@ -67,7 +67,7 @@ CompactionEnds meaning heard failed old (Err Device) new =
     (view_of meaning heard new ≡ view_of meaning heard old) × ((journal_of new).live ≡ false)
     × HasRisen (failed (journal_of old).other) (failed (journal_of new).other)
 
--- A compaction: what it does, and what a stop at any moment of it, or behind it, leaves of the disks. Whatever its answer,
+-- A compaction: what it does, and what a stop at any moment of it, or after it, leaves of the disks. Whatever its answer,
 -- that is the state that the node keeps. A node whose disk has failed before answers Failed.
 pub record IsCompaction {E D T : Type 0} (meaning : E → EngineMeaning) (heard : E → List (List ℕ)) (tells : D → Type 0) (seen : D → List ℕ)
     (may_leave : D → List ℕ → Type 0) (moment : D → ℕ) (left_since : D → ℕ → List ℕ → Type 0) (failed : D → ℕ)

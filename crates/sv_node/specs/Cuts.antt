@@ -1,4 +1,4 @@
--- What a stop leaves of the disks of a node, as the state behind a call that it has cut, or that was refused.
+-- What a stop leaves of the disks of a node, as the state after a call that it has cut, or that was refused.
 use Rattle.std.specs.Prelude.{◌≡◌, ◌≢◌, ◌⊎◌, Bool, List, ℕ}
 use Rattle.sv_model.specs.declared.node.Setting.{Setting}
 use Rattle.sv_model.specs.Engine.{EngineMeaning}

@@ -1,4 +1,4 @@
--- Steps that are made durable together: each is decided on the state behind the one before it, and those that are refused
+-- Steps that are made durable together: each is decided on the state after the one before it, and those that are refused
 -- change nothing.
 use Rattle.std.specs.Prelude.{◌≡◌, ◌⊎◌, ℕ, ◌+◌, ◌≤◌, max, length, map, false, IsTrue, List, [], ◌∷◌, ◌++◌, Option, Result, Ok, Err, ⊤}
 use Rattle.std.specs.List.{flat_map}
@@ -60,10 +60,10 @@ events_by d (Err fault) = []
 abbrev pub bytes_of : List Record → ℕ
 bytes_of rs = length (flat_map entry (map spelling rs))
 
--- ---- all of them, one behind the other
+-- ---- all of them, one after the other
 
 module _ (m : EngineMeaning) (set : Setting) where
-  -- the node behind them
+  -- the node after them
   abbrev pub behind : State → List (Moment × Input) → List Answer → State
   behind n [] answers = n
   behind n (i ∷ is) [] = n
@@ -108,11 +108,11 @@ FitsIn journal batch = (size_of batch ≡ 1) ⊎ (max journal.len (journal.end +
 abbrev pub LacksRoom : {D : Type 0} → JournalView D → Batch → Option Record → Type 0
 LacksRoom journal batch entry = (end : ℕ) → end + 1 ≡ journal.end + size_of batch → IsTooLongAt journal.len end entry
 
--- a batch that stages entries stages these records behind them
+-- a batch that stages entries stages these records after them
 abbrev pub StagesMore : Batch → Batch → List Record → Type 0
 StagesMore old new rs = (entries : List (List ℕ)) → Stages old entries → Stages new (entries ++ map spelling rs)
 
--- these records may stand behind those that give the one, and give the other
+-- these records may stand after those that give the one, and give the other
 abbrev pub ReplaysMore : Setting → State → State → List Record → Type 0
 ReplaysMore set old new rs = (entries : List (List ℕ)) → Replays set entries old.durable → Replays set (entries ++ map spelling rs) new.durable
 
@@ -174,8 +174,8 @@ GroupWrites meaning old inputs (Err Device) new W =
     × (state_of new ≡ behind (meaning (engine_of old)) (setting_of old) (state_of old) inputs answers)
     × W (entries_of (meaning (engine_of old)) (setting_of old) (state_of old) inputs answers)
 
--- A group of steps: what it does, and what a stop at any moment of it, or behind it, leaves of the disks: the state before
--- all of them or the state behind all of them.
+-- A group of steps: what it does, and what a stop at any moment of it, or after it, leaves of the disks: the state before
+-- all of them or the state after all of them.
 pub record IsGroup {E D : Type 0} (meaning : E → EngineMeaning) (heard : E → List (List ℕ)) (tells : D → Type 0) (seen : D → List ℕ)
     (may_leave : D → List ℕ → Type 0) (moment : D → ℕ) (left_since : D → ℕ → List ℕ → Type 0) (failed : D → ℕ)
     (old : Node E D) (inputs : List (Moment × Input)) (answer : Result (List Answer) StepFault) (new : Node E D) : Type 0 where

@@ -41,7 +41,7 @@ turns_of m set n (i ∷ is) (Ok outputs ∷ answers) =
     record { call = Step i.0 i.1 Done; after = carried_out (decided m set n i.0 i.1) } ∷ turns_of m set (left (decided m set n i.0 i.1)) is answers
 turns_of m set n (i ∷ is) (Err fault ∷ answers) = record { call = Step i.0 i.1 (Refused fault); after = quiet n } ∷ turns_of m set n is answers
 
--- a group that is done is these calls, one behind the other, and what they put out is what it has answered
+-- a group that is done is these calls, one after the other, and what they put out is what it has answered
 pub record IsTurns {E D : Type 0} (meaning : E → EngineMeaning) (heard : E → List (List ℕ)) (old : Node E D) (inputs : List (Moment × Input))
     (answers : List Answer) (new : Node E D) : Type 0 where
   pub turns : AreTurns (meaning (engine_of old)) (setting_of old) (stand_of old)

@@ -1,4 +1,4 @@
--- The history of a node: its calls in turn, of one process or of several, one behind the other.
+-- The history of a node: its calls in turn, of one process or of several, one after the other.
 use Rattle.std.specs.Prelude.{◌≡◌, ◌⊎◌, ◌<◌, ◌≤◌, ℕ, Bool, false, IsTrue, Result, Ok, Err, List, [], ◌∷◌, ⊤}
 use Rattle.std.specs.List.{flat_map}
 use Rattle.sv_model.specs.declared.event.Told.{Told}
@@ -14,7 +14,7 @@ use Rattle.sv_node.specs.declared.node.Node.{Node}
 
 -- ---- calls in turn
 
--- a call, and what there is behind it
+-- a call, and what there is after it
 pub record Turn : Type 0 where
   pub call : Call
   pub after : After
@@ -61,7 +61,7 @@ number_in low input.Poke = low
 number_in low input.Tick = low
 number_in low (input.Move k to) = low
 
--- the same of several, one behind the other
+-- the same of several, one after the other
 abbrev pub RiseIn : ℕ → List Given → Type 0
 RiseIn low [] = ⊤
 RiseIn low (g ∷ gs) = IsAbove low g.input × RiseIn (number_in low g.input) gs
@@ -119,7 +119,7 @@ pub record GoesOn {E D : Type 0} (meaning : E → EngineMeaning) (heard : E → 
   pub tells_on : TellsBoth tells (journal_of old) → TellsBoth tells (journal_of new)
 
 -- under the last of them a disk has failed: whatever a stop now leaves of the disks gives the state before that call or the
--- one behind it, and to each of both the calls lead
+-- one after it, and to each of both the calls lead
 pub record Fails {E D : Type 0} (meaning : E → EngineMeaning) (heard : E → List (List ℕ)) (tells : D → Type 0) (may_leave : D → List ℕ → Type 0)
     (low high : ℕ) (old new : Node E D) : Type 0 where
   pub told : List Told

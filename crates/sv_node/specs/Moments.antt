@@ -34,7 +34,7 @@ WritesOneOf seen may_leave moment left_since P old new =
     WritesBeside seen may_leave moment left_since P old.0 old.1 new.0 new.1
     ⊎ WritesBeside seen may_leave moment left_since (λ image other. P other image) old.1 old.0 new.1 new.0
 
--- one stretch of time behind the other, from these disks over those between to the last ones
+-- one stretch of time after the other, from these disks over those between to the last ones
 abbrev pub AreStretches : {D : Type 0} → (D → List ℕ) → (D → List ℕ → Type 0) → (D → ℕ) → (D → ℕ → List ℕ → Type 0) → (List ℕ → List ℕ → Type 0)
     → Disks D → List (Disks D) → Disks D → Type 0
 AreStretches seen may_leave moment left_since P old [] new = new ≡ old

@@ -77,7 +77,7 @@ IsTooLongAt len end (Some r) = FILE_LIMIT < max len (end + 6 + length (spelling 
 abbrev pub IsTooLong : {D : Type 0} → JournalView D → Option Record → Type 0
 IsTooLong journal entry = IsTooLongAt journal.len journal.end entry
 
--- where the entries of a journal end behind a record, if there is one: it is one entry more, and the only one
+-- where the entries of a journal end after a record, if there is one: it is one entry more, and the only one
 abbrev pub end_behind : {D : Type 0} → JournalView D → Option Record → ℕ
 end_behind journal None = journal.end
 end_behind journal (Some r) = journal.end + 5 + length (spelling r)
@@ -99,8 +99,8 @@ Ends meaning heard failed old d (Err Device) new =
     (view_of meaning heard new ≡ view_of meaning heard old) × ((journal_of new).live ≡ false)
     × HasRisen (failed (journal_of old).current) (failed (journal_of new).current)
 
--- A step of a node: what it does, and what a stop at any moment of it, or behind it, leaves of the disks. Whatever its
--- answer, that is the state before the decision or the state behind it. A node whose disk has failed before answers Failed.
+-- A step of a node: what it does, and what a stop at any moment of it, or after it, leaves of the disks. Whatever its
+-- answer, that is the state before the decision or the state after it. A node whose disk has failed before answers Failed.
 pub record IsNodeStep {E D : Type 0} (meaning : E → EngineMeaning) (heard : E → List (List ℕ)) (tells : D → Type 0) (seen : D → List ℕ)
     (may_leave : D → List ℕ → Type 0) (moment : D → ℕ) (left_since : D → ℕ → List ℕ → Type 0) (failed : D → ℕ)
     (old : Node E D) (d : Decision) (answer : Result (List Output) StepFault) (new : Node E D) : Type 0 where

@@ -54,7 +54,7 @@ pub record LacksRoom {D : Type 0} (seen : D → List ℕ) (may_leave : D → Lis
   pub too_long : IsTooLong journal (Some (boot_record set d))
 
 -- The journal that was opened on the disks A and B, with the entries that their images have, has got the record of one more
--- start behind them, and nothing else.
+-- start after them, and nothing else.
 pub record AddsStart {D : Type 0} (seen : D → List ℕ) (may_leave : D → List ℕ → Type 0) (moment : D → ℕ) (left_since : D → ℕ → List ℕ → Type 0)
     (set : Setting) (d : Durable) (entries : List (List ℕ)) (a b : D) (journal : JournalView D) : Type 0 where
   -- as it was opened, before anything was added

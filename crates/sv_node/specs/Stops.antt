@@ -41,7 +41,7 @@ LeavesEither may_leave journal set before after =
     (a b : List ℕ) → may_leave (disk_a journal) a → may_leave (disk_b journal) b → Restores set a b before ⊎ Restores set a b after
 
 -- a stop at any moment leaves, of the current disk of a journal, beside the other one, the entries that it holds, or these with
--- all of the records behind them, and nothing else
+-- all of the records after them, and nothing else
 abbrev pub LeavesAdded : {D : Type 0} → (D → List ℕ) → (D → List ℕ → Type 0) → (D → ℕ) → (D → ℕ → List ℕ → Type 0) → (old new : JournalView D) → List Record
     → Type 0
 LeavesAdded seen may_leave moment left_since old new records =

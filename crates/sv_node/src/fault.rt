@@ -15,7 +15,7 @@ pub enum OpenFault {
     /// Fault 1.
     #[error("a call of a disk failed while the node was opened")]
     Device,
-    /// Fault 2: what the disks hold is no journal, an entry is no record or doesn't fit behind those before it, or the
+    /// Fault 2: what the disks hold is no journal, an entry is no record or doesn't fit after those before it, or the
     /// numbers of starts are spent.
     #[error("the disks hold no journal of this node, or its starts are spent")]
     Damaged,

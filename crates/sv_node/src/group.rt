@@ -25,7 +25,7 @@ use sv_model::{Engine, Input, Moment, Output, Record, StepFault};
 // The bytes of an entry before its payload.
 const ENTRY_HEAD: usize = 5;
 
-/// Puts the record of a decision, where it has one, behind those of a batch. Refused it changes nothing.
+/// Puts the record of a decision, where it has one, after those of a batch. Refused it changes nothing.
 fn stage<D: Disk>(
     alloc: Global,
     journal: &Journal<D>,
@@ -57,7 +57,7 @@ fn stage<D: Disk>(
     Ok(())
 }
 
-/// Decides a step on the state behind those before it, and keeps what was decided, in memory alone. Refused it changes
+/// Decides a step on the state after those before it, and keeps what was decided, in memory alone. Refused it changes
 /// nothing.
 fn take<E: Engine, D: Disk>(
     alloc: Global,
@@ -116,7 +116,7 @@ fn room_for(alloc: Global, many: usize) -> Result<Room, AllocError>
     })
 }
 
-/// Decides steps one behind the other, and keeps what was decided, in memory alone.
+/// Decides steps one after the other, and keeps what was decided, in memory alone.
 fn take_all<E: Engine, D: Disk>(
     alloc: Global,
     core: &mut Core<E>,
@@ -193,12 +193,12 @@ impl<E: Engine, D: Disk> Node<E, D> {
     ghost use Rattle.sv_node.specs.Node.{IsNode, restored_of};
     ghost use Rattle.sv_node.specs.Group.{IsGroup};
 
-    /// Takes inputs one behind the other, each by a step on the state behind the one before, and makes all of their records
+    /// Takes inputs one after the other, each by a step on the state after the one before, and makes all of their records
     /// durable together: two writes and two syncs however many they are. Only then listeners are told, and what is put out
     /// is handed out, in the order of the inputs. A step that is refused by want of memory or of room changes nothing, and
     /// the others go on. After Device none of them has been told or put out, a stop leaves all of them or none, and `step`,
     /// `step_all` and `compact` answer Failed from then on; the calls that only look at the node go on answering, and show what
-    /// it keeps behind all of them. After the other faults the node is as it was.
+    /// it keeps after all of them. After the other faults the node is as it was.
     pub fn step_all(
         &mut self,
         inputs: Vec<(Moment, Input)>,

@@ -29,7 +29,7 @@ use sv_journal::Disk;
 use sv_model::Engine;
 
 /// Each call of a node, by what its contract says of it, does what such a call does where no disk is looked at. What the disks
-/// give behind an opening that was cut is one of the two states that such an opening leaves (`found`).
+/// give after an opening that was cut is one of the two states that such an opening leaves (`found`).
 pub fn calls<E: Engine, D: Disk>()
     ensures opened { (n : Node E D) (engine : E) (set : Setting) (d : Durable) → IsStarted E.meaning E.heard n engine set → d.boot ≢ last_number
         → durable_of n ≡ restarted set d
@@ -77,7 +77,7 @@ pub fn cuts<E: Engine, D: Disk>()
         → GivesCall m set false (kept before) (Open (Refused fault)) x y ⊎ GivesCall m set false (kept after) (Open (Refused fault)) x y }
 {}
 
-/// A group of steps that is done is their calls, one behind the other. Where a disk has failed under it, whatever a stop leaves
+/// A group of steps that is done is their calls, one after the other. Where a disk has failed under it, whatever a stop leaves
 /// of the disks gives what a stop before it leaves, or what the steps leave that are durable together and of which nothing has
 /// left the node; a stop at any moment inside it gives the same. By all of it the history of the node goes on.
 pub fn groups<E: Engine, D: Disk>()

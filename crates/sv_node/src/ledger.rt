@@ -36,7 +36,7 @@ pub fn payload_of(alloc: Global, entry: &Record) -> Result<Vec<u8>, AllocError>
     Ok(bytes)
 }
 
-/// Adds a record behind those of a journal.
+/// Adds a record after those of a journal.
 fn add<D: Disk>(alloc: Global, journal: &mut Journal<D>, entry: &Record) -> Result<(), JournalFault>
     requires ranges { IsRecord entry.now }
     ensures stored { OnOk result ((set : Setting) (d : Durable) → D.tells journal.old.current → CanFollow set d (Some entry.now)
@@ -115,7 +115,7 @@ fn record_of(alloc: Global, payload: &[u8]) -> Result<Record, OpenFault>
     }
 }
 
-/// Adds a record behind the others.
+/// Adds a record after the others.
 fn add_record(records: &mut Vec<Record>, entry: Record) -> Result<(), OpenFault>
     ensures added { OnOk result (records.new.items ≡ records.old.items ++ entry ∷ []) }
     ensures memory { IfErr result (λ e. e ≡ OpenMemory) }

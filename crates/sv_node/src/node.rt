@@ -40,7 +40,7 @@ impl<E: Engine, D: Disk> Node<E, D> {
     /// last. The setting is that of a node of a cluster of 8 nodes at most. On each fault the engine and the disks are
     /// handed back.
     ///
-    /// Damaged: the disks hold no journal, an entry is no record, a record doesn't fit behind those before it, or the
+    /// Damaged: the disks hold no journal, an entry is no record, a record doesn't fit after those before it, or the
     /// last boot number has been spent.
     pub fn open(
         alloc: Global,

@@ -1,4 +1,4 @@
--- A text behind its length is read as it was written.
+-- A text after its length is read as it was written.
 use Rattle.std.proofs.Common.{◌≡◌, refl, ap, ◌∙◌, ℕ, ◌+◌, ◌*◌, ◌<◌, List, ◌++◌, length, drop, Bool, true, false, ◌&&◌, arith}
 use Rattle.std.specs.Prelude.{take, min, ◌/◌, ◌%◌}
 use Rattle.std.proofs.Math.Seq.{drop-append_seam, take-append_seam}

@@ -44,7 +44,7 @@ is_key key = nat_lt 0 (length key) && nat_le (length key) 64
 
 -- ---- what is asked
 
--- a text behind its length
+-- a text after its length
 abbrev pub part : List ℕ → List ℕ
 part text = to_be_bytes w64 (length text) ++ text
 

@@ -1,4 +1,4 @@
--- Texts behind their lengths, one after the other. Bytes that end too early are read as far as they go, and a length that no byte
+-- Texts after their lengths, one after the other. Bytes that end too early are read as far as they go, and a length that no byte
 -- can say as the greatest that one can.
 use Rattle.std.specs.Prelude.{ℕ, ◌+◌, ◌*◌, ◌/◌, ◌%◌, List, [], ◌∷◌, ◌++◌, take, drop, length, min, slice_index}
 

@@ -12,7 +12,7 @@ use sv_model::{Request, Sequence};
 /// The bytes of a mark.
 const MARK_BYTES: usize = 16;
 
-/// Adds a text behind its length.
+/// Adds a text after its length.
 fn add_part(hasher: &mut Sha256, text: &[u8])
     ensures { (m : List ℕ) → Holds256 hasher.old m → Holds256 hasher.new (m ++ spec.part text.now) }
 {

@@ -46,7 +46,7 @@ fn write_entries(out: &mut Vec<u8>, entries: &[Entry]) -> Result<(), AllocError>
     Ok(())
 }
 
-/// The entries that bytes keep behind their version.
+/// The entries that bytes keep after their version.
 fn read_entries(alloc: Global, bytes: &[u8]) -> Result<Vec<Entry>, AllocError>
     ensures { IfOk result (λ entries. entries.items ≡ spec.entries_in 16 bytes.now) }
 {

@@ -1,4 +1,4 @@
-//! Texts behind their lengths, one after the other.
+//! Texts after their lengths, one after the other.
 
 ghost use Rattle.std.specs.Prelude.{◌≡◌, ◌<◌, ◌++◌, length, take, drop, OnOk};
 ghost use Rattle.sv_once.specs.Parts as spec;

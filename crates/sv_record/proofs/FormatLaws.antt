@@ -10,7 +10,7 @@ use Rattle.sv_record.specs.declared.fault.RecordFault.TheVariants.{Truncated, Ba
 use Rattle.sv_record.specs.Reading.{◌>>=◌, IsBytes, Reading, number_at, bytes_at}
 use Rattle.sv_record.specs.Format.{Format, ByKind, number, raw, nothing, chain, pair, such_that, seen_as, sized, texts, FitAll, reads, counted, kind_at, no_kind, tagged}
 
--- each number is one of a byte, whatever stands behind the list
+-- each number is one of a byte, whatever stands after the list
 abbrev pub AreBytes : List ℕ → Type 0
 AreBytes bytes = (i : ℕ) → get_or bytes i 0 < 256
 
@@ -223,7 +223,7 @@ module _ {S A : Type 0} (item : S → Format A) (next : S → A → S) (each : (
 -- ---- kinds
 
 module _ {A : Type 0} (kind_of : A → ℕ) (fields : A → List ℕ) (Fits : A → Type 0) where
-  -- what was read behind a kind
+  -- what was read after a kind
   abbrev pub Took : ℕ → List ℕ → A × List ℕ → Type 0
   Took kind bytes x = Takes bytes (fields x.0) x.1 × (kind_of x.0 ≡ kind) × Fits x.0
 

@@ -34,7 +34,7 @@ command_of (Move k to) = 1
 command_of Tick = 2
 command_of Halt = 3
 
--- what stands behind the kind of a command
+-- what stands after the kind of a command
 abbrev command_fields : Frame → List ℕ
 command_fields (Peer p) = []
 command_fields (Move k to) = (pair key node).text (k, to)
@@ -58,7 +58,7 @@ command_takes =
     kind_takes command_of command_fields IsCommand 3 nothing (λ _. Halt) _ nothing_lawful (λ b. (refl, refl, λ fits. fits)) (
     no_kind_takes command_of command_fields IsCommand Foreign)))
 
--- what was read of a payload behind this first byte
+-- what was read of a payload after this first byte
 record IsPayload (first : ℕ) (payload : List ℕ) (frame : Frame) : Type 0 where
   version : Version
   has : HasSpellingBy version frame
@@ -142,7 +142,7 @@ the_none = Ok None
 some_is : (a b : List ℕ) → whole_payload a ≡ whole_payload b → a ≡ b
 some_is a b e = cc
 
--- what stands behind the first byte of a frame
+-- what stands after the first byte of a frame
 sized_takes : (bytes payload : List ℕ) → AreBytes bytes → sized_at bytes ≡ Ok (Some payload)
     → ((rest : List ℕ) × (bytes ≡ to_be_bytes w32 (length payload) ++ (payload ++ rest))) × AreBytes payload × (length payload ≤ PAYLOAD_LIMIT)
 unfolding sized_at
@@ -287,7 +287,7 @@ zeros zero i = lit< tt
 zeros (suc n) zero = lit< tt
 zeros (suc n) (suc i) = zeros n i
 
--- the length isn't whole: with zeros behind it is one of four bytes
+-- the length isn't whole: with zeros after it is one of four bytes
 no_length : (first : ℕ) (bytes : List ℕ) → AreBytes bytes → (first ≡ PEER) ⊎ (first ≡ CONTROL) → length bytes < 4 → IsFront (first ∷ bytes)
 no_length first bytes fits known few =
     let pad : List ℕ = replicate (4 - length bytes) 0 in

@@ -52,7 +52,7 @@ value_length v total n small within =
     let second : nat_le (total + n) (session_limit v) ≡ true = grind (arith, nat_tests) in
     and_from (nat_le n (value_limit v)) (nat_le (total + n) (session_limit v)) first second
 
--- an attribute that may stand behind others
+-- an attribute that may stand after others
 attribute_fits : (before : Before) (a : Attribute) → 0 < length a.0 → length a.0 ≤ NAME_LIMIT → length a.1 ≤ VALUE_LIMIT → before.total + (length a.0 + length a.1) ≤ SESSION_LIMIT
     → is_utf8 a.0 ≡ true → name_cmp before.last a.0 ≡ Less → (attribute Two before).Fits a
 unfolding attribute name value
@@ -114,7 +114,7 @@ value_facts v total n e =
     let within : nat_le (total + n) (session_limit v) ≡ true = parts.1 in
     (grind (arith, nat_tests), grind (arith, nat_tests))
 
--- the limits of one attribute behind others
+-- the limits of one attribute after others
 pub record IsLimited (v : Version) (before : Before) (a : Attribute) : Type 0 where
   pub some : 0 < length a.0
   pub short : length a.0 ≤ NAME_LIMIT

@@ -1,4 +1,4 @@
--- All of the bytes: the version, a value, and nothing behind.
+-- All of the bytes: the version, a value, and nothing after.
 use Rattle.std.proofs.Common.{◌≡◌, inl, inr, ℕ, eqb, cond, List, [], ◌∷◌, ◌++◌, length, take, Result, Ok, Err, refl, sym, ap, subst, ◌∙◌, lit<}
 use Rattle.std.specs.Int.{w8, to_be_bytes}
 use Rattle.std.proofs.lemmas.Bool.{eqb-true}
@@ -18,7 +18,7 @@ ended_ok x a e =
     let h = held_ok (eqb (length x.1) 0) BadField (Ok x.0) a e in
     (ok_is x.0 a h.1, nil_from_length x.1 (eqb-true (length x.1) 0 h.0))
 
--- a version, and the bytes behind it
+-- a version, and the bytes after it
 abbrev version_is : Version → List ℕ → Reading Version
 version_is v rest = Ok (v, rest)
 

@@ -1,4 +1,4 @@
--- What a writer has put behind the bytes that were there.
+-- What a writer has put after the bytes that were there.
 use Rattle.std.specs.Prelude.{OnErr}
 use Rattle.std.proofs.Common.{◌≡◌, ◌≤◌, ℕ, Result, Ok, Err, List, [], ◌∷◌, ◌++◌, length, take, refl, sym, ap, ◌∙◌, append_assoc, arith}
 use Rattle.std.proofs.lemmas.List.{take_at, length-append, take-take}
@@ -10,11 +10,11 @@ use Rattle.sv_model.specs.declared.session.Session.{Session}
 use Rattle.sv_record.specs.Field.{long, signed, flag}
 use Rattle.sv_record.specs.Session.{Attribute, Before, at_first, behind, name, value, attribute, attributes, context, session}
 
--- one text behind the other
+-- one text after the other
 pub then_text : (old mid new a rest : List ℕ) → mid ≡ old ++ a → new ≡ mid ++ rest → new ≡ old ++ (a ++ rest)
 then_text old mid new a rest first second = second ∙ ap (λ (l : List ℕ). l ++ rest) first ∙ append_assoc old a rest
 
--- an attribute's text, which is the same behind whatever stands before it
+-- an attribute's text, which is the same after whatever stands before it
 abbrev pub attribute_text : Attribute → List ℕ
 attribute_text a = (attribute Two at_first).text a
 

@@ -23,7 +23,7 @@ raw n = record { text = λ bytes. bytes; Fits = λ bytes. length bytes ≡ n; re
 abbrev pub nothing : Format (Unit {0})
 nothing = record { text = λ _. []; Fits = λ _. Unit {0}; read = λ bytes. Ok (tt, bytes) }
 
--- one behind the other, where the second may depend on the first
+-- one after the other, where the second may depend on the first
 abbrev pub chain : {A B : Type 0} → Format A → (A → Format B) → Format (A × B)
 chain f g = record {
   text = λ x. f.text x.0 ++ (g x.0).text x.1;
@@ -31,7 +31,7 @@ chain f g = record {
   read = λ bytes. f.read bytes >>= λ a. (g a.0).read a.1 >>= λ b. Ok ((a.0, b.0), b.1);
 }
 
--- one behind the other
+-- one after the other
 abbrev pub pair : {A B : Type 0} → Format A → Format B → Format (A × B)
 pair f g = chain f (λ _. g)
 
@@ -83,7 +83,7 @@ counted w most s item next = record {
   read = λ bytes. number_at w bytes >>= λ n. if nat_lt most n.0 then Err BadField else reads item next n.0 s n.1;
 }
 
--- how a value of a kind is read from what is behind the kind
+-- how a value of a kind is read from what is after the kind
 abbrev pub ByKind : Type 0 → Type 0
 ByKind A = ℕ → List ℕ → Reading A
 
@@ -95,7 +95,7 @@ kind_at k f to others kind bytes = if kind == k then (f.read bytes >>= λ b. Ok 
 abbrev pub no_kind : {A : Type 0} → RecordFault → ByKind A
 no_kind fault kind bytes = Err fault
 
--- a byte for the kind, and what values of that kind have behind it
+-- a byte for the kind, and what values of that kind have after it
 abbrev pub tagged : {A : Type 0} → (A → ℕ) → (A → List ℕ) → (A → Type 0) → ByKind A → Format A
 tagged kind_of fields Fits by_kind = record {
   text = λ a. kind_of a ∷ fields a;

@@ -80,7 +80,7 @@ command_by_kind =
 unfoldable pub command_at : List ℕ → Result Frame RecordFault
 command_at payload = number_at w8 payload >>= λ kind. command_by_kind kind.0 kind.1 >>= ended
 
--- what all of a payload is behind this first byte
+-- what all of a payload is after this first byte
 unfoldable pub payload_at : ℕ → List ℕ → Result Frame RecordFault
 payload_at first payload = if first == PEER then (packet.packet_of payload >>= λ p. Ok (Peer p)) else command_at payload
 

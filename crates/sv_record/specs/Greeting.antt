@@ -24,7 +24,7 @@ errand_of n = if n == 0 then Opening else if n == 1 then Serving else if n == 2 
 unfoldable pub errand : Format Errand
 errand = seen_as (such_that (number w8) (λ n. nat_lt n 4)) errand_of byte_of
 
--- the mark, how many bytes are behind this number, and the version
+-- the mark, how many bytes are after this number, and the version
 abbrev pub heads : Format (ℕ × (ℕ × ℕ))
 heads = pair (such_that (number w8) (λ n. n == GREETING)) (pair (such_that (number w32) (λ n. n == PAYLOAD_LEN)) (such_that (number w8) (λ n. n == VERSION)))
 

@@ -40,7 +40,7 @@ kind_of (Grant from to k e s) = 2
 kind_of (Ack from to k e) = 3
 kind_of (No from to k boot want) = 4
 
--- what stands behind the kind
+-- what stands after the kind
 abbrev pub fields : Version → Packet → List ℕ
 fields v (Want from to k boot want) = asked.text ((from, to), (k, (boot, want)))
 fields v (Grant from to k e s) = (granted v).text ((from, to), (k, (e, s)))
@@ -63,7 +63,7 @@ by_kind v =
     kind_at 4 asked (λ x. No x.0.0 x.0.1 x.1.0 x.1.1.0 x.1.1.1) (
     no_kind Foreign))))
 
--- a packet behind its version
+-- a packet after its version
 unfoldable pub packet_format : Version → Format Packet
 packet_format v = tagged kind_of (fields v) (FieldsFit v) (by_kind v)
 

@@ -1,10 +1,10 @@
--- Reading: a value and the bytes behind it, or the first trouble in the order of the bytes.
+-- Reading: a value and the bytes after it, or the first trouble in the order of the bytes.
 use Rattle.std.specs.Prelude.{◌≡◌, ◌<◌, ◌^◌, ℕ, ◌==◌, List, length, take, drop, Result, Ok, Err, All, nat_lt, if◌then◌else◌}
 use Rattle.std.specs.Int.{Width, byte_len, from_be_bytes}
 use Rattle.sv_record.specs.declared.fault.RecordFault.{RecordFault}
 use Rattle.sv_record.specs.declared.fault.RecordFault.TheVariants.{Truncated, BadVersion, Foreign, BadField, Memory}
 
--- what reading gives: a value and the bytes behind it
+-- what reading gives: a value and the bytes after it
 abbrev pub Reading : Type 0 → Type 0
 Reading A = Result (A × List ℕ) RecordFault
 

@@ -24,7 +24,7 @@ kind_of_change Absent = 0
 kind_of_change (Alive k s) = 1
 kind_of_change (Ended k) = 2
 
--- what stands behind that kind
+-- what stands after that kind
 abbrev pub change_fields : Version → Change → List ℕ
 change_fields v Absent = []
 change_fields v (Alive k s) = (pair key (session v)).text (k, s)
@@ -59,7 +59,7 @@ kind_of_state (kept.Sent e s to) = 2
 kind_of_state (kept.Gone e) = 3
 kind_of_state (kept.Ended e) = 4
 
--- what stands behind that kind
+-- what stands after that kind
 abbrev pub state_fields : Version → KeyState → List ℕ
 state_fields v (kept.Active e s) = (pair counting (session v)).text (e, s)
 state_fields v (kept.Sent e s to) = (pair counting (pair node (session v))).text (e, (to, s))
@@ -103,7 +103,7 @@ kind_of (Counters b next) = 8
 kind_of (Forgets home b) = 9
 kind_of (Counted home b next) = 10
 
--- what stands behind the kind
+-- what stands after the kind
 abbrev pub fields : Version → Record → List ℕ
 fields v (Boot b) = counting.text b
 fields v (Commit named born) = (commit v).text (named, born)
@@ -144,7 +144,7 @@ by_kind v =
     kind_at 10 (pair node (pair long counting)) (λ x. Counted x.0 x.1.0 x.1.1) (
     no_kind Foreign))))))))))
 
--- a record behind its version
+-- a record after its version
 unfoldable pub record_format : Version → Format Record
 record_format v = tagged kind_of (fields v) (FieldsFit v) (by_kind v)
 

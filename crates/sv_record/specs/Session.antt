@@ -24,7 +24,7 @@ pub record Before : Type 0 where
 abbrev pub at_first : Before
 at_first = record { last = []; total = 0 }
 
--- behind one more attribute
+-- after one more attribute
 abbrev pub behind : Before → Attribute → Before
 behind before a = record { last = a.0; total = before.total + length a.0 + length a.1 }
 
@@ -44,7 +44,7 @@ is_value_length v total n = nat_le n (value_limit v) && nat_le (total + n) (sess
 unfoldable pub name : Version → Before → Format (List ℕ)
 name v before = such_that (sized w16 (is_name_length v before.total)) (λ text. is_utf8 text && is_below before.last text)
 
--- a value behind so many bytes of names and values
+-- a value after so many bytes of names and values
 unfoldable pub value : Version → ℕ → Format (List ℕ)
 value v total = sized (value_width v) (is_value_length v total)
 

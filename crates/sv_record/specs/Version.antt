@@ -34,7 +34,7 @@ byte_of Two = 2
 unfoldable pub version_at : List ℕ → Reading Version
 version_at bytes = number_at w8 bytes >>= λ n. if n.0 == 1 then Ok (One, n.1) else if n.0 == 2 then Ok (Two, n.1) else Err BadVersion
 
--- a value as a version spells it, behind the byte that names the version
+-- a value as a version spells it, after the byte that names the version
 abbrev pub spelled : {A : Type 0} → (Version → Format A) → Version → A → List ℕ
 spelled format v a = byte_of v ∷ (format v).text a
 

@@ -71,7 +71,7 @@ fn read_value(version: Version, bytes: &[u8], total: usize) -> Result<(&[u8], &[
     read_bytes(rest, count)
 }
 
-/// An attribute behind one of the name `last`, where names and values have `total` bytes so far.
+/// An attribute after one of the name `last`, where names and values have `total` bytes so far.
 #[tactic(auto, unfolding(crate::specs::Session::attribute))]
 pub(crate) fn read_attribute<'a>(
     version: Version,

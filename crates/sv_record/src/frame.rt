@@ -40,7 +40,7 @@ pub enum Frame {
 
 /// Reads the first frame, and says how many bytes it takes.
 ///
-/// The answer is none where bytes are missing: there is no first byte, or behind [`PEER`] or [`CONTROL`] the length's
+/// The answer is none where bytes are missing: there is no first byte, or after [`PEER`] or [`CONTROL`] the length's
 /// four bytes aren't all there, or the length is at most [`PAYLOAD_LIMIT`] and the payload isn't all there. Nothing of a
 /// payload is judged before its last byte is there. Another first byte is [`RecordFault::Foreign`] and a greater length
 /// [`RecordFault::BadField`], both at once.
@@ -127,7 +127,7 @@ fn read_command(payload: &[u8]) -> Result<Frame, RecordFault>
     Ok(command)
 }
 
-/// What a command of this kind has behind the kind.
+/// What a command of this kind has after the kind.
 fn read_command_fields(kind: u8, bytes: &[u8]) -> Result<(Frame, &[u8]), RecordFault>
     ensures { Gives (λ x. (x.0, x.1.now)) result (command_by_kind kind bytes.now) }
 {
@@ -160,7 +160,7 @@ pub fn write_frame(frame: &Frame, out: &mut Vec<u8>) -> Result<(), AllocError>
     written
 }
 
-/// The payload is written behind the place of its length, which is filled in afterwards.
+/// The payload is written after the place of its length, which is filled in afterwards.
 fn write_whole(frame: &Frame, out: &mut Vec<u8>) -> Result<(), AllocError>
     requires { IsFrame frame.now }
     ensures ok { OnOk result (out.new.items ≡ out.old.items ++ spelling frame.now) }

@@ -15,7 +15,7 @@ use std::alloc::AllocError;
 /// The first byte of a greeting.
 pub const GREETING: u8 = 0xe3;
 
-/// So many bytes stand behind the number that says so, which is written as in a frame.
+/// So many bytes stand after the number that says so, which is written as in a frame.
 const PAYLOAD_LEN: u32 = 95;
 
 const VERSION: u8 = 1;

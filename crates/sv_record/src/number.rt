@@ -57,7 +57,7 @@ pub(crate) fn read_i32(bytes: &[u8]) -> Result<(i32, &[u8]), RecordFault>
     Ok((number, rest))
 }
 
-/// So many bytes, and what is behind them.
+/// So many bytes, and what is after them.
 pub(crate) fn read_bytes(bytes: &[u8], count: usize) -> Result<(&[u8], &[u8]), RecordFault>
     ensures read { Gives (λ x. (x.0.now, x.1.now)) result (bytes_at count bytes.now) }
     ensures length { IfOk result (λ x. length x.0.now ≡ count) }

@@ -1,4 +1,4 @@
-//! What stands behind the version of a packet: its kind, the nodes and its fields.
+//! What stands after the version of a packet: its kind, the nodes and its fields.
 
 ghost use Rattle.std.specs.Prelude.{◌≡◌, ◌++◌, length, take, OnOk, OnErr};
 ghost use Rattle.sv_model.specs.declared.packet.Packet.TheVariants.{Want, Grant, Ack, No};
@@ -31,7 +31,7 @@ pub(crate) fn read_fields(
     read_kind(alloc, version, kind, rest)
 }
 
-/// What a packet of this kind has behind the kind.
+/// What a packet of this kind has after the kind.
 fn read_kind(
     alloc: Global,
     version: Version,

@@ -1,4 +1,4 @@
-//! What stands behind the version of a record: its kind and its fields.
+//! What stands after the version of a record: its kind and its fields.
 
 ghost use Rattle.std.specs.Prelude.{◌≡◌, ◌++◌, length, take, OnOk, OnErr};
 ghost use Rattle.sv_model.specs.declared.record.Record.TheVariants.{Commit, Expired, Sent, Taken, Gone, State};
@@ -33,7 +33,7 @@ pub(crate) fn read_fields(
     read_kind(alloc, version, kind, rest)
 }
 
-/// What a record of this kind has behind the kind.
+/// What a record of this kind has after the kind.
 fn read_kind(
     alloc: Global,
     version: Version,

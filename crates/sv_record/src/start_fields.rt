@@ -1,4 +1,4 @@
-//! What a start of a node, and the head of a snapshot, have behind their kind.
+//! What a start of a node, and the head of a snapshot, have after their kind.
 
 ghost use Rattle.std.specs.Prelude.{◌≡◌, ◌++◌, length, take, OnOk, OnErr};
 ghost use Rattle.sv_model.specs.declared.record.Record.TheVariants.{Boot, Counters, Forgets, Counted};

@@ -45,7 +45,7 @@ impl Version {
         }
     }
 
-    /// The length of an attribute's value, and what is behind it.
+    /// The length of an attribute's value, and what is after it.
     pub(crate) fn read_value_length(self, bytes: &[u8]) -> Result<(usize, &[u8]), RecordFault>
         ensures { Gives (λ x. (x.0, x.1.now)) result (number_at (spec.value_width self) bytes.now) }
     {

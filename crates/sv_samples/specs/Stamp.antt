@@ -8,7 +8,7 @@ use Rattle.sv_web.specs.Work.{FilterWork}
 abbrev pub is_dash : ℕ → Bool
 is_dash c = c == 45
 
--- the mark of a filter of this name: what stands behind its first `-`; `s` where there is none
+-- the mark of a filter of this name: what stands after its first `-`; `s` where there is none
 abbrev pub mark_of : List ℕ → List ℕ
 mark_of name = if nat_lt (position_or_len is_dash name) (length name) then after_first is_dash name else codes "s"
 

@@ -12,9 +12,9 @@ use sv_servlet::{Before, Call, Filter, GenericFilter, Reply, ReplyFault};
 use sv_session::SessionEdit;
 use sv_web::{HttpFilter, Refusal, Web};
 
-/// Writes `<` and its mark before a servlet, and its mark and `>` behind it.
+/// Writes `<` and its mark before a servlet, and its mark and `>` after it.
 ///
-/// The mark is what stands behind the first `-` of the filter's name, or `s` where there is none. Behind a servlet what
+/// The mark is what stands after the first `-` of the filter's name, or `s` where there is none. After a servlet what
 /// no longer fits isn't written.
 #[derive(Drop)]
 pub struct Stamp {

@@ -28,7 +28,7 @@ module _ (old new : List Field) (at : ℕ) (f : Field) (within : at < length old
   unfolding with_only
   put_with place = put_there ∙ ap (λ (p : Option ℕ). put_only p old f) (sym place)
 
--- the field is put at the place where one of its name was found, once those behind it are taken away
+-- the field is put at the place where one of its name was found, once those after it are taken away
 pub with_only_at : (old seen new : List Field) (at : ℕ) (f : Field) (name : List ℕ) → seen ≡ old → name ≡ f.name → Some at ≡ place_of_field seen f.name → at < length seen
     → new ≡ take (at + 1) old ++ filter (has_other_name name) (drop (at + 1) old) → slice_set new at f ≡ with_only old f
 with_only_at old seen new at f name same named place within cleared =

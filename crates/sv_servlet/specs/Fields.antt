@@ -9,7 +9,7 @@ use Rattle.sv_model.specs.Field.{place_of_field}
 abbrev pub has_other_name : List ℕ → Field → Bool
 has_other_name name f = not (bytes_eq f.name name)
 
--- a field at a place, behind which no other of its name stays; or last
+-- a field at a place, after which no other of its name stays; or last
 abbrev pub put_only : Option ℕ → List Field → Field → List Field
 put_only None fields f = fields ++ f ∷ []
 put_only (Some at) fields f = take at fields ++ f ∷ filter (has_other_name f.name) (drop (at + 1) fields)

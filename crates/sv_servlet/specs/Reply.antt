@@ -56,7 +56,7 @@ field_result r f =
     unless_held r (if is_reserved f.name then Err Reserved else
     (if is_full r.fields f.name then Err TooMany else Ok (record r { fields = with_only r.fields f })))
 
--- a field is added: last, and so behind those of its name (RFC 9110, section 5.3)
+-- a field is added: last, and so after those of its name (RFC 9110, section 5.3)
 abbrev pub addition_result : ReplyState → Field → Result ReplyState ReplyFault
 addition_result r f =
     unless_held r (if is_reserved f.name then Err Reserved else

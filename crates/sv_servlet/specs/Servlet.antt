@@ -47,7 +47,7 @@ pub record KeepsLent (old new : Lent) : Type 0 where
 abbrev pub KeepsReplies : Serves → Type 0
 KeepsReplies serves = (call : Asked) (l : Lent) → KeepsReply l.reply (serves call l).lent.reply
 
--- where an object stands behind its initialisation
+-- where an object stands after its initialisation
 abbrev pub phase_after_init : Result (Unit {0}) InitFault → Phase
 phase_after_init (Ok _) = Ready
 phase_after_init (Err _) = Failed

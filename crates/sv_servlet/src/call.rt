@@ -30,7 +30,7 @@ pub struct Call<'a> {
     /// The initialization parameters of the context, in the order in which they were given.
     pub settings: &'a [Setting],
     pub attributes: &'a RequestAttributes,
-    /// 0 at first; behind an include the number that the servlet asked to be resumed with.
+    /// 0 at first; after an include the number that the servlet asked to be resumed with.
     pub resume: u16,
 }
 

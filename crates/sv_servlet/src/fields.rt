@@ -7,7 +7,7 @@ ghost use Rattle.sv_servlet.specs.Fields.{has_other_name, with_only};
 use std::alloc::AllocError;
 use sv_model::{Field, place_of_field};
 
-/// Takes the fields of a name away that stand behind a place. Each moves those behind it, which are few.
+/// Takes the fields of a name away that stand after a place. Each moves those after it, which are few.
 fn clear_behind(fields: &mut Vec<Field>, at: usize, name: &[u8])
     requires { at < length fields.old.items }
     ensures { fields.new.items ≡ take (at + 1) fields.old.items ++ filter (has_other_name name.now) (drop (at + 1) fields.old.items) }

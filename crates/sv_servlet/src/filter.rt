@@ -13,15 +13,15 @@ use std::alloc::AllocError;
 use sv_model::Text;
 use sv_session::SessionEdit;
 
-/// What a filter says before what stands behind it in the chain is called.
+/// What a filter says before what stands after it in the chain is called.
 #[derive(Drop)]
 pub enum Before {
     /// The next filter, or the servlet, is called.
     Pass,
-    /// The same, and the request has this attribute from then on (Jakarta Servlet 6.0, section 3.3): for what stands behind the filter, for
+    /// The same, and the request has this attribute from then on (Jakarta Servlet 6.0, section 3.3): for what stands after the filter, for
     /// the dispatches inside it, and for each `after`.
     PassWith { name: Text, value: Text },
-    /// Nothing behind this filter is called; the reply stands.
+    /// Nothing after this filter is called; the reply stands.
     Stop,
     /// The error page of a status is sent, with a text for it.
     SendError { code: u16, text: Text },
@@ -46,7 +46,7 @@ pub trait Filter: Drop {
         ensures phase { filter_phase self.new ≡ phase_after_init result }
         ensures keeps { FilterKeeps (filtering self.new) };
 
-    /// Called before what stands behind it; after want of memory nothing is said of the edit and the reply.
+    /// Called before what stands after it; after want of memory nothing is said of the edit and the reply.
     fn before(
         &mut self,
         call: &Call<'_>,
@@ -58,7 +58,7 @@ pub trait Filter: Drop {
         ensures phase { filter_phase self.new ≡ Ready }
         ensures answer { IfOk result (λ before. verdict (lent edit.new reply.new) before ≡ (filtering self.old).before call.now (lent edit.old reply.old)) };
 
-    /// Called once what stands behind it is over, where its `before` passed.
+    /// Called once what stands after it is over, where its `before` passed.
     fn after(
         &mut self,
         call: &Call<'_>,
@@ -70,7 +70,7 @@ pub trait Filter: Drop {
         ensures phase { filter_phase self.new ≡ Ready }
         ensures answer { IfOk result (λ _. lent edit.new reply.new ≡ (filtering self.old).after call.now (lent edit.old reply.old)) };
 
-    /// Takes the filter out of service; called once, behind the last request.
+    /// Takes the filter out of service; called once, after the last request.
     fn destroy(&mut self)
         requires { filter_phase self.old ≡ Ready }
         ensures same { filtering self.new ≡ filtering self.old }

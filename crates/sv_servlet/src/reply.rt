@@ -211,7 +211,7 @@ impl Reply {
         Ok(())
     }
 
-    /// Adds a field behind those that there are, also those of its name (`addHeader`). Does nothing while held.
+    /// Adds a field after those that there are, also those of its name (`addHeader`). Does nothing while held.
     ///
     /// For a field that is defined as a list, and `set-cookie`: of any other one line is sent at most (RFC 9110, section 5.3).
     /// A reserved name is told before a 65th field.

@@ -89,7 +89,7 @@ pub trait Servlet: Drop {
         ensures phase { servlet_phase self.new ≡ Ready }
         ensures answer { IfOk result (λ next. answer (lent edit.new reply.new) next ≡ serves self.old call.now (lent edit.old reply.old)) };
 
-    /// Takes the servlet out of service; called once, behind the last request.
+    /// Takes the servlet out of service; called once, after the last request.
     fn destroy(&mut self)
         requires { servlet_phase self.old ≡ Ready }
         ensures same { serves self.new ≡ serves self.old }

@@ -13,7 +13,7 @@ use Rattle.sv_session.specs.Edit.{Edit, held_of, with_held, without_held, has_ma
 use Rattle.sv_session.specs.declared.fault.SessionFault.{SessionFault}
 use Rattle.sv_session.specs.declared.fault.SessionFault.TheVariants.{NoSession, BadName, ValueTooLong, SessionTooLarge, SecondCreation, Memory, SecretUsed}
 
--- what a call that changes an edit gives, and the edit behind it; or why it is refused
+-- what a call that changes an edit gives, and the edit after it; or why it is refused
 abbrev pub Expected : Type 0 → Type 0
 Expected A = Result (A × Edit) SessionFault
 
@@ -35,13 +35,13 @@ Gives expected result = MatchResult result (λ a. expected ≡ Ok a) (IsFaultOf 
 abbrev pub Tells : {A : Type 0} → Edit → Expected A → Type 0
 Tells old expected = IsOkAnd expected (λ r. length r.1.events ≡ length old.events + 1)
 
--- what a call that changes an edit answers and leaves: behind a fault the edit is as it was; Memory stands in place of
+-- what a call that changes an edit answers and leaves: after a fault the edit is as it was; Memory stands in place of
 -- what would be told
 abbrev pub Answers : {A : Type 0} → Edit → Expected A → Result A SessionFault → Edit → Type 0
 Answers old expected (Ok a) new = expected ≡ Ok (a, new)
 Answers old expected (Err fault) new = IsFaultOf expected (Tells old expected) fault × (new ≡ old)
 
--- the edit behind a call
+-- the edit after a call
 abbrev pub after : {A : Type 0} → Edit → Expected A → Edit
 after e (Ok r) = r.1
 after e (Err fault) = e

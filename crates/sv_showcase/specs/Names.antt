@@ -17,7 +17,7 @@ word_of name = before_first is_dash name
 abbrev pub servlets : List ℕ → Option Serves
 servlets name = option_map serving (work_named (word_of name))
 
--- a stamp's mark is what stands behind the `-` of its name
+-- a stamp's mark is what stands after the `-` of its name
 abbrev pub filters : List ℕ → Option Filters
 filters name =
     if bytes_eq (word_of name) (codes "stamp") then Some (surrounding (stamp (mark_of name)))

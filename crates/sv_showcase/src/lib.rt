@@ -2,7 +2,7 @@
 //! built in.
 //!
 //! Stands on the samples and on `sv_launch`. The part of a name before its first `-` says which sample it stands for; a filter `stamp`
-//! takes its mark from what is behind it.
+//! takes its mark from what is after it.
 #![tactic(auto)]
 
 mod names;

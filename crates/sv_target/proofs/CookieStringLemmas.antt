@@ -46,7 +46,7 @@ map_trim-onto_first (part ∷ parts) some = ap (λ text. text ∷ map trim parts
 map_trim-space : (text : List ℕ) → map trim (slice_split is_semicolon (32 ∷ text)) ≡ map trim (slice_split is_semicolon text)
 map_trim-space text = map_trim-onto_first (slice_split is_semicolon text) (omega (arith, length-slice_split is_semicolon text))
 
--- a pair is cut at the `=` behind its name
+-- a pair is cut at the `=` after its name
 position_or_len-name : (name value : List ℕ) → list_any is_equals name ≡ false → position_or_len is_equals (name ++ 61 ∷ value) ≡ length name
 position_or_len-name [] value none = refl
 position_or_len-name (b ∷ name) value none =

@@ -119,7 +119,7 @@ onto b rest (s ∷ ss) is =
     let tail : s ++ path_text ss ≡ rest = cc in
     ap (λ (t : List ℕ). 47 ∷ b ∷ t) tail
 
--- the parts behind a slash each are the text that was cut
+-- the parts after a slash each are the text that was cut
 joined : (rest : List ℕ) → path_text (slice_split is_slash rest) ≡ 47 ∷ rest
 joined [] = refl
 joined (b ∷ rest) =

@@ -15,7 +15,7 @@ is_equals b = b == 61
 unfoldable pub is_pair : List ℕ → Bool
 is_pair part = list_any is_equals part
 
--- its name stands before the first `=`, and all behind that is its value
+-- its name stands before the first `=`, and all after that is its value
 unfoldable pub pair_of : List ℕ → Cookie
 pair_of part = record { name = before_first is_equals part; value = after_first is_equals part }
 

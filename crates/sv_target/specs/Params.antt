@@ -28,7 +28,7 @@ params_of query form = params_in query ++ params_in form
 unfoldable pub is_content_type : Field → Bool
 is_content_type f = bytes_eq f.name (codes "content-type")
 
--- a field's value without the parameters behind its media type
+-- a field's value without the parameters after its media type
 abbrev pub media_type : List ℕ → List ℕ
 media_type value = before_first is_semicolon value
 

@@ -8,7 +8,7 @@ use Rattle.sv_target.specs.Segment.{cut, is_dots, is_good_segment}
 abbrev pub is_slash : ℕ → Bool
 is_slash b = b == 47
 
--- the segments of a path behind its first `/`, each cut at its first `;`
+-- the segments of a path after its first `/`, each cut at its first `;`
 unfoldable pub segments : List ℕ → List (List ℕ)
 segments rest = map cut (slice_split is_slash rest)
 
@@ -17,7 +17,7 @@ abbrev pub step_up : List (List ℕ) → Option (List (List ℕ))
 step_up [] = None
 step_up (s ∷ kept) = Some (take (length kept) (s ∷ kept))
 
--- behind these segments one more: `.` is dropped, `..` takes away the one before, any other stays, decoded
+-- after these segments one more: `.` is dropped, `..` takes away the one before, any other stays, decoded
 abbrev pub kept_with : List (List ℕ) → List ℕ → Option (List (List ℕ))
 kept_with kept s =
     if bytes_eq s (codes ".") then Some kept
@@ -32,7 +32,7 @@ step (Some kept) s = if is_good_segment s then kept_with kept s else None
 abbrev pub ends_in_dots : List (List ℕ) → Bool
 ends_in_dots ss = is_dots (slice_index_or ss (length ss - 1) [])
 
--- a last `.` or `..` leaves a final `/`: it is as if an empty segment stood behind it
+-- a last `.` or `..` leaves a final `/`: it is as if an empty segment stood after it
 abbrev pub closing : List (List ℕ) → List (List ℕ)
 closing ss = if ends_in_dots ss then ([] ∷ []) else []
 

@@ -24,12 +24,12 @@ unfoldable pub is_allowed_escape : ℕ → ℕ → Bool
 is_allowed_escape high low =
     is_digit high 16 && is_digit low 16 && not (is_forbidden (16 * digit_value high + digit_value low))
 
--- what stands behind a `%` begins with two such digits (pct-encoded = "%" HEXDIG HEXDIG)
+-- what stands after a `%` begins with two such digits (pct-encoded = "%" HEXDIG HEXDIG)
 abbrev pub begins_escape : List ℕ → Bool
 begins_escape text =
     nat_lt 1 (length text) && is_allowed_escape (slice_index text 0) (slice_index text 1)
 
--- each piece behind a `%` does
+-- each piece after a `%` does
 unfoldable pub are_escapes : List ℕ → Bool
 are_escapes behind = list_all begins_escape (slice_split is_percent behind)
 

@@ -47,7 +47,7 @@ IsBadTarget raw =
 abbrev pub has_query_bytes : Option (List ℕ) → Bool
 has_query_bytes query = option_map_or (λ q. list_all is_query_byte q) query true
 
--- the text begins with `/`, its bytes are those of a path up to the first `?` and those of a query behind it, and it has
+-- the text begins with `/`, its bytes are those of a path up to the first `?` and those of a query after it, and it has
 -- at most the 65,534 bytes that `http_uri` reads
 unfoldable pub is_origin_form : List ℕ → Bool
 is_origin_form text =

@@ -12,7 +12,7 @@ use crate::segment::{cut, decoded, is_dots};
 use std::alloc::{AllocError, Global};
 use std::borrow::CowStr;
 
-/// The parts of a path behind its first slash.
+/// The parts of a path after its first slash.
 fn split_path(alloc: Global, rest: &str) -> Result<Vec<&str>, AllocError>
     ensures { IfOk result (λ parts. map (λ part. part.now) parts.items
         ≡ slice_split spec.is_slash rest.now) }
@@ -75,7 +75,7 @@ fn ends_in_dots(parts: &[&str]) -> bool
     }
 }
 
-/// The segments of a path, with the one that stands behind a last `.` or `..`.
+/// The segments of a path, with the one that stands after a last `.` or `..`.
 fn resolve<'a>(alloc: Global, parts: &[&'a str]) -> Result<Vec<CowStr<'a, Global>>, TargetFault>
     ensures ok { IfOk result (λ kept. spec.resolved (map (λ part. cut_of part.now) parts.now)
         ≡ Some (map cow_str_bytes kept.items)) }
@@ -103,7 +103,7 @@ fn path_text(alloc: Global, kept: &[CowStr<'_, Global>]) -> Result<String, Alloc
     Ok(text)
 }
 
-/// The segments of a path behind its first slash.
+/// The segments of a path after its first slash.
 #[tactic(auto, unfolding(crate::specs::Path::segments))]
 fn kept_segments(alloc: Global, rest: &str) -> Result<Vec<CowStr<'_, Global>>, TargetFault>
     ensures ok { IfOk result (λ kept. spec.resolved (spec.segments rest.now)
@@ -142,7 +142,7 @@ fn is_plain_segment(segment: &[u8]) -> bool
     !begins_with_dot(segment) && has_plain_bytes(segment)
 }
 
-/// Whether each segment of a path behind its first slash stands for itself, as most do: the path is its own canonical one then.
+/// Whether each segment of a path after its first slash stands for itself, as most do: the path is its own canonical one then.
 pub(crate) fn is_plain(rest: &str) -> bool
     ensures { result ≡ list_all spec.is_plain_segment (slice_split spec.is_slash rest.now) }
 {

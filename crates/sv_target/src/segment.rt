@@ -43,7 +43,7 @@ fn begins_escape(text: &[u8]) -> bool
     text.len() > 1 && is_allowed_escape(text[0], text[1])
 }
 
-/// Whether each piece of what stands behind the first percent sign begins with two digits.
+/// Whether each piece of what stands after the first percent sign begins with two digits.
 #[tactic(auto, unfolding(crate::specs::Segment::are_escapes))]
 fn are_escapes(behind: &[u8]) -> bool
     ensures { result ≡ spec.are_escapes behind.now }

@@ -24,7 +24,7 @@ pub struct Target {
     pub raw_path: Text,
     /// The path without dot segments, decoded once; it begins with `/`.
     pub path: Text,
-    /// What stands behind the first `?`, as it was sent; empty where nothing does.
+    /// What stands after the first `?`, as it was sent; empty where nothing does.
     pub query: Option<Text>,
 }
 
@@ -182,7 +182,7 @@ impl Target {
     /// `CONNECT` is `Connect`, whatever its target. Served are origin-form and absolute-form with `http` or `https`
     /// (RFC 9112, sections 3.2.1 and 3.2.2); the host of an absolute target isn't looked at. `BadTarget` is any other
     /// form; a `#` or a backslash; a `..` above the root; a `%` without two hexadecimal digits; an escape of NUL, `/`
-    /// or a backslash; a segment that decodes to `.`, to `..` or to what is no UTF-8. What stands behind a `;` in a
+    /// or a backslash; a segment that decodes to `.`, to `..` or to what is no UTF-8. What stands after a `;` in a
     /// segment is cut off before the segment is looked at.
     pub fn read(alloc: Global, method: &Method, raw: &str) -> Result<Target, TargetFault>
         ensures ok { IfOk result (IsTarget raw.now) }
@@ -195,7 +195,7 @@ impl Target {
         read_target(alloc, raw)
     }
 
-    /// Reads a path within a context, with the query behind its first `?`, as a target in origin-form is read.
+    /// Reads a path within a context, with the query after its first `?`, as a target in origin-form is read.
     ///
     /// `BadTarget` is what doesn't begin with `/` and what `read` refuses; `Connect` isn't answered.
     pub fn read_within(alloc: Global, text: &str) -> Result<Target, TargetFault>

@@ -4,7 +4,7 @@
 //! installed (`deploy/install`): of which commit it was made, and whether it was proved. It has room for that, in blanks at its end.
 #![tactic(auto)]
 
-/// The version, a line feed, and how the program was made, with blanks behind.
+/// The version, a line feed, and how the program was made, with blanks after.
 const STAMP: &str =
     "0.10.0\nnot installed: `./run install` writes here which commit it was made of, and whether that was proved                    ";
 

@@ -12,11 +12,11 @@ is_close c = c == 125
 abbrev pub is_blank : ℕ → Bool
 is_blank c = c == 32
 
--- what stands behind the first brace that opens
+-- what stands after the first brace that opens
 abbrev pub opened : List ℕ → List ℕ
 opened line = after_first is_open line
 
--- what stands behind the first one after it that closes
+-- what stands after the first one after it that closes
 abbrev pub closed : List ℕ → List ℕ
 closed line = after_first is_close (opened line)
 
@@ -26,7 +26,7 @@ pub record StartsWithBlank (text : List ℕ) : Type 0 where
   pub at_once : before_first is_blank text ≡ []
 
 -- NAME{LABELS} VALUE: the name ends at the first brace that opens, the labels at the first one after it that closes, and a blank stands
--- right behind that, before the value
+-- right after that, before the value
 pub record IsFigure (line name labels value : List ℕ) : Type 0 where
   pub opens : position_or_len is_open line < length line
   pub named : name ≡ before_first is_open line

@@ -15,7 +15,7 @@ pub struct Figure<'a> {
     pub value: &'a str,
 }
 
-/// What stands behind the blank that a text begins with.
+/// What stands after the blank that a text begins with.
 fn behind_blank(text: &str) -> Option<&str>
     ensures some { IfSome result (λ rest. StartsWithBlank text.now × (rest.now ≡ after_first is_blank text.now)) }
     ensures each { StartsWithBlank text.now → IsSome result }

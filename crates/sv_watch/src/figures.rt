@@ -18,7 +18,7 @@ pub struct Figures {
     pub seconds: u64,
 }
 
-/// The number of the node whose figure it is, and the labels behind that.
+/// The number of the node whose figure it is, and the labels after that.
 fn node_of<'a>(labels: &'a str) -> Option<(u8, &'a str)> {
     let (number, rest) = labels.strip_prefix("node=\"")?.split_once('"')?;
     let node = number.parse::<u8>().ok()?;

@@ -14,7 +14,7 @@ pub fn whole_of(value: &str) -> Option<u64> {
     }
 }
 
-/// A time in seconds, with nine digits behind the point, in billionths of a second.
+/// A time in seconds, with nine digits after the point, in billionths of a second.
 pub fn nanoseconds_of(value: &str) -> Option<u64> {
     let (seconds, rest) = value.split_once('.')?;
     if rest.len() != 9 {

@@ -1,4 +1,4 @@
--- A part of the work, and nothing behind it but an answer.
+-- A part of the work, and nothing after it but an answer.
 use Rattle.std.proofs.Common.{◌≡◌, Option, Some, None, Ok, Err, sym}
 use Rattle.std.specs.Prelude.{IfSome}
 use Rattle.sv_servlet.specs.Servlet.{Lent, answer}

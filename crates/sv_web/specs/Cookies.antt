@@ -98,7 +98,7 @@ abbrev pub cookie_result : ReplyState → SentCookie → Result ReplyState Reply
 cookie_result r c =
     if is_cookie c then (if is_session_name c.name then Err Reserved else added_by (visible_value (cookie_text c)) r) else Err BadHeader
 
--- what is answered, and what is left: what is expected, or Memory, which may be refused for the text; behind a fault the reply is as it was
+-- what is answered, and what is left: what is expected, or Memory, which may be refused for the text; after a fault the reply is as it was
 abbrev pub SetsCookie : ReplyState → Result ReplyState ReplyFault → Result (Unit {0}) ReplyFault → ReplyState → Type 0
 SetsCookie old expected (Ok _) new = expected ≡ Ok new
 SetsCookie old expected (Err Memory) new = new ≡ old

@@ -7,11 +7,11 @@ use Rattle.memchr.specs.Find.{first_of, matches}
 abbrev pub place_of : List ℕ → List ℕ → Option ℕ
 place_of text sought = first_of (matches text sought 0)
 
--- what stands before a place, and what behind a text that stands there
+-- what stands before a place, and what after a text that stands there
 abbrev pub around : List ℕ → List ℕ → ℕ → List ℕ × List ℕ
 around text sought at = (take at text, drop (at + length sought) text)
 
--- what stands before the first place of a text, and what behind it
+-- what stands before the first place of a text, and what after it
 unfoldable pub cut : List ℕ → List ℕ → Option (List ℕ × List ℕ)
 cut text sought = option_map (around text sought) (place_of text sought)
 
@@ -22,7 +22,7 @@ lowered text = map to_ascii_lowercase text
 abbrev pub rest_at : List ℕ → List ℕ → ℕ → List ℕ
 rest_at text sought at = drop (at + length sought) text
 
--- what stands behind the first place of a text in lower case, whatever the case of letters
+-- what stands after the first place of a text in lower case, whatever the case of letters
 unfoldable pub behind : List ℕ → List ℕ → Option (List ℕ)
 behind text sought = option_map (rest_at text sought) (place_of (lowered text) sought)
 

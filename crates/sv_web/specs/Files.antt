@@ -61,7 +61,7 @@ behind_blanks (c ∷ cs) = if is_blank c then behind_blanks cs else c ∷ cs
 abbrev pub unmarked : List ℕ → List ℕ
 unmarked text = if begins_with text (codes "W/") then drop 2 text else text
 
--- it is the tag, and nothing but blanks behind it
+-- it is the tag, and nothing but blanks after it
 abbrev pub is_only : List ℕ → List ℕ → Bool
 is_only tag text = begins_with text tag && list_all is_blank (drop (length tag) text)
 

@@ -33,7 +33,7 @@ is_named head name = is_just name (disposed head (codes " name=\""))
 
 -- ---- the parts
 
--- a head, and behind an empty line the content
+-- a head, and after an empty line the content
 abbrev pub here_or : Bool → List ℕ × List ℕ → Option (List ℕ × List ℕ) → Option (List ℕ × List ℕ)
 here_or is p further = if is then Some p else further
 
@@ -41,7 +41,7 @@ abbrev pub named_or : Option (List ℕ × List ℕ) → List ℕ → Option (Lis
 named_or None name further = further
 named_or (Some p) name further = here_or (is_named p.0 name) p further
 
--- the first part of a name among the first n; the text stands behind a delimiter, and the last delimiter goes on with two dashes
+-- the first part of a name among the first n; the text stands after a delimiter, and the last delimiter goes on with two dashes
 unfoldable pub found : ℕ → List ℕ → List ℕ → List ℕ → Option (List ℕ × List ℕ)
 found zero text delimiter name = None
 found (suc n) text delimiter name =
@@ -54,7 +54,7 @@ found_by Over n delimiter name = None
 found_by (Here head content) n delimiter name = Some (head.now, content.now)
 found_by (Further text) n delimiter name = found n text.now delimiter name
 
--- behind the first delimiter, which may stand at the beginning without its line end
+-- after the first delimiter, which may stand at the beginning without its line end
 unfoldable pub first_behind : List ℕ → List ℕ → Option (List ℕ)
 first_behind body delimiter =
     if begins_with body (drop 2 delimiter) then Some (drop (length delimiter - 2) body) else option_map (λ p. p.1) (cut body delimiter)

@@ -8,7 +8,7 @@ use Rattle.sv_web.specs.Work.{Work}
 use Rattle.sv_web.specs.declared.page.Piece.{Piece}
 use Rattle.sv_web.specs.declared.page.Piece.TheVariants.{Markup, Shown, Number, Price}
 
--- the hundredths of an amount in cents, behind a point
+-- the hundredths of an amount in cents, after a point
 abbrev pub price_digits : ℕ → List ℕ
 price_digits cents = 46 ∷ (48 + cents / 10 % 10) ∷ (48 + cents % 10) ∷ []
 

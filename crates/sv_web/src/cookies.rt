@@ -219,7 +219,7 @@ fn add_cookie(reply: &mut Reply, value: HeaderValue) -> Result<(), ReplyFault>
     reply.add(Field { name, value })
 }
 
-/// Sets a cookie (`addCookie`): adds a field `set-cookie` behind those that there are.
+/// Sets a cookie (`addCookie`): adds a field `set-cookie` after those that there are.
 ///
 /// BadHeader where a part isn't as RFC 6265, section 4.1.1 has it; Reserved for `JSESSIONID`, by which the container names the session.
 /// Any other cookie is added as [`Reply::add`] adds a field: while the reply is held nothing is.

@@ -14,7 +14,7 @@ fn place_of(text: &[u8], sought: &[u8]) -> Option<usize>
     memmem::find(text, sought)
 }
 
-/// What stands before the first place of a text, and what behind it.
+/// What stands before the first place of a text, and what after it.
 #[tactic(auto, unfolding(crate::specs::Cutting::cut))]
 pub(crate) fn cut<'a>(text: &'a [u8], sought: &[u8]) -> Option<(&'a [u8], &'a [u8])>
     ensures { option_map (λ p. (p.0.now, p.1.now)) result ≡ spec.cut text.now sought.now }
@@ -36,7 +36,7 @@ pub(crate) fn lowered(alloc: Global, text: &[u8]) -> Result<Vec<u8>, AllocError>
     Ok(lower)
 }
 
-/// What stands behind the first place of a text in lower case, whatever the case of letters.
+/// What stands after the first place of a text in lower case, whatever the case of letters.
 #[tactic(auto, unfolding(crate::specs::Cutting::behind))]
 pub(crate) fn behind<'a>(
     alloc: Global,

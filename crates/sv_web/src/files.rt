@@ -27,7 +27,7 @@ use sv_servlet::{Next, Reply, ReplyFault};
 pub enum FileChoice {
     /// The first, whatever the path.
     First,
-    /// The one whose name the path info is, behind its `/`.
+    /// The one whose name the path info is, after its `/`.
     ByPathInfo,
 }
 

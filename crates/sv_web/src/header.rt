@@ -66,7 +66,7 @@ pub fn set_header(
     reply.set(header(name, value))
 }
 
-/// Adds a field of a name in lower case and a value of visible ASCII behind those that there are (`addHeader`); as [`Reply::add`] adds
+/// Adds a field of a name in lower case and a value of visible ASCII after those that there are (`addHeader`); as [`Reply::add`] adds
 /// it, and for the same fields.
 pub fn add_header(
     reply: &mut Reply,

@@ -69,7 +69,7 @@ enum Search<'a> {
     Over,
     /// A head, and the content.
     Here(&'a [u8], &'a [u8]),
-    /// The text behind the next delimiter.
+    /// The text after the next delimiter.
     Further(&'a [u8]),
 }
 
@@ -118,7 +118,7 @@ fn find<'a>(
     Ok(None)
 }
 
-/// What stands behind the first delimiter.
+/// What stands after the first delimiter.
 #[tactic(auto, unfolding(crate::specs::Multipart::first_behind))]
 fn first_behind<'a>(body: &'a [u8], delimiter: &[u8]) -> Option<&'a [u8]>
     requires { 2 ≤ length delimiter.now }

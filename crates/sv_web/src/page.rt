@@ -40,7 +40,7 @@ impl Model for Page {
     ghost view = { λ p. p.bytes.items };
 }
 
-/// The hundredths of an amount in cents, as two digits behind a point.
+/// The hundredths of an amount in cents, as two digits after a point.
 fn hundredths(cents: u64) -> [u8; 3]
     ensures { result ≡ price_digits cents }
 {
@@ -89,7 +89,7 @@ impl Page {
         self.bytes.as_slice()
     }
 
-    /// Adds pieces, one behind the other.
+    /// Adds pieces, one after the other.
     pub fn write(&mut self, pieces: &[Piece<'_>]) -> Result<(), AllocError>
         ensures { OnOk result (self.new ≡ self.old ++ flat_map piece_html pieces.now) }
     {

@@ -7,7 +7,7 @@ use std::alloc::{AllocError, Global};
 use sv_model::Text;
 use sv_servlet::Before;
 
-/// What a filter answers that passes, and has the request have an attribute for what stands behind it, which reads it by
+/// What a filter answers that passes, and has the request have an attribute for what stands after it, which reads it by
 /// `call.attributes.get(name)` (Jakarta Servlet 6.0, section 3.3).
 pub fn pass_with(alloc: Global, name: &str, value: &str) -> Result<Before, AllocError>
     ensures { IfOk result (λ before. before ≡ PassWith name.now value.now) }

@@ -87,7 +87,7 @@ fn send_by(web: &mut Exchange<'_>, value: HeaderValue) -> Result<Next, Refusal>
 }
 
 /// Sends a client on to a path of the context, where it asks by GET: the status 303 (RFC 9110, section 15.4.4), and as `location` the
-/// path behind that of the context.
+/// path after that of the context.
 ///
 /// What a client chooses is tested by [`is_own_path`] before, so that it leads nowhere else.
 #[tactic(auto, unfolding(crate::specs::Place::sent_to))]

@@ -1,4 +1,4 @@
--- A core over its records, before a task and behind it.
+-- A core over its records, before a task and after it.
 use Rattle.std.proofs.Common.{◌≡◌, ℕ, ◌++◌, Option, Some, None, Result, Ok, Err, OnOk, OnErr, List, [], ◌∷◌, refl, sym, ap, ◌∙◌, subst, append-nil}
 use Rattle.std.specs.Option.{option_to_list}
 use Rattle.sv_model.specs.declared.node.Setting.{Setting}
@@ -53,7 +53,7 @@ module _ {E : Type 0} (meaning : E → EngineMeaning) (heard : E → List (List 
         traced = ap traced_of gives;
       })
 
-  -- behind what was planned, or want of memory
+  -- after what was planned, or want of memory
   pub over_plan : {A B : Type 0} (r : Result A B) (first old new : Core E) (before now : List Record) (row : Decision) (p : Plan) → IsOver before first → view_of meaning heard old ≡ view_of meaning heard first → setting_of old ≡ setting_of first → IsPlan meaning old row p → setting_of new ≡ setting_of old → OnOk r (node_at new ≡ left (decision_at old p.decision)) → OnOk r (now ≡ before ++ option_to_list p.entry) → OnErr r (new ≡ old) → OnErr r (now ≡ before) → IsOver now new
   over_plan (Ok x) first old new before now row p over view set is set_is node more _ _ =
       over_more old new before now row.entry (over_same first old before before over set (ap (λ (v : View). v.node) view) refl) set_is

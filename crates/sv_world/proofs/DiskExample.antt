@@ -51,7 +51,7 @@ module _ (s : Session) (r : Request) (moment : Moment) where
   abbrev m : EngineMeaning
   m = echoes s
 
-  -- what the node keeps behind each call
+  -- what the node keeps after each call
   abbrev opened : Node
   opened = kept (restarted (setting_of two 0 1) blank)
 
@@ -131,7 +131,7 @@ module _ (s : Session) (r : Request) (moment : Moment) where
     (record { inside = omega arith; comes = ((tt, λ i. absurd i), ((tt, tt), tt)); does = (refl, refl) }, tt),
   )
 
-  -- the node keeps what it keeps behind the same steps one by one
+  -- the node keeps what it keeps after the same steps one by one
   same_kept : (kept (node_behind m (setting_of two 0 1) opened both).durable) ≡ handed_over
   same_kept = refl
 

@@ -316,7 +316,7 @@ module _ (m : Meanings) (touches : AllTouchOnlyHanded m) (c : Cluster) (w : Worl
         does m c w n call a (Torn n at i false) (deed means set at_node (task.Torn at i false)) own (λ _. tt) (torn_by_event false)
         (λ j. record { up = sym ends j; node = sym (node_in l) j }) (sym (puts_in l)) (sym asks) (sym shows)
 
-    -- the record that the decision may have, and what is kept behind it
+    -- the record that the decision may have, and what is kept after it
     torn_behind_by : (call : Call) → ((kept_too : Bool) → Own m c w n call a (Torn n at i kept_too ∷ [])) → runs_behind at_node.up call ≡ false → asked_at n at_node.node.durable call ≡ option_to_list (asked_with i) → shown_at n at_node.node.durable call a ≡ []
         → (entry : Option Record) → decision.entry ≡ entry → decision.durable ≡ applied_if entry at_node.node.durable → a ≡ quiet (kept decision.durable) → Simulated m c w n call a
     torn_behind_by call own ends asks shows None is gives l = torn_before call (own false) ends asks shows (l ∙ ap (λ d. quiet (kept d)) gives)
@@ -491,7 +491,7 @@ module _ (m : Meanings) (c : Cluster) (w : World) (n : ℕ) (inside : n < c.node
     open_before call own starts ends asks shows is silent =
         halted_by (TornRestart n false) false stopped call a (torn_restart_goes false down) own starts refl (λ j. record { up = sym ends j; node = sym is j }) silent asks shows
 
-    -- a stop behind its record
+    -- a stop after its record
     open_behind : (call : Call) → Own m c w n call a (TornRestart n true ∷ []) → Starts m c w n call a (Restart n) → runs_behind old_member.up call ≡ false → asked_at n old_member.node.durable call ≡ [] → shown_at n old_member.node.durable call a ≡ []
         → old_member.node.durable.boot ≢ last_number → a ≡ quiet (kept (restarted next_set old_member.node.durable)) → Simulated m c w n call a
     open_behind call own starts ends asks shows some l =

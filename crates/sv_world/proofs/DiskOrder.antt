@@ -130,7 +130,7 @@ module _ (m : EngineMeaning) (nodes : ℕ) (rules : Rules) (n : ℕ) (p : Member
   abbrev new_boot : ℕ
   new_boot = a.node.durable.boot
 
-  -- what is durable behind it
+  -- what is durable after it
   durable_is : (x : Node) → a ≡ quiet x → a.node.durable ≡ x.durable
   durable_is x is = ap (λ (b : After). b.node.durable) is
 
@@ -244,7 +244,7 @@ module _ (m : EngineMeaning) (nodes : ℕ) (rules : Rules) (n : ℕ) (p : Member
     abbrev Stays : Call → Type 0
     Stays call = IsFresh (asked ++ asked_at n p.node.durable call) n (member call) (numbers_behind call numbers)
 
-    -- behind a whole step
+    -- after a whole step
     pub step_fresh : (at : Moment) (i : Input) → Did (Step at i Done) → IsFresh asked n p numbers → (number : ℕ) → (¬ In number (with_number i numbers)) → times (tok n new_boot number) (asked ++ option_to_list (asked_by (tok n boot) i)) ≡ 0
     step_fresh at i d fresh number new =
         let same : new_boot ≡ boot = ap (λ (b : After). b.node.durable.boot) d.1 ∙ step_boot Stop at i in
@@ -286,7 +286,7 @@ module _ (m : EngineMeaning) (nodes : ℕ) (rules : Rules) (members : ℕ → Me
   abbrev more : List Token
   more = asked ++ asked_at n here.node.durable call
 
-  -- a fact of the node behind the call, and of each other node as it was, is one of all nodes
+  -- a fact of the node after the call, and of each other node as it was, is one of all nodes
   at_all : (P : ℕ → Member → List ℕ → Type 0) → P n behind (numbers_behind call (numbers n)) → ((x : ℕ) → x ≢ n → P x (members x) (numbers x))
       → (x : ℕ) → P x (set_member members n behind x) (cond (x == n) (numbers_behind call (numbers x)) (numbers x))
   at_all P mine others x = ⊎_elim

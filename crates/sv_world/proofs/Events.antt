@@ -1,4 +1,4 @@
--- What an event does, one case at a time: a fact that holds behind each of these holds behind every event.
+-- What an event does, one case at a time: a fact that holds after each of these holds after every event.
 use Rattle.std.proofs.Common.{◌≡◌, ◌<◌, ℕ, ◌+◌, ◌&&◌, Bool, true, cond, Option, Some, None, List, [], ◌∷◌, ◌++◌, refl}
 use Rattle.std.specs.Prelude.{not, is_some}
 use Rattle.std.proofs.lemmas.Bool.{cond_both, and_parts, ltb-true}
@@ -62,7 +62,7 @@ pub record MayStart (c : Cluster) (w : World) (e : WorldEvent) (n : ℕ) : Type 
   pub of : start_in e ≡ Some n
   pub inside : n < c.nodes n ((durable_at w n).boot + 1)
 
--- behind an event of this world
+-- after an event of this world
 pub record Behind (m : Meanings) (c : Cluster) (w : World) (e : WorldEvent) (P : World → Type 0) : Type 0 where
   pub still : P w
   pub whole_by : (call : Call) → call_of w.packets e ≡ Some call → IsReady c w call → P (whole c w e call (decision m c w call))
@@ -114,7 +114,7 @@ module _ (m : Meanings) (c : Cluster) (w : World) (P : World → Type 0) where
   behind (Restart n) h = start (Restart n) n true started refl (λ d. refl) (λ d. refl) h
   behind (TornRestart n kept) h = start (TornRestart n kept) n kept stopped refl (λ d. refl) (λ d. refl) h
 
--- a fact that every event keeps, beside another, holds behind every list of events
+-- a fact that every event keeps, beside another, holds after every list of events
 pub behind_all : (m : Meanings) (c : Cluster) (P Q : World → Type 0) → ((w : World) (e : WorldEvent) → P w → P (happens m c w e)) → ((w : World) (e : WorldEvent) → P w → Q w → Q (happens m c w e))
     → (w : World) (es : List WorldEvent) → P w → Q w → Q (run m c w es)
 behind_all m c P Q p q w [] a b = b

@@ -38,7 +38,7 @@ module _ (response : Response) (s : Session) (r : Request) (moment : Moment) whe
   records : records_at 0 asked.trace ≡ Boot 1 ∷ CommitRecord Unchanged (ChangeAlive (record { home = 0; serial = 1 }) s) ∷ []
   records = rw (len-empty key_cmp KeyState) refl
 
-  -- the session goes to the other node, cut behind its record; then it is sent there again
+  -- the session goes to the other node, cut after its record; then it is sent there again
   abbrev moved : World
   moved = run (always (makes response s)) two nothing_happened (Restart 0 ∷ Restart 1 ∷ Ask 0 moment 7 r ∷ Torn 0 moment (input.Move (record { home = 0; serial = 1 }) 1) true ∷ [])
 

@@ -1,4 +1,4 @@
--- A stopped node gets something else, before it and behind it.
+-- A stopped node gets something else, before it and after it.
 use Rattle.std.proofs.Common.{◌≡◌, ◌≢◌, ℕ, ◌+◌, ◌<◌, ◌≤◌, ◌==◌, ◌&&◌, Bool, true, false, cond, get_or, Option, Some, None, List, length, arith, refl, sym, ap, ◌∙◌, subst, ⊎_elim, eq-eqb}
 use Rattle.std.specs.Prelude.{IfSome, slice_get, nat_lt, is_some, is_none, Result, Ok, Err, OnOk, OnErr, IfErr}
 use Rattle.std.proofs.lemmas.Bool.{and_parts, cond_both, cases_eq, cases_lt, eqb-true, ne_eqb, lt-ltb, le-ltb, lt-leb, le-leb}
@@ -65,7 +65,7 @@ module _ {E : Type 0} where
       (λ (past : (length slots ≤ n) × (slice_get slots n ≡ None)). absurd (let no : Some NoNode ≡ None = sym (ap (fault_by n nodes) past.1) ∙ h in cc))
       (slice_get_cases slots n).1
 
--- ---- the plan behind a start
+-- ---- the plan after a start
 
 by_number : {A : Type 0} (P : A → Type 0) (x n : ℕ) (a b : A) → (x ≡ n → P a) → (x ≢ n → P b) → P (cond (x == n) a b)
 by_number P x n a b here there = ⊎_elim

@@ -118,7 +118,7 @@ module _ (m : EngineMeaning) (set : Setting) (ms : ℕ → EngineMeaning) (sets 
     does_by (Compact Cut) d = d
     does_by Stop d = d
 
-    -- whoever runs behind it is of a start of the process
+    -- whoever runs after it is of a start of the process
     lives_on : (call : Call) → Does m set up n call a → runs_behind up call ≡ true → low < a.node.durable.boot
     lives_on (Open Done) d is = omega (arith, least, next m set up n a d.2)
     lives_on (Open (Refused fault)) d is = absurd (let no : false ≡ true = is in cc)

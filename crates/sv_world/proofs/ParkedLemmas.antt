@@ -115,7 +115,7 @@ module _ (m : Meanings) (touches : AllTouchOnlyHanded m) (c : Cluster) where
   WaitsOn n p w [] = In p (w.members n).node.parked
   WaitsOn n p w (e ∷ es) = In p (w.members n).node.parked × WaitsOn n p (happens m c w e) es
 
-  -- who waits behind a step waited before it, or has the next want
+  -- who waits after a step waited before it, or has the next want
   waited : (w : World) (e : WorldEvent) → IsStep e → (n : ℕ) (p : Parked) → In p ((happens m c w e).members n).node.parked → In p (w.members n).node.parked ⊎ (p.want ≡ (w.members n).node.next_want)
   waited w e s n p = stepping m c (λ v. In p (v.members n).node.parked → In p (w.members n).node.parked ⊎ (p.want ≡ (w.members n).node.next_want)) w e s (λ i. inl i) (λ call is r.
       let x = call.node in

@@ -134,7 +134,7 @@ module _ (m m' : Meanings) (c c' : Cluster) where
       let same = upto (d.boot + 1) (omega (arith, more)) in
       ap (λ s. booted s (heading_at s d None) d member) same.setting)
 
-  -- a task, where they say the same of all starts that were made behind it
+  -- a task, where they say the same of all starts that were made after it
   task_same : (w : World) (n : ℕ) (t : Task) → ((boot : ℕ) → boot ≤ (task_done w n t).member.node.durable.boot → Same m m' c c' n boot) → (durable_at w n).boot ≤ (task_done w n t).member.node.durable.boot → task_done w n t ≡ task_done' w n t
   task_same w n (task.Step moment input) upto le = by_start w n (task.Step moment input) (upto (durable_at w n).boot le)
   task_same w n (task.Torn moment input kept) upto le = by_start w n (task.Torn moment input kept) (upto (durable_at w n).boot le)

@@ -72,7 +72,7 @@ module _ (m : Meanings) (c : Cluster) where
       (λ t here. omega (arith, h.count t, ap (λ b. waiting t n b d.parked) h.boot, times_one t (token_of_call c w call)))
       (λ t ne. outside w call t ne) _
 
-  -- what holds of a world and behind each whole step holds behind a step of one that may be none
+  -- what holds of a world and after each whole step holds after a step of one that may be none
   by_call : (P : World → Type 0) (w : World) (e : WorldEvent) (o : Option Call) → call_of w.packets e ≡ o → P w → ((call : Call) → call_of w.packets e ≡ Some call → IsReady c w call → P (whole c w e call (decision m c w call))) → P (steps m c w e o)
   by_call P w e None is h f = h
   by_call P w e (Some call) is h f = cond_both (is_ready c w call) (whole c w e call (decision m c w call)) w P (λ t. f call is (readies c w call t)) (λ _. h)
@@ -127,7 +127,7 @@ stepped_by m c w e call ready = cond-true (is_ready c w call) (whole c w e call 
 pub boot_kept : (m : Meanings) (c : Cluster) (w : World) (call : Call) → (decision m c w call).durable.boot ≡ (durable_at w call.node).boot
 boot_kept m c w call = (thrifty_at m c w call).boot
 
--- behind a tick none is late
+-- after a tick none is late
 pub none_late : (m : Meanings) (c : Cluster) (w : World) (n : ℕ) (moment : Moment) → Runs c w n → (p : Parked) → In p ((happens m c w (Tick n moment)).members n).node.parked
     → is_late (setting_at c (happens m c w (Tick n moment)) n) moment.steady p ≡ false
 none_late m c w n moment r =

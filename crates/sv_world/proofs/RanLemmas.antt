@@ -1,4 +1,4 @@
--- What has happened in a world in code, one behind the other, and the theorem of it.
+-- What has happened in a world in code, one after the other, and the theorem of it.
 use Rattle.std.proofs.Common.{◌≡◌, ℕ, ◌+◌, ◌<◌, ◌≤◌, Option, Some, None, List, [], ◌∷◌, ◌++◌, map, take, length, arith, refl, sym, ap, ◌∙◌, subst, ⊎_elim, append-nil, append_assoc}
 use Rattle.std.specs.Prelude.{slice_get, Result, Ok, Err, IfErr, OnOk}
 use Rattle.std.specs.Option.{option_map}

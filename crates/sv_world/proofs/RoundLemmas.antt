@@ -149,7 +149,7 @@ module _ (m : Meanings) (touches : AllTouchOnlyHanded m) (c : Cluster) where
     left_along (x ∷ es) w steps inv h = left_along es (happens m c w x) steps.1 (happens_keeps m touches c w x inv) (left_step w x steps.0 inv h)
 
     module _ (nodes : ℕ) (inside : n < nodes) (there : to < nodes) where
-      -- behind the ticks its sender is done, or its Grant is among what was sent in them
+      -- after the ticks its sender is done, or its Grant is among what was sent in them
       ticks_send : (since : ℕ) (moment : Moment) (es : List WorldEvent) (w : World) → AreSteps es → AllRun c nodes w → Inv m c w → IsLeft w → since ≤ length w.packets
           → In (Tick n moment) es → IsDone (run m c w es) k n e to ⊎ HasPlace (Grant n to k e s) since (run m c w es).packets
       ticks_send since moment [] w steps all inv h le i = absurd i
@@ -204,7 +204,7 @@ module _ (m : Meanings) (touches : AllTouchOnlyHanded m) (c : Cluster) where
         pub ack : HasPlace (Ack to n k e) since w.packets
         pub grant : In (Grant n to k e s) w.packets
 
-      -- behind a round its sender is done, or it was acknowledged since the ticks
+      -- after a round its sender is done, or it was acknowledged since the ticks
       pub round_acks : (since : ℕ) (w : World) (a : Round) → Inv m c w → AllRun c nodes w → IsLeft w → since ≤ length w.packets → IsRound m c nodes since w a → HasRoom m c to k (ticked m c w a) a.rest
           → IsDone (behind m c w a) k n e to ⊎ IsAcked (length (ticked m c w a).packets) (behind m c w a)
       round_acks since w a inv all h le r room =

@@ -1,4 +1,4 @@
--- Behind a round nobody waits any more where a session has come that was on its way, unless it was handed on.
+-- After a round nobody waits any more where a session has come that was on its way, unless it was handed on.
 use Rattle.std.proofs.Common.{◌≡◌, ◌⊎◌, ℕ, ◌<◌, ◌≤◌, true, List, [], ◌∷◌, arith, sym, ap, ◌∙◌, inl, inr, ⊎_elim}
 use Rattle.std.proofs.lemmas.Bool.{true≢false, cases_lt}
 use Rattle.sv_model.specs.declared.key.Key.{Key}

@@ -1,4 +1,4 @@
--- A node in code, before a task and behind it.
+-- A node in code, before a task and after it.
 use Rattle.std.proofs.Common.{◌≡◌, ◌++◌, ℕ, ◌&&◌, true, false, cond, Bool, Option, Some, None, Result, Ok, Err, IfOk, OnOk, List, refl, sym, ap, ◌∙◌, subst}
 use Rattle.std.specs.Option.{option_map, option_to_list}
 use Rattle.std.specs.Prelude.{IfSome, is_some, is_none}

@@ -1,4 +1,4 @@
--- Each step of a node keeps the invariant: behind its record, and when its packets have left.
+-- Each step of a node keeps the invariant: after its record, and when its packets have left.
 use Rattle.std.proofs.Common.{◌≡◌, ◌≢◌, ◌⊎◌, ℕ, ◌+◌, ◌<◌, ◌≤◌, ◌==◌, ◌&&◌, Bool, true, false, cond, Option, Some, None, List, [], ◌∷◌, ◌++◌, arith, refl, sym, ap, ◌∙◌, subst, inl, inr, ⊎_elim, eq-eqb}
 use Rattle.std.specs.Prelude.{nat_le, nat_lt, not, ◌||◌, is_some, length}
 use Rattle.std.specs.Option.{option_map}
@@ -195,7 +195,7 @@ noted_applies (Some named) k FateEnded BirthEnded d = refl
 abbrev next_at : ℕ → Durable → Key
 next_at n d = record { home = n; serial = d.next }
 
--- what is durable behind a birth
+-- what is durable after a birth
 abbrev with_birth : Durable → Key → Birth → Durable
 with_birth d k b = record d { keys = born_keys d.home k b d.keys; next = next_with b d.next }
 
@@ -754,7 +754,7 @@ module _ (m : Meanings) (touches : AllTouchOnlyHanded m) (c : Cluster) (disks : 
   move_sound k to (Some (Gone e)) is = idle_sound _ tt refl
   move_sound k to (Some (Ended e)) is = idle_sound _ tt refl
 
-  -- what a tick puts out may leave, whatever is durable behind it
+  -- what a tick puts out may leave, whatever is durable after it
   tick_plain : (steady : ℕ) (d : Durable) (new : ℕ → Durable) → new n ≡ d → IsPlain (keys_of new) ps (λ number. token_of (setting_of c n node.durable.boot) node.durable number)
       (deadlines (setting_of c n node.durable.boot) steady node.parked ++ wants_again (setting_of c n node.durable.boot) node.durable (filter (λ p. not (is_late (setting_of c n node.durable.boot) steady p)) node.parked) ++ filter_map (grant_again (setting_of c n node.durable.boot)) (entries d.keys))
   tick_plain steady d new is =

@@ -87,7 +87,7 @@ module _ (m : Meanings) (touches : AllTouchOnlyHanded m) (c : Cluster) (nodes n 
       (λ (y : Else w es). inr y)
       (due_stays g.epoch es w steps b g.due)
 
-  -- behind a step that gave it away
+  -- after a step that gave it away
   after_gave : (x : ℕ) (e : WorldEvent) (es : List WorldEvent) (w : World) → AreSteps (e ∷ es) → Both m touches c w → AllRun c nodes w → Gave c k x w (happens m c w e) (states (happens m c w e) k x)
       → Coming (run m c w (e ∷ es)) ⊎ Else w (e ∷ es)
   after_gave x e es w steps b all g =
@@ -143,7 +143,7 @@ module _ (m : Meanings) (touches : AllTouchOnlyHanded m) (c : Cluster) (nodes n 
   not_late : (w : World) (moment : Moment) → Runs c w n → In p ((happens m c w (Tick n moment)).members n).node.parked → is_late (setting_at c w n) moment.steady p ≡ false
   not_late w moment r i = ap (λ b. is_late (setting_of c n b) moment.steady p) (sym (boots_stay m c w (Tick n moment) tt n)) ∙ none_late m c w n moment r p i
 
-  -- behind the ticks it has asked the node that can answer
+  -- after the ticks it has asked the node that can answer
   tick_asks : (x since boot : ℕ) (moment : Moment) → x < nodes → x ≢ n → (es : List WorldEvent) (w : World) → AreSteps es → Both m touches c w → AllRun c nodes w → (durable_at w n).boot ≡ boot
       → Answers k x (states w k x) → WaitsOn m touches c n p w es → HasRoom m c n k w es → since ≤ length w.packets → In (Tick n moment) es
       → (Answers k x (states (run m c w es) k x) × HasPlace (Want n x k boot p.want) since (run m c w es).packets) ⊎ (Coming (run m c w es) ⊎ Else w es)

@@ -20,7 +20,7 @@ use Rattle.sv_world.proofs.Arrivals.{times_more}
 use Rattle.sv_world.proofs.Events.{behind, behind_all}
 use Rattle.sv_world.proofs.Runs.{Inv, SoundAt, sound_at, happens_keeps}
 
--- the store behind a trace
+-- the store after a trace
 stores : Meanings → Store → List Line → Store
 stores m st [] = st
 stores m st (l ∷ ls) = stores m (store_with m st l.commit) ls

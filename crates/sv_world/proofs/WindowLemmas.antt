@@ -64,7 +64,7 @@ module _ (m : Meanings) (touches : AllTouchOnlyHanded m) (c : Cluster) (nodes n 
   both_rounds [] w b = b
   both_rounds (a ∷ rs) w b = both_rounds rs (behind m c w a) (run_both m touches c (ticked m c w a) a.rest (run_both m touches c w a.ticks b))
 
-  -- behind these rounds it waits, or it does not
+  -- after these rounds it waits, or it does not
   waits_or_not : (p : Parked) (rs : List Round) (since : ℕ) (w : World) → Both m touches c w → AreRounds m c nodes since w rs → In p (w.members n).node.parked
       → In p ((behind_all m c w rs).members n).node.parked ⊎ (In p ((behind_all m c w rs).members n).node.parked → ⊥)
   waits_or_not p rs since w b fair i =

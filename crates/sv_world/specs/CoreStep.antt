@@ -75,7 +75,7 @@ rest_of kept d =
 abbrev pub start_entry : Setting → Durable → Option Record
 start_entry set d = cond (not (d.boot == last_number)) (Some (boot_record set d)) None
 
--- a node behind the record of its start
+-- a node after the record of its start
 abbrev pub begun : Option Record → Node → Node
 begun entry n = record { durable = applied_if entry n.durable; parked = n.parked; next_want = n.next_want }
 
@@ -87,7 +87,7 @@ boot_plan_of d = record { decision = d; kept = entry_in d; entry = entry_in d }
 abbrev pub halted_with : Heading → Durable → Rest → Done
 halted_with h d r = record { member = stopped (applied_if r.kept d); effect = quiet_at h r.entry r.commit }
 
--- the record that may be there fits behind these
+-- the record that may be there fits after these
 abbrev pub MayFollow : Setting → Durable → Option Record → Type 0
 MayFollow set d o = (stage : Stage) → IfSome o (λ r. Fits set stage d r)
 

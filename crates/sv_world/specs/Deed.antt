@@ -56,7 +56,7 @@ line_of e f =
 
 -- ---- what a task does
 
--- the member behind it, and what has been done
+-- the member after it, and what has been done
 pub record Done : Type 0 where
   pub member : Member
   pub effect : Effect

@@ -1,8 +1,8 @@
 -- All nodes over their disks, call by call: what a list of calls of running nodes makes of them, and that it is a world.
 --
 -- A call is what sv_node's `Call.antt` says of it, and no disk stands here: what a stop leaves of one is the state before a
--- call or the state behind it. So this file says of a whole cluster what can be said of it from outside: which calls came
--- at which node, what was kept behind each, what was put out, and what listeners were told.
+-- call or the state after it. So this file says of a whole cluster what can be said of it from outside: which calls came
+-- at which node, what was kept after each, what was put out, and what listeners were told.
 use Rattle.std.specs.Prelude.{◌≡◌, ◌<◌, ◌==◌, ℕ, Bool, true, false, cond, Some, List, [], ◌∷◌, ◌++◌, map, slice_get, ⊤}
 use Rattle.std.specs.List.{flat_map}
 use Rattle.sv_journal.specs.declared.journal_fault.JournalFault.TheVariants as journal
@@ -32,7 +32,7 @@ use Rattle.sv_world.specs.Journals.{AreWithin, HaveFitted}
 use Rattle.sv_world.specs.Rolling.{IsTurn}
 use Rattle.sv_world.specs.Starts.{number_of}
 
--- a call at a node, and what there is behind it
+-- a call at a node, and what there is after it
 pub record NodeCall : Type 0 where
   pub node : ℕ
   pub call : Call
@@ -81,7 +81,7 @@ with_number input.Poke numbers = numbers
 with_number input.Tick numbers = numbers
 with_number (input.Move k to) numbers = numbers
 
--- the same of several steps, one behind the other
+-- the same of several steps, one after the other
 abbrev pub AllMayCome : List Packet → List ℕ → List Given → Type 0
 AllMayCome packets numbers [] = ⊤
 AllMayCome packets numbers (g ∷ gs) = (WasSent packets g.input × IsNew numbers g.input) × AllMayCome packets (with_number g.input numbers) gs
@@ -215,7 +215,7 @@ AreOfCall packets up n Stop events = AreOfStop up n events
 abbrev pub AreEventsOf : Seen → NodeCall → List WorldEvent → Type 0
 AreEventsOf s l events = AreOfCall s.packets (s.members l.node).up l.node l.call events
 
--- the events of the calls, one call behind the other
+-- the events of the calls, one call after the other
 abbrev pub AreOfAll : Seen → List NodeCall → List WorldEvent → Type 0
 AreOfAll s [] events = events ≡ []
 AreOfAll s (l ∷ ls) events =

@@ -8,14 +8,14 @@
 --     sv_model  `Replay`, `Opening`, `Outputs`, `Membership`   what a record makes of what a node keeps, and what steps put out
 --     here      `Rules`, `Sent`, `World`                   all nodes, all packets ever sent, and the ten events with what they do
 -- Each start of a node has an application, rules and a number of nodes of its own, told by a plan (`Meanings`, `Cluster`). Then, of
--- every list of events from a world in which nothing has happened, `IsHeadline` below says six things of the world behind them,
+-- every list of events from a world in which nothing has happened, `IsHeadline` below says six things of the world after them,
 -- as long as each node that runs was told of each node whose sessions live (`AlwaysKnows`):
 --     1  `AtMostOne`       a session lives at one node at most
 --     2  `Agree`           nodes that open the same epoch of a session open it with the same session
 --     3  `IsOneContainer`  the commits of all nodes are a run of one container, whose map is what lives
 --     4  `IsAcknowledged`  each answer is that container's reply to its own request, and no request is served twice
 --     5  `IsTold`          listeners are told the events of that run, in its order
---     6  `IsReplay`        what is durable at a node is what its journal's records give, one behind the other
+--     6  `IsReplay`        what is durable at a node is what its journal's records give, one after the other
 -- `IsFaulty` in `Faults.antt` says which events can't happen, and that these change nothing. `HaveFitted` in `Journals.antt` says
 -- what an opening may rely on. `IsProgress` in `Progress.antt` says what may be relied on while nodes run and packets get through. `Life`, `Sane` and `Waits` are the invariant by which it is proved; nobody has to believe them.
 --
@@ -91,7 +91,7 @@ Agree w = (k : Key) (e : ℕ) (s u : Session) → IsOpening w k e s → IsOpenin
 -- ---- 3. one container, in one order
 
 -- the commits are a run of the container; a request that was served without the session that it names has its excuse, a place
--- in the order since it came at which the container had no such session; and the container's map behind all commits is just
+-- in the order since it came at which the container had no such session; and the container's map after all commits is just
 -- what lives at the nodes
 pub record IsOneContainer (m : Meanings) (w : World) : Type 0 where
   pub lawful : AreLawful m nothing_stored (commits_in w)
@@ -183,7 +183,7 @@ pub record IsUnheard (l : Line) : Type 0 where
   pub events : l.events ≡ []
   pub mark : l.mark ≡ None
 
--- a whole step tells the events of its commit, and behind them that a session has come or gone, where its record says so
+-- a whole step tells the events of its commit, and after them that a session has come or gone, where its record says so
 pub record IsHeard (m : Meanings) (store : Store) (l : Line) : Type 0 where
   pub events : l.events ≡ events_with m store l.commit
   pub mark : l.mark ≡ mark_of l.entry
@@ -203,7 +203,7 @@ pub record IsTold (m : Meanings) (w : World) : Type 0 where
 
 -- ---- 6. journals
 
--- what is durable at a node is its records, one behind the other
+-- what is durable at a node is its records, one after the other
 abbrev pub IsReplay : World → Type 0
 IsReplay w = (n : ℕ) → durable_at w n ≡ replayed blank (records_at n w.trace)
 

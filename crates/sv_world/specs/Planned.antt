@@ -20,7 +20,7 @@ since_at p = cond p.up p.node.durable.boot (p.node.durable.boot + 1)
 abbrev pub since : World → ℕ → ℕ
 since w n = since_at (w.members n)
 
--- a plan says what each start of a node is started with; that of the start of which a node is now, and of all behind it, is what
+-- a plan says what each start of a node is started with; that of the start of which a node is now, and of all after it, is what
 -- the node has. Each start is told of its own node, and no other node is there
 pub record IsPlanned {E : Type 0} (meaning : E → EngineMeaning) (m : Meanings) (c : Cluster) (w : Nodes E) : Type 0 where
   pub inside : (n boot : ℕ) → n < size_of w → n < c.nodes n boot
@@ -37,7 +37,7 @@ pub record Ran {E : Type 0} (meaning : E → EngineMeaning) (m : Meanings) (c : 
 
 -- ---- another application, other rules or another number of nodes
 
--- something else for the starts of a node behind one of them
+-- something else for the starts of a node after one of them
 abbrev pub changed_behind : {A : Type 0} → ℕ → ℕ → A → (ℕ → ℕ → A) → ℕ → ℕ → A
 changed_behind n last x plan y boot = cond (y == n && nat_lt last boot) x (plan y boot)
 

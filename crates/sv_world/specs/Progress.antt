@@ -1,7 +1,7 @@
 -- What may be relied on while nodes run and packets get through: nobody is forgotten, and nobody waits for longer than the deadline; a
 -- session that was sent off arrives; and a request that waits is served, unless its session goes to others again and again.
 --
--- No statement speaks of all time. Each says of a list of events what holds behind it. In a round each node has a tick, and then all
+-- No statement speaks of all time. Each says of a list of events what holds after it. In a round each node has a tick, and then all
 -- packets come that were sent since the ticks of the round before, each at least once; and at its end nobody waits for a session that is
 -- at hand. What else may happen in it is anything but a stop and a start: old packets, new requests, moves, in any order.
 --
@@ -129,7 +129,7 @@ pub record IsRound (m : Meanings) (c : Cluster) (nodes since : ℕ) (w : World) 
   pub come : AllCome since (length (ticked m c w r).packets) r.rest
   pub settled : IsSettled nodes (behind m c w r)
 
--- so many fair rounds, one behind the other
+-- so many fair rounds, one after the other
 abbrev pub AreRounds : Meanings → Cluster → ℕ → ℕ → World → List Round → Type 0
 AreRounds m c nodes since w [] = ⊤
 AreRounds m c nodes since w (r ∷ rs) = IsRound m c nodes since w r × AreRounds m c nodes (length (ticked m c w r).packets) (behind m c w r) rs
@@ -212,7 +212,7 @@ ArrivesInARound m c w =
     (nodes n e : ℕ) (k : Key) (s : Session) (to : ℕ) (a : Round) → n < nodes → to < nodes → IsOff w k n e s to
     → AreFair m c nodes w (a ∷ []) → HasRoomIn m c to k w (a ∷ []) → HasArrived (behind m c w a) k e to
 
--- so nobody waits for it any more behind that round where it went to, unless it was handed on from there meanwhile
+-- so nobody waits for it any more after that round where it went to, unless it was handed on from there meanwhile
 abbrev pub ServedInARound : Meanings → Cluster → World → Type 0
 ServedInARound m c w =
     (nodes n e : ℕ) (k : Key) (s : Session) (to : ℕ) (a : Round) → n < nodes → to < nodes → IsOnItsWay w k n e s to
@@ -354,7 +354,7 @@ abbrev pub ticks_in : ℕ → ℕ → List WorldEvent → ℕ
 ticks_in n now [] = 0
 ticks_in n now (e ∷ es) = cond (is_tick n now e) 1 0 + ticks_in n now es
 
--- these are at least all that have expired at the node; behind as many ticks none is active there that has
+-- these are at least all that have expired at the node; after as many ticks none is active there that has
 abbrev pub TicksEndSessions : Meanings → Cluster → World → Type 0
 TicksEndSessions m c w =
     (n now : ℕ) (keys : List Key) (events : List WorldEvent) → Runs c w n → AreSteps events → NoneExpires m c n now w events

@@ -4,7 +4,7 @@
 -- stop leaves of a step, what a step does of which nothing leaves its node, what a start does, and that a packet is one that
 -- was sent. Each clause is a sentence or two:
 --     a whole step     its record is durable, listeners are told, its packets are sent        `whole`
---     a torn step      cut behind its record, or before it; the node stops                    `torn`, `halt`
+--     a torn step      cut after its record, or before it; the node stops                    `torn`, `halt`
 --     a silent step    its record is durable, nobody is told, nothing is sent; it runs on     `silent`
 --     a stop           what isn't durable is gone                                             `halt`
 --     a start          one record, under the next boot number                                 `boots`
@@ -255,7 +255,7 @@ tears m c w e kept (Some call) =
     let d = decision m c w call in
     cond (is_ready c w call) (cond (kept && is_some d.entry) (torn c w e call d) (halt w e call.node (token_of_call c w call))) w
 
--- a silent step; the node runs on. So several steps that are made durable at once, behind which a
+-- a silent step; the node runs on. So several steps that are made durable at once, after which a
 -- stop falls before anything of them has left, are as many silent steps and a stop.
 abbrev pub silences : Meanings → Cluster → World → WorldEvent → Option Call → World
 silences m c w e None = w
@@ -280,7 +280,7 @@ happens m c w (Crash n) = cond (is_there c n (durable_at w n).boot && (w.members
 happens m c w (Restart n) = starts c w (Restart n) n true started
 happens m c w (TornRestart n kept) = starts c w (TornRestart n kept) n kept stopped
 
--- all of them, one behind the other
+-- all of them, one after the other
 abbrev pub run : Meanings → Cluster → World → List WorldEvent → World
 run m c w [] = w
 run m c w (e ∷ es) = run m c (happens m c w e) es

@@ -53,7 +53,7 @@ fn engine_of<E: Engine + Drop>(slot: Slot<E>) -> Option<E>
     }
 }
 
-/// Moves the engine of each node behind the others.
+/// Moves the engine of each node after the others.
 pub fn take_engines<E: Engine + Drop>(slots: &mut Vec<Slot<E>>, engines: &mut Vec<E>)
     requires all { All (λ s. is_some (engine_in s) ≡ true) slots.old.items }
     requires empty { engines.old.items ≡ [] }

@@ -57,7 +57,7 @@ impl<E: Engine + Drop> World<E> {
     /// What an event does, or the first reason why it can't happen; then all is as it was.
     ///
     /// Where the world is what its events make, by a plan of what each start is started with, of one in which nothing had
-    /// happened, it is so behind this event too, and the theorem of `Headline.antt` and what `Progress.antt` promises hold of
+    /// happened, it is so after this event too, and the theorem of `Headline.antt` and what `Progress.antt` promises hold of
     /// it: the theorem as long as each node that ran was told of each node whose sessions lived, as it is where all starts have
     /// the same.
     pub fn step(&mut self, event: WorldEvent) -> Result<(), WorldFault>

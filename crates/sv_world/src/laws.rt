@@ -50,7 +50,7 @@ pub fn heard()
     ensures { (m : Meanings) → AllTouchOnlyHanded m → (c : Cluster) (events : List WorldEvent) → IsTold m (run m c nothing_happened events) }
 {}
 
-/// What is durable at a node is its records, one behind the other; and each fitted those before it, under rules that leave room for
+/// What is durable at a node is its records, one after the other; and each fitted those before it, under rules that leave room for
 /// as many keys as those of any start. Rules of more than 65,536 keys do.
 pub fn journals()
     ensures replay { (m : Meanings) → AllTouchOnlyHanded m → (c : Cluster) (events : List WorldEvent) → IsReplay (run m c nothing_happened events) }
@@ -148,7 +148,7 @@ pub fn stays()
 {}
 
 /// A session that was sent off has arrived once all has come that a tick of its node puts out, where there is room; so it arrives in a
-/// fair round, behind which nobody waits there for it, unless it was handed on, and its sender is done with it in two.
+/// fair round, after which nobody waits there for it, unless it was handed on, and its sender is done with it in two.
 pub fn arrives()
     ensures tick { (m : Meanings) → AllTouchOnlyHanded m → (c : Cluster) (events : List WorldEvent) → ArrivesByTick m c (run m c nothing_happened events) }
     ensures round { (m : Meanings) → AllTouchOnlyHanded m → (c : Cluster) (events : List WorldEvent) → ArrivesInARound m c (run m c nothing_happened events) }
@@ -174,7 +174,7 @@ pub fn serves()
     ensures denied { (m : Meanings) → AllTouchOnlyHanded m → (c : Cluster) (events : List WorldEvent) → IsDeniedInTwo m c (run m c nothing_happened events) }
 {}
 
-/// As many sessions as have expired at a node have ended behind as many of its ticks.
+/// As many sessions as have expired at a node have ended after as many of its ticks.
 pub fn expires()
     ensures { (m : Meanings) (c : Cluster) (w : World) → TicksEndSessions m c w }
 {}

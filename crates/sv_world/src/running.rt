@@ -1,4 +1,4 @@
-//! Events, one behind the other.
+//! Events, one after the other.
 
 ghost use Rattle.std.specs.Prelude.{◌≡◌, ℕ, [], ◌∷◌, None, IfErr, OnOk};
 ghost use Rattle.sv_model.specs.Container.{Meanings, always};
@@ -69,10 +69,10 @@ impl<E: Engine + Drop> World<E> {
         Ok(())
     }
 
-    /// What these events do, one behind the other, up to the first that can't happen.
+    /// What these events do, one after the other, up to the first that can't happen.
     ///
     /// Where the world is what its events make, by a plan of what each start is started with, of one in which nothing had
-    /// happened, it is so behind these events too, and the theorem of `Headline.antt` and what `Progress.antt` promises hold of
+    /// happened, it is so after these events too, and the theorem of `Headline.antt` and what `Progress.antt` promises hold of
     /// it: the theorem as long as each node that ran was told of each node whose sessions lived, as it is where all starts have
     /// the same.
     pub fn run(&mut self, events: &[WorldEvent]) -> Result<(), RunFault>

@@ -72,7 +72,7 @@ impl<E: Engine + Drop> Slot<E> {
         Effect::quiet(alloc, heading, entry, commit)
     }
 
-    /// A torn step, behind its record where that is `kept`, else before it: listeners are told nothing, and nothing is put out.
+    /// A torn step, after its record where that is `kept`, else before it: listeners are told nothing, and nothing is put out.
     /// After want of memory nothing was done.
     pub fn torn_step(
         &mut self,

@@ -10,7 +10,7 @@ pub enum Task {
         moment: Moment,
         input: Input,
     },
-    /// A torn step: a stop cuts it, behind its record where that is `kept`, else before it.
+    /// A torn step: a stop cuts it, after its record where that is `kept`, else before it.
     Torn {
         moment: Moment,
         input: Input,
@@ -25,7 +25,7 @@ pub enum Task {
     Stop,
     /// To start.
     Start,
-    /// A torn start: a stop cuts it, behind its record where that is `kept`, else before it.
+    /// A torn start: a stop cuts it, after its record where that is `kept`, else before it.
     TornStart {
         kept: bool,
     },

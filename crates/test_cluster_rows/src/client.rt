@@ -83,7 +83,7 @@ fn tell(told: &mut String, alloc: Global, what: &str, outputs: &[Output]) -> Res
     Ok(push_row(told, what, text.as_str())?)
 }
 
-/// Tells how a call of the connection ended, and behind it what has been written.
+/// Tells how a call of the connection ended, and after it what has been written.
 fn tell_written(
     told: &mut String,
     alloc: Global,

@@ -24,7 +24,7 @@ fn read(words: &str) -> Result<Moment, RowFault> {
     Ok(moment(number(now)?, small(secret)?))
 }
 
-/// The moment from a line on: that which it says behind `at`, else the one before.
+/// The moment from a line on: that which it says after `at`, else the one before.
 pub fn behind(moment: Moment, line: &str) -> Result<Moment, RowFault> {
     match word(line) {
         ("at", words) => read(words),

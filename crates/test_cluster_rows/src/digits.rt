@@ -19,7 +19,7 @@ fn push_times(bytes: &mut Vec<u8>, more: &[u8], count: usize) -> Result<(), RowF
     Ok(())
 }
 
-/// Adds the bytes that a word says: two digits a byte; behind a star how many times they are to stand there.
+/// Adds the bytes that a word says: two digits a byte; after a star how many times they are to stand there.
 fn push_word(alloc: Global, bytes: &mut Vec<u8>, word: &str) -> Result<(), RowFault> {
     match word.split_once('*') {
         Some((digits, count)) => {

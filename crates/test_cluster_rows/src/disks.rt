@@ -6,7 +6,7 @@ use std::alloc::{AllocError, Global};
 use sv_journal::MemoryDisk;
 use sv_record::{Record, read_record};
 
-/// The payload of the entry that stands in front, where its gate is open, and the bytes behind it.
+/// The payload of the entry that stands in front, where its gate is open, and the bytes after it.
 fn entry(bytes: &[u8]) -> Option<(&[u8], &[u8])> {
     match bytes {
         [0xA5, a, b, c, d, rest @ ..] => {
@@ -17,7 +17,7 @@ fn entry(bytes: &[u8]) -> Option<(&[u8], &[u8])> {
     }
 }
 
-/// Adds a record behind the version of its payload.
+/// Adds a record after the version of its payload.
 fn push_versioned(text: &mut String, version: u8, record: &Record) -> Result<(), AllocError> {
     write!(text, "v{version} ")?;
     push_record(text, record)

@@ -1,5 +1,5 @@
-//! What happens to a world: `deliver PLACE`, the packet that was sent as this one, from 0; or a node's number and behind it `crash`,
-//! `restart`, `torn-restart KEPT`, `torn KEPT INPUT`, `silent INPUT` or an input. KEPT is `kept` where a stop comes behind the record of
+//! What happens to a world: `deliver PLACE`, the packet that was sent as this one, from 0; or a node's number and after it `crash`,
+//! `restart`, `torn-restart KEPT`, `torn KEPT INPUT`, `silent INPUT` or an input. KEPT is `kept` where a stop comes after the record of
 //! the step that it cuts, else `lost`. Of a silent step nothing leaves its node but its record, and the node runs on.
 
 use crate::fault::RowFault;

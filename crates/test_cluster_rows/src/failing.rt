@@ -17,7 +17,7 @@ use sv_journal::MemoryDisk;
 use sv_model::{Engine, Site};
 use sv_node::{Node, NotOpened};
 
-/// The disks are given up behind so many calls.
+/// The disks are given up after so many calls.
 const MANY: u64 = 1000;
 
 /// The name of an act's fault; none where it is done.

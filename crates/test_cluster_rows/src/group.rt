@@ -30,7 +30,7 @@ fn times(words: &str) -> (u64, &str) {
     }
 }
 
-/// Adds an input behind the others.
+/// Adds an input after the others.
 fn push_input(
     inputs: &mut Vec<(Moment, Input)>,
     moment: Moment,
@@ -44,7 +44,7 @@ fn push_input(
     Ok(())
 }
 
-/// Adds an input so often as its words say. The requests come under the token and those behind it.
+/// Adds an input so often as its words say. The requests come under the token and those after it.
 fn add(
     alloc: Global,
     inputs: &mut Vec<(Moment, Input)>,

@@ -1,5 +1,5 @@
 //! Stories of worlds and nodes that serve by the program's own applications: reads them from standard input, an event a line, and
-//! prints behind each line what came of it.
+//! prints after each line what came of it.
 //!
 //! A blank line ends a story. The first line of a story is its heading, the second says what it happens to, each of the others is an
 //! event. What the file `stdout` expects is taken from the table of a node's step and from what the applications are written down

@@ -10,7 +10,7 @@ use std::alloc::Global;
 use sv_model::Engine;
 use sv_world::{Rules, World};
 
-/// One more engine behind those that are there.
+/// One more engine after those that are there.
 #[tactic(auto, using(crate::proofs::EngineLemmas::all_behind))]
 fn with_one<E: Engine + Drop>(engines: Vec<E>, engine: E) -> Result<Vec<E>, RowFault>
     requires all { All (λ e. E.valid e) engines.items }

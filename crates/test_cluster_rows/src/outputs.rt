@@ -4,7 +4,7 @@ use crate::packets::push_packet;
 use std::alloc::AllocError;
 use sv_model::{Field, Output, Response};
 
-/// Adds the value of a field that sets a cookie, behind a word; of any other, nothing.
+/// Adds the value of a field that sets a cookie, after a word; of any other, nothing.
 fn push_cookie(text: &mut String, field: &Field) -> Result<(), AllocError> {
     if field.name.as_str() == "set-cookie" {
         text.push_str(", set-cookie ")?;

@@ -4,7 +4,7 @@ use crate::sessions::{push_key, push_session};
 use std::alloc::AllocError;
 use sv_model::{Change, Key, KeyState, Record, Session};
 
-/// Adds what a commit makes of one key, behind a verb for a session that is there behind it, and one for a session that isn't.
+/// Adds what a commit makes of one key, after a verb for a session that is there after it, and one for a session that isn't.
 fn push_change(
     text: &mut String,
     alive: &str,

@@ -1,8 +1,8 @@
-//! One node of three, over two disks: its number is 0. A line is an input (`input`) behind that number, several with ` & ` between them,
+//! One node of three, over two disks: its number is 0. A line is an input (`input`) after that number, several with ` & ` between them,
 //! which are made durable together (`group`), or one of these.
 //!
 //! - `at SECOND SECRET`, as for a world.
-//! - `compact`, and the length of the journal behind it.
+//! - `compact`, and the length of the journal after it.
 //! - `reopen`: the node is stopped, what stands on its disks is told, and it is opened over them.
 //! - `reopen-without-b`: the same, with the first byte of the disk B closed between.
 //! - `reopen-as NODE RULES`: the node is stopped, and opened over its disks as this one (`rules`). Where it isn't opened, why, and what

@@ -5,7 +5,7 @@ use crate::words::{line, word};
 use crate::{client, failing, running, worlds};
 use std::alloc::{AllocError, Global};
 
-/// What happens by the lines behind that which says to what.
+/// What happens by the lines after that which says to what.
 fn play(alloc: Global, stage: &str, lines: &str, told: &mut String) -> Result<(), RowFault> {
     match word(stage) {
         ("world", words) => worlds::play(alloc, words, lines, told),

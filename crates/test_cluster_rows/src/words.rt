@@ -3,7 +3,7 @@
 use crate::fault::RowFault;
 use sv_model::Key;
 
-/// The first word of a text, and what stands behind the blank.
+/// The first word of a text, and what stands after the blank.
 pub fn word(text: &str) -> (&str, &str) {
     match text.split_once(' ') {
         Some((word, rest)) => (word, rest),
@@ -11,7 +11,7 @@ pub fn word(text: &str) -> (&str, &str) {
     }
 }
 
-/// The first line of a text, and the lines behind it.
+/// The first line of a text, and the lines after it.
 pub fn line(text: &str) -> (&str, &str) {
     match text.split_once('\n') {
         Some((line, rest)) => (line, rest),
@@ -54,7 +54,7 @@ pub fn key(word: &str) -> Result<Key, RowFault> {
     }
 }
 
-/// Whether a stop comes behind the record of the step that it cuts.
+/// Whether a stop comes after the record of the step that it cuts.
 pub fn is_kept(word: &str) -> Result<bool, RowFault> {
     match word {
         "kept" => Ok(true),

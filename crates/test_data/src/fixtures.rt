@@ -13,7 +13,7 @@ pub fn repeated(rt: &impl Abort, alloc: Global, byte: u8, count: usize) -> Vec<u
     Vec::from_elem(alloc, byte, count).expect(rt, "memory")
 }
 
-/// Adds these bytes behind the others.
+/// Adds these bytes after the others.
 pub fn add(rt: &impl Abort, bytes: &mut Vec<u8>, more: &[u8]) {
     bytes.extend_from_slice(more).expect(rt, "memory");
 }

@@ -1,4 +1,4 @@
-//! Values that are written behind what is there, the longest frame and the largest record, and what is said of a fault. What bytes
+//! Values that are written after what is there, the longest frame and the largest record, and what is said of a fault. What bytes
 //! say are rows of `test_rows`.
 
 ghost use Rattle.sv_model.specs.Ranges.{IsRecord};
@@ -35,7 +35,7 @@ const FIRST_COUNT: &[u8] = b"\x02\x02\0\x01\0\0\0\0\0\0\0\0\x01\
 \0\0\0\0\0\0\0\0\0\0\0\0\0\0\0\x01\0\0\0\0\0\0\0\x03\xE8\0\0\0\0\0\0\x03\xE8\0\0\x07\x08\x01\
 \0\x01\0\x05count\0\0\0\x011";
 
-/// What comes of each. What is written stands behind a byte 0xFF.
+/// What comes of each. What is written stands after a byte 0xFF.
 static CASES: [(&str, Case, &[u8]); 15] = [
     (
         "the commit of a first count",
@@ -130,7 +130,7 @@ fn record_of(rt: &impl Abort, alloc: Global, bytes: &[u8]) -> Record
     read_record(alloc, bytes).expect(rt, "a record")
 }
 
-/// Reads a record, and writes it behind what is there.
+/// Reads a record, and writes it after what is there.
 fn write_again(rt: &impl Abort, alloc: Global, bytes: &[u8], out: &mut Vec<u8>) {
     write_record(&record_of(rt, alloc, bytes), out).expect(rt, "memory");
 }

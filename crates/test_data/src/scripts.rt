@@ -48,7 +48,7 @@ const LINES: [Line<'static>; 6] = [
 ];
 
 /// Scripts with a line that asks for nothing: an unknown word, words too few or too many, two spaces for one, a space
-/// before or behind, a number that no node can have, a sign, a line end of two characters.
+/// before or after, a number that no node can have, a sign, a line end of two characters.
 static FAULTY: [&str; 14] = [
     "stop 0",
     "start",

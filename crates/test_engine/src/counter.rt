@@ -56,7 +56,7 @@ fn counted(count: u64) -> u64
     if count == u64::MAX { count } else { count + 1 }
 }
 
-/// The session behind one more request.
+/// The session after one more request.
 fn again_at(alloc: Global, now: u64, session: &Session) -> Result<Session, AllocError>
     ensures { IfOk result (λ s. s ≡ again_at now session.now) }
 {

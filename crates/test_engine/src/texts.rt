@@ -32,7 +32,7 @@ fn digit(response: &Response) -> char {
     }
 }
 
-/// The text of a packet behind its number.
+/// The text of a packet after its number.
 pub fn numbered(alloc: Global, number: usize, text: &str) -> Result<String, AllocError> {
     let mut line = format!(in alloc; "p{number} ")?;
     line.push_str(text)?;

@@ -69,8 +69,8 @@ pub static SCENES: [Scene; 5] = [
         most: LONG,
         told: "|\0|\x01|||||1|\0|",
     },
-    // A connection that brings nothing is closed behind two seconds, so a node that waited for that would answer the next caller
-    // behind them.
+    // A connection that brings nothing is closed after two seconds, so a node that waited for that would answer the next caller
+    // after them.
     Scene {
         name: "of somebody who says nothing where nobody else is, what comes first is waited for a moment",
         persistence: Persistence::Single,

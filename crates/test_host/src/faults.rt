@@ -106,7 +106,7 @@ pub fn secrets_told(rt: &impl Abort, machine: &HostRuntime) -> String {
 }
 
 /// Nobody calls, and the request that waits is refused once a second has passed. Fourteen secrets are more than the request takes till
-/// then: two for itself and a look for its session; as many each time that its session is asked for again, which is four times, behind
+/// then: two for itself and a look for its session; as many each time that its session is asked for again, which is four times, after
 /// 50, 150, 350 and 750 milliseconds; and two for a look at the time. Then they come to an end, one a second, and the node stops.
 pub fn deadline_told(rt: &impl Abort, machine: &HostRuntime) -> String {
     told(rt, machine, 1, 14, &[[1, 1]])

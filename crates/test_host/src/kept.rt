@@ -21,7 +21,7 @@ pub static SCENES: [Scene; 2] = [
         told: "121314||\0|",
     },
     // Only a Poke serves those whose session a Grant has brought. The first of them has gone away, and is counted all the same; the
-    // second has sent one more request along, which waits behind it; and nobody else is held up.
+    // second has sent one more request along, which waits after it; and nobody else is held up.
     Scene {
         name: "each who waits is told their own answer",
         persistence: Persistence::Kept,

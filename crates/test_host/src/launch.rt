@@ -27,7 +27,7 @@ use sv_showcase::showcase;
 
 const NOW: u64 = 784_111_777;
 
-/// What the stream shows, the stream, and all that is written for it, with the fault that ends it and its exit status behind.
+/// What the stream shows, the stream, and all that is written for it, with the fault that ends it and its exit status after.
 pub struct Row(&'static str, &'static str, &'static str);
 
 /// Streams that the deployment of a descriptor serves, each by a container of its own.

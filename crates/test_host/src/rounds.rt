@@ -71,7 +71,7 @@ fn sent_of(rt: &impl Abort, alloc: Global, round: &mut Round, first: u64, last: 
 /// One tick after the other: it puts out the wants of the numbers from 1 to the first number here, and the sessions of the serials from 1 to
 /// the second one; so many wants are sent, of this sum, and so many sessions, of this one.
 const BOTH_ROWS: &[(u64, u64, (u64, u64), (u64, u64))] = &[
-    // Of many of both 96 wants and 32 sessions, 96 * 97 / 2 and 32 * 33 / 2, and then those behind them.
+    // Of many of both 96 wants and 32 sessions, 96 * 97 / 2 and 32 * 33 / 2, and then those after them.
     (300, 200, (96, 4_656), (32, 528)),
     (300, 200, (96, 13_872), (32, 1_552)),
     // Few wants leave the other places to sessions: all ten, and those from 65 to 182.

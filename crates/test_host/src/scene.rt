@@ -22,7 +22,7 @@ pub struct Scene {
     pub connections: u32,
     /// It takes less than so many milliseconds, on a machine that doesn't stand still meanwhile.
     pub most: u64,
-    /// What each caller is told, and then what comes on each of those connections, with a bar behind.
+    /// What each caller is told, and then what comes on each of those connections, with a bar after.
     pub told: &'static str,
 }
 
@@ -57,7 +57,7 @@ pub enum Said {
     Frame(&'static [u8]),
     /// So many packets of node 1 on one connection that change nothing, and then its first session with a count of 5.
     Packets(usize),
-    /// Requests that are counted, one behind the other.
+    /// Requests that are counted, one after the other.
     Counts(&'static [[u8; 2]]),
     /// One such request, and goes away.
     Gone([u8; 2]),
@@ -84,7 +84,7 @@ fn end(rt: &impl Abort, caller: &TcpStream) {
         .expect(rt, "a connection to close");
 }
 
-/// A frame, behind which nothing is said.
+/// A frame, after which nothing is said.
 fn say_frame(rt: &impl Abort, machine: &HostRuntime, town: &Town, frame: &[u8]) -> TcpStream {
     let caller = town.call(rt, machine, frame);
     end(rt, &caller);
@@ -143,7 +143,7 @@ fn push_heard(rt: &impl Abort, alloc: Global, text: &mut String, said: Said, cal
     push_told(rt, text, said, bytes.as_slice());
 }
 
-/// Adds what each caller was told, with a bar behind.
+/// Adds what each caller was told, with a bar after.
 fn push_all(
     rt: &impl Abort,
     alloc: Global,
@@ -159,7 +159,7 @@ fn push_all(
     }
 }
 
-/// Adds what came on the connections that the node has made to the other one, with a bar behind each.
+/// Adds what came on the connections that the node has made to the other one, with a bar after each.
 fn push_sent(rt: &impl Abort, alloc: Global, text: &mut String, town: &Town, connections: u32) {
     for _ in 0..connections {
         if let Ok(bytes) = town.asked(alloc) {

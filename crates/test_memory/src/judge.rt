@@ -15,7 +15,7 @@ pub enum Verdict {
     Broken,
     /// No call of the case takes memory.
     Unmet,
-    /// Behind a growth something else stands.
+    /// After a growth something else stands.
     Other,
     Endless,
 }
@@ -54,7 +54,7 @@ fn growth_of(ran: &Ran, whole: &Ran) -> Growth {
     if ran.said.as_slice() == b"begin\n0 unprepared\n".as_slice() || ran.said == whole.said {
         return Growth::Spared;
     }
-    // The first digit behind `begin` says how often memory was refused by name.
+    // The first digit after `begin` says how often memory was refused by name.
     match (
         ran.said.strip_prefix(b"begin\n1 "),
         whole.said.strip_prefix(b"begin\n0 "),

@@ -3,7 +3,7 @@
 use std::alloc::{AllocError, Global};
 use sv_model::{Attributes, Field, Request, Response, Session};
 
-/// Adds a text, and a blank behind it.
+/// Adds a text, and a blank after it.
 fn add(line: &mut String, text: &str) -> Result<(), AllocError> {
     line.push_str(text)?;
     line.push(' ')?;

@@ -10,17 +10,17 @@ pub fn text(rt: &impl Abort, alloc: Global, text: &str) -> String {
     String::from_str(alloc, text).expect(rt, "memory")
 }
 
-/// Puts a text behind another.
+/// Puts a text after another.
 pub fn add(rt: &impl Abort, text: &mut String, more: &str) {
     text.push_str(more).expect(rt, "memory");
 }
 
-/// Puts bytes behind others.
+/// Puts bytes after others.
 pub fn add_bytes(rt: &impl Abort, bytes: &mut Vec<u8>, more: &[u8]) {
     bytes.extend_from_slice(more).expect(rt, "memory");
 }
 
-/// Puts an item behind those of a list.
+/// Puts an item after those of a list.
 pub fn push<T>(rt: &impl Abort, list: &mut Vec<T>, item: T)
     ensures { list.new.items ≡ list.old.items ++ item ∷ [] }
 {

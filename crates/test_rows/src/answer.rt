@@ -4,7 +4,7 @@ use crate::kinds::tried;
 use crate::row::named;
 use std::alloc::{AllocError, Global};
 
-/// A row's name, and behind a colon what came of it.
+/// A row's name, and after a colon what came of it.
 fn of_row(alloc: Global, kind: &str, row: &str) -> Result<String, AllocError> {
     let (name, parts) = named(row);
     match tried(alloc, kind, parts) {

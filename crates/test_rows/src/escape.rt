@@ -1,4 +1,4 @@
-//! Bytes in a line: what can't stand there, or couldn't be seen, is spelled behind a backslash.
+//! Bytes in a line: what can't stand there, or couldn't be seen, is spelled after a backslash.
 
 use crate::digits::{digit, push_digits};
 use crate::fault::RowFault;
@@ -13,7 +13,7 @@ enum Seen {
     Digit(u8),
 }
 
-/// The byte that a letter behind a backslash stands for.
+/// The byte that a letter after a backslash stands for.
 fn named_byte(letter: u8) -> u8 {
     match letter {
         b'r' => b'\r',
@@ -24,7 +24,7 @@ fn named_byte(letter: u8) -> u8 {
     }
 }
 
-/// The byte that is whole behind another one, and how far an escape has been read then.
+/// The byte that is whole after another one, and how far an escape has been read then.
 fn step(seen: Seen, byte: u8) -> (Option<u8>, Seen) {
     match seen {
         Seen::Nothing if byte == b'\\' => (None, Seen::Backslash),
@@ -96,7 +96,7 @@ pub fn shown(alloc: Global, bytes: &[u8]) -> Result<String, AllocError> {
     Ok(text)
 }
 
-/// The spelling of bytes; of more than 100 the last one, behind how many they are.
+/// The spelling of bytes; of more than 100 the last one, after how many they are.
 pub fn shown_briefly(alloc: Global, bytes: &[u8]) -> Result<String, AllocError> {
     match bytes.last() {
         Some(last) if bytes.len() > 100 => {

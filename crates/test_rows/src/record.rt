@@ -18,7 +18,7 @@ pub fn count(alloc: Global, parts: &str) -> Result<String, RowFault> {
     Ok(format!(in alloc; "{}", bytes.len())?)
 }
 
-/// The bytes with another one behind.
+/// The bytes with another one after.
 fn longer(alloc: Global, bytes: &[u8]) -> Result<Vec<u8>, AllocError> {
     let mut more = Vec::from_slice(alloc, bytes)?;
     more.push(0)?;

@@ -5,7 +5,7 @@ use crate::fault::RowFault;
 use crate::row::{first, number};
 use std::alloc::Global;
 
-/// The bytes of a front, of a part as often as the number behind it says, and of a back.
+/// The bytes of a front, of a part as often as the number after it says, and of a back.
 pub fn repeated(alloc: Global, parts: &str) -> Result<Vec<u8>, RowFault> {
     let (front, rest) = first(parts);
     let (part, rest) = first(rest);

@@ -2,22 +2,22 @@
 
 use crate::fault::RowFault;
 
-/// A row's name, and the parts behind its first bar. A row without a bar is its own part.
+/// A row's name, and the parts after its first bar. A row without a bar is its own part.
 pub fn named(row: &str) -> (&str, &str) {
     row.split_once('|').unwrap_or((row, row))
 }
 
-/// The first part, and the parts behind it.
+/// The first part, and the parts after it.
 pub fn first(parts: &str) -> (&str, &str) {
     parts.split_once('|').unwrap_or((parts, ""))
 }
 
-/// The first word of a part, and what stands behind its blank.
+/// The first word of a part, and what stands after its blank.
 pub fn first_word(part: &str) -> (&str, &str) {
     part.split_once(' ').unwrap_or((part, ""))
 }
 
-/// A name, and a value behind an equals sign.
+/// A name, and a value after an equals sign.
 pub fn pair(part: &str) -> (&str, &str) {
     part.split_once('=').unwrap_or((part, ""))
 }

@@ -139,7 +139,7 @@ impl Servlet for Scripted {
     }
 }
 
-/// Writes a text before and another one behind; what it says of what follows is `then`'s word: an end is a pass, and a
+/// Writes a text before and another one after; what it says of what follows is `then`'s word: an end is a pass, and a
 /// forward or an include stops.
 #[derive(Drop)]
 pub struct Marking {

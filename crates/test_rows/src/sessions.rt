@@ -57,7 +57,7 @@ fn answers(alloc: Global, edit: &mut SessionEdit, calls: &str) -> Result<String,
     Ok(text)
 }
 
-/// Behind what the calls answer, what the edit leaves.
+/// After what the calls answer, what the edit leaves.
 fn ended(alloc: Global, answers: &str, edit: SessionEdit) -> Result<String, RowFault> {
     let left = left_text(alloc, edit)?;
     Ok(format!(in alloc; "{answers}; {left}")?)

@@ -17,7 +17,7 @@ pub const SECRET: Secret = Secret([1; 16]);
 /// The second in which all happens for which none is given.
 pub const NOW: u64 = 1000;
 
-/// A stop comes behind the record of the step that it cuts.
+/// A stop comes after the record of the step that it cuts.
 pub const KEPT: bool = true;
 
 /// One event.

@@ -372,7 +372,7 @@ fn expect_part(rt: &impl Abort, core: &mut Core<Counter>, alloc: Global, name: &
     }
 }
 
-/// The snapshot of a core behind a part.
+/// The snapshot of a core after a part.
 fn snapshot_behind(
     rt: &impl Abort,
     core: &mut Core<Counter>,
@@ -384,7 +384,7 @@ fn snapshot_behind(
     core.snapshot().expect(rt, "memory")
 }
 
-/// The snapshot of a core that was recovered from these records, behind a part.
+/// The snapshot of a core that was recovered from these records, after a part.
 fn left_by(
     rt: &impl Abort,
     alloc: Global,
@@ -447,7 +447,7 @@ fn keys_that_are_forgotten(rt: HostRuntime) {
     expect_stories(&rt, rt.alloc(), &forgets::STORIES);
 }
 
-/// Records of which the last one doesn't fit behind those before it, which do.
+/// Records of which the last one doesn't fit after those before it, which do.
 pub struct Refused {
     pub why: &'static str,
     pub keys: u32,
@@ -505,7 +505,7 @@ fn decided_start(rt: &impl Abort, core: &mut Core<Counter>) -> Start {
     }
 }
 
-/// The next start of a node that forgets or not, behind these records.
+/// The next start of a node that forgets or not, after these records.
 fn next_start(rt: &impl Abort, alloc: Global, forget: bool, entries: &[Entry]) -> Start {
     let records = records_of(rt, alloc, entries);
     let mut core = recovered(rt, alloc, setting(10, forget), &records);

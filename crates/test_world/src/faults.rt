@@ -18,7 +18,7 @@ enum Event {
     Restart(u8),
 }
 
-/// A number is used once at a node, and again behind its next start.
+/// A number is used once at a node, and again after its next start.
 static ONE_NUMBER: [(Event, Option<WorldFault>); 6] = [
     (Event::Ask(0), None),
     (Event::Ask(0), Some(WorldFault::TokenUsed)),

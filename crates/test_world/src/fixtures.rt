@@ -9,7 +9,7 @@ pub fn text(rt: &impl Abort, alloc: Global, written: impl Display + Drop) -> Str
     format!(in alloc; "{written}").expect(rt, "memory")
 }
 
-/// Adds this behind the rest.
+/// Adds this after the rest.
 pub fn add(rt: &impl Abort, text: &mut String, more: &str) {
     text.push_str(more).expect(rt, "memory");
 }

@@ -38,7 +38,7 @@ const ROOM_AGAIN: [Row; 6] = [
     (Given::First, FULL),
 ];
 
-/// The same behind a snapshot.
+/// The same after a snapshot.
 const STILL_FULL: [Row; 3] = [
     (Given::First, FULL),
     (Given::Known((0, 1)), OVER),

@@ -2,7 +2,7 @@
 
 use crate::alone::{Entry, Given, Left, Part, Refused, Row, Story};
 
-/// Two keys of the node's own, and four of the nodes behind it.
+/// Two keys of the node's own, and four of the nodes after it.
 const MIXED: [Entry; 7] = [
     Entry::Counters(1, 3),
     Entry::Active((0, 1)),

@@ -10,7 +10,7 @@ use std::process::Abort;
 use sv_world::{RunFault, World, WorldEvent, WorldFault};
 use test_engine::Counter;
 
-/// Each of the ten kinds of event. A session goes from node 0 to node 1, whose next move is cut behind its record, so that
+/// Each of the ten kinds of event. A session goes from node 0 to node 1, whose next move is cut after its record, so that
 /// its Grant is sent when time passes; then from node 2 back to node 0, in whose table it was last sent with epoch 2. There a
 /// request is served whose answer never leaves.
 pub static EVERY_KIND: [Row; 15] = [

@@ -32,7 +32,7 @@ fn key_text(rt: &impl Abort, alloc: Global, verb: &str, key: &Key) -> String {
     )
 }
 
-/// What a commit makes of one key; the verb says it of a session that is there behind it.
+/// What a commit makes of one key; the verb says it of a session that is there after it.
 fn change_text(rt: &impl Abort, alloc: Global, verb: &str, change: &Change) -> String {
     match change {
         Change::Absent => String::new(alloc),
@@ -92,7 +92,7 @@ fn told_text(told: &Told) -> &'static str {
     }
 }
 
-/// Adds a part behind the others.
+/// Adds a part after the others.
 fn add_part(rt: &impl Abort, text: &mut String, part: &str) {
     if !text.is_empty() {
         add(rt, text, ", ");

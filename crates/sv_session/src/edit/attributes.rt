@@ -131,7 +131,7 @@ impl SessionEdit {
         ensures { Answers self.old (value_result self.old name.now value.now) result self.new }
     {
         self.admits(name, value)?;
-        // The event's place comes first: behind the change nothing may fail.
+        // The event's place comes first: after the change nothing may fail.
         self.events.reserve(1)?;
         let alloc = self.alloc;
         let Some((key, _)) = self.holding.held() else {

@@ -8,7 +8,7 @@ use super::SessionEdit;
 use sha2::{Digest, Sha256};
 use sv_model::Secret;
 
-/// Adds a text behind its length.
+/// Adds a text after its length.
 fn add_part(hasher: &mut Sha256, text: &[u8])
     ensures { (m : List ℕ) → Holds256 hasher.old m → Holds256 hasher.new (m ++ part text.now) }
 {

@@ -111,7 +111,7 @@ fn expect_told(
     }
 }
 
-/// Calls that are made of a disk one behind the other, and which of them fails; none with 0.
+/// Calls that are made of a disk one after the other, and which of them fails; none with 0.
 struct Calls {
     what: &'static str,
     fails: u64,
@@ -146,7 +146,7 @@ static FAILING: [Calls; 3] = [
     },
 ];
 
-/// The calls that a disk of three bytes has kept behind these: only what changed the disk, or what a stop may leave of it.
+/// The calls that a disk of three bytes has kept after these: only what changed the disk, or what a stop may leave of it.
 const KEPT: &[u8] = b"W\x01XY|C\x01|S|";
 
 /// A write covers and lengthens: within six bytes, and across their end.

@@ -211,7 +211,7 @@ fn expect_so(rt: &impl Abort, alloc: Global, ended: &Ended, failing: Failing, k:
     );
 }
 
-// Runs the script with the k-th call of one disk failing: whether it was through before that. All is so behind it.
+// Runs the script with the k-th call of one disk failing: whether it was through before that. All is so after it.
 fn is_through(rt: &impl Abort, alloc: Global, failing: Failing, k: u64) -> bool {
     let fails = if failing.is_on_a { (k, 0) } else { (0, k) };
     let ended = run(rt, alloc, [b"", b""], failing.room, fails, &SCRIPT);

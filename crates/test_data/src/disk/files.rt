@@ -6,7 +6,7 @@ use std::process::{Abort, Command};
 use std::{env, fs};
 use sv_journal::{Disk, FileDisk, FileFault, IfMissing};
 
-/// What is done to the files of a journal, which are gone before and behind it.
+/// What is done to the files of a journal, which are gone before and after it.
 #[derive(Clone, Copy)]
 enum Case {
     /// Two compactions, with entries between.
@@ -33,7 +33,7 @@ const TWO: &[u8] = b"\xA5SVJRNL\x01\0\0\0\0\0\0\0\x01\xA5\0\0\0\x03one\xA5\0\0\0
 /// The same before the second gate was opened.
 const ONE: &[u8] = b"\xA5SVJRNL\x01\0\0\0\0\0\0\0\x01\xA5\0\0\0\x03one\0\0\0\0\x03two\0";
 
-/// What comes of each. Behind a compaction that was stopped, what is left of B is compacted over once more, and grows from there.
+/// What comes of each. After a compaction that was stopped, what is left of B is compacted over once more, and grows from there.
 static CASES: [(&str, Case, &[u8]); 13] = [
     // To B, and back to A, which held the first journal. A compaction's file ends with its closing gate. B keeps what it held: 65,536
     // zeros were laid out after the 25 bytes of its compaction, and 8 of them were written over.
@@ -50,7 +50,7 @@ static CASES: [(&str, Case, &[u8]); 13] = [
         Case::Locked,
         b"Some(Locked) None",
     ),
-    // A file may have 1,073,741,824 bytes, what stands behind the closing gate among them. One of a byte more is opened and read.
+    // A file may have 1,073,741,824 bytes, what stands after the closing gate among them. One of a byte more is opened and read.
     (
         "a file past the limit takes no entry",
         Case::Limit,
@@ -148,7 +148,7 @@ fn compacted_and_grown(rt: &impl Abort, files: &Files) -> Vec<u8> {
     files.found(rt)
 }
 
-// The entries behind each of two compactions, and what is left of the files.
+// The entries after each of two compactions, and what is left of the files.
 fn compacted_in_turn(rt: &impl Abort, files: &Files) -> Vec<u8> {
     let mut found = compacted_and_grown(rt, files);
     files.compact(rt, b"five");
@@ -199,7 +199,7 @@ fn opened_twice(rt: &impl Abort, files: &Files) -> Vec<u8> {
     text_bytes(rt, files.alloc(), format_args!("{beside:?} {after:?}"))
 }
 
-// Makes file A this long, with nothing behind what it holds, or cuts it; that takes no room on the disk.
+// Makes file A this long, with nothing after what it holds, or cuts it; that takes no room on the disk.
 fn lengthen(rt: &impl Abort, files: &Files, len: u64) {
     let file = fs::OpenOptions::new()
         .write(true)
@@ -220,7 +220,7 @@ fn add_answer_at(rt: &impl Abort, files: &Files, answers: &mut Vec<u8>, len: u64
     );
 }
 
-// What is answered to an entry that is added at the limit, and to one a byte past it; and the entries behind that.
+// What is answered to an entry that is added at the limit, and to one a byte past it; and the entries after that.
 fn filled(rt: &impl Abort, files: &Files) -> Vec<u8> {
     files.add(rt, b"one");
     let mut told = Vec::new(files.alloc());
@@ -231,7 +231,7 @@ fn filled(rt: &impl Abort, files: &Files) -> Vec<u8> {
     told
 }
 
-// The fault of a read behind which the file was cut.
+// The fault of a read after which the file was cut.
 fn fault_behind_a_cut(rt: &impl Abort, files: &Files) -> Vec<u8> {
     let mut journal = files.open(rt);
     lengthen(rt, files, 20);
@@ -295,7 +295,7 @@ fn start_again(rt: &impl Abort, machine: &HostRuntime, path: &str) {
     );
 }
 
-// What one of the two processes finds, the first one behind the second, and what is left of the files then.
+// What one of the two processes finds, the first one after the second, and what is left of the files then.
 fn found_by_one(rt: &impl Abort, machine: &HostRuntime) -> (Vec<u8>, &'static [u8]) {
     match env::var(machine, FILE) {
         Ok(path) => (goes_on(rt, machine, &path), b"one|"),
@@ -315,7 +315,7 @@ fn another_process_opens_the_file(rt: HostRuntime) {
     expect_bytes(&rt, "the entries", &found, wanted);
 }
 
-// The entries behind the second process, and what the files hold then.
+// The entries after the second process, and what the files hold then.
 fn both(rt: &impl Abort, machine: &HostRuntime) -> Vec<u8> {
     let files = Files::new(rt, machine, "process");
     files.add(rt, b"one");

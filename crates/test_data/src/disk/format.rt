@@ -12,7 +12,7 @@ use sv_journal::{JournalFault, MemoryDisk};
 /// The header of a journal of generation 1.
 const HEAD: &[u8] = b"\xA5SVJRNL\x01\0\0\0\0\0\0\0\x01";
 
-/// What disk A holds, in parts, and disk B; and the entries that are read, each with a bar behind it, or the fault. Where neither disk is
+/// What disk A holds, in parts, and disk B; and the entries that are read, each with a bar after it, or the fault. Where neither disk is
 /// open, at most 17 bytes on A and at most 1 on B are what a stop leaves of a first opening.
 static DISKS: [(&str, &[&[u8]], &[u8], &[u8]); 22] = [
     (
@@ -136,7 +136,7 @@ fn disks_are_journals_blank_or_damaged(rt: HostRuntime) {
     }
 }
 
-/// An image with an entry of this gate and length, with so many bytes behind it, and a closed gate.
+/// An image with an entry of this gate and length, with so many bytes after it, and a closed gate.
 fn entry_of(rt: &impl Abort, alloc: Global, front: &[u8], count: usize) -> Vec<u8> {
     let mut bytes = image(rt, alloc, front);
     add(rt, &mut bytes, &repeated(rt, alloc, 7, count));
@@ -144,7 +144,7 @@ fn entry_of(rt: &impl Abort, alloc: Global, front: &[u8], count: usize) -> Vec<u
     bytes
 }
 
-/// How many bytes are read where the entry of an image has so many, the bar behind it among them, or the fault.
+/// How many bytes are read where the entry of an image has so many, the bar after it among them, or the fault.
 fn len_of_entry(rt: &impl Abort, alloc: Global, front: &[u8], count: usize) -> Vec<u8> {
     match records_of(rt, alloc, &entry_of(rt, alloc, front, count), b"") {
         Ok(entries) => text_bytes(rt, alloc, entries.len()),

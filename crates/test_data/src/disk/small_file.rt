@@ -89,7 +89,7 @@ fn disk_over(rt: &impl Abort, alloc: Global, room: usize, syncs_to_fail: u32) ->
     })
 }
 
-/// A text is put behind what a disk holds.
+/// A text is put after what a disk holds.
 fn extended(disk: &mut impl Disk, bytes: &[u8]) -> Result<u64, Device> {
     let len = disk.len()?;
     if len > u64::from(u32::MAX) {

@@ -16,16 +16,16 @@ pub enum Act {
     Together(&'static [&'static [u8]]),
     /// These entries take the place of all others.
     Compact(&'static [&'static [u8]]),
-    /// What is read, each entry with a bar behind it.
+    /// What is read, each entry with a bar after it.
     Entries,
     /// How many bytes the journal has.
     Len,
     /// Whether it takes entries.
     IsLive,
-    /// What a disk holds. Behind this look, and each of the next ones, the same bytes are opened again.
+    /// What a disk holds. After this look, and each of the next ones, the same bytes are opened again.
     A,
     B,
-    /// The calls of a disk since it was opened, each with a bar behind it.
+    /// The calls of a disk since it was opened, each with a bar after it.
     CallsA,
     CallsB,
     /// What is answered where the call of this number of disk A fails as they are opened.
@@ -151,7 +151,7 @@ fn is_look(act: Act) -> bool {
     }
 }
 
-/// The journal behind an act, and what came of it.
+/// The journal after an act, and what came of it.
 pub fn take(
     rt: &impl Abort,
     alloc: Global,

@@ -12,7 +12,7 @@ fn write(rt: &impl Abort, files: &Files, path: &str, bytes: &[u8]) {
     fs::write(files.machine, path, bytes).expect(rt, "a file that is written");
 }
 
-// What is read where the files are opened, each entry with a bar behind it.
+// What is read where the files are opened, each entry with a bar after it.
 fn found_at_opening(rt: &impl Abort, files: &Files) -> Vec<u8> {
     match files.opened(rt) {
         Ok(mut journal) => shown_of(rt, files.alloc(), &mut journal).expect(
@@ -23,14 +23,14 @@ fn found_at_opening(rt: &impl Abort, files: &Files) -> Vec<u8> {
     }
 }
 
-// Makes both files anew, opens them, and reads the entries, each with a bar behind it.
+// Makes both files anew, opens them, and reads the entries, each with a bar after it.
 fn found_in(rt: &impl Abort, files: &Files, a: &[u8], b: &[u8]) -> Vec<u8> {
     write(rt, files, &files.a, a);
     write(rt, files, &files.b, b);
     found_at_opening(rt, files)
 }
 
-/// What is found in 24 to 33 bytes, each with a blank behind it. The files are removed.
+/// What is found in 24 to 33 bytes, each with a blank after it. The files are removed.
 pub(super) fn found_in_cuts(rt: &impl Abort, files: &Files, whole: &[u8]) -> Vec<u8> {
     let mut found = Vec::new(files.alloc());
     for len in 24..34usize {

@@ -12,7 +12,7 @@ pub const EMPTY: &[u8] = b"\xA5SVJRNL\x01\0\0\0\0\0\0\0\x01\0";
 /// The same with an entry.
 const AB: &[u8] = b"\xA5SVJRNL\x01\0\0\0\0\0\0\0\x01\xA5\0\0\0\x02ab\0";
 
-// The worked example: what a node writes at its first start and behind its first answer, 10 and 65 bytes.
+// The worked example: what a node writes at its first start and after its first answer, 10 and 65 bytes.
 const BOOT: &[u8] = b"\x02\x01\0\0\0\0\0\0\0\x01";
 
 const COMMIT: &[u8] =
@@ -61,7 +61,7 @@ const FIRST_RECORD: [Row; 5] = [
     (Act::B, b""),
 ];
 
-/// The calls of an append, behind the sync of its opening: what is behind the gate, a sync, the gate, a sync.
+/// The calls of an append, after the sync of its opening: what is after the gate, a sync, the gate, a sync.
 const APPEND: [Row; 2] = [
     (Act::Append(b"x"), b"ok"),
     (Act::CallsA, b"S|W\x11\0\0\0\x01x\0|S|W\x10\xA5|S|"),
@@ -69,7 +69,7 @@ const APPEND: [Row; 2] = [
 
 const BESIDE_AN_APPEND: [Row; 2] = [(Act::Append(b"x"), b"ok"), (Act::CallsB, b"S|")];
 
-/// The calls of three entries that are added together, behind the sync of the opening: all of them behind the gate, a
+/// The calls of three entries that are added together, after the sync of the opening: all of them after the gate, a
 /// sync, the gate, a sync.
 const TOGETHER: [Row; 3] = [
     (Act::Together(THREE), b"ok"),
@@ -158,8 +158,8 @@ const CLOSED: [Row; 6] = [
     (Act::Entries, b"one|two|"),
 ];
 
-/// The calls of a compaction over an older journal, behind the sync of its opening: the gate is closed, the rest is cut
-/// away, and what is written behind the closed gate is synced before the gate is opened.
+/// The calls of a compaction over an older journal, after the sync of its opening: the gate is closed, the rest is cut
+/// away, and what is written after the closed gate is synced before the gate is opened.
 const OVER_AN_OLDER: [Row; 5] = [
     (Act::Append(b"one"), b"ok"),
     (Act::Compact(&[b"c", b"st"]), b"ok"),
@@ -365,7 +365,7 @@ static FAILING: [Story; 8] = [
     },
 ];
 
-/// The journal behind an act of which comes what should.
+/// The journal after an act of which comes what should.
 fn expect_row(
     rt: &impl Abort,
     alloc: Global,

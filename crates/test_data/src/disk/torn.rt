@@ -22,7 +22,7 @@ fn tear(image: &mut Vec<u8>, at: usize, new: &[u8], choice: usize) {
     }
 }
 
-// Until the first sync any bytes may stand behind the closed gate, up to any length. So long an image of the old entry, with
+// Until the first sync any bytes may stand after the closed gate, up to any length. So long an image of the old entry, with
 // each choice of what is left of a new one, is read as the old one.
 fn expect_torn_entries(rt: &impl Abort, alloc: Global, len: usize) {
     for choice in 0..729usize {

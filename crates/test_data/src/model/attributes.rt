@@ -56,7 +56,7 @@ fn is_value(value: &Option<Sequence<u8>>, want: Option<&[u8]>) -> bool {
     }
 }
 
-/// A value that is put at a name, the old value, and all attributes behind that, with the bytes of all.
+/// A value that is put at a name, the old value, and all attributes after that, with the bytes of all.
 struct Step {
     row: &'static str,
     name: &'static str,
@@ -66,7 +66,7 @@ struct Step {
     size: usize,
 }
 
-/// Names are in order of their bytes: capitals before small letters, and `é` (0xC3 0xA9) behind `z` (0x7A).
+/// Names are in order of their bytes: capitals before small letters, and `é` (0xC3 0xA9) after `z` (0x7A).
 /// The bytes of all are added up by hand.
 static PUT: [Step; 6] = [
     Step {
@@ -119,7 +119,7 @@ static PUT: [Step; 6] = [
     },
 ];
 
-/// The attributes are as they are behind a row, with its value at its name.
+/// The attributes are as they are after a row, with its value at its name.
 fn are_behind(attributes: &Attributes, row: &Step) -> bool {
     are_attributes(attributes, row.all)
         && attributes.size() == row.size
@@ -132,7 +132,7 @@ fn is_put(rt: &impl Abort, alloc: Global, attributes: &mut Attributes, row: &Ste
     is_value(&old, row.old) && are_behind(attributes, row)
 }
 
-/// The first row behind which the attributes are otherwise.
+/// The first row after which the attributes are otherwise.
 fn other_put_among(
     rt: &impl Abort,
     alloc: Global,
@@ -190,7 +190,7 @@ pub(super) fn other_names(rt: &impl Abort, alloc: Global) -> Option<&'static str
     other_names_of(rt, alloc, &all(rt, alloc))
 }
 
-/// A name whose value is removed, the old value, and all attributes behind that, with the bytes of all.
+/// A name whose value is removed, the old value, and all attributes after that, with the bytes of all.
 struct Removal {
     row: &'static str,
     name: &'static str,

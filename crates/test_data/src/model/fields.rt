@@ -45,7 +45,7 @@ pub fn are_fields(fields: &[Field], pairs: &[(&str, &str)]) -> bool {
     are_so
 }
 
-/// A name and a value that are set, and the fields before and behind that.
+/// A name and a value that are set, and the fields before and after that.
 struct Setting {
     row: &'static str,
     before: Pairs,

@@ -64,7 +64,7 @@ fn four(rt: &impl Abort, alloc: Global) -> Sequence<u8> {
     bytes
 }
 
-/// With another one in the place of 8, and 11 and 12 behind.
+/// With another one in the place of 8, and 11 and 12 after.
 fn six(rt: &impl Abort, alloc: Global) -> Vec<u8> {
     let mut bytes = four(rt, alloc);
     if bytes.len() == 4 {

@@ -1,4 +1,4 @@
-//! When a session expires: its interval in seconds behind its last request, and not before.
+//! When a session expires: its interval in seconds after its last request, and not before.
 
 use super::streams::{Input, Output, Way};
 use crate::expect::expect;

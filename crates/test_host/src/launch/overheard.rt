@@ -6,7 +6,7 @@ use std::alloc::{AllocError, Global};
 use sv_model::{Engine, EngineFault, Event, Key, Outcome, Request, Secret, Session, Told};
 
 /// An engine, and the events that it was told: a word each with the serial of its session or the name of its attribute, and a
-/// semicolon behind those of one step.
+/// semicolon after those of one step.
 #[derive(Drop)]
 pub struct Overheard<'a, E: Drop> {
     pub alloc: Global,

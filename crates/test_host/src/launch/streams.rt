@@ -15,7 +15,7 @@ pub enum Way {
     Whole,
     /// A byte at a time is read.
     Dribbling,
-    /// Reading fails behind the last byte.
+    /// Reading fails after the last byte.
     Broken,
     /// Nothing can be written.
     Shut,
@@ -68,7 +68,7 @@ impl Output {
         }
     }
 
-    /// All that was written, with the fault behind it that has ended the stream, and its exit status.
+    /// All that was written, with the fault after it that has ended the stream, and its exit status.
     pub fn ended(self, rt: &impl Abort, end: Result<(), Fault>) -> String {
         let Output { mut text, .. } = self;
         if let Err(fault) = end {

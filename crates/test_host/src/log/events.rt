@@ -1,4 +1,4 @@
-//! What happens at a node: the line of each event behind the time.
+//! What happens at a node: the line of each event after the time.
 
 use super::texts::{Row, Said};
 use sv_log::{Event, Loss, Phase, Refusal};

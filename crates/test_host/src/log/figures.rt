@@ -237,7 +237,7 @@ const GAUGES: Gauges = Gauges {
     },
 };
 
-/// That stands behind the counters, each name with its own two lines before it, and nothing but the full stop comes after it. All known
+/// That stands after the counters, each name with its own two lines before it, and nothing but the full stop comes after it. All known
 /// keys are 3 and 1 and 2 and 4.
 const LAST: &str = "
 # HELP kegbramble_sessions_made_total Sessions that were made.

@@ -42,7 +42,7 @@ enum Step {
 enum Written {
     /// A log, which is opened anew for each part.
     Log,
-    /// Figures, of which the number behind these words is read after each part.
+    /// Figures, of which the number after these words is read after each part.
     Figures(&'static str),
 }
 
@@ -293,7 +293,7 @@ fn logged(rt: &impl Abort, machine: &HostRuntime, parts: &[&[Step]]) -> String {
     taken(rt, machine, &path)
 }
 
-/// The number behind these words in a text of figures.
+/// The number after these words in a text of figures.
 fn number_in<'a>(text: &'a str, words: &str) -> &'a str {
     let mut found = "";
     for line in text.lines() {

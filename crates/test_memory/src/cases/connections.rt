@@ -12,7 +12,7 @@ use test_engine::{Counter, output_text, request};
 
 type Shown = Result<String, Unshown>;
 
-/// 1,000 seconds behind the beginning of 1970.
+/// 1,000 seconds after the beginning of 1970.
 const MOMENT: Moment = Moment {
     now: given::NOW,
     steady: given::NOW,

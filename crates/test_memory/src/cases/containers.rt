@@ -186,7 +186,7 @@ fn keyed_request(alloc: Global) -> Result<Request, AllocError> {
     Ok(request)
 }
 
-/// The session that is kept behind a request.
+/// The session that is kept after a request.
 fn kept(alloc: Global, outcome: &Outcome) -> Result<Session, Unshown> {
     match &outcome.fate {
         Fate::Kept(session) => Ok(session.copy(alloc)?),

@@ -30,7 +30,7 @@ fn engine(alloc: Global) -> Counter {
     }
 }
 
-/// What a core is given, one behind the other: a session is made, wanted by node 1, handed to it and acknowledged; it is asked for
+/// What a core is given, one after the other: a session is made, wanted by node 1, handed to it and acknowledged; it is asked for
 /// here, waits, comes back, and is handed on. Another one is made, and expires, by which the core forgets it; and a third.
 #[derive(Clone, Copy)]
 enum Step {
@@ -290,7 +290,7 @@ fn apply_twice(
     }
 }
 
-/// What a core knows of both keys, whose records it takes one behind the other.
+/// What a core knows of both keys, whose records it takes one after the other.
 fn applied(alloc: Global, refusals: &mut Refusals, core: &mut Core<Counter>) -> Shown {
     for number in 1..3 {
         apply_twice(alloc, refusals, core, number)?;

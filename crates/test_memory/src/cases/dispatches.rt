@@ -1,4 +1,4 @@
-//! A dispatch by itself: a servlet includes a path that nothing serves, with a filter round both. Behind a refusal what was lent is
+//! A dispatch by itself: a servlet includes a path that nothing serves, with a filter round both. After a refusal what was lent is
 //! dropped, and the objects serve another request as they would have served the first.
 
 ghost use Rattle.std.specs.Prelude.{◌≡◌, ◌∷◌, [], IfOk};

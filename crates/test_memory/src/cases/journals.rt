@@ -93,7 +93,7 @@ pub fn open(alloc: Global, refusals: &mut Refusals) -> Shown {
     shown(alloc, refusals, &mut journal)
 }
 
-/// The journal behind a call that was refused: as it is, or opened anew where its disk has failed.
+/// The journal after a call that was refused: as it is, or opened anew where its disk has failed.
 fn mended(
     alloc: Global,
     refusals: &mut Refusals,

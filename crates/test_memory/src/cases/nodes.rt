@@ -1,4 +1,4 @@
-//! A node that is opened on disks in memory, steps and is compacted. Behind a growth that is refused to a disk the node is opened
+//! A node that is opened on disks in memory, steps and is compacted. After a growth that is refused to a disk the node is opened
 //! anew, as its owner has to.
 
 ghost use Rattle.std.specs.Prelude.{IfOk};
@@ -108,7 +108,7 @@ fn count(alloc: Global, node: &mut Counting, token: u64) -> Result<char, StepFau
     }
 }
 
-/// One more count, behind a refusal of memory too.
+/// One more count, after a refusal of memory too.
 fn count_again(
     alloc: Global,
     refusals: &mut Refusals,
@@ -133,7 +133,7 @@ fn count_again(
     }
 }
 
-/// A node whose disk has failed is Failed, and opened anew it counts on from before the step or from behind it.
+/// A node whose disk has failed is Failed, and opened anew it counts on from before the step or from after it.
 fn mended(alloc: Global, refusals: &mut Refusals, node: Running) -> Result<char, Unshown>
     requires { ⟦<Node<Counter, MemoryDisk> as Site>⟧.site_valid node.value }
 {
@@ -157,7 +157,7 @@ pub fn step(alloc: Global, refusals: &mut Refusals) -> Shown {
     done(format!(in alloc; "{found}"))
 }
 
-/// The node behind a compaction that was refused: with its memory, or opened anew where its disk has failed.
+/// The node after a compaction that was refused: with its memory, or opened anew where its disk has failed.
 fn compacted_again(
     alloc: Global,
     refusals: &mut Refusals,

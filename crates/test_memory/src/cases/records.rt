@@ -34,7 +34,7 @@ fn digits(alloc: Global, bytes: &[u8]) -> Result<String, AllocError> {
     format!(in alloc; "{bytes:?}")
 }
 
-/// Reads a record, and writes it behind what stands there.
+/// Reads a record, and writes it after what stands there.
 fn record_again(alloc: Global, bytes: &[u8], out: &mut Vec<u8>) -> Result<(), RecordFault> {
     let record = read_record(alloc, bytes)?;
     write_record(&record, out)?;
@@ -48,7 +48,7 @@ pub fn record(alloc: Global, refusals: &mut Refusals) -> Shown {
     done(digits(alloc, &out))
 }
 
-/// Reads a packet, and writes it behind what stands there.
+/// Reads a packet, and writes it after what stands there.
 fn packet_again(alloc: Global, bytes: &[u8], out: &mut Vec<u8>) -> Result<(), RecordFault> {
     let packet = read_packet(alloc, bytes)?;
     write_packet(&packet, out)?;
@@ -62,7 +62,7 @@ pub fn packet(alloc: Global, refusals: &mut Refusals) -> Shown {
     done(digits(alloc, &out))
 }
 
-/// Reads a frame, and writes it behind what stands there.
+/// Reads a frame, and writes it after what stands there.
 fn frame_again(alloc: Global, bytes: &[u8], out: &mut Vec<u8>) -> Result<(), RecordFault> {
     match read_frame(alloc, bytes)? {
         Some((frame, _)) => Ok(write_frame(&frame, out)?),

@@ -1,4 +1,4 @@
-//! The samples, each called as a dispatch does: behind a refusal what it was lent is made anew.
+//! The samples, each called as a dispatch does: after a refusal what it was lent is made anew.
 
 ghost use Rattle.std.specs.Prelude.{◌≡◌};
 ghost use Rattle.sv_servlet.specs.declared.servlet.Phase.TheVariants.{Ready, New};
@@ -99,7 +99,7 @@ fn served<S: HttpServlet>(alloc: Global, refusals: &mut Refusals, sample: S) -> 
     done(serve_again(alloc, refusals, &mut servlet, params.as_slice()))
 }
 
-/// A filter comes before a servlet and behind it.
+/// A filter comes before a servlet and after it.
 fn around<F: Filter>(
     filter: &mut F,
     call: &Call<'_>,

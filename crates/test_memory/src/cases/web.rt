@@ -72,7 +72,7 @@ pub fn reader(alloc: Global, refusals: &mut Refusals) -> Shown {
     }
 }
 
-/// Writes a response behind what stands there.
+/// Writes a response after what stands there.
 fn written(alloc: Global, refusals: &mut Refusals, response: &Response) -> Shown {
     let mut out = Vec::from_slice(alloc, b"before ")?;
     again!(

@@ -52,7 +52,7 @@ fn ask(alloc: Global, node: u8, token: u64, named: &[u8]) -> Result<WorldEvent, 
     })
 }
 
-/// A request at node 1 that a stop cuts behind its record.
+/// A request at node 1 that a stop cuts after its record.
 fn torn(alloc: Global) -> Result<WorldEvent, AllocError> {
     Ok(WorldEvent::Torn {
         node: 1,

@@ -1,4 +1,4 @@
-//! What a reader answers behind a fault.
+//! What a reader answers after a fault.
 
 use std::alloc::Global;
 use sv_message::{ReadFault, RequestReader};

@@ -73,7 +73,7 @@ fn tell_next(rt: &impl Abort, told: &mut String, reader: &mut RequestReader) -> 
     }
 }
 
-/// Adds the numbers of the requests that are there behind a piece.
+/// Adds the numbers of the requests that are there after a piece.
 fn tell_piece(rt: &impl Abort, told: &mut String, reader: &mut RequestReader, piece: &[u8]) {
     if reader.feed(piece).is_err() {
         add(rt, told, "a fault");

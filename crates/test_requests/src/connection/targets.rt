@@ -6,7 +6,7 @@ use std::alloc::Global;
 use std::process::Abort;
 use sv_target::{Target, TargetFault};
 
-/// The path of a target and its query behind a space.
+/// The path of a target and its query after a space.
 fn target_text(rt: &impl Abort, alloc: Global, target: &Target) -> String {
     match &target.query {
         Some(query) => format!(in alloc; "{} {}", target.path.as_str(), query.as_str()).expect(
@@ -42,7 +42,7 @@ fn letter_of(byte: usize) -> Option<char> {
     }
 }
 
-/// What the escape of one byte behind a slash has to give: a character of ASCII but NUL, the slash, the backslash and
+/// What the escape of one byte after a slash has to give: a character of ASCII but NUL, the slash, the backslash and
 /// a dot alone.
 fn unescaped(byte: usize) -> Option<char> {
     match letter_of(byte) {
@@ -59,7 +59,7 @@ fn path_of(rt: &impl Abort, alloc: Global, byte: usize) -> String {
     }
 }
 
-/// Whether a text with the escape of a byte behind a slash is read as it has to be.
+/// Whether a text with the escape of a byte after a slash is read as it has to be.
 fn is_unescaped(rt: &impl Abort, alloc: Global, text: &str, byte: usize) -> bool {
     let want = path_of(rt, alloc, byte);
     shown_within(rt, alloc, text).as_str() == want.as_str()

@@ -48,7 +48,7 @@ fn named(rt: &impl Abort, alloc: Global, cause: Cause, head_only: bool, close: b
     refusal_by(alloc, Naming::InField, cause, head_only, close).expect(rt, "memory")
 }
 
-/// One call, behind the answer to a request that waits; with no clause, so that the proof of a test carries none of the
+/// One call, after the answer to a request that waits; with no clause, so that the proof of a test carries none of the
 /// connection's facts.
 fn serve<R: Read, W: Write>(
     connection: &mut Connection,
@@ -310,7 +310,7 @@ pub(super) fn a_writer_that_fails(alloc: Global, input: usize) -> bool {
 const TOO_LONG: &str =
     "HTTP/1.1 431 Request Header Fields Too Large\r\nDate: Sun, 06 Nov 1994 08:49:37 GMT\r\ncontent-type: text/plain\r\nContent-Length: 36\r\nConnection: close\r\n\r\n431 Request Header Fields Too Large\n";
 
-/// How a call ends whose reader begins again at a place behind its last byte: after how many reads, how many steps, and whether just
+/// How a call ends whose reader begins again at a place after its last byte: after how many reads, how many steps, and whether just
 /// this is written.
 fn run_endless(
     alloc: Global,
@@ -334,7 +334,7 @@ pub(super) fn a_reader_that_never_ends_a_head(alloc: Global) -> bool {
     run_endless(alloc, b"a", 0, TOO_LONG) == (too_long, 8_192, 0, true)
 }
 
-/// The head of a body in chunks, of 57 bytes, and a chunk of one byte behind a line of 67.
+/// The head of a body in chunks, of 57 bytes, and a chunk of one byte after a line of 67.
 static CHUNKS: &[u8] =
     b"POST /a HTTP/1.1\r\nHost: h\r\nTransfer-Encoding: chunked\r\n\r\n1;aaaaaaaaaaaaaaaaaaaaaaaaaaaaaaaaaaaaaaaaaaaaaaaaaaaaaaaaaaaaaaa\r\nx\r\n";
 

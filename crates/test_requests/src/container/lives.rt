@@ -114,7 +114,7 @@ fn is_lived(rt: &impl Abort, alloc: Global, diary: &Diary, row: &Row) -> bool {
 }
 
 /// Each object is initialised once, also where another one fails; each that is ready is destroyed once; all are dropped
-/// behind the last call.
+/// after the last call.
 pub fn lives_in_order(rt: &impl Abort, alloc: Global, input: usize) -> bool {
     match SHUTDOWNS.get(input) {
         Some(row) => is_lived(rt, alloc, &new_diary(rt, alloc), row),

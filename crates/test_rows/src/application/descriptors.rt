@@ -53,7 +53,7 @@ fn push_line(
 }
 
 /// The same of a head, of a line for each number below the first part, and of a tail. In a line the number stands
-/// between what is before and what is behind.
+/// between what is before and what is after.
 pub fn counted(alloc: Global, parts: &str) -> Result<String, RowFault> {
     let (count, rest) = first(parts);
     let (head, rest) = first(rest);

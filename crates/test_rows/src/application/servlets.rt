@@ -5,7 +5,7 @@ use crate::row::first;
 use std::alloc::{AllocError, Global};
 use sv_mapping::{MappingFault, Mappings, Pattern};
 
-/// The number of a path's servlet, and between angle brackets its servlet path and behind a bar its path info.
+/// The number of a path's servlet, and between angle brackets its servlet path and after a bar its path info.
 pub fn servlet_text(alloc: Global, mappings: &Mappings, path: &str) -> Result<String, AllocError> {
     let Some(found) = mappings.find(path) else {
         return String::from_str(alloc, "none");

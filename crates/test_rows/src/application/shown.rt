@@ -37,7 +37,7 @@ pub fn cluster_text(alloc: Global, cluster: &Cluster) -> Result<String, AllocErr
     }
 }
 
-/// Adds a word, and each name behind a blank.
+/// Adds a word, and each name after a blank.
 fn push_names(text: &mut String, word: &str, names: &[String]) -> Result<(), AllocError> {
     text.push_str(word)?;
     for name in names {
@@ -144,7 +144,7 @@ fn push_context(alloc: Global, text: &mut String, context: &Context) -> Result<(
     push_files(text, &context.files)
 }
 
-/// Each context, behind a semicolon from the second one on.
+/// Each context, after a semicolon from the second one on.
 pub fn contexts_text(alloc: Global, contexts: &[Context]) -> Result<String, AllocError> {
     let mut text = String::new(alloc);
     for context in contexts {

@@ -15,7 +15,7 @@ fn piece_of(part: &str) -> Result<Piece<'_>, RowFault> {
     }
 }
 
-/// The page of the pieces, one behind the other.
+/// The page of the pieces, one after the other.
 pub fn page_of(alloc: Global, parts: &str) -> Result<Page, RowFault> {
     let mut page = Page::new(alloc);
     for part in parts.split('|') {

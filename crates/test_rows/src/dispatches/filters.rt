@@ -93,7 +93,7 @@ fn furnish_showing(
     add_filter(alloc, stage, requests, filter_of(alloc, "<a", "a>", two))
 }
 
-/// What a filter sets is seen behind it.
+/// What a filter sets is seen after it.
 pub fn carried(alloc: Global, parts: &str) -> Result<String, RowFault> {
     let (path, values) = first(parts);
     let (one, two) = first(values);

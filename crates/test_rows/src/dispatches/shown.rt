@@ -1,6 +1,6 @@
 //! What a dispatch shows of the request (Jakarta Servlet 6.0, sections 9.3.1 and 9.4.2).
 //!
-//! The parts of `shown` are the path of the request, and what the servlet `/s` writes: `uri`, or an attribute's name behind
+//! The parts of `shown` are the path of the request, and what the servlet `/s` writes: `uri`, or an attribute's name after
 //! `jakarta.servlet.`.
 
 ghost use Rattle.test_rows.specs.Staged.{IsStaged};

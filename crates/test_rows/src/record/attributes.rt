@@ -7,7 +7,7 @@ use crate::row::{first, number};
 use std::alloc::{AllocError, Global};
 use sv_model::Record;
 
-/// A record behind its version, up to the count of its session's attributes.
+/// A record after its version, up to the count of its session's attributes.
 const TAKEN: &str = "05 00 0000000000000001 0000000000000002 03 \
     00000000000000000000000000000001 00 00000000000003e8 00000000000003e8 00000708 01";
 

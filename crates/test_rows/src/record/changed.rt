@@ -46,7 +46,7 @@ fn values_read(alloc: Global, bytes: &[u8], at: usize) -> Result<u64, RowFault> 
     Ok(read)
 }
 
-/// The numbers of values that are read at places one behind the other: one number where they are all the same.
+/// The numbers of values that are read at places one after the other: one number where they are all the same.
 fn numbers_text(
     alloc: Global,
     bytes: &[u8],

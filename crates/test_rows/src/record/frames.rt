@@ -82,14 +82,14 @@ fn cut_of(alloc: Global, bytes: &[u8]) -> Option<usize> {
     }
 }
 
-/// What is told of bytes with the first two of another frame behind them.
+/// What is told of bytes with the first two of another frame after them.
 fn told_with_more(alloc: Global, bytes: &[u8]) -> Result<String, AllocError> {
     let mut more = Vec::from_slice(alloc, bytes)?;
     more.extend_from_slice(&[0xe1, 0x00])?;
     told(alloc, &more, bytes.len(), bytes)
 }
 
-/// The frame that bytes are: the same with more behind it, and none before its end.
+/// The frame that bytes are: the same with more after it, and none before its end.
 fn told_each_way(alloc: Global, bytes: &[u8]) -> Result<String, AllocError> {
     let text = told(alloc, bytes, bytes.len(), bytes)?;
     let behind = told_with_more(alloc, bytes)?;

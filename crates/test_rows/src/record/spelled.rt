@@ -115,7 +115,7 @@ fn told<S: Spelled>(alloc: Global, bytes: &[u8], spelled: &[u8]) -> Result<Strin
     }
 }
 
-/// Whether a byte behind what is read is refused.
+/// Whether a byte after what is read is refused.
 fn is_refused_longer<S: Spelled>(alloc: Global, bytes: &[u8]) -> Result<bool, AllocError> {
     let more = longer(alloc, bytes)?;
     Ok(

@@ -14,7 +14,7 @@ use std::alloc::{AllocError, Global};
 use sv_servlet::{Before, Call, Filter, InitFault, Phase, Reply, RequestAttributes};
 use sv_session::SessionEdit;
 
-/// Stops each request, and empties the body behind it.
+/// Stops each request, and empties the body after it.
 #[derive(Drop)]
 struct Emptying {
     phase: Phase,

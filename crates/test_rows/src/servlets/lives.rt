@@ -181,7 +181,7 @@ fn lived(alloc: Global, notes: &Notes, list: &mut String) -> Result<(), RowFault
     Ok(())
 }
 
-/// Behind what was answered, what was noted.
+/// After what was answered, what was noted.
 fn noted(alloc: Global, text: &str, notes: &Notes) -> Result<String, RowFault> {
     match notes.try_borrow() {
         Ok(notes) => {

@@ -43,7 +43,7 @@ pub fn parameters(alloc: Global, parts: &str) -> Result<String, RowFault> {
     Ok(told_twice(alloc, &bytes)?)
 }
 
-/// The parameters of a query and of the form behind it.
+/// The parameters of a query and of the form after it.
 pub fn both(alloc: Global, parts: &str) -> Result<String, RowFault> {
     let (query, form) = first(parts);
     let query = bytes_of(alloc, query)?;

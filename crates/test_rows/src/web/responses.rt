@@ -27,7 +27,7 @@ fn hello(
     })
 }
 
-/// The text that is written of a response, behind bytes that are there already.
+/// The text that is written of a response, after bytes that are there already.
 fn written(alloc: Global, response: &Response, now: u64) -> Result<String, AllocError> {
     let mut out = Vec::from_slice(alloc, b"before ")?;
     write_response(alloc, response, now, &mut out)?;

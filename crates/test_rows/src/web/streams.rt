@@ -74,7 +74,7 @@ pub fn stream(alloc: Global, parts: &str) -> Result<String, RowFault> {
     Ok(told_each_way(alloc, &stream)?)
 }
 
-/// The fields that frame a body, and the body, behind `POST / HTTP/1.1` and a Host field.
+/// The fields that frame a body, and the body, after `POST / HTTP/1.1` and a Host field.
 pub fn body(alloc: Global, parts: &str) -> Result<String, RowFault> {
     let mut stream = Vec::from_slice(alloc, HEAD)?;
     push_bytes(&mut stream, parts)?;

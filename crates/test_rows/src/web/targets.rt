@@ -7,7 +7,7 @@ use http::Method;
 use std::alloc::{AllocError, Global};
 use sv_target::{Target, TargetFault};
 
-/// The path of a target and behind ` ?` its query.
+/// The path of a target and after ` ?` its query.
 fn target_text(alloc: Global, target: &Target) -> Result<String, AllocError> {
     let mut text = shown(alloc, target.path.as_str().as_bytes())?;
     if let Some(query) = &target.query {

@@ -7,7 +7,7 @@ use sv_message::{RawRequest, ReadFault, RequestReader};
 /// More calls of `next` than any piece of a row has requests.
 const CALLS: usize = 1_000;
 
-/// Adds a request as its method, its target, what becomes of the connection, and its body, each with a space behind it.
+/// Adds a request as its method, its target, what becomes of the connection, and its body, each with a space after it.
 fn tell_request(alloc: Global, told: &mut String, raw: &RawRequest) -> Result<(), AllocError> {
     let body = shown(alloc, raw.body.as_slice())?;
     told.push_str(raw.method.as_str())?;

@@ -5,7 +5,7 @@ use Rattle.sv_host.specs.Parked.{clients_of}
 use Rattle.sv_host.specs.Serving.{HasGathered}
 use Rattle.sv_host.proofs.gathering.gather_door.Given as goal
 
--- no group has been given to the node meanwhile, what was gathered stands behind what was there, and has its clients
+-- no group has been given to the node meanwhile, what was gathered stands after what was there, and has its clients
 abbrev pub invariant-loop : goal.invariant-loop
 invariant-loop l = record {
   gathered : HasGathered l.initial.group l.group;

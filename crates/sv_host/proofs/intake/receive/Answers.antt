@@ -4,7 +4,7 @@ use Rattle.sv_net.specs.Bytes.{IsQuiet}
 use Rattle.sv_host.specs.Serve.{IsSilent}
 use Rattle.sv_host.proofs.intake.receive.Goals as goal
 
--- what came behind the packet is still to be heard
+-- what came after the packet is still to be heard
 pub returns-clause-left : goal.returns-clause-left
 returns-clause-left c = λ none.
     put_holds (λ held. IsQuiet c.args.from.socket held.socket × IsSilent c.args.rest.items held.state) c.args.from.place _ c.args.server.now.connections c.begin.new.self

@@ -232,7 +232,7 @@ pub(in crate::connection) fn a_fault_in_the_second_cut_anywhere(
     is_told(rt, alloc, &stream, cut, told, &written)
 }
 
-/// Whether the input that ends behind these bytes is told so, and no more than this is written; and whether it closes.
+/// Whether the input that ends after these bytes is told so, and no more than this is written; and whether it closes.
 fn ends_so(rt: &impl Abort, alloc: Global, sent: &[u8], told: &str, written: &str) -> bool {
     let mut caller = Caller::new(alloc);
     caller.receive(rt, sent);
@@ -293,7 +293,7 @@ fn is_refused(rt: &impl Abort, alloc: Global, sent: &str, told: &str) -> bool {
     caller.told.as_str() == told
 }
 
-/// A fault of the method and the target is met once the request is whole, and nothing is read behind it.
+/// A fault of the method and the target is met once the request is whole, and nothing is read after it.
 pub(in crate::connection) fn a_faulty_target(rt: &impl Abort, alloc: Global, input: usize) -> bool {
     match FAULTY_TARGETS.get(input) {
         Some((sent, told)) => is_refused(rt, alloc, sent, told),

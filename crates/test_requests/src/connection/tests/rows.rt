@@ -207,7 +207,7 @@ pub(super) static ANSWERS: [Row; 19] = [
     },
 ];
 
-/// Each page closes its connection, and what stands behind the request is left.
+/// Each page closes its connection, and what stands after the request is left.
 pub(super) static REFUSALS: [Row; 9] = [
     Row {
         name: "no head",

@@ -8,7 +8,7 @@ use std::io::{ErrorKind, Read, Write};
 #[derive(Drop)]
 pub(super) struct Drip<'a> {
     bytes: &'a [u8],
-    /// Where it begins again behind the last byte.
+    /// Where it begins again after the last byte.
     pub(super) again_at: Option<usize>,
     at: usize,
     pub(super) calls: usize,

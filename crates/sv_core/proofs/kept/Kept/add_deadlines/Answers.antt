@@ -11,7 +11,7 @@ use Rattle.sv_model.specs.Time.{is_late, deadlines}
 use Rattle.sv_core.proofs.kept.Kept.add_deadlines.Goals.{then-is_late+in_ok-push, else-is_late}
 use Rattle.sv_core.proofs.kept.Kept.add_deadlines.Goals as goal
 
--- those of one list behind those of another
+-- those of one list after those of another
 both : (set : Setting) (now : ℕ) (a b : List Parked) → deadlines set now (a ++ b) ≡ deadlines set now a ++ deadlines set now b
 both set now a b = ap (map (λ p. Refuse p.token Deadline)) (filter-append (is_late set now) a b) ∙ map-append (λ p. Refuse p.token Deadline) (filter (is_late set now) a) (filter (is_late set now) b)
 

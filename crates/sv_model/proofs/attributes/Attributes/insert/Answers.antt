@@ -8,7 +8,7 @@ use Rattle.sv_model.specs.Attributes.{Attribute, attributes_size, entries_of, va
 use Rattle.sv_model.proofs.AttributesLemmas.{Entries, looked_up, inserted, rises, size_replaced, size_added, size_removed}
 use Rattle.sv_model.proofs.attributes.Attributes.insert.Goals as goal
 
--- the map before and behind the insertion, the attributes that it stands for, and what was handed in
+-- the map before and after the insertion, the attributes that it stands for, and what was handed in
 module _ (es more : Entries) (seen : List Attribute) (k : String Global) (v : Vec ℕ Global) (name value : List ℕ) (size : ℕ)
     (view : entries_of es ≡ seen) (text : string_bytes k ≡ name) (bytes : v.items ≡ value) (total : size ≡ attributes_size (entries_of es)) where
   old_value : (old : Option (Vec ℕ Global)) → old ≡ lookup (is_at (string_cmp k)) es → option_map (λ w. w.items) old ≡ value_of seen name

@@ -4,7 +4,7 @@ use Rattle.sv_net.specs.Bytes.{went_of}
 use Rattle.sv_net.specs.Sending.{SendsBehind}
 use Rattle.sv_net.proofs.connections.Connections.send_frame.Goals as goal
 
--- behind what had left by the link
+-- after what had left by the link
 pub returns-in-Some-clause-sends : goal.returns-in-Some-clause-sends
 returns-in-Some-clause-sends c =
     let link = c.in-Some.link in
