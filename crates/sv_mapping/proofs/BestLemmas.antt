@@ -1,23 +1,15 @@
 -- The best pattern: from the answers of the four rules, and among a list of patterns.
-use Rattle.std.proofs.Common.{◌≡◌, ℕ, ◌+◌, ◌<◌, ◌≤◌, ◌⊎◌, ◌||◌, Bool, true, false, cond, List, [], ◌∷◌, ◌++◌, length, Option, Some, None, IsTrue, IsNone, IfSome, MatchOption, codes, length-append, refl, sym, ap, ◌∙◌, subst, inl, inr, arith}
-use Rattle.std.specs.Option.{is_some, option_map, option_and_then}
-use Rattle.std.specs.List.{list_any}
-use Rattle.std.specs.Ordering.{is_eq, eq_by_cmp}
-use Rattle.std.specs.Cmp.{tied_itself}
-use Rattle.std.specs.Cmp.Lexicographic.{nat_list_cmp_total}
-use Rattle.std.specs.FinMap.{get, contains_key, keys, contains_key-keys}
-use Rattle.std.specs.declared.cmp.Ordering.{Ordering}
-use Rattle.std.specs.declared.cmp.Ordering.TheVariants.{Less, Equal, Greater}
-use Rattle.std.proofs.lemmas.Option.{none-some, same_Some}
-use Rattle.std.proofs.lemmas.Bool.{false≢true, cases_lt}
-use Rattle.std.proofs.lemmas.Bool.Decides.{nat_tests}
-use Rattle.sv_mapping.specs.Path.{Text}
-use Rattle.sv_mapping.specs.Pattern.{prefix_of, matches, rule_of, precedes}
-use Rattle.sv_mapping.specs.Search.{text_cmp}
-use Rattle.sv_mapping.specs.ServletMatch.{mapped_by, shown}
-use Rattle.sv_mapping.specs.Mappings.{Table, IsBest, HasNoMatch, better, best_pattern, mapped, IsBestMatch, IsMappedByBest, IsBestByRule, AnswersByRule}
-use Rattle.sv_mapping.specs.declared.servlet_match.Match.{Match}
-use Rattle.sv_mapping.specs.declared.pattern.PatternForm.TheVariants.{Prefix}
+use Rattle.sv_mapping.proofs.Prelude.{◌≡◌, ℕ, ◌+◌, ◌<◌, ◌≤◌, ◌⊎◌, ◌||◌, Bool, true, false, cond, List, [], ◌∷◌, ◌++◌, length, Option, Some, None, IsTrue}
+use Rattle.sv_mapping.proofs.Prelude.{IsNone, IfSome, MatchOption, codes, length-append, refl, sym, ap, ◌∙◌, subst, inl, inr, arith, is_some, option_map}
+use Rattle.sv_mapping.proofs.Prelude.{list_any, is_eq, tied_itself, nat_list_cmp_total, get, contains_key, Ordering, Less, Equal, Greater, none-some, same_Some}
+use Rattle.sv_mapping.proofs.Prelude.{false≢true, cases_lt, nat_tests, Text, prefix_of, matches, rule_of, text_cmp, mapped_by, shown, Table, IsBestByRule}
+use Rattle.sv_mapping.proofs.Prelude.{AnswersByRule, Match, Prefix}
+use Rattle.std.specs.Option.{option_and_then}
+use Rattle.std.specs.Ordering.{eq_by_cmp}
+use Rattle.std.specs.FinMap.{keys, contains_key-keys}
+use Rattle.std.proofs.lemmas.Bool.{or_right, or_cases}
+use Rattle.sv_mapping.specs.Pattern.{precedes}
+use Rattle.sv_mapping.specs.Mappings.{IsBest, HasNoMatch, better, best_pattern, mapped, IsBestMatch, IsMappedByBest}
 use Rattle.sv_mapping.proofs.EntryLemmas.{same_text}
 use Rattle.sv_mapping.proofs.PathLemmas.{IsFront-from_test, IsFront-unique}
 use Rattle.sv_mapping.proofs.PatternLemmas.{prefix_text, extension_text, default_text, rule_of-bounds, prefix_by_rule, extension_by_rule, default_by_rule, matches-form}
@@ -96,16 +88,8 @@ equal_test Greater e = cc
 has_itself : (text : Text) (texts : List Text) → has text (text ∷ texts) ≡ true
 has_itself text texts = ap (λ r. is_eq r || has text texts) (tied_itself nat_list_cmp_total text)
 
-or_right : (a b : Bool) → b ≡ true → (a || b) ≡ true
-or_right true b e = refl
-or_right false b e = e
-
-either : (a b : Bool) → (a || b) ≡ true → (a ≡ true) ⊎ (b ≡ true)
-either true b e = inl refl
-either false b e = inr e
-
 has_cases : (text first : Text) (texts : List Text) → has text (first ∷ texts) ≡ true → (text ≡ first) ⊎ (has text texts ≡ true)
-has_cases text first texts h = elim (either _ _ h) [
+has_cases text first texts h = elim (or_cases _ _ h) [
   | inl tied ↦ inl (same_text text first (equal_test _ tied))
   | inr later ↦ inr later
 ]

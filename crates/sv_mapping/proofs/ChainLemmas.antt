@@ -1,13 +1,11 @@
 -- Filters that are added one after another are the chain.
-use Rattle.std.proofs.Common.{◌≡◌, ℕ, ◌&&◌, ◌||◌, Bool, true, false, not, cond, eqb, List, [], ◌∷◌, ◌++◌, map, filter, fold, Option, refl, sym, ap, ◌∙◌, arith, append_assoc, append-nil}
-use Rattle.std.specs.List.{list_any}
+use Rattle.sv_mapping.proofs.Prelude.{◌≡◌, ℕ, ◌&&◌, ◌||◌, Bool, true, false, not, cond, eqb, List, [], ◌∷◌, ◌++◌, map, Option, refl, sym, ap, ◌∙◌, arith}
+use Rattle.sv_mapping.proofs.Prelude.{append_assoc, append-nil, list_any, Decides-eqb, nat_tests, Text, carries, matches_path, names_servlet, added_where}
+use Rattle.std.proofs.Common.{filter, fold}
 use Rattle.std.proofs.lemmas.List.Folds.{list_any-append}
 use Rattle.std.proofs.lemmas.List.Sums.{fold-append}
-use Rattle.std.proofs.lemmas.Bool.Decides.{Decides-eqb, nat_tests}
-use Rattle.sv_mapping.specs.Path.{Text}
-use Rattle.sv_mapping.specs.Dispatcher.{carries}
-use Rattle.sv_mapping.specs.Filter.{matches_path, names_servlet, filters_where, without_repeats, chain}
-use Rattle.sv_mapping.specs.Chain.{added, added_where}
+use Rattle.sv_mapping.specs.Filter.{filters_where, without_repeats, chain}
+use Rattle.sv_mapping.specs.Chain.{added}
 use Rattle.sv_mapping.specs.declared.dispatcher.Dispatcher.{Dispatcher}
 use Rattle.sv_mapping.specs.declared.filter.FilterMapping.{FilterMapping}
 

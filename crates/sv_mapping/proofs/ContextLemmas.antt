@@ -1,12 +1,8 @@
 -- The context that is chosen, from the last context path to the first.
-use Rattle.std.proofs.Common.{◌≡◌, ◌↔◌, ℕ, zero, suc, ◌+◌, ◌<◌, ◌≤◌, ◌&&◌, true, false, cond, leb, List, [], ◌∷◌, length, drop, Option, Some, None, IsTrue, IsNone, IfSome, MatchOption, refl, sym, ap, ◌∙◌, subst, arith}
-use Rattle.std.specs.Option.{option_map}
-use Rattle.std.proofs.lemmas.List.{get_or-drop, drop_more}
-use Rattle.std.proofs.lemmas.Bool.{false≢true}
-use Rattle.std.proofs.lemmas.Bool.Decides.{nat_tests}
-use Rattle.sv_mapping.specs.Path.{Text, is_at_or_below}
-use Rattle.sv_mapping.proofs.TestLemmas.{both_true}
-use Rattle.sv_mapping.specs.Context.{context_at, IsChosen, HasNoContext, is_as_long, chosen_of, chosen_context}
+use Rattle.sv_mapping.proofs.Prelude.{◌≡◌, ◌↔◌, ℕ, zero, suc, ◌+◌, ◌<◌, ◌≤◌, ◌&&◌, true, false, cond, leb, List, [], ◌∷◌, length, drop, Option, Some, None}
+use Rattle.sv_mapping.proofs.Prelude.{IsTrue, IsNone, IfSome, MatchOption, refl, sym, ap, ◌∙◌, subst, arith, option_map, get_or-drop, drop_more, false≢true}
+use Rattle.sv_mapping.proofs.Prelude.{and_parts, nat_tests, Text, is_at_or_below, chosen_context}
+use Rattle.sv_mapping.specs.Context.{context_at, IsChosen, HasNoContext, is_as_long, chosen_of}
 
 module _ (path : Text) where
   module _ (c : Text) (cs : List Text) where
@@ -50,7 +46,7 @@ module _ (path : Text) where
         ] refl
     sound_of (Some later) chosen =
         elim (is_at_or_below c path && leb (length (context_at cs later)) (length c)) as (λ b. (is_at_or_below c path && leb (length (context_at cs later)) (length c)) ≡ b → MatchOption (cond b (Some 0) (Some (suc later))) (HasNoContext (c ∷ cs) path) (IsChosen (c ∷ cs) path)) [
-          | true ↦ λ e. let tests = both_true _ _ e in as_long later tests.0 (grind (arith, nat_tests, tests.1)) chosen
+          | true ↦ λ e. let tests = and_parts _ _ e in as_long later tests.0 (grind (arith, nat_tests, tests.1)) chosen
           | false ↦ λ e. stays later e chosen
         ] refl
 

@@ -1,19 +1,15 @@
 -- Entries that rise by their texts: what a search finds, and an entry that goes in at its place.
-use Rattle.std.proofs.Common.{◌≡◌, ℕ, zero, suc, ◌<◌, true, cond, List, [], ◌∷◌, length, get_or, Some, None, Result, Ok, Err, IfOk, IfErr, refl, sym, ap, ◌∙◌, add-one, arith}
-use Rattle.std.specs.List.{insert}
+use Rattle.sv_mapping.proofs.Prelude.{◌≡◌, ℕ, zero, suc, ◌<◌, true, cond, List, [], ◌∷◌, length, get_or, Some, None, refl, sym, ap, ◌∙◌, arith, and_parts}
+use Rattle.sv_mapping.proofs.Prelude.{insert, is_eq, tied_itself, nat_list_cmp_total, Ordering, Less, Equal, Greater, find, is_sorted, from_sorted}
+use Rattle.sv_mapping.proofs.Prelude.{entries-from_sorted, Text, text_cmp, IsPlaceOf, IsGapFor}
+use Rattle.std.proofs.Common.{Result, Ok, Err, IfOk, IfErr, add-one}
 use Rattle.std.specs.List.Sorted.{IsSearchInRange, IsBinarySearchResult, IsNonDecreasingBy}
-use Rattle.std.specs.Ordering.{is_eq, is_lt, ordering_index, ordering_reverse}
-use Rattle.std.specs.Cmp.{tied_itself}
-use Rattle.std.specs.Cmp.Lexicographic.{nat_list_cmp_total}
-use Rattle.std.specs.declared.cmp.Ordering.{Ordering}
-use Rattle.std.specs.declared.cmp.Ordering.TheVariants.{Less, Equal, Greater}
-use Rattle.std.specs.FinMap.{find, put, is_sorted, from_sorted, entries-from_sorted, entries-insert, same_entries_map, slice_cmp-IsAntisymmetric, nat_cmp-IsAntisymmetric}
+use Rattle.std.specs.Ordering.{is_lt, ordering_index, ordering_reverse}
+use Rattle.std.specs.FinMap.{put, entries-insert, same_entries_map, slice_cmp-IsAntisymmetric, nat_cmp-IsAntisymmetric}
 use Rattle.std.specs.FinMap as map
 use Rattle.std.specs.FinMap.Entries.{below_all, by_order, is_sorted-put}
 use Rattle.std.proofs.lemmas.List.Sorted.{searchable_from_sorted}
-use Rattle.sv_mapping.specs.Path.{Text}
-use Rattle.sv_mapping.specs.Search.{text_cmp, IsPlaceOf, IsGapFor}
-use Rattle.sv_mapping.proofs.TestLemmas.{both_true, true_test, test_true}
+use Rattle.sv_mapping.proofs.TestLemmas.{true_test, test_true}
 
 -- a text and a number
 abbrev Entry : Type 0
@@ -33,13 +29,13 @@ same_text = slice_cmp-IsAntisymmetric nat_cmp-IsAntisymmetric
 -- a text below all entries is less than each
 below_each : (x : Text) (es : List Entry) → below_all text_cmp x es ≡ true → (k : ℕ) (d : Entry) → k < length es → text_cmp x (get_or es k d).0 ≡ Less
 below_each x [] h k d l = absurd (omega arith)
-below_each x (e ∷ es) h zero d l = less_test _ (both_true _ _ h).0
-below_each x (e ∷ es) h (suc k) d l = below_each x es (both_true _ _ h).1 k d (omega arith)
+below_each x (e ∷ es) h zero d l = less_test _ (and_parts _ _ h).0
+below_each x (e ∷ es) h (suc k) d l = below_each x es (and_parts _ _ h).1 k d (omega arith)
 
 rises : (es : List Entry) → is_sorted text_cmp es ≡ true → (k : ℕ) (d : Entry) → suc k < length es → text_cmp (get_or es k d).0 (get_or es (suc k) d).0 ≡ Less
 rises [] h k d l = absurd (omega arith)
-rises (e ∷ es) h zero d l = below_each e.0 es (both_true _ _ h).0 0 d (omega arith)
-rises (e ∷ es) h (suc k) d l = rises es (both_true _ _ h).1 k d (omega arith)
+rises (e ∷ es) h zero d l = below_each e.0 es (and_parts _ _ h).0 0 d (omega arith)
+rises (e ∷ es) h (suc k) d l = rises es (and_parts _ _ h).1 k d (omega arith)
 
 -- the comparisons with a text rise along the entries, as a binary search asks
 searchable : (es : List Entry) → is_sorted text_cmp es ≡ true → (x : Text) → IsNonDecreasingBy (λ (e : Entry). ordering_index (text_cmp e.0 x)) es
@@ -61,8 +57,8 @@ module _ (x : Text) where
   find-at (e ∷ es) h zero d at = ap (λ r. cond (is_eq r) (Some e.1) (find text_cmp x es)) (ap (text_cmp x) (at.same e) ∙ tied_itself nat_list_cmp_total x)
   find-at (e ∷ es) h (suc k) d at =
       let later : IsPlaceOf es x k = record { within = omega (arith, at.within); same = at.same } in
-      let above : text_cmp x e.0 ≡ Greater = ap (λ y. text_cmp y e.0) (sym (at.same d)) ∙ turned e.0 (get_or es k d).0 Less (below_each e.0 es (both_true _ _ h).0 k d (omega (arith, at.within))) in
-      ap (λ r. cond (is_eq r) (Some e.1) (find text_cmp x es)) above ∙ find-at es (both_true _ _ h).1 k d later
+      let above : text_cmp x e.0 ≡ Greater = ap (λ y. text_cmp y e.0) (sym (at.same d)) ∙ turned e.0 (get_or es k d).0 Less (below_each e.0 es (and_parts _ _ h).0 k d (omega (arith, at.within))) in
+      ap (λ r. cond (is_eq r) (Some e.1) (find text_cmp x es)) above ∙ find-at es (and_parts _ _ h).1 k d later
 
   gap_behind : (e : Entry) (es : List Entry) (k : ℕ) → IsGapFor (e ∷ es) x (suc k) → IsGapFor es x k
   gap_behind e es k gap = record {

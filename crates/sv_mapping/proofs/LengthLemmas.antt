@@ -1,30 +1,24 @@
 -- Entries whose texts are short, and texts that are too long to be among them.
-use Rattle.std.proofs.Common.{◌≡◌, ℕ, zero, suc, ◌<◌, Bool, true, false, nat_le, List, [], ◌∷◌, length, None, refl, ◌∙◌, subst, arith}
-use Rattle.std.specs.List.{insert, list_all}
-use Rattle.std.specs.Str.{bytes_eq}
-use Rattle.std.specs.Ordering.{is_eq}
-use Rattle.std.specs.FinMap.{find, get, get-from_sorted, from_sorted, is_sorted}
-use Rattle.std.proofs.lemmas.Bool.{false_from_ne_true}
-use Rattle.std.proofs.lemmas.Bool.Decides.{nat_tests}
+use Rattle.sv_mapping.proofs.Prelude.{◌≡◌, ℕ, zero, suc, ◌<◌, Bool, true, false, List, [], ◌∷◌, length, None, refl, ◌∙◌, subst, arith, insert, list_all}
+use Rattle.sv_mapping.proofs.Prelude.{bytes_eq, is_eq, find, get, get-from_sorted, from_sorted, is_sorted, false_from_ne_true, and_parts, nat_tests}
+use Rattle.sv_mapping.proofs.Prelude.{bytes_eq-Decides, Text, is_pattern, text_cmp}
+use Rattle.std.proofs.Common.{nat_le}
 use Rattle.std.proofs.lemmas.Map.Text.{is_eq-slice_cmp}
-use Rattle.std.proofs.lemmas.Slice.Eq.{bytes_eq-Decides}
-use Rattle.sv_mapping.specs.Path.{Text}
-use Rattle.sv_mapping.specs.Pattern.{is_pattern}
-use Rattle.sv_mapping.specs.Search.{text_cmp, are_short}
-use Rattle.sv_mapping.proofs.TestLemmas.{both_true, test_true}
+use Rattle.sv_mapping.specs.Search.{are_short}
+use Rattle.sv_mapping.proofs.TestLemmas.{test_true}
 
 all_insert : {A : Type 0} (p : A → Bool) (xs : List A) (i : ℕ) (x : A) → list_all p xs ≡ true → p x ≡ true → list_all p (insert xs i x) ≡ true
 all_insert p [] zero x a h = rw h
 all_insert p [] (suc i) x a h = rw h
 all_insert p (y ∷ ys) zero x a h = rw (h, a)
 all_insert p (y ∷ ys) (suc i) x a h =
-    let (here, more) = both_true (p y) (list_all p ys) a in
+    let (here, more) = and_parts (p y) (list_all p ys) a in
     rw (here, all_insert p ys i x more h)
 
 -- a pattern is short
 pub insert_short : (es : List (Text × ℕ)) (place : ℕ) (x : Text) (n : ℕ) → are_short es ≡ true → is_pattern x ≡ true → are_short (insert es place (x, n)) ≡ true
 unfolding is_pattern
-insert_short es place x n short pattern = all_insert (λ (e : Text × ℕ). nat_le (length e.0) 256) es place (x, n) short (both_true _ _ pattern).0
+insert_short es place x n short pattern = all_insert (λ (e : Text × ℕ). nat_le (length e.0) 256) es place (x, n) short (and_parts _ _ pattern).0
 
 other_text : (x y : Text) → 256 < length x → nat_le (length y) 256 ≡ true → is_eq (text_cmp x y) ≡ false
 other_text x y long short = is_eq-slice_cmp x y ∙ false_from_ne_true (bytes_eq x y) (λ same.
@@ -35,7 +29,7 @@ other_text x y long short = is_eq-slice_cmp x y ∙ false_from_ne_true (bytes_eq
 find_long : (x : Text) (es : List (Text × ℕ)) → 256 < length x → are_short es ≡ true → find text_cmp x es ≡ None
 find_long x [] long short = refl
 find_long x (e ∷ es) long short =
-    let (here, more) = both_true (nat_le (length e.0) 256) (are_short es) short in
+    let (here, more) = and_parts (nat_le (length e.0) 256) (are_short es) short in
     rw (other_text x e.0 long here, find_long x es long more)
 
 -- a table has no text that is longer than a pattern

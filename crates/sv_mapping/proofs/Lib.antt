@@ -1,3 +1,4 @@
+mod Prelude
 pub mod TestLemmas
 pub mod PathLemmas
 pub mod PatternLemmas

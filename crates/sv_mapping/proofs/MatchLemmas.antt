@@ -1,21 +1,11 @@
 -- The match of the best pattern by each rule but the prefixes', from what the table has at a text.
-use Rattle.std.proofs.Common.{◌≡◌, ◌≢◌, ℕ, ◌⊎◌, true, false, [], ◌++◌, length, take, get_or, Option, Some, None, refl, sym, ap, ◌∙◌, inl, inr, codes, arith}
-use Rattle.std.specs.Option.{is_some, option_map_or}
-use Rattle.std.proofs.lemmas.Option.{none-some, same_Some}
-use Rattle.std.specs.Str.{bytes_eq}
-use Rattle.std.specs.FinMap.{get, contains_key}
-use Rattle.std.proofs.lemmas.List.{take_all}
-use Rattle.std.proofs.lemmas.Bool.{false≢true}
-use Rattle.std.proofs.lemmas.Str.{IsCharBoundary-end, IsCharBoundary-before_ascii}
-use Rattle.std.proofs.lemmas.Slice.Eq.{bytes_eq-Decides}
-use Rattle.sv_mapping.specs.Path.{Text, extension_of}
-use Rattle.sv_mapping.specs.Pattern.{form_of, matches, rule_of, suffix_of}
-use Rattle.sv_mapping.specs.ServletMatch.{servlet_path_by, path_info_by, mapped_by, shown}
-use Rattle.sv_mapping.specs.Mappings.{Table, IsMatchOf, IsBestByRule, AnswersByRule}
-use Rattle.sv_mapping.specs.declared.servlet_match.Match.{Match}
-use Rattle.sv_mapping.specs.declared.pattern.PatternForm.{PatternForm}
-use Rattle.sv_mapping.specs.declared.pattern.PatternForm.TheVariants.{Exact, ContextRoot, Extension, Default}
-use Rattle.sv_mapping.proofs.TestLemmas.{false_test}
+use Rattle.sv_mapping.proofs.Prelude.{◌≡◌, ◌≢◌, ℕ, ◌⊎◌, true, false, [], ◌++◌, length, take, get_or, Option, Some, None, refl, sym, ap, ◌∙◌, inl, inr, codes}
+use Rattle.sv_mapping.proofs.Prelude.{arith, is_some, none-some, same_Some, bytes_eq, get, contains_key, take_all, false≢true, false_from_ne_true}
+use Rattle.sv_mapping.proofs.Prelude.{IsCharBoundary-end, IsCharBoundary-before_ascii, bytes_eq-Decides, Text, extension_of, form_of, matches, rule_of}
+use Rattle.sv_mapping.proofs.Prelude.{suffix_of, servlet_path_by, path_info_by, mapped_by, shown, Table, IsBestByRule, AnswersByRule, Match, PatternForm, Exact}
+use Rattle.sv_mapping.proofs.Prelude.{ContextRoot, Extension, Default}
+use Rattle.std.specs.Option.{option_map_or}
+use Rattle.sv_mapping.specs.Mappings.{IsMatchOf}
 use Rattle.sv_mapping.proofs.PatternLemmas.{root_text, default_text, extension_text, form_of-root, form_of-default, form_of-extension, rule_of-form, exact_or_root, extension_by_rule, default_by_rule, matches-form}
 
 -- a servlet with the whole path
@@ -63,19 +53,19 @@ module _ (table : Table) where
     }
 
     pub exact_none : form_of path ≢ Exact → path ≢ codes "/" → AnswersByRule table path 1 None
-    exact_none other no_root pattern listed rule = false_test _ (λ matching. elim (exact_text pattern path matching rule) [
+    exact_none other no_root pattern listed rule = false_from_ne_true _ (λ matching. elim (exact_text pattern path matching rule) [
       | inl (form, same) ↦ other (ap form_of (sym same) ∙ form)
       | inr (empty, root) ↦ no_root root
     ])
 
     pub exact_missing : path ≢ codes "/" → get table path ≡ None → AnswersByRule table path 1 None
-    exact_missing no_root none pattern listed rule = false_test _ (λ matching. elim (exact_text pattern path matching rule) [
+    exact_missing no_root none pattern listed rule = false_from_ne_true _ (λ matching. elim (exact_text pattern path matching rule) [
       | inl (form, same) ↦ absent path none (ap (contains_key table) (sym same) ∙ listed)
       | inr (empty, root) ↦ no_root root
     ])
 
     pub root_missing : path ≡ codes "/" → get table [] ≡ None → AnswersByRule table path 1 None
-    root_missing root none pattern listed rule = false_test _ (λ matching. elim (exact_text pattern path matching rule) [
+    root_missing root none pattern listed rule = false_from_ne_true _ (λ matching. elim (exact_text pattern path matching rule) [
       | inl (form, same) ↦ not_exact pattern (same ∙ root) form
       | inr (empty, _) ↦ absent [] none (ap (contains_key table) (sym empty) ∙ listed)
     ])
@@ -118,10 +108,10 @@ module _ (table : Table) where
         extension_text pattern (extension_by_rule pattern rule) ∙ ap (λ t. codes "*." ++ t) (same_Some _ _ (sym (extension_is pattern path matching rule) ∙ some))
 
     pub extension_none : extension_of path ≡ None → AnswersByRule table path 3 None
-    extension_none none pattern listed rule = false_test _ (λ matching. none-some (suffix_of pattern) (sym none ∙ extension_is pattern path matching rule))
+    extension_none none pattern listed rule = false_from_ne_true _ (λ matching. none-some (suffix_of pattern) (sym none ∙ extension_is pattern path matching rule))
 
     pub extension_missing : (x : Text) → extension_of path ≡ Some x → get table (codes "*." ++ x) ≡ None → AnswersByRule table path 3 None
-    extension_missing x some none pattern listed rule = false_test _ (λ matching.
+    extension_missing x some none pattern listed rule = false_from_ne_true _ (λ matching.
         absent (codes "*." ++ x) none (ap (contains_key table) (sym (extension_pattern x some pattern rule matching)) ∙ listed))
 
     pub extension_found : (x : Text) (servlet : ℕ) → extension_of path ≡ Some x → get table (codes "*." ++ x) ≡ Some servlet → IsBestByRule table path 3 (whole servlet path)

@@ -1,16 +1,17 @@
 -- What lies below a path, and what stands after the last place of a byte.
-use Rattle.std.proofs.Common.{◌≡◌, ◌≢◌, ℕ, suc, ◌+◌, ◌-◌, ◌<◌, ◌≤◌, ◌||◌, ◌⊎◌, true, false, not, eqb, List, [], ◌∷◌, ◌++◌, length, get_or, take, drop, refl, sym, ap, subst, ◌∙◌, inl, inr, Decides, arith, append_assoc, append-nil, length-append}
-use Rattle.std.specs.List.{after_last, list_any, suffix_len}
-use Rattle.std.proofs.lemmas.List.{append_cancel_left, take_all, take-append-le, take-append-drop, get_or-append_right, drop_more}
-use Rattle.std.proofs.lemmas.Bool.{false≢true, cases_lt}
+use Rattle.sv_mapping.proofs.Prelude.{◌≡◌, ◌≢◌, ℕ, Some, None, suc, ◌+◌, ◌-◌, ◌<◌, ◌≤◌, ◌||◌, ◌⊎◌, true, false, not, eqb, List, [], ◌∷◌, ◌++◌, length, get_or}
+use Rattle.sv_mapping.proofs.Prelude.{take, drop, refl, sym, ap, subst, ◌∙◌, inl, inr, arith, append_assoc, append-nil, length-append, list_any, take_all}
+use Rattle.sv_mapping.proofs.Prelude.{take-append-le, drop_more, false≢true, cases_lt, IsCharBoundary-end, IsCharBoundary-before_ascii, bytes_eq-Decides}
+use Rattle.sv_mapping.proofs.Prelude.{starts_is, Decides-eqb, nat_tests, Text, is_at_or_below, stripped}
+use Rattle.std.proofs.Common.{Decides}
+use Rattle.std.specs.List.{after_last, suffix_len}
+use Rattle.std.proofs.lemmas.List.{append_cancel_left, take-append-drop, get_or-append_right}
+use Rattle.std.proofs.lemmas.Bool.{cases_eq, eq-eqb, ne_eqb}
 use Rattle.std.specs.Str.{IsCharBoundary}
-use Rattle.std.proofs.lemmas.Str.{IsCharBoundary-end, IsCharBoundary-before_ascii}
 use Rattle.std.proofs.lemmas.List.Sums.{suffix_len_is}
 use Rattle.std.proofs.lemmas.List.Folds.{list_any_none, list_any_at}
 use Rattle.std.proofs.lemmas.List.Elements.{All-from_get_or}
-use Rattle.std.proofs.lemmas.Slice.Eq.{bytes_eq-Decides, starts_is}
-use Rattle.std.proofs.lemmas.Bool.Decides.{Decides-eqb, Decides-or, same_from_decides, nat_tests}
-use Rattle.sv_mapping.specs.Path.{Text, is_at_or_below}
+use Rattle.std.proofs.lemmas.Bool.Decides.{Decides-or, same_from_decides}
 
 -- the path is the front, or goes on after it with a slash
 abbrev pub IsAtOrBelow : Text → Text → Type 0
@@ -50,6 +51,25 @@ is_at_or_below-apart front path apart =
         | inr (rest, behind) ↦ absurd (apart (47 ∷ rest) behind)
       ],
     )
+
+-- what is stripped is the front of the text
+pub stripped-rest : (front text rest : Text) → stripped front text ≡ Some rest → text ≡ front ++ rest
+stripped-rest [] text rest is = cc
+stripped-rest (c ∷ front) [] rest is = cc
+stripped-rest (c ∷ front) (d ∷ text) rest is =
+    elim (cases_eq c d) [
+      | inl same ↦ let more = stripped-rest front text rest (rw (eq-eqb c d same) at is) in cc
+      | inr other ↦ let none = rw (ne_eqb c d other) at is in cc
+    ]
+
+-- and what isn't stripped has another
+pub stripped-none : (front text : Text) → stripped front text ≡ None → (rest : Text) → text ≢ front ++ rest
+stripped-none [] text none rest is = cc
+stripped-none (c ∷ front) [] none rest is = cc
+stripped-none (c ∷ front) (d ∷ text) none rest is =
+    let same : c ≡ d = cc in
+    let more : text ≡ front ++ rest = cc in
+    stripped-none front text (rw (eq-eqb c d same) at none) rest more
 
 -- the front, by places of the path
 pub record IsFront (front path : Text) : Type 0 where

@@ -1,16 +1,11 @@
 -- What the form of a pattern says of its text, and the texts of a form.
-use Rattle.std.proofs.Common.{◌≡◌, ◌+◌, ◌-◌, ◌<◌, ◌≤◌, ◌&&◌, ◌⊎◌, Bool, true, false, cond, eqb, [], ◌∷◌, ◌++◌, length, get_or, drop, take, refl, sym, ap, ◌∙◌, inl, inr, arith, length-append, codes}
-use Rattle.std.specs.List.{starts_with, ends_with}
-use Rattle.std.specs.Str.{bytes_eq}
-use Rattle.std.proofs.lemmas.List.{get_or-drop, take_all, take-append-le}
+use Rattle.sv_mapping.proofs.Prelude.{◌≡◌, ◌+◌, ◌-◌, ◌<◌, ◌≤◌, ◌&&◌, ◌⊎◌, Bool, true, false, cond, eqb, [], ◌∷◌, ◌++◌, length, get_or, drop, take, refl, sym}
+use Rattle.sv_mapping.proofs.Prelude.{ap, ◌∙◌, inl, inr, arith, length-append, codes, and_parts, starts_with, ends_with, bytes_eq, get_or-drop, take_all}
+use Rattle.sv_mapping.proofs.Prelude.{take-append-le, bytes_eq-Decides, starts_is, Decides-eqb, Text, form_of, prefix_of, suffix_of, matches, rule_of}
+use Rattle.sv_mapping.proofs.Prelude.{PatternForm, Exact, ContextRoot, Prefix, Extension, Default}
 use Rattle.std.proofs.lemmas.List.Prefix.{end_rest}
-use Rattle.std.proofs.lemmas.Slice.Eq.{bytes_eq-Decides, starts_is, ends_is}
-use Rattle.std.proofs.lemmas.Bool.Decides.{Decides-eqb}
-use Rattle.sv_mapping.specs.Path.{Text}
-use Rattle.sv_mapping.proofs.TestLemmas.{both_true}
-use Rattle.sv_mapping.specs.Pattern.{form_of, prefix_of, suffix_of, matches, matches_by, rule_of, rule_of_form}
-use Rattle.sv_mapping.specs.declared.pattern.PatternForm.{PatternForm}
-use Rattle.sv_mapping.specs.declared.pattern.PatternForm.TheVariants.{Exact, ContextRoot, Prefix, Extension, Default}
+use Rattle.std.proofs.lemmas.Slice.Eq.{ends_is}
+use Rattle.sv_mapping.specs.Pattern.{matches_by, rule_of_form}
 
 -- the form, by its four tests in their order
 abbrev chosen : Bool → Bool → Bool → Bool → PatternForm
@@ -64,7 +59,7 @@ module _ (pattern : Text) where
 
   prefix_tests : form_of pattern ≡ Prefix → (starts_with eqb pattern (codes "/") ≡ true) × (ends_with eqb pattern (codes "/*") ≡ true)
   unfolding form_of
-  prefix_tests e = both_true _ _ (prefix_test _ _ _ _ e)
+  prefix_tests e = and_parts _ _ (prefix_test _ _ _ _ e)
 
   pub prefix_text : form_of pattern ≡ Prefix → pattern ≡ prefix_of pattern ++ codes "/*"
   prefix_text e = (ends_is Decides-eqb pattern (codes "/*") _ refl).0 (prefix_tests e).1

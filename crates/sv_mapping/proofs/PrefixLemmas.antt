@@ -1,15 +1,11 @@
 -- The search for the longest prefix, from the whole path back to its first slash.
-use Rattle.std.proofs.Common.{◌≡◌, ◌≢◌, ℕ, suc, ◌+◌, ◌<◌, ◌≤◌, ◌⊎◌, Bool, true, cond, ltb, [], ◌∷◌, ◌++◌, length, take, drop, get_or, Some, None, sym, ap, ◌∙◌, inl, inr, codes, arith, length-append, length-drop}
-use Rattle.std.specs.FinMap.{get, contains_key}
+use Rattle.sv_mapping.proofs.Prelude.{◌≡◌, ◌≢◌, ℕ, suc, ◌+◌, ◌<◌, ◌≤◌, ◌⊎◌, Bool, true, cond, [], ◌∷◌, ◌++◌, length, take, drop, get_or, Some, None, sym, ap}
+use Rattle.sv_mapping.proofs.Prelude.{◌∙◌, inl, inr, codes, arith, length-append, get, contains_key, cases_lt, false_from_ne_true, nat_tests, Text}
+use Rattle.sv_mapping.proofs.Prelude.{is_at_or_below, form_of, prefix_of, matches, rule_of, servlet_path_by, path_info_by, mapped_by, shown, Table}
+use Rattle.sv_mapping.proofs.Prelude.{IsBestByRule, AnswersByRule, Prefix}
+use Rattle.std.proofs.Common.{ltb, length-drop}
 use Rattle.std.proofs.lemmas.List.{take-take, get_or-take, get_or_append_left, length-take-le}
-use Rattle.std.proofs.lemmas.Bool.{cases_lt}
-use Rattle.std.proofs.lemmas.Bool.Decides.{nat_tests}
-use Rattle.sv_mapping.specs.Path.{Text, is_at_or_below}
-use Rattle.sv_mapping.specs.Pattern.{form_of, prefix_of, matches, rule_of}
-use Rattle.sv_mapping.specs.ServletMatch.{nonempty_text, servlet_path_by, path_info_by, mapped_by, shown}
-use Rattle.sv_mapping.specs.Mappings.{Table, IsBestByRule, AnswersByRule}
-use Rattle.sv_mapping.specs.declared.pattern.PatternForm.TheVariants.{Prefix}
-use Rattle.sv_mapping.proofs.TestLemmas.{false_test}
+use Rattle.sv_mapping.specs.ServletMatch.{nonempty_text}
 use Rattle.sv_mapping.proofs.PathLemmas.{IsFront, IsFront-boundary, IsFront-from_test, IsFront-unique, is_at_or_below-self, is_at_or_below-take}
 use Rattle.sv_mapping.proofs.PatternLemmas.{prefix_text, prefix_slash, prefix_of-append, form_of-prefix, form_of-any, rule_of-form, prefix_by_rule, matches-form}
 use Rattle.sv_mapping.proofs.MatchLemmas.{absent}
@@ -68,14 +64,14 @@ module _ (table : Table) (path : Text) where
 
 -- no pattern of the second rule matches
 pub no_prefix : (table : Table) (path : Text) → HasNoPrefix table path → AnswersByRule table path 2 None
-no_prefix table path none pattern listed rule = false_test _ (λ matching.
+no_prefix table path none pattern listed rule = false_from_ne_true _ (λ matching.
     let form = prefix_by_rule pattern rule in
     let below = sym (matches-form pattern path Prefix form) ∙ matching in
     absent table pattern (ap (get table) (prefix_text pattern form) ∙ none (prefix_of pattern) below) listed)
 
 -- a path that is neither empty nor begins with a slash lies below no prefix
 pub unrooted_none : (table : Table) (path : Text) → 0 < length path → get_or path 0 0 ≢ 47 → AnswersByRule table path 2 None
-unrooted_none table path some no_slash pattern listed rule = false_test _ (λ matching.
+unrooted_none table path some no_slash pattern listed rule = false_from_ne_true _ (λ matching.
     let form = prefix_by_rule pattern rule in
     let front = prefix_of pattern in
     let this = IsFront-from_test front path (sym (matches-form pattern path Prefix form) ∙ matching) in

@@ -1,11 +1,8 @@
 -- The table that sorted entries make.
-use Rattle.std.proofs.Common.{◌≡◌, ℕ, ◌<◌, ◌≤◌, true, false, leb, List, [], length, get_or, Some, None, refl, ap, ◌∙◌, arith}
-use Rattle.std.specs.List.{insert}
-use Rattle.std.specs.FinMap.{get, len, is_sorted, from_sorted, empty, empty_of_len, entries-from_sorted, get-from_sorted, len-entries}
+use Rattle.sv_mapping.proofs.Prelude.{◌≡◌, ℕ, ◌<◌, ◌≤◌, true, false, leb, List, [], length, get_or, Some, None, refl, ap, ◌∙◌, arith, insert, get, len}
+use Rattle.sv_mapping.proofs.Prelude.{is_sorted, from_sorted, entries-from_sorted, get-from_sorted, nat_tests, Text, text_cmp, IsPlaceOf, IsGapFor}
+use Rattle.std.specs.FinMap.{empty, empty_of_len, len-entries}
 use Rattle.std.specs.FinMap as map
-use Rattle.std.proofs.lemmas.Bool.Decides.{nat_tests}
-use Rattle.sv_mapping.specs.Path.{Text}
-use Rattle.sv_mapping.specs.Search.{text_cmp, IsPlaceOf, IsGapFor}
 use Rattle.sv_mapping.specs.Mappings.{refusal}
 use Rattle.sv_mapping.specs.declared.fault.MappingFault.TheVariants.{DuplicatePattern, TooMany}
 use Rattle.sv_mapping.proofs.TestLemmas.{test_true}

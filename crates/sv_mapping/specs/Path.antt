@@ -1,5 +1,5 @@
 -- Texts of paths: what a path lies below, and its extension (Jakarta Servlet 6.0, section 12.1).
-use Rattle.std.specs.Prelude.{ℕ, Bool, ◌||◌, ◌==◌, List, ◌++◌, Option, Some, None, codes, bytes_eq, if◌then◌else◌, nat_eq}
+use Rattle.std.specs.Prelude.{ℕ, Bool, ◌||◌, ◌==◌, List, [], ◌∷◌, ◌++◌, Option, Some, None, codes, bytes_eq, if◌then◌else◌, nat_eq}
 use Rattle.std.specs.List.{after_last, list_any, starts_with}
 
 -- a text, by its bytes
@@ -11,6 +11,12 @@ is_slash c = c == 47
 
 abbrev pub is_dot : ℕ → Bool
 is_dot c = c == 46
+
+-- what stands after the front of a text that begins with it
+abbrev pub stripped : Text → Text → Option Text
+stripped [] text = Some text
+stripped (c ∷ front) [] = None
+stripped (c ∷ front) (d ∷ text) = if c == d then stripped front text else None
 
 -- the path is the front, or begins with the front and a `/`
 unfoldable pub is_at_or_below : Text → Text → Bool

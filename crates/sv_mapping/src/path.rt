@@ -4,12 +4,31 @@ ghost use Rattle.std.specs.Prelude.{◌≡◌};
 ghost use Rattle.std.specs.Option.{option_map};
 ghost use Rattle.sv_mapping.specs.Path as spec;
 
+/// What stands after `front` in a text that begins with it, byte by byte: most fronts are short.
+fn stripped<'a>(front: &[u8], text: &'a [u8]) -> Option<&'a [u8]>
+    ensures { option_map (λ x. x.now) result ≡ spec.stripped front.now text.now }
+{
+    let mut left = front;
+    let mut rest = text;
+    while let [byte, left_tail @ ..] = left {
+        let [other_byte, rest_tail @ ..] = rest else {
+            return None;
+        };
+        if *byte != *other_byte {
+            return None;
+        }
+        left = left_tail;
+        rest = rest_tail;
+    }
+    Some(rest)
+}
+
 /// Whether a path is `front`, or lies below it.
 pub fn is_at_or_below(front: &str, path: &str) -> bool
     ensures { result ≡ spec.is_at_or_below front.now path.now }
 {
-    match path.strip_prefix(front) {
-        Some(rest) => rest.is_empty() || rest.starts_with('/'),
+    match stripped(front.as_bytes(), path.as_bytes()) {
+        Some(rest) => rest.is_empty() || rest[0] == b'/',
         None => false,
     }
 }

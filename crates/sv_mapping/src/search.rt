@@ -2,7 +2,6 @@
 
 ghost use Rattle.std.specs.Prelude.{◌≡◌, ◌++◌, IfOk, IfErr, IsTrue};
 ghost use Rattle.std.specs.FinMap.{is_sorted};
-ghost use Rattle.std.specs.List.{slice_get};
 ghost use Rattle.sv_mapping.specs.Search.{text_cmp, IsPlaceOf, IsGapFor};
 
 use crate::pattern::Pattern;
@@ -22,31 +21,43 @@ pub(crate) fn search(entries: &[(Pattern, usize)], front: &str, back: &str) -> R
     ))
 }
 
-/// The byte at a place of `front` followed by `back`.
-fn joined_at(front: &[u8], back: &[u8], at: usize) -> Option<u8>
-    ensures { result ≡ slice_get (front.now ++ back.now) at }
+/// Compares two texts byte by byte: most differ in the first few.
+fn compare(text: &[u8], other: &[u8]) -> Ordering
+    ensures { result ≡ text_cmp text.now other.now }
 {
-    if at < front.len() {
-        Some(front[at])
-    } else {
-        back.get(at - front.len()).copied()
+    let mut left = text;
+    let mut right = other;
+    while let [other_byte, right_tail @ ..] = right {
+        let [byte, left_tail @ ..] = left else {
+            return Ordering::Less;
+        };
+        if *byte != *other_byte {
+            return byte.cmp(other_byte);
+        }
+        left = left_tail;
+        right = right_tail;
+    }
+    match left {
+        [] => Ordering::Equal,
+        [_, ..] => Ordering::Greater,
     }
 }
 
-/// Compares a text with `front` followed by `back`, by their bytes: most differ in the first few.
+/// Compares a text with `front` followed by `back`, by their bytes.
 fn compare_joined(text: &[u8], front: &[u8], back: &[u8]) -> Ordering
     ensures { result ≡ text_cmp text.now (front.now ++ back.now) }
 {
-    for at in 0..text.len() {
-        let Some(other) = joined_at(front, back, at) else {
-            return Ordering::Greater;
+    let mut left = text;
+    let mut right = front;
+    while let [other_byte, right_tail @ ..] = right {
+        let [byte, left_tail @ ..] = left else {
+            return Ordering::Less;
         };
-        if text[at] != other {
-            return text[at].cmp(&other);
+        if *byte != *other_byte {
+            return byte.cmp(other_byte);
         }
+        left = left_tail;
+        right = right_tail;
     }
-    match joined_at(front, back, text.len()) {
-        Some(_) => Ordering::Less,
-        None => Ordering::Equal,
-    }
+    compare(left, back)
 }

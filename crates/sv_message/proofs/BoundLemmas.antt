@@ -1,18 +1,10 @@
 -- How many bytes may wait where a reader answers none.
-use Rattle.std.proofs.Common.{◌≡◌, ℕ, ◌+◌, ◌*◌, ◌<◌, ◌≤◌, ◌⊎◌, Bool, true, false, List, [], ◌∷◌, ◌++◌, length, ap, inl, inr, refl, arith, length-append}
-use Rattle.std.specs.Prelude.{All, Ok, Err, if◌then◌else◌}
+use Rattle.sv_message.proofs.Prelude.{◌≡◌, ℕ, ◌+◌, ◌<◌, ◌≤◌, ◌⊎◌, Bool, true, false, List, [], ◌∷◌, ◌++◌, length, ap, inl, inr, refl, arith, All, Ok, Err}
+use Rattle.sv_message.proofs.Prelude.{if◌then◌else◌, All-head, All-tail, print_chunk_line, print_request, Field, BadHost, BadFraming, BodyTooLong, Coding}
+use Rattle.sv_message.proofs.Prelude.{Expectation, Framing, Declared, Chunked, fields_of, declared_length, framing_of, Chunk, IsChunk, print_chunk}
+use Rattle.sv_message.proofs.Prelude.{print_chunks, content_of, IsOpenPlace, IsOpenBody}
+use Rattle.std.proofs.Common.{◌*◌, length-append}
 use Rattle.std.proofs.lemmas.Bool.{ltb-false}
-use Rattle.std.proofs.lemmas.List.Elements.{All-head, All-tail}
-use Rattle.httparse.specs.Grammar.{print_chunk_line, print_request}
-use Rattle.sv_model.specs.declared.field.Field.{Field}
-use Rattle.sv_message.specs.declared.fault.ReadFault.TheVariants.{BadHost, BadFraming, BodyTooLong, Coding, Expectation}
-use Rattle.sv_message.specs.declared.framing.Framing.{Framing}
-use Rattle.sv_message.specs.declared.framing.Framing.TheVariants.{Declared, Chunked}
-use Rattle.sv_message.specs.Head.{fields_of}
-use Rattle.sv_message.specs.Length.{declared_length}
-use Rattle.sv_message.specs.Framing.{framing_of}
-use Rattle.sv_message.specs.Chunked.{Chunk, IsChunk, print_chunk, print_chunks, content_of, IsOpenPlace}
-use Rattle.sv_message.specs.Fault.{IsOpenBody}
 use Rattle.sv_message.specs.Calls.{IsBounded}
 
 -- a chunk has at most 256 bytes of its line and two after its content

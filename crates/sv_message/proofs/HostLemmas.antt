@@ -1,6 +1,7 @@
 -- The bytes of a host, as the table has them.
-use Rattle.std.proofs.Common.{refl, ◌≡◌, ℕ, zero, suc, ◌<◌, Bool, true, false, ◌&&◌, get_or, inl, inr, arith}
-use Rattle.std.specs.Prelude.{not, if◌then◌else◌}
+use Rattle.sv_message.proofs.Prelude.{refl, ◌≡◌, ℕ, zero, suc, ◌<◌, Bool, true, false, get_or, inl, inr, arith, if◌then◌else◌}
+use Rattle.std.proofs.Common.{◌&&◌}
+use Rattle.std.specs.Prelude.{not}
 use Rattle.std.proofs.lemmas.Bool.{and_parts, cases_lt}
 use Rattle.sv_message.specs.Host.{is_host_byte}
 use Rattle.sv_message.specs.declared.host.TheConstants.{HOST_BYTES}

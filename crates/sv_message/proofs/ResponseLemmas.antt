@@ -1,9 +1,10 @@
 -- One text after another.
-use Rattle.std.proofs.Common.{◌≡◌, ◌≤◌, ℕ, List, ◌++◌, length, take, refl, sym, ap, ◌∙◌, arith}
-use Rattle.std.proofs.lemmas.List.{append_assoc, length-append, take_at, take-take}
-use Rattle.std.specs.List.{flat_map}
+use Rattle.sv_message.proofs.Prelude.{◌≡◌, ◌≤◌, ℕ, List, ◌++◌, length, take, refl, sym, ap, ◌∙◌, arith, append_assoc, length-append, take-take, Result, Ok, Err}
+use Rattle.sv_message.proofs.Prelude.{flat_map, field_line}
+use Rattle.std.proofs.lemmas.List.{take_at}
+use Rattle.std.specs.Prelude.{OnErr}
 use Rattle.sv_model.specs.declared.response.Response.{Response}
-use Rattle.sv_message.specs.Response.{status_line, field_line, length_line, close_line, crlf, head_with}
+use Rattle.sv_message.specs.Response.{status_line, length_line, close_line, crlf, head_with}
 
 behind : (old mid new a b : List ℕ) → mid ≡ old ++ a → new ≡ mid ++ b → new ≡ old ++ (a ++ b)
 behind old mid new a b first second = second ∙ ap (λ (l : List ℕ). l ++ b) first ∙ append_assoc old a b
@@ -19,7 +20,8 @@ head_text r date old o1 o2 o3 o4 o5 new e1 e2 e3 e4 e5 e6 =
     behind old o2 o3 _ (flat_map field_line r.fields) (
     behind old o1 o2 (status_line r.status) date e1 e2) e3) e4) e5) e6
 
-kept_in : (old mid new a : List ℕ) → mid ≡ old ++ a → take (length mid) new ≡ mid → take (length old) new ≡ old
+-- what a text was added to is kept
+pub kept_in : (old mid new a : List ℕ) → mid ≡ old ++ a → take (length mid) new ≡ mid → take (length old) new ≡ old
 kept_in old mid new a text kept =
     let longer : length old ≤ length mid = omega (arith, ap (λ (l : List ℕ). length l) text, length-append old a) in
     sym (take-take (length old) (length mid) new longer) ∙ ap (take (length old)) (kept ∙ text) ∙ take_at old a (length old) refl
@@ -34,3 +36,8 @@ head_kept r date old o1 o2 o3 o4 o5 new e1 e2 e3 e4 e5 kept =
     kept_in o2 o3 new (flat_map field_line r.fields) e3 (
     kept_in o3 o4 new (length_line r) e4 (
     kept_in o4 o5 new (close_line r) e5 kept))))
+
+-- what holds anyway holds on an error
+pub on_err : {A E : Type 0} (r : Result A E) (P : Type 0) → P → OnErr r P
+on_err (Ok x) P p = tt
+on_err (Err e) P p = p

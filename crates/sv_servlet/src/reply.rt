@@ -1,6 +1,6 @@
 //! The reply that servlets and filters write (Jakarta Servlet 6.0, chapter "The Response").
 
-ghost use Rattle.std.specs.Prelude.{◌≡◌, ◌≢◌, ◌⊎◌, true, Err, IfOk, IfErr, IsOk};
+ghost use Rattle.std.specs.Prelude.{◌≡◌, ◌≢◌, ◌⊎◌, true, Err, IfOk, IfErr, IsOk, bytes_eq};
 ghost use Rattle.http_header.specs.FieldName.{IsFieldName};
 ghost use Rattle.http_header.specs.FieldValue.{IsFieldValue, plain_value};
 ghost use Rattle.http_header.specs.Token.{lowercase};
@@ -125,19 +125,27 @@ fn read_value(alloc: Global, value: &str) -> Result<HeaderValue, ReplyFault>
     }
 }
 
+/// Whether a name is a known one: most are of another length.
+#[inline(always)]
+fn is_named(name: &str, known: &str) -> bool
+    ensures { result ≡ bytes_eq name.now known.now }
+{
+    name.len() == known.len() && name == known
+}
+
 /// The container sets the field of this name itself.
 #[tactic(auto, unfolding(crate::specs::Reply::is_reserved, crate::specs::Reply::reserved_names))]
 fn is_reserved(name: &HeaderName) -> bool
     ensures { result ≡ is_reserved name.now }
 {
     let name = name.as_str();
-    name == "date"
-        || name == "content-length"
-        || name == "connection"
-        || name == "transfer-encoding"
-        || name == "trailer"
-        || name == "upgrade"
-        || name == "keep-alive"
+    is_named(name, "date")
+        || is_named(name, "content-length")
+        || is_named(name, "connection")
+        || is_named(name, "transfer-encoding")
+        || is_named(name, "trailer")
+        || is_named(name, "upgrade")
+        || is_named(name, "keep-alive")
 }
 
 /// Another field of this name finds no place.

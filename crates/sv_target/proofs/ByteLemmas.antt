@@ -1,9 +1,7 @@
 -- Lists of bytes.
-use Rattle.std.proofs.Common.{ℕ, zero, suc, ◌<◌, ◌^◌, List, [], ◌∷◌, ◌++◌, take, drop, arith}
-use Rattle.std.specs.Prelude.{All}
-use Rattle.std.specs.Int.{byte_at, bytes_high_first}
-use Rattle.std.proofs.lemmas.List.Elements.{All-cons, All-nil, All-tail}
-use Rattle.hex.specs.Hex.{IsBytes}
+use Rattle.sv_target.proofs.Prelude.{ℕ, zero, suc, ◌<◌, ◌^◌, List, [], ◌∷◌, ◌++◌, take, drop, arith, All, bytes_high_first, All-cons, All-nil, All-tail}
+use Rattle.sv_target.proofs.Prelude.{IsBytes}
+use Rattle.std.specs.Int.{byte_at}
 
 pub IsBytes-cons : (b : ℕ) (bytes : List ℕ) → b < 256 → IsBytes bytes → IsBytes (b ∷ bytes)
 IsBytes-cons b bytes first others zero = first

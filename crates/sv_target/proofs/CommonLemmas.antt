@@ -1,15 +1,13 @@
 -- The target of most requests.
-use Rattle.std.proofs.Common.{refl, sym, ◌∙◌, ap, subst, ◌≡◌, ℕ, ◌<◌, ◌≤◌, List, [], ◌∷◌, get_or, length, take, Some, None, true, false, inl, inr, arith}
-use Rattle.std.specs.Prelude.{Bool, ◌&&◌, ◌||◌, ◌==◌, IsUtf8, not, nat_le, nat_lt, if◌then◌else◌}
-use Rattle.std.specs.List.{list_all, list_any}
-use Rattle.std.proofs.Math.Seq.{take-length}
-use Rattle.std.proofs.lemmas.Bool.{and_parts, cases_Bool, eqb-true, le-leb, le-ltb, ltb-true}
-use Rattle.http_uri.specs.ByteClasses.{index_of, is_path_byte}
-use Rattle.http_uri.specs.Grammar.{query_of}
-use Rattle.sv_target.specs.declared.target.Target.{Target}
+use Rattle.sv_target.proofs.Prelude.{refl, sym, ◌∙◌, ap, subst, ◌≡◌, ℕ, ◌<◌, ◌≤◌, List, [], ◌∷◌, get_or, length, take, Some, None, true, false, inl, inr, arith}
+use Rattle.sv_target.proofs.Prelude.{◌&&◌, ◌||◌, IsUtf8, not, nat_le, nat_lt, if◌then◌else◌, list_all, list_any, onto_first, slice_split, take-length}
+use Rattle.sv_target.proofs.Prelude.{and_parts, cases_Bool, eqb-true, ltb-true, not-true, index_of, is_path_byte, query_of, Target, canonical_path}
+use Rattle.sv_target.proofs.Prelude.{is_plain_byte, is_plain_segment, is_slash, IsTarget, common_from, is_origin_form, is_refused_byte, target_at}
+use Rattle.sv_target.proofs.Prelude.{target_within}
+use Rattle.std.specs.Prelude.{Bool, ◌==◌}
+use Rattle.std.proofs.lemmas.Bool.{and_right, le-leb, le-ltb}
 use Rattle.sv_target.specs.declared.target.TheConstants.{COMMON_BYTES}
-use Rattle.sv_target.specs.Path.{canonical_path}
-use Rattle.sv_target.specs.Target.{IsCommon, IsTarget, is_common_byte, is_origin_form, is_refused_byte, target_at, target_within}
+use Rattle.sv_target.specs.Target.{IsCommon, is_common_byte}
 use Rattle.sv_target.proofs.DigitLemmas.{all_below, below_all}
 use Rattle.sv_target.proofs.OriginLemmas.{read_within}
 use Rattle.sv_target.proofs.PlainLemmas.{canonical_plain}
@@ -24,10 +22,6 @@ serves_common b = not (is_common_byte b) || is_served b
 or_left : (a b : Bool) → (not a || b) ≡ true → a ≡ true → b ≡ true
 or_left true b is holds = is
 or_left false b is holds = cc
-
-not_of : (a : Bool) → not a ≡ true → a ≡ false
-not_of true is = cc
-not_of false is = refl
 
 served : (b : ℕ) → is_common_byte b ≡ true → is_served b ≡ true
 unfolding all_below
@@ -47,7 +41,7 @@ clean [] common = refl
 clean (b ∷ text) common =
     let p = and_parts (is_common_byte b) (list_all is_common_byte text) common in
     let parts = and_parts (is_path_byte b) (not (is_refused_byte b) && not (b == 63)) (served b p.0) in
-    let here : is_refused_byte b ≡ false = not_of _ (and_parts (not (is_refused_byte b)) (not (b == 63)) parts.1).0 in
+    let here : is_refused_byte b ≡ false = not-true _ (and_parts (not (is_refused_byte b)) (not (b == 63)) parts.1).0 in
     rw (here, clean text p.1) refl
 
 unasked : (text : List ℕ) → list_all is_common_byte text ≡ true → index_of 63 text ≡ length text
@@ -55,7 +49,7 @@ unasked [] common = refl
 unasked (b ∷ text) common =
     let p = and_parts (is_common_byte b) (list_all is_common_byte text) common in
     let parts = and_parts (is_path_byte b) (not (is_refused_byte b) && not (b == 63)) (served b p.0) in
-    let here : (b == 63) ≡ false = not_of _ (and_parts (not (is_refused_byte b)) (not (b == 63)) parts.1).1 in
+    let here : (b == 63) ≡ false = not-true _ (and_parts (not (is_refused_byte b)) (not (b == 63)) parts.1).1 in
     let others : index_of 63 text ≡ length text = unasked text p.1 in
     rw here (omega (arith, others))
 
@@ -101,3 +95,57 @@ same_bools false false is = refl
 pub common_byte_at : (b : ℕ) → b < 256 → get_or COMMON_BYTES b false ≡ is_common_byte b
 unfolding all_below
 common_byte_at b below = same_bools _ _ (below_all 256 (λ b. same (get_or COMMON_BYTES b false) (is_common_byte b)) b refl below)
+
+-- ---- what one look at the bytes tells
+
+abbrev plain_by_common : ℕ → Bool
+plain_by_common b = not (is_common_byte b) || is_plain_byte b
+
+plain_byte : (b : ℕ) → is_common_byte b ≡ true → is_plain_byte b ≡ true
+unfolding all_below
+plain_byte b common =
+    let below : b < 128 = ltb-true b 128 (and_parts _ _ common).0 in
+    or_left (is_common_byte b) (is_plain_byte b) (below_all 128 plain_by_common b refl below) common
+
+pub common_bytes : (begins : Bool) (text : List ℕ) → common_from begins text ≡ true → list_all is_common_byte text ≡ true
+common_bytes begins [] is = refl
+common_bytes begins (b ∷ text) is =
+    let p = and_parts (is_common_byte b && not (begins && b == 46)) (common_from (b == 47) text) is in
+    let here = and_parts (is_common_byte b) (not (begins && b == 46)) p.0 in
+    rw (here.0, common_bytes (b == 47) text p.1) refl
+
+-- segments, the first of which may go on from bytes before it
+abbrev are_plain : Bool → List (List ℕ) → Bool
+are_plain true ss = list_all is_plain_segment ss
+are_plain false [] = true
+are_plain false (s ∷ ss) = list_all is_plain_byte s && list_all is_plain_segment ss
+
+plain_onto : (begins : Bool) (b : ℕ) (ss : List (List ℕ)) → is_plain_byte b ≡ true → not (begins && b == 46) ≡ true
+    → are_plain false ss ≡ true → are_plain begins (onto_first b ss) ≡ true
+plain_onto true b [] plain undotted rest = rw (plain, not-true (b == 46) undotted) refl
+plain_onto false b [] plain undotted rest = rw plain refl
+plain_onto true b (s ∷ ss) plain undotted rest =
+    let p = and_parts (list_all is_plain_byte s) (list_all is_plain_segment ss) rest in
+    rw (plain, not-true (b == 46) undotted, and_right (nat_lt 0 (length (b ∷ s))) false refl, p.0, p.1) refl
+plain_onto false b (s ∷ ss) plain undotted rest =
+    let p = and_parts (list_all is_plain_byte s) (list_all is_plain_segment ss) rest in
+    rw (plain, p.0, p.1) refl
+
+plain_after : (begins : Bool) (ss : List (List ℕ)) → are_plain true ss ≡ true → are_plain begins ([] ∷ ss) ≡ true
+plain_after true ss plain = plain
+plain_after false ss plain = plain
+
+pub common_segments : (begins : Bool) (text : List ℕ) → common_from begins text ≡ true → are_plain begins (slice_split is_slash text) ≡ true
+common_segments true [] is = refl
+common_segments false [] is = refl
+common_segments begins (b ∷ text) is =
+    let p = and_parts (is_common_byte b && not (begins && b == 46)) (common_from (b == 47) text) is in
+    let here = and_parts (is_common_byte b) (not (begins && b == 46)) p.0 in
+    elim (cases_Bool (b == 47)) [
+      | inl slash ↦
+          let more : common_from true text ≡ true = rw slash at p.1 in
+          rw slash (plain_after begins (slice_split is_slash text) (common_segments true text more))
+      | inr other ↦
+          let more : common_from false text ≡ true = rw other at p.1 in
+          rw other (plain_onto begins b (slice_split is_slash text) (plain_byte b here.0) here.1 (common_segments false text more))
+    ]

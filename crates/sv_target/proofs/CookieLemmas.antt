@@ -1,9 +1,9 @@
 -- A part of a Cookie field, cut at its first `=`, and the parts of a field's value.
-use Rattle.std.proofs.Common.{◌≡◌, ℕ, suc, ◌+◌, ◌≤◌, Bool, true, false, cond, ◌||◌, not, Some, None, List, [], ◌∷◌, map, length, take_all, refl, ap, arith}
-use Rattle.std.specs.Prelude.{is_some, position, nat_lt}
-use Rattle.std.specs.List.{before_first, list_any, position_or_len}
-use Rattle.std.proofs.lemmas.Bool.Decides.{nat_tests}
-use Rattle.std.proofs.lemmas.Option.{cond_some}
+use Rattle.sv_target.proofs.Prelude.{◌≡◌, ℕ, suc, ◌+◌, ◌≤◌, Bool, true, false, cond, Some, None, List, [], ◌∷◌, map, length, refl, ap, arith, is_some, nat_lt}
+use Rattle.sv_target.proofs.Prelude.{list_any, position_or_len, nat_tests, cond_some}
+use Rattle.std.proofs.Common.{◌||◌, not, take_all}
+use Rattle.std.specs.Prelude.{position}
+use Rattle.std.specs.List.{before_first}
 
 -- a place one further on in a list that is one longer
 next_place : (t u : Bool) (n m : ℕ) → is_some (cond (nat_lt n m) (Some n) None) ≡ u

@@ -1,16 +1,15 @@
 -- What a client sends of its cookies is read back.
-use Rattle.std.proofs.Common.{◌≡◌, ℕ, ◌+◌, ◌<◌, Bool, true, false, List, [], ◌∷◌, ◌++◌, length, take, drop, map, reverse, refl, ap, ◌∙◌, arith}
-use Rattle.std.specs.Prelude.{All}
-use Rattle.std.specs.List.{list_any, onto_first, position_or_len, slice_split}
-use Rattle.std.proofs.lemmas.Bool.{cond-false, cond-true, or_parts}
+use Rattle.sv_target.proofs.Prelude.{◌≡◌, ℕ, ◌+◌, ◌<◌, Bool, true, false, List, [], ◌∷◌, ◌++◌, length, take, drop, map, refl, ap, ◌∙◌, arith, All, list_any}
+use Rattle.sv_target.proofs.Prelude.{onto_first, position_or_len, slice_split, cond-true, or_parts, All-cons, All-nil, All-tail, Cookie, trim, is_equals}
+use Rattle.sv_target.proofs.Prelude.{is_pair, is_semicolon, pair_of, pairs_among, pairs_of}
+use Rattle.std.proofs.Common.{reverse}
+use Rattle.std.proofs.lemmas.Bool.{cond-false}
 use Rattle.std.proofs.Math.Seq.{drop-append-add, take-append_seam}
 use Rattle.std.proofs.lemmas.List.{reverse-append, reverse-reverse}
-use Rattle.std.proofs.lemmas.List.Elements.{All-cons, All-head, All-nil, All-tail}
+use Rattle.std.proofs.lemmas.List.Elements.{All-head}
 use Rattle.std.proofs.lemmas.List.Folds.{list_any-append}
 use Rattle.std.proofs.lemmas.List.Splits.{length-slice_split, slice_split_at, slice_split_none}
-use Rattle.sv_model.specs.declared.request.Cookie.{Cookie}
-use Rattle.sv_model.specs.Blanks.{is_blank, trim, trim_start}
-use Rattle.sv_target.specs.Cookies.{is_equals, is_pair, is_semicolon, pair_of, pairs_among, pairs_of}
+use Rattle.sv_model.specs.Blanks.{is_blank, trim_start}
 use Rattle.sv_target.specs.CookieString.{IsSendable, cookie_string, pair_text}
 
 All-from_list_any : (p : ℕ → Bool) (xs : List ℕ) → list_any p xs ≡ false → All (λ x. p x ≡ false) xs

@@ -1,15 +1,15 @@
 -- What digits spell is what is spelled in them.
-use Rattle.std.proofs.Common.{◌≡◌, ℕ, zero, suc, ◌+◌, ◌*◌, ◌/◌, ◌%◌, ◌<◌, ◌≤◌, ◌==◌, Bool, true, ◌&&◌, cond, Option, Some, None, List, [], ◌∷◌, ◌++◌, length, take, drop, slice_index, slice_set, refl, sym, ap, ◌∙◌, inl, inr, arith, ltb}
-use Rattle.std.specs.Option.{option_and_then}
-use Rattle.std.proofs.lemmas.Bool.{and_parts, cases_lt, eqb-true}
-use Rattle.std.proofs.lemmas.Bool.Decides.{nat_tests}
-use Rattle.std.proofs.lemmas.List.{append_assoc, append-nil, drop_all, take_all, take_more_set}
-use Rattle.std.proofs.lemmas.Option.{option_and_then_some, same_Some}
-use Rattle.hex.specs.Hex.{IsBytes, encode_lower, encode_with, lower_digits}
-use Rattle.hex.proofs.Pairs.{drop-pair}
+use Rattle.sv_target.proofs.Prelude.{◌≡◌, ℕ, zero, suc, ◌+◌, ◌*◌, ◌<◌, ◌≤◌, ◌==◌, Bool, true, cond, Option, Some, None, List, [], ◌∷◌, ◌++◌, length, take, drop}
+use Rattle.sv_target.proofs.Prelude.{slice_index, refl, sym, ap, ◌∙◌, inl, inr, arith, option_and_then, and_parts, eqb-true, nat_tests, append_assoc}
+use Rattle.sv_target.proofs.Prelude.{append-nil, take_all, option_and_then_some, IsBytes, encode_lower, lower_digits, bytes_of}
+use Rattle.std.proofs.Common.{◌-◌, ◌/◌, ◌%◌, ◌&&◌, slice_set, ltb}
+use Rattle.std.proofs.lemmas.Bool.{cases_lt}
+use Rattle.std.proofs.lemmas.List.{take_more_set}
+use Rattle.std.proofs.lemmas.Option.{same_Some}
+use Rattle.hex.specs.Hex.{encode_with}
 use Rattle.sv_target.proofs.ByteLemmas.{IsBytes-cons}
 use Rattle.std.specs.Prelude.{unwrap_or}
-use Rattle.sv_target.specs.Digits.{byte_of, bytes_of, digit_value}
+use Rattle.sv_target.specs.Digits.{byte_of, digit_value}
 use Rattle.sv_target.specs.declared.digits.TheConstants.{VALUES}
 
 -- ---- the digits of values
@@ -150,7 +150,7 @@ prepend-nil None = refl
 prepend-nil (Some bytes) = refl
 
 -- nothing has been read yet
-pub bytes_of-none_read : (text out : List ℕ) → bytes_of text ≡ prepend (take 0 out) (bytes_of (drop (2 * 0) text))
+pub bytes_of-none_read : (text out : List ℕ) → bytes_of text ≡ prepend (take 0 out) (bytes_of text)
 bytes_of-none_read text out = prepend-nil (bytes_of text)
 
 prepend-byte : (front : List ℕ) (byte : ℕ) (rest : Option (List ℕ))
@@ -167,28 +167,42 @@ bytes_of-no_byte : (high low : ℕ) (rest : List ℕ) → byte_of high low ≡ N
 unfolding bytes_of
 bytes_of-no_byte high low rest is = rw is refl
 
+-- what is left after two digits
+abbrev rest_of : List ℕ → List ℕ
+rest_of left = take (length left - 2) (drop 2 left)
+
+rest_is : (high low : ℕ) (rest : List ℕ) → rest_of (high ∷ low ∷ rest) ≡ rest
+rest_is high low rest = take_all (length (high ∷ low ∷ rest) - 2) rest (omega arith)
+
+pub rest_less : (left : List ℕ) (i : ℕ) → 2 ≤ length left → length left + 2 * i ≡ 52 → length (rest_of left) + 2 * (i + 1) ≡ 52
+rest_less [] i fits is = absurd (omega arith)
+rest_less (digit ∷ []) i fits is = absurd (omega arith)
+rest_less (high ∷ low ∷ rest) i fits is = rw (rest_is high low rest) (omega (arith, is))
+
 -- a byte more has been read
-pub bytes_of-read : (text out : List ℕ) (i byte : ℕ) → 2 * i + 1 < length text → i < length out
-    → byte_of (slice_index text (2 * i)) (slice_index text (2 * i + 1)) ≡ Some byte
-    → bytes_of text ≡ prepend (take i out) (bytes_of (drop (2 * i) text))
-    → bytes_of text ≡ prepend (take (i + 1) (slice_set out i byte)) (bytes_of (drop (2 * (i + 1)) text))
-bytes_of-read text out i byte fits room is so_far =
-    let rest = drop (2 * (i + 1)) text in
-    let here = ap bytes_of (drop-pair text i fits) ∙ bytes_of-byte _ _ byte rest is in
-    so_far ∙ ap (prepend (take i out)) here ∙ prepend-byte (take i out) byte (bytes_of rest)
+pub bytes_of-read : (text out left : List ℕ) (i byte : ℕ) → 2 ≤ length left → i < length out
+    → byte_of (slice_index left 0) (slice_index left 1) ≡ Some byte
+    → bytes_of text ≡ prepend (take i out) (bytes_of left)
+    → bytes_of text ≡ prepend (take (i + 1) (slice_set out i byte)) (bytes_of (rest_of left))
+bytes_of-read text out [] i byte fits room is so_far = absurd (omega arith)
+bytes_of-read text out (digit ∷ []) i byte fits room is so_far = absurd (omega arith)
+bytes_of-read text out (high ∷ low ∷ rest) i byte fits room is so_far =
+    so_far ∙ ap (prepend (take i out)) (bytes_of-byte high low byte rest is) ∙ prepend-byte (take i out) byte (bytes_of rest)
     ∙ ap (λ front. prepend front (bytes_of rest)) (sym (take_more_set out i byte room))
+    ∙ ap (λ left. prepend (take (i + 1) (slice_set out i byte)) (bytes_of left)) (sym (rest_is high low rest))
 
 -- two bytes are no digits
-pub bytes_of-refused : (text out : List ℕ) (i : ℕ) → 2 * i + 1 < length text
-    → byte_of (slice_index text (2 * i)) (slice_index text (2 * i + 1)) ≡ None
-    → bytes_of text ≡ prepend (take i out) (bytes_of (drop (2 * i) text)) → bytes_of text ≡ None
-bytes_of-refused text out i fits is so_far =
-    so_far ∙ ap (prepend (take i out)) (ap bytes_of (drop-pair text i fits) ∙ bytes_of-no_byte _ _ _ is)
+pub bytes_of-refused : (text out left : List ℕ) (i : ℕ) → 2 ≤ length left
+    → byte_of (slice_index left 0) (slice_index left 1) ≡ None
+    → bytes_of text ≡ prepend (take i out) (bytes_of left) → bytes_of text ≡ None
+bytes_of-refused text out [] i fits is so_far = absurd (omega arith)
+bytes_of-refused text out (digit ∷ []) i fits is so_far = absurd (omega arith)
+bytes_of-refused text out (high ∷ low ∷ rest) i fits is so_far =
+    so_far ∙ ap (prepend (take i out)) (bytes_of-no_byte high low rest is)
 
 -- all has been read
-pub bytes_of-all_read : (text out : List ℕ) (i : ℕ) → length out ≤ i → length text ≤ 2 * i
-    → bytes_of text ≡ prepend (take i out) (bytes_of (drop (2 * i) text)) → bytes_of text ≡ Some out
+pub bytes_of-all_read : (text out left : List ℕ) (i : ℕ) → length out ≤ i → length left ≤ 0
+    → bytes_of text ≡ prepend (take i out) (bytes_of left) → bytes_of text ≡ Some out
 unfolding bytes_of
-bytes_of-all_read text out i last fits so_far =
-    so_far ∙ ap (prepend (take i out)) (ap bytes_of (drop_all (2 * i) text fits))
-    ∙ ap Some (append-nil (take i out) ∙ take_all i out last)
+bytes_of-all_read text out [] i last fits so_far = so_far ∙ ap Some (append-nil (take i out) ∙ take_all i out last)
+bytes_of-all_read text out (digit ∷ left) i last fits so_far = absurd (omega arith)

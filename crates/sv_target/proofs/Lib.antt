@@ -1,3 +1,4 @@
+mod Prelude
 pub mod ByteLemmas
 mod CookieLemmas
 mod CommonLemmas

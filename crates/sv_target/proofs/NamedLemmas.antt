@@ -1,23 +1,14 @@
 -- The session that is read is one that can be named, and what was read is its cookie.
-use Rattle.std.proofs.Common.{◌≡◌, ℕ, suc, ◌<◌, ◌^◌, ◌==◌, Bool, true, false, cond, Option, Some, None, List, [], ◌∷◌, ◌++◌, length, take, drop, slice_index, refl, sym, ap, ◌∙◌, arith}
-use Rattle.std.specs.Prelude.{Any, IfSome, bytes_eq, slice_get}
-use Rattle.std.specs.List.{cons_option, filter_map}
-use Rattle.std.specs.Option.{option_and_then}
-use Rattle.std.specs.Int.{w64, from_be_bytes}
-use Rattle.std.proofs.lemmas.Bool.{and_parts, eqb-true}
-use Rattle.std.proofs.lemmas.Bool.Decides.{nat_tests}
-use Rattle.std.proofs.lemmas.List.{length-drop, length-take, take-append-drop, take_all}
+use Rattle.sv_target.proofs.Prelude.{◌≡◌, ℕ, suc, ◌<◌, ◌^◌, ◌==◌, Bool, true, false, cond, Option, Some, None, List, [], ◌∷◌, ◌++◌, length, take, drop}
+use Rattle.sv_target.proofs.Prelude.{slice_index, refl, sym, ap, ◌∙◌, arith, bytes_eq, slice_get, cons_option, filter_map, option_and_then, w64, from_be_bytes}
+use Rattle.sv_target.proofs.Prelude.{and_parts, eqb-true, nat_tests, take_all, bytes_eq-Decides, cond_some, option_and_then_some, IsBytes, encode_lower, Key}
+use Rattle.sv_target.proofs.Prelude.{Secret, Cookie, bytes_of, spelled_bytes, IsCookieOf, IsNameable, cookie_text, names_session, key_of, session_of_cookie}
+use Rattle.sv_target.proofs.Prelude.{session_of_bytes, secret_of, session_bytes, session_cookie}
+use Rattle.std.specs.Prelude.{Any, IfSome}
+use Rattle.std.proofs.lemmas.List.{length-drop, length-take, take-append-drop}
 use Rattle.std.proofs.lemmas.Nat.{be_bytes_8}
-use Rattle.std.proofs.lemmas.Slice.Eq.{bytes_eq-Decides}
-use Rattle.std.proofs.lemmas.Option.{cond_some, option_and_then_some}
-use Rattle.hex.specs.Hex.{IsBytes, encode_lower}
-use Rattle.sv_model.specs.declared.key.Key.{Key}
-use Rattle.sv_model.specs.declared.key.Secret.{Secret}
-use Rattle.sv_model.specs.declared.request.Cookie.{Cookie}
 use Rattle.sv_target.proofs.ByteLemmas.{All-from_bytes, IsBytes-drop, IsBytes-take}
 use Rattle.sv_target.proofs.DigitLemmas.{Spells, Spells-bytes_of}
-use Rattle.sv_target.specs.Digits.{bytes_of, spelled_bytes}
-use Rattle.sv_target.specs.SessionCookie.{IsCookieOf, IsNameable, cookie_text, names_session, key_of, session_of_cookie, session_of_bytes, secret_of, session_bytes, session_cookie}
 
 if_true : {Y : Type 0} (b : Bool) (o : Option Y) (y : Y) → cond b o None ≡ Some y → (b ≡ true) × (o ≡ Some y)
 if_true true o y some = (refl, some)

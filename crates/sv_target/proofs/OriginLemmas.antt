@@ -1,19 +1,17 @@
 -- A text that begins with `/`: what it spells, and that it is read as a path within a context is.
-use Rattle.std.proofs.Common.{◌≡◌, ◌≢◌, ℕ, suc, ◌≤◌, ◌==◌, Bool, ◌||◌, ◌&&◌, not, true, false, IfSome, List, [], ◌∷◌, length, get_or, Option, Some, None, refl, sym, ap, ◌∙◌, subst, inl, inr, one-add, take, take_all, ◌++◌, le-leb, leb-true, ne_eqb, arith}
-use Rattle.std.specs.Prelude.{IsUtf8, nat_le, bytes_eq, codes}
-use Rattle.std.specs.List.{list_any, list_all}
-use Rattle.std.proofs.lemmas.Bool.{cases_Bool}
-use Rattle.std.proofs.lemmas.Slice.Eq.{bytes_eq-Decides}
+use Rattle.sv_target.proofs.Prelude.{◌≡◌, ◌≢◌, ℕ, suc, ◌≤◌, ◌==◌, Bool, true, false, List, [], ◌∷◌, length, get_or, Option, Some, None, refl, sym, ap, ◌∙◌}
+use Rattle.sv_target.proofs.Prelude.{subst, inl, inr, take, ◌++◌, arith, IsUtf8, nat_le, bytes_eq, codes, list_any, list_all, cases_Bool, and_parts}
+use Rattle.sv_target.proofs.Prelude.{bytes_eq-Decides, is_path_byte, index_of, query_of, Spells, is_some, if◌then◌else◌, Target, is_refused_byte}
+use Rattle.sv_target.proofs.Prelude.{is_origin_form, target_at, target_within, IsTarget, IsBadTarget}
+use Rattle.std.proofs.Common.{◌||◌, ◌&&◌, not, IfSome, one-add, take_all, le-leb, leb-true, ne_eqb}
 use Rattle.std.proofs.lemmas.List.Sums.{AllPass-from_list_all, list_all-from_AllPass}
 use Rattle.http_uri.specs.declared.uri.Uri.{Uri}
-use Rattle.http_uri.specs.ByteClasses.{is_path_byte, is_query_byte, index_of, split_once_front}
-use Rattle.http_uri.specs.Grammar.{AllPass, IsForm, IsPathAndQuery, path_of, query_of, without_fragment}
-use Rattle.http_uri.specs.Uri.{Spells, uri_scheme, uri_authority, uri_data}
+use Rattle.http_uri.specs.ByteClasses.{is_query_byte, split_once_front}
+use Rattle.http_uri.specs.Grammar.{AllPass, IsForm, IsPathAndQuery, path_of, without_fragment}
+use Rattle.http_uri.specs.Uri.{uri_scheme, uri_authority, uri_data}
 use Rattle.http_uri.proofs.UriLemmas.{IsAuthority_first, cut_first}
 use Rattle.http_uri.proofs.Theorems.{Spells_unique}
-use Rattle.std.specs.Prelude.{is_some, if◌then◌else◌}
-use Rattle.sv_target.specs.declared.target.Target.{Target}
-use Rattle.sv_target.specs.Target.{is_refused_byte, is_origin_form, has_query_bytes, is_served_form, target_at, target_of, target_within, IsTarget, IsBadTarget, IsOneTarget, IsReadWithin}
+use Rattle.sv_target.specs.Target.{has_query_bytes, is_served_form, target_of, IsOneTarget, IsReadWithin}
 
 -- a text without a `#` is kept whole
 no_hash : (text : List ℕ) → list_any is_refused_byte text ≡ false → index_of 35 text ≡ length text
@@ -83,10 +81,6 @@ spelled rest clean h =
     let is = whole (47 ∷ rest) clean in
     (h.short, ((inr refl, record { start = inr refl; short = h.short; kept = subst IsPathAndQuery (sym is) h }), sym is))
 
-both : (x y : Bool) → (x && y) ≡ true → (x ≡ true) × (y ≡ true)
-both true y e = (refl, e)
-both false y e = let never : false ≡ true = e in cc
-
 -- what the test says of a text
 form_of : (rest : List ℕ) → IsUtf8 (47 ∷ rest) → is_origin_form (47 ∷ rest) ≡ true → IsPathAndQuery (47 ∷ rest)
 unfolding is_origin_form
@@ -95,8 +89,8 @@ form_of rest text is =
     let query = has_query_bytes (query_of (47 ∷ rest)) in
     let short = nat_le (length (47 ∷ rest)) 65534 in
     let all : (path && query && short) ≡ true = is in
-    let last = both (path && query) short all in
-    let more = both path query last.0 in
+    let last = and_parts (path && query) short all in
+    let more = and_parts path query last.0 in
     path_and_query rest text more.0 more.1 (leb-true (length (47 ∷ rest)) 65534 last.1)
 
 -- ---- the target

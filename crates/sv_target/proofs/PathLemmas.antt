@@ -1,16 +1,9 @@
 -- One more segment of a path, one that stops it, and a path that has no first slash.
-use Rattle.std.proofs.Common.{refl, sym, ◌∙◌, ap, inl, inr, ◌≡◌, ◌≢◌, ℕ, ◌+◌, ◌<◌, List, [], ◌∷◌, length, take, get_or, Option, Some, None, true, false, ◌++◌, map}
-use Rattle.std.specs.Prelude.{fold, bytes_eq, codes}
-use Rattle.std.specs.Borrow.{Bor}
-use Rattle.std.specs.List.{slice_split}
-use Rattle.percent_encoding.specs.Percent.{percent_decode}
-use Rattle.std.proofs.lemmas.Bool.{cases_Bool}
-use Rattle.std.proofs.lemmas.List.{append-nil}
+use Rattle.sv_target.proofs.Prelude.{refl, sym, ◌∙◌, ap, inl, inr, ◌≡◌, ◌≢◌, ℕ, ◌+◌, ◌<◌, List, [], ◌∷◌, length, take, get_or, Option, Some, None, true, false}
+use Rattle.sv_target.proofs.Prelude.{◌++◌, map, fold, bytes_eq, codes, Bor, slice_split, percent_decode, cases_Bool, append-nil, bytes_eq-Decides, cut, is_dots}
+use Rattle.sv_target.proofs.Prelude.{segments, resolved, ends_in_dots, is_slash, step, canonical_path}
 use Rattle.std.proofs.lemmas.List.Sums.{fold_more}
 use Rattle.std.proofs.lemmas.List.Folds.{fold_stuck}
-use Rattle.std.proofs.lemmas.Slice.Eq.{bytes_eq-Decides}
-use Rattle.sv_target.specs.Segment.{cut, is_dots}
-use Rattle.sv_target.specs.Path.{segments, resolved, ends_in_dots, is_slash, step, canonical_path}
 use Rattle.sv_target.proofs.CookieLemmas.{map-map}
 use Rattle.sv_target.proofs.SegmentLemmas.{good_empty}
 

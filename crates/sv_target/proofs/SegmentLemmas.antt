@@ -1,11 +1,8 @@
 -- When a segment is good.
-use Rattle.std.proofs.Common.{refl, ◌≡◌, ℕ, List, [], true, false, inl, inr}
-use Rattle.std.specs.Prelude.{IsUtf8}
+use Rattle.sv_target.proofs.Prelude.{refl, ◌≡◌, ℕ, List, [], true, false, inl, inr, IsUtf8, cases_Bool, percent_decode, are_escapes, has_good_escapes}
+use Rattle.sv_target.proofs.Prelude.{hides_dots, is_dots, is_good_segment}
 use Rattle.std.specs.Str.{is_utf8}
-use Rattle.std.proofs.lemmas.Bool.{cases_Bool}
 use Rattle.std.proofs.lemmas.Str.{is_utf8-from_IsUtf8, IsUtf8-from_is_utf8}
-use Rattle.percent_encoding.specs.Percent.{percent_decode}
-use Rattle.sv_target.specs.Segment.{are_escapes, has_good_escapes, hides_dots, is_dots, is_good_segment}
 
 pub good : (s : List ℕ) → has_good_escapes s ≡ true → IsUtf8 (percent_decode s) → hides_dots (percent_decode s) s ≡ false
     → is_good_segment s ≡ true

@@ -1,22 +1,13 @@
 -- What a session's cookie spells is read back.
-use Rattle.std.proofs.Common.{◌≡◌, ℕ, ◌<◌, true, Option, Some, None, List, [], ◌∷◌, ◌++◌, length, slice_index, slice_range, refl, ap, ◌∙◌, arith}
-use Rattle.std.specs.Prelude.{slice_get}
-use Rattle.std.specs.List.{cons_option, filter_map}
-use Rattle.std.specs.Int.{w64, bytes_high_first, from_be_bytes}
-use Rattle.std.proofs.lemmas.Bool.{cond-true}
-use Rattle.std.proofs.lemmas.Bool.Decides.{nat_tests}
-use Rattle.std.proofs.lemmas.List.{take_all}
+use Rattle.sv_target.proofs.Prelude.{◌≡◌, ℕ, ◌<◌, true, Option, Some, None, List, [], ◌∷◌, ◌++◌, length, slice_index, refl, ap, ◌∙◌, arith, slice_get}
+use Rattle.sv_target.proofs.Prelude.{cons_option, filter_map, w64, bytes_high_first, from_be_bytes, cond-true, nat_tests, take_all, IsBytes, encode_lower}
+use Rattle.sv_target.proofs.Prelude.{lower_digits, Key, Secret, Cookie, bytes_eq-Decides, IsCookieOf, IsNameable, cookie_text, names_session, key_of}
+use Rattle.sv_target.proofs.Prelude.{session_of_cookie, session_of_bytes, secret_of, session_bytes, session_cookie, spelled_bytes}
+use Rattle.std.proofs.Common.{slice_range}
 use Rattle.std.proofs.lemmas.Nat.{from_be_bytes-to_be_bytes_8}
-use Rattle.hex.specs.Hex.{IsBytes, encode_lower, lower_digits}
 use Rattle.hex.proofs.HexLemmas.{length-encode_with}
-use Rattle.sv_model.specs.declared.key.Key.{Key}
-use Rattle.sv_model.specs.declared.key.Secret.{Secret}
-use Rattle.sv_model.specs.declared.request.Cookie.{Cookie}
 use Rattle.sv_target.proofs.ByteLemmas.{IsBytes-bytes_high_first, IsBytes-cons, IsBytes-from_All}
-use Rattle.std.proofs.lemmas.Slice.Eq.{bytes_eq-Decides}
-use Rattle.sv_target.specs.SessionCookie.{IsCookieOf, IsNameable, cookie_text, names_session, key_of, session_of_cookie, session_of_bytes, secret_of, session_bytes, session_cookie}
 use Rattle.sv_target.proofs.DigitLemmas.{bytes_of-encode_lower}
-use Rattle.sv_target.specs.Digits.{spelled_bytes}
 
 -- 26 bytes are read back from their digits
 pub spelled_bytes-encode_lower : (bytes : List ℕ) → length bytes ≡ 26 → IsBytes bytes → spelled_bytes (encode_lower bytes) ≡ Some bytes

@@ -1,5 +1,5 @@
 -- Targets of requests (RFC 9112, section 3.2; RFC 3986, section 3), in the words of the crate `http_uri`.
-use Rattle.std.specs.Prelude.{◌≡◌, ℕ, ◌≤◌, ◌⊎◌, Bool, true, false, ◌||◌, ◌&&◌, ◌==◌, nat_le, nat_lt, List, ◌∷◌}
+use Rattle.std.specs.Prelude.{◌≡◌, ℕ, ◌≤◌, ◌⊎◌, Bool, true, false, ◌||◌, ◌&&◌, not, ◌==◌, nat_le, nat_lt, List, [], ◌∷◌}
 use Rattle.std.specs.Prelude.{IsUtf8, length, take, codes, bytes_eq, if◌then◌else◌, Option, Some, None, is_none, option_map}
 use Rattle.std.specs.Option.{option_map_or}
 use Rattle.std.specs.Char.{is_ascii_alphanumeric}
@@ -65,6 +65,11 @@ target_within text =
 -- letters, digits, `-`, `.`, `_`, `~` and `/`
 abbrev pub is_common_byte : ℕ → Bool
 is_common_byte b = nat_lt b 128 && (is_ascii_alphanumeric b || (b == 45 || (b == 46 || (b == 95 || (b == 126 || b == 47)))))
+
+-- such bytes, of which no dot begins a segment; whether one begins at the front
+abbrev pub common_from : Bool → List ℕ → Bool
+common_from begins [] = true
+common_from begins (b ∷ text) = (is_common_byte b && not (begins && b == 46)) && common_from (b == 47) text
 
 -- a path without a query, of such bytes, which is its own canonical one
 pub record IsCommon (text : List ℕ) : Type 0 where

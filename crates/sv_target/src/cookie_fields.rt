@@ -3,6 +3,7 @@
 ghost use Rattle.std.specs.Prelude.{◌≡◌, ◌++◌, ◌∷◌, [], IfOk, IfSome, OnOk, is_some, position};
 ghost use Rattle.sv_target.specs.Cookies as spec;
 
+use crate::name::is_same;
 use std::alloc::{AllocError, Global};
 use sv_model::{Cookie, Field, Sequence, trim};
 
@@ -27,7 +28,7 @@ pub fn cookies(alloc: Global, fields: &[Field]) -> Result<Sequence<Cookie>, Allo
 fn is_cookie_field(field: &Field) -> bool
     ensures { result ≡ spec.is_cookie_field field.now }
 {
-    field.name.as_bytes() == b"cookie".as_slice()
+    is_same(field.name.as_bytes(), b"cookie")
 }
 
 /// Adds the pairs of one field's value.

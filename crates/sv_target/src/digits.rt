@@ -52,8 +52,13 @@ pub fn spelled_bytes(text: &[u8]) -> Option<[u8; BYTES]>
         return None;
     }
     let mut bytes = [0; BYTES];
+    let mut left = text;
     'bytes: for place in 0..BYTES {
-        bytes[place] = byte_of(text[2 * place], text[2 * place + 1])?;
+        let [high, low, rest @ ..] = left else {
+            return None;
+        };
+        bytes[place] = byte_of(*high, *low)?;
+        left = rest;
     }
     Some(bytes)
 }

@@ -4,6 +4,7 @@ ghost use Rattle.std.specs.Prelude.{◌≡◌};
 ghost use Rattle.sv_target.specs.SessionCookie as spec;
 
 use crate::digits::{BYTES, spelled_bytes};
+use crate::name::is_same;
 use sv_model::{Cookie, Key, NODE_LIMIT, Secret};
 
 /// The name of the cookie where nobody chooses another.
@@ -51,7 +52,7 @@ pub fn session_cookie(name: &[u8], cookies: &[Cookie], context: u8) -> Option<(K
 fn session_of_cookie(name: &[u8], cookie: &Cookie, context: u8) -> Option<(Key, Secret)>
     ensures { result ≡ spec.session_of_cookie name.now context cookie.now }
 {
-    if cookie.name.as_slice() != name {
+    if !is_same(cookie.name.as_slice(), name) {
         return None;
     }
     let bytes = spelled_bytes(cookie.value.as_slice())?;

@@ -14,6 +14,7 @@ mod digits;
 mod fault;
 mod jsessionid;
 pub mod laws;
+mod name;
 mod parameters;
 mod path;
 mod segment;

@@ -5,6 +5,7 @@ ghost use Rattle.std.specs.List.{find};
 ghost use Rattle.sv_target.specs.Params as spec;
 ghost use Rattle.sv_target.specs.Segment.{is_semicolon};
 
+use crate::name::is_same;
 use form_urlencoded::{decode, raw_pairs};
 use http::Method;
 use std::alloc::{AllocError, Global};
@@ -49,7 +50,7 @@ pub fn params(alloc: Global, query: &[u8], form: &[u8]) -> Result<Sequence<Param
 fn is_content_type(field: &Field) -> bool
     ensures { result ≡ spec.is_content_type field.now }
 {
-    field.name.as_bytes() == b"content-type".as_slice()
+    is_same(field.name.as_bytes(), b"content-type")
 }
 
 fn place_of_semicolon(value: &[u8]) -> Option<usize>

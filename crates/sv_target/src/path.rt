@@ -143,7 +143,7 @@ fn is_plain_segment(segment: &[u8]) -> bool
 }
 
 /// Whether each segment of a path after its first slash stands for itself, as most do: the path is its own canonical one then.
-pub(crate) fn is_plain(rest: &str) -> bool
+fn is_plain(rest: &str) -> bool
     ensures { result ≡ list_all spec.is_plain_segment (slice_split spec.is_slash rest.now) }
 {
     rest.as_bytes()

@@ -1,14 +1,15 @@
 //! The target of a request (RFC 9112, section 3.2), and a path within a context.
 
 ghost use Rattle.std.specs.Prelude.{◌≡◌, ◌⊎◌, ◌↔◌, Some, None, codes, option_map, true, false, IfOk, IsErrOf, IsTrue};
-ghost use Rattle.std.specs.List.{list_all, list_any};
+ghost use Rattle.std.specs.List.{list_all, list_any, slice_split};
 ghost use Rattle.http_uri.specs.declared.uri.Uri.{Uri as UriValue};
 ghost use Rattle.http_uri.specs.Uri.{Spells, SpellsNone, uri_authority, uri_path, uri_query, uri_scheme};
+ghost use Rattle.sv_target.specs.Path.{is_plain_segment, is_slash};
 ghost use Rattle.sv_target.specs.Target as spec;
 ghost use Rattle.sv_target.specs.Target.{IsBadTarget, IsCommon, IsTarget};
 
 use crate::fault::TargetFault;
-use crate::path::{canonical_path, is_plain};
+use crate::path::canonical_path;
 use http::Method;
 use http_uri::{Uri, UriError};
 use std::alloc::{AllocError, Global};
@@ -130,10 +131,27 @@ fn is_common_byte(byte: u8) -> bool
     COMMON_BYTES[byte as usize]
 }
 
-fn has_common_bytes(text: &[u8]) -> bool
-    ensures { result ≡ list_all spec.is_common_byte text.now }
+/// Whether each byte after the first slash is such a one, and no segment begins with a dot.
+fn is_undotted(text: &[u8]) -> bool
+    ensures { result ≡ spec.common_from true text.now }
 {
-    text.iter().all(|byte| is_common_byte(*byte))
+    let mut begins = true;
+    let mut left = text;
+    while let [byte, rest @ ..] = left {
+        if !is_common_byte(*byte) || (begins && *byte == b'.') {
+            return false;
+        }
+        begins = *byte == b'/';
+        left = rest;
+    }
+    true
+}
+
+fn has_common_segments(text: &[u8]) -> bool
+    ensures bytes { IsTrue result → list_all spec.is_common_byte text.now ≡ true }
+    ensures segments { IsTrue result → list_all is_plain_segment (slice_split is_slash text.now) ≡ true }
+{
+    is_undotted(text)
 }
 
 /// Whether a text is the target of most requests: a path without a query that stands for itself.
@@ -144,7 +162,7 @@ fn is_common(raw: &str) -> bool
         return false;
     }
     match raw.strip_prefix('/') {
-        Some(rest) => has_common_bytes(rest.as_bytes()) && is_plain(rest),
+        Some(rest) => has_common_segments(rest.as_bytes()),
         None => false,
     }
 }

@@ -1,7 +1,4 @@
-use Rattle.std.proofs.Common.{◌≡◌, ◌&&◌, take}
-use Rattle.sv_mapping.specs.Chain.{added_where}
-use Rattle.sv_mapping.specs.Dispatcher.{carries}
-use Rattle.sv_mapping.specs.Filter.{names_servlet}
+use Rattle.sv_mapping.proofs.Prelude.{◌≡◌, ◌&&◌, take, added_where, carries, names_servlet}
 use Rattle.sv_mapping.proofs.chain.add_by_servlet.Given as goal
 
 abbrev pub invariant-loop-mapping : goal.invariant-loop-mapping

@@ -1,5 +1,4 @@
-use Rattle.std.proofs.Common.{◌≡◌, map, string_bytes, rules}
-use Rattle.sv_mapping.specs.Context.{chosen_context}
+use Rattle.sv_mapping.proofs.Prelude.{◌≡◌, map, string_bytes, rules, chosen_context}
 use Rattle.sv_mapping.proofs.ContextLemmas.{chosen_facts}
 use Rattle.sv_mapping.proofs.context.choose_context.Goals as goal
 

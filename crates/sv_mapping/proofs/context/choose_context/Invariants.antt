@@ -1,6 +1,5 @@
-use Rattle.std.proofs.Common.{◌≡◌, ◌+◌, ◌<◌, length, drop, map, string_bytes}
-use Rattle.std.specs.Option.{option_map, ForSome}
-use Rattle.sv_mapping.specs.Context.{chosen_context}
+use Rattle.sv_mapping.proofs.Prelude.{◌≡◌, ◌+◌, ◌<◌, length, drop, map, string_bytes, option_map, chosen_context}
+use Rattle.std.specs.Option.{ForSome}
 use Rattle.sv_mapping.proofs.context.choose_context.Given as goal
 
 abbrev pub invariant-loop-place : goal.invariant-loop-place

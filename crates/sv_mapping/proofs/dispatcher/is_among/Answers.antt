@@ -1,4 +1,5 @@
-use Rattle.std.proofs.Common.{◌∙◌, List, ℕ, bytes_eq, Bor}
+use Rattle.sv_mapping.proofs.Prelude.{◌∙◌, List, ℕ}
+use Rattle.std.proofs.Common.{bytes_eq, Bor}
 use Rattle.sv_mapping.proofs.TestLemmas.{list_any_map}
 use Rattle.sv_mapping.proofs.dispatcher.is_among.Goals as goal
 

@@ -1,6 +1,4 @@
-use Rattle.std.proofs.Common.{None, Some, refl, ◌∙◌, arith}
-use Rattle.std.proofs.lemmas.Str.Pattern.{rfind_char}
-use Rattle.sv_mapping.specs.Path.{extension_of}
+use Rattle.sv_mapping.proofs.Prelude.{None, Some, refl, ◌∙◌, arith, rfind_char, extension_of}
 use Rattle.sv_mapping.proofs.PathLemmas.{after_last-at, list_any-none, list_any-at}
 use Rattle.sv_mapping.proofs.path.extension_of.Goals as goal
 

@@ -1,5 +1,4 @@
-use Rattle.std.proofs.Common.{◌∙◌, None, Some, arith}
-use Rattle.std.proofs.lemmas.Str.Pattern.{rfind_char}
+use Rattle.sv_mapping.proofs.Prelude.{◌∙◌, None, Some, arith, rfind_char}
 use Rattle.sv_mapping.specs.Path.{last_segment}
 use Rattle.sv_mapping.proofs.PathLemmas.{after_last-at, after_last-none}
 use Rattle.sv_mapping.proofs.path.last_segment.Goals as goal

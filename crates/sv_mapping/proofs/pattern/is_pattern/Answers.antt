@@ -1,9 +1,8 @@
-use Rattle.std.proofs.Common.{◌≡◌, ◌&&◌, true, leb, length, sym, ap, ◌∙◌, arith, rules, tests}
+use Rattle.sv_mapping.proofs.Prelude.{◌≡◌, ◌&&◌, true, leb, length, sym, ap, ◌∙◌, arith, rules, nat_tests, list_all, is_pattern}
+use Rattle.std.proofs.Common.{tests}
 use Rattle.std.proofs.lemmas.Iterator.Search.{all_from_yields_List}
 use Rattle.std.proofs.lemmas.Iterator.Adapters.{YieldsList-from_bytes}
-use Rattle.std.proofs.lemmas.Bool.Decides.{nat_tests}
-use Rattle.std.specs.List.{list_all}
-use Rattle.sv_mapping.specs.Pattern.{is_printed, is_pattern}
+use Rattle.sv_mapping.specs.Pattern.{is_printed}
 use Rattle.sv_mapping.proofs.pattern.is_pattern.Goals as goal
 
 pub returns-then-text-le-MAX_PATTERN_BYTES : goal.returns-then-text-le-MAX_PATTERN_BYTES

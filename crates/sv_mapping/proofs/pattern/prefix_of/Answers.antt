@@ -1,5 +1,4 @@
-use Rattle.std.proofs.Common.{◌-◌, length, arith}
-use Rattle.std.proofs.lemmas.Str.{IsCharBoundary-before_ascii}
+use Rattle.sv_mapping.proofs.Prelude.{◌-◌, length, arith, IsCharBoundary-before_ascii}
 use Rattle.sv_mapping.proofs.PatternLemmas.{prefix_len, prefix_slash_at}
 use Rattle.sv_mapping.proofs.pattern.prefix_of.Goals as goal
 

@@ -1,4 +1,4 @@
-use Rattle.std.proofs.Common.{arith}
+use Rattle.sv_mapping.proofs.Prelude.{arith}
 use Rattle.std.proofs.lemmas.Str.{IsCharBoundary-after_ascii}
 use Rattle.sv_mapping.proofs.PatternLemmas.{extension_len, extension_dot}
 use Rattle.sv_mapping.proofs.pattern.suffix_of.Goals as goal

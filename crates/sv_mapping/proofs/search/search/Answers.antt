@@ -1,6 +1,5 @@
-use Rattle.std.proofs.Common.{◌++◌, rules}
+use Rattle.sv_mapping.proofs.Prelude.{◌++◌, rules, text_cmp}
 use Rattle.std.proofs.lemmas.Fn.{always_returns_same}
-use Rattle.sv_mapping.specs.Search.{text_cmp}
 use Rattle.sv_mapping.proofs.EntryLemmas.{searched}
 use Rattle.sv_mapping.proofs.search.search.Goals as goal
 

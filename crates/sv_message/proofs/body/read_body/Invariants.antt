@@ -1,5 +1,4 @@
-use Rattle.std.proofs.Common.{◌-◌, ◌≤◌, length}
-use Rattle.sv_message.specs.Partial.{IsPartial}
+use Rattle.sv_message.proofs.Prelude.{◌-◌, ◌≤◌, length, IsPartial}
 use Rattle.sv_message.proofs.body.read_body.Given as goal
 
 abbrev pub invariant-loop : goal.invariant-loop

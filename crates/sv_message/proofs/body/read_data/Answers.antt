@@ -1,5 +1,4 @@
-use Rattle.std.proofs.Common.{arith, ap, min, length, take, ◌∙◌, inl, ◌≡◌}
-use Rattle.std.proofs.lemmas.List.{nil_from_length}
+use Rattle.sv_message.proofs.Prelude.{arith, ap, min, length, take, ◌∙◌, inl, ◌≡◌, nil_from_length}
 use Rattle.sv_message.proofs.PartialLemmas.{unread, after_data, open_data}
 use Rattle.sv_message.proofs.body.read_data.Goals as goal
 

@@ -1,6 +1,5 @@
-use Rattle.std.proofs.Common.{arith, ap, min, length, take, ◌∙◌}
+use Rattle.sv_message.proofs.Prelude.{arith, ap, min, length, take, ◌∙◌, Missing}
 use Rattle.sv_message.proofs.PartialLemmas.{after_declared, whole_declared}
-use Rattle.sv_message.specs.declared.body.Part.TheVariants.{Missing}
 use Rattle.sv_message.proofs.body.read_declared.Goals as goal
 
 pub returns-else-count-missing-clause-steps : goal.returns-else-count-missing-clause-steps

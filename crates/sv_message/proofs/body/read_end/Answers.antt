@@ -1,7 +1,4 @@
-use Rattle.std.proofs.Common.{arith, ap, inr, length, subst}
-use Rattle.sv_message.specs.declared.body.Part.{Part}
-use Rattle.sv_message.specs.declared.body.Part.TheVariants.{Line}
-use Rattle.sv_message.specs.Partial.{InBody}
+use Rattle.sv_message.proofs.Prelude.{arith, ap, inr, length, subst, Part, Line, InBody}
 use Rattle.sv_message.proofs.PartialLemmas.{unread, moved, goes_end, short_end, bad_end}
 use Rattle.sv_message.proofs.body.read_end.Goals as goal
 

@@ -1,7 +1,4 @@
-use Rattle.std.proofs.Common.{subst, List, ℕ}
-use Rattle.std.specs.Prelude.{Err}
-use Rattle.sv_message.specs.Pieces.{FindsTrailer}
-use Rattle.std.proofs.lemmas.Result.{err_from_is_err_and}
+use Rattle.sv_message.proofs.Prelude.{subst, List, ℕ, Err, FindsTrailer, err_from_is_err_and}
 use Rattle.sv_message.proofs.PartialLemmas.{open_trailer, whole_chunked, trailer_fault}
 use Rattle.sv_message.proofs.body.read_last.Goals as goal
 

@@ -1,7 +1,4 @@
-use Rattle.std.proofs.Common.{subst, List, ℕ}
-use Rattle.std.specs.Prelude.{Err}
-use Rattle.std.proofs.lemmas.Result.{err_from_is_err_and}
-use Rattle.sv_message.specs.Pieces.{FindsLine}
+use Rattle.sv_message.proofs.Prelude.{subst, List, ℕ, Err, err_from_is_err_and, FindsLine}
 use Rattle.sv_message.proofs.PartialLemmas.{line_fault}
 use Rattle.sv_message.proofs.body.read_line.Goals as goal
 

@@ -1,4 +1,4 @@
-use Rattle.std.proofs.Common.{arith}
+use Rattle.sv_message.proofs.Prelude.{arith}
 use Rattle.sv_message.proofs.HostLemmas.{host_byte_at}
 use Rattle.sv_message.proofs.host.is_host_byte.Goals as goal
 

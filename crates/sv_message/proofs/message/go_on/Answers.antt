@@ -1,4 +1,4 @@
-use Rattle.std.proofs.Common.{rules}
+use Rattle.sv_message.proofs.Prelude.{rules}
 use Rattle.sv_message.proofs.message.go_on.Goals as goal
 
 pub returns-in-Ok-true-clause-finds : goal.returns-in-Ok-true-clause-finds

@@ -1,8 +1,5 @@
-use Rattle.std.proofs.Common.{List, ◌++◌, ap, ◌∙◌}
+use Rattle.sv_message.proofs.Prelude.{List, ◌++◌, ap, ◌∙◌, flat_map, Field, field_line}
 use Rattle.std.proofs.lemmas.Result.{on_ok_weaker, on_err_weaker}
-use Rattle.std.specs.List.{flat_map}
-use Rattle.sv_model.specs.declared.field.Field.{Field}
-use Rattle.sv_message.specs.Response.{field_line}
 use Rattle.sv_message.proofs.ResponseLemmas.{head_kept, head_text}
 use Rattle.sv_message.proofs.response.write_head.Goals as goal
 

@@ -1,4 +1,4 @@
-use Rattle.std.proofs.Common.{◌≡◌, sym, ◌∙◌}
+use Rattle.sv_message.proofs.Prelude.{◌≡◌, sym, ◌∙◌}
 use Rattle.sv_message.proofs.response.write_status.Goals as goal
 
 pub returns-then-as_u16-eq200-clause-ok : goal.returns-then-as_u16-eq200-clause-ok

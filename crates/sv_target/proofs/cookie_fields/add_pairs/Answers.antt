@@ -1,8 +1,5 @@
-use Rattle.std.proofs.Common.{◌++◌, map, sym, ap, ◌∙◌, rules, tests}
+use Rattle.sv_target.proofs.Prelude.{◌++◌, map, sym, ap, ◌∙◌, rules, tests, YieldsList-from_slice_split, trim, is_semicolon, pairs_among, pairs_of}
 use Rattle.std.proofs.lemmas.Iterator.Consumers.{YieldsList-end}
-use Rattle.std.proofs.lemmas.Iterator.Splits.{YieldsList-from_slice_split}
-use Rattle.sv_model.specs.Blanks.{trim}
-use Rattle.sv_target.specs.Cookies.{is_semicolon, pairs_among, pairs_of}
 use Rattle.sv_target.proofs.CookieLemmas.{map-map}
 use Rattle.sv_target.proofs.cookie_fields.add_pairs.Goals as goal
 

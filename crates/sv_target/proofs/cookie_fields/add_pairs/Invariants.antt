@@ -1,6 +1,4 @@
-use Rattle.std.proofs.Common.{◌≡◌, ◌++◌, map}
-use Rattle.sv_model.specs.Blanks.{trim}
-use Rattle.sv_target.specs.Cookies.{pairs_among}
+use Rattle.sv_target.proofs.Prelude.{◌≡◌, ◌++◌, map, trim, pairs_among}
 use Rattle.sv_target.proofs.cookie_fields.add_pairs.Given as goal
 
 abbrev pub invariant-loop-part : goal.invariant-loop-part

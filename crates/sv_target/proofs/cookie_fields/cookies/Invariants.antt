@@ -1,4 +1,4 @@
-use Rattle.std.proofs.Common.{◌≡◌, take}
+use Rattle.sv_target.proofs.Prelude.{◌≡◌, take}
 use Rattle.sv_target.specs.Cookies.{cookies_of}
 use Rattle.sv_target.proofs.cookie_fields.cookies.Given as goal
 

@@ -1,7 +1,4 @@
-use Rattle.std.proofs.Common.{◌+◌, ap, drop, sym, take, ◌∙◌}
-use Rattle.std.proofs.lemmas.List.{take_rest}
-use Rattle.std.specs.Prelude.{is_some}
-use Rattle.sv_target.specs.Cookies.{is_equals, is_pair, pair_of}
+use Rattle.sv_target.proofs.Prelude.{◌+◌, ap, drop, sym, take, ◌∙◌, take_rest, is_some, is_equals, is_pair, pair_of}
 use Rattle.sv_target.proofs.CookieLemmas.{is_some-position, position_or_len-position}
 use Rattle.sv_target.proofs.cookie_fields.split_pair.Goals as goal
 

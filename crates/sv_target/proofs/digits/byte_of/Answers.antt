@@ -1,4 +1,4 @@
-use Rattle.std.proofs.Common.{arith}
+use Rattle.sv_target.proofs.Prelude.{arith}
 use Rattle.sv_target.proofs.DigitLemmas.{byte_by_values, no_byte_by_first, no_byte_by_second}
 use Rattle.sv_target.proofs.digits.byte_of.Goals as goal
 

@@ -1,7 +1,6 @@
-use Rattle.std.proofs.Common.{◌≡◌, ◌*◌, length, take, drop}
-use Rattle.sv_target.specs.Digits.{bytes_of}
+use Rattle.sv_target.proofs.Prelude.{◌≡◌, ◌+◌, ◌*◌, length, take, bytes_of}
 use Rattle.sv_target.proofs.DigitLemmas.{prepend}
 use Rattle.sv_target.proofs.digits.spelled_bytes.Given as goal
 
 abbrev pub invariant-bytes : goal.invariant-bytes
-invariant-bytes l = (length l.bytes ≡ 26) × (bytes_of l.text ≡ prepend (take l.place l.bytes) (bytes_of (drop (2 * l.place) l.text)))
+invariant-bytes l = (length l.bytes ≡ 26) × (length l.left + 2 * l.place ≡ 52) × (bytes_of l.fn.text ≡ prepend (take l.place l.bytes) (bytes_of l.left))

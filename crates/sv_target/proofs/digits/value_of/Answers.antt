@@ -1,4 +1,4 @@
-use Rattle.std.proofs.Common.{arith, sym}
+use Rattle.sv_target.proofs.Prelude.{arith, sym}
 use Rattle.sv_target.proofs.DigitLemmas.{value_at}
 use Rattle.sv_target.proofs.digits.value_of.Goals as goal
 

@@ -1,8 +1,5 @@
-use Rattle.std.proofs.Common.{◌+◌, ◌∷◌, ap, arith, drop, sym, ◌∙◌}
-use Rattle.std.specs.Prelude.{slice_get}
-use Rattle.std.specs.List.{cons_option, filter_map}
+use Rattle.sv_target.proofs.Prelude.{◌+◌, ◌∷◌, ap, arith, drop, sym, ◌∙◌, slice_get, cons_option, filter_map, session_of_cookie, session_cookie}
 use Rattle.std.proofs.lemmas.List.{drop_all, drop_more}
-use Rattle.sv_target.specs.SessionCookie.{session_of_cookie, session_cookie}
 use Rattle.sv_target.proofs.jsessionid.session_cookie.Goals as goal
 
 pub returns-in-Some : goal.returns-in-Some

@@ -1,6 +1,4 @@
-use Rattle.std.proofs.Common.{◌≡◌, drop}
-use Rattle.std.specs.List.{filter_map}
-use Rattle.sv_target.specs.SessionCookie.{session_of_cookie}
+use Rattle.sv_target.proofs.Prelude.{◌≡◌, drop, filter_map, session_of_cookie}
 use Rattle.sv_target.proofs.jsessionid.session_cookie.Given as goal
 
 abbrev pub invariant-loop-cookie : goal.invariant-loop-cookie

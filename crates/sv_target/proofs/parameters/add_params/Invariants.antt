@@ -1,4 +1,4 @@
-use Rattle.std.proofs.Common.{◌≡◌, ◌++◌, map}
+use Rattle.sv_target.proofs.Prelude.{◌≡◌, ◌++◌, map}
 use Rattle.form_urlencoded.specs.Parse.{raw_pairs_left}
 use Rattle.sv_target.specs.Params.{param_of, params_in}
 use Rattle.sv_target.proofs.parameters.add_params.Given as goal

@@ -1,4 +1,4 @@
-use Rattle.std.proofs.Common.{ap, sym, take, ◌∙◌}
+use Rattle.sv_target.proofs.Prelude.{ap, sym, take, ◌∙◌}
 use Rattle.sv_target.specs.Segment.{is_semicolon}
 use Rattle.sv_target.proofs.CookieLemmas.{position_or_len-position, before_none}
 use Rattle.sv_target.proofs.parameters.media_type.Goals as goal

@@ -1,8 +1,5 @@
-use Rattle.std.proofs.Common.{◌≡◌, ◌∷◌, lit<, true, sym, ◌∙◌, ap}
+use Rattle.sv_target.proofs.Prelude.{◌≡◌, ◌∷◌, lit<, true, sym, ◌∙◌, ap, list_all, slice_split, strip_prefix_char, canonical_path, is_plain_segment, is_slash}
 use Rattle.std.specs.Prelude.{Some}
-use Rattle.std.specs.List.{list_all, slice_split}
-use Rattle.std.proofs.lemmas.Str.Pattern.{strip_prefix_char}
-use Rattle.sv_target.specs.Path.{canonical_path, is_plain_segment, is_slash}
 use Rattle.sv_target.proofs.PathLemmas.{unrooted}
 use Rattle.sv_target.proofs.PlainLemmas.{canonical_plain}
 use Rattle.sv_target.proofs.path.canonical_path.Goals as goal

@@ -1,7 +1,4 @@
-use Rattle.std.proofs.Common.{rules, tests, ◌∙◌}
-use Rattle.std.proofs.lemmas.Iterator.Search.{all_from_yields_List}
-use Rattle.std.proofs.lemmas.Iterator.Splits.{YieldsList-from_slice_split}
-use Rattle.sv_target.specs.Path.{is_plain_segment, is_slash}
+use Rattle.sv_target.proofs.Prelude.{rules, tests, ◌∙◌, all_from_yields_List, YieldsList-from_slice_split, is_plain_segment, is_slash}
 use Rattle.sv_target.proofs.path.is_plain.Goals as goal
 
 pub returns : goal.returns

@@ -1,9 +1,6 @@
-use Rattle.std.proofs.Common.{arith, ◌<◌, List, ℕ, length, map, [], sym, ◌∙◌}
+use Rattle.sv_target.proofs.Prelude.{arith, ◌<◌, List, ℕ, length, map, [], sym, ◌∙◌, Bor, cow_str_bytes, cut}
 use Rattle.std.proofs.lemmas.List.{get_or-map, length-map}
 use Rattle.std.proofs.lemmas.Result.{err_from_is_err_and}
-use Rattle.std.specs.Borrow.{Bor}
-use Rattle.std.specs.Cow.{cow_str_bytes}
-use Rattle.sv_target.specs.Segment.{cut}
 use Rattle.sv_target.proofs.PathLemmas.{fold_next, stopped}
 use Rattle.sv_target.proofs.path.keep_segments.Goals as goal
 

@@ -1,8 +1,4 @@
-use Rattle.std.proofs.Common.{◌≡◌, [], map, take, Some}
-use Rattle.std.specs.Prelude.{fold}
-use Rattle.std.specs.Cow.{cow_str_bytes}
-use Rattle.sv_target.specs.Path.{step}
-use Rattle.sv_target.specs.Segment.{cut}
+use Rattle.sv_target.proofs.Prelude.{◌≡◌, [], map, take, Some, fold, cow_str_bytes, step, cut}
 use Rattle.sv_target.proofs.path.keep_segments.Given as goal
 
 abbrev pub invariant-loop-part : goal.invariant-loop-part

@@ -1,6 +1,5 @@
-use Rattle.std.proofs.Common.{◌≡◌, map, take}
+use Rattle.sv_target.proofs.Prelude.{◌≡◌, map, take, cow_str_bytes}
 use Rattle.std.specs.Prelude.{string_bytes}
-use Rattle.std.specs.Cow.{cow_str_bytes}
 use Rattle.sv_target.specs.Path as spec
 use Rattle.sv_target.proofs.path.path_text.Given as goal
 

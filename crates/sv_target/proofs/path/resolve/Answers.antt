@@ -1,10 +1,6 @@
-use Rattle.std.proofs.Common.{◌≡◌, List, ℕ, map, true, sym, ◌∙◌, ap, rules}
+use Rattle.sv_target.proofs.Prelude.{◌≡◌, List, ℕ, map, true, sym, ◌∙◌, ap, rules, Bor, cow_str_bytes, cut, ends_in_dots}
 use Rattle.std.specs.Prelude.{Some}
-use Rattle.std.specs.Borrow.{Bor}
-use Rattle.std.specs.Cow.{cow_str_bytes}
 use Rattle.std.proofs.lemmas.List.{map-append}
-use Rattle.sv_target.specs.Segment.{cut}
-use Rattle.sv_target.specs.Path.{ends_in_dots}
 use Rattle.sv_target.proofs.PathLemmas.{resolved_closed}
 use Rattle.sv_target.proofs.path.resolve.Goals as goal
 

@@ -1,7 +1,5 @@
-use Rattle.std.proofs.Common.{rules, tests}
-use Rattle.std.proofs.lemmas.Iterator.Search.{all_from_yields_List}
-use Rattle.std.proofs.lemmas.Iterator.Splits.{YieldsList-from_slice_split}
-use Rattle.sv_target.specs.Segment.{are_escapes, begins_escape, is_percent}
+use Rattle.sv_target.proofs.Prelude.{rules, tests, all_from_yields_List, YieldsList-from_slice_split, are_escapes, is_percent}
+use Rattle.sv_target.specs.Segment.{begins_escape}
 use Rattle.sv_target.proofs.segment.are_escapes.Goals as goal
 
 pub returns : goal.returns

@@ -1,7 +1,4 @@
-use Rattle.std.proofs.Common.{rules, ◌≡◌, true, false}
-use Rattle.std.specs.Prelude.{IsUtf8}
-use Rattle.percent_encoding.specs.Percent.{percent_decode}
-use Rattle.sv_target.specs.Segment.{has_good_escapes, hides_dots}
+use Rattle.sv_target.proofs.Prelude.{rules, ◌≡◌, true, false, IsUtf8, percent_decode, has_good_escapes, hides_dots}
 use Rattle.sv_target.proofs.SegmentLemmas.{good, no_text}
 use Rattle.sv_target.proofs.segment.decoded.Goals as goal
 

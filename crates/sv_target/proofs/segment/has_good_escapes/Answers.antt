@@ -1,8 +1,4 @@
-use Rattle.std.proofs.Common.{◌+◌, ◌≡◌, true, false, ap, sym, ◌∙◌}
-use Rattle.std.proofs.lemmas.List.{take_rest}
-use Rattle.std.specs.Prelude.{is_some}
-use Rattle.std.specs.List.{list_any}
-use Rattle.sv_target.specs.Segment.{has_good_escapes, are_escapes, is_percent}
+use Rattle.sv_target.proofs.Prelude.{◌+◌, ◌≡◌, true, false, ap, sym, ◌∙◌, take_rest, is_some, list_any, has_good_escapes, are_escapes, is_percent}
 use Rattle.sv_target.proofs.CookieLemmas.{is_some-position, position_or_len-position}
 use Rattle.sv_target.proofs.segment.has_good_escapes.Goals as goal
 

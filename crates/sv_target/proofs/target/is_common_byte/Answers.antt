@@ -1,4 +1,4 @@
-use Rattle.std.proofs.Common.{arith}
+use Rattle.sv_target.proofs.Prelude.{arith}
 use Rattle.sv_target.proofs.CommonLemmas.{common_byte_at}
 use Rattle.sv_target.proofs.target.is_common_byte.Goals as goal
 

@@ -1,6 +1,4 @@
-use Rattle.std.proofs.Common.{inr, subst, List, ℕ}
-use Rattle.std.proofs.lemmas.Result.{IfOk-weaker}
-use Rattle.http_uri.specs.Uri.{Spells}
+use Rattle.sv_target.proofs.Prelude.{inr, subst, List, ℕ, IfOk-weaker, Spells}
 use Rattle.sv_target.proofs.target.read_form.Goals as goal
 
 pub returns-in-Ok-clause-ok : goal.returns-in-Ok-clause-ok

@@ -1,5 +1,5 @@
-use Rattle.std.proofs.Common.{◌↔◌, IsTrue}
-use Rattle.sv_mapping.specs.Dispatcher.{carries, IsListed}
+use Rattle.sv_mapping.proofs.Prelude.{◌↔◌, IsTrue, carries}
+use Rattle.sv_mapping.specs.Dispatcher.{IsListed}
 use Rattle.sv_mapping.specs.declared.dispatcher.Dispatcher.TheVariants.{Request, Forward, Include, Error}
 use Rattle.sv_mapping.proofs.dispatcher.Dispatchers.of.Goals as goal
 

@@ -1,8 +1,6 @@
-use Rattle.std.proofs.Common.{◌≡◌, ◌≤◌, ◌∙◌, ◌++◌, [], length, refl, append-nil, arith}
-use Rattle.std.specs.List.{insert}
+use Rattle.sv_mapping.proofs.Prelude.{◌≡◌, ◌≤◌, ◌∙◌, ◌++◌, [], length, refl, append-nil, arith, insert, IsPlaceOf, IsGapFor}
 use Rattle.std.proofs.lemmas.List.Edits.{length-insert}
 use Rattle.std.proofs.lemmas.Result.{err_from_is_err_and}
-use Rattle.sv_mapping.specs.Search.{IsPlaceOf, IsGapFor}
 use Rattle.sv_mapping.proofs.TableLemmas.{insert_sorted, from_sorted-insert, refusal-place, refusal-full, refusal-none}
 use Rattle.sv_mapping.proofs.LengthLemmas.{insert_short}
 use Rattle.sv_mapping.proofs.mappings.Mappings.add.Goals as goal

@@ -1,4 +1,4 @@
-use Rattle.std.proofs.Common.{sym}
+use Rattle.sv_mapping.proofs.Prelude.{sym}
 use Rattle.sv_mapping.proofs.MatchLemmas.{default_missing, default_found}
 use Rattle.sv_mapping.proofs.mappings.Mappings.by_default.Goals as goal
 

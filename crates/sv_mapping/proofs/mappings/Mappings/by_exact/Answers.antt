@@ -1,9 +1,4 @@
-use Rattle.std.proofs.Common.{◌≡◌, ◌≢◌, ◌∙◌, codes, Some, None, sym, ap, append-nil}
-use Rattle.std.specs.FinMap.{get}
-use Rattle.std.proofs.lemmas.Bool.{false≢true}
-use Rattle.std.proofs.lemmas.Slice.Eq.{bytes_eq-Decides}
-use Rattle.sv_mapping.specs.Pattern.{form_of}
-use Rattle.sv_mapping.specs.declared.pattern.PatternForm.TheVariants.{Exact}
+use Rattle.sv_mapping.proofs.Prelude.{◌≡◌, ◌≢◌, ◌∙◌, codes, Some, None, sym, ap, append-nil, get, false≢true, bytes_eq-Decides, form_of, Exact}
 use Rattle.sv_mapping.proofs.MatchLemmas.{exact_none, exact_missing, exact_found, root_missing, root_found}
 use Rattle.sv_mapping.proofs.mappings.Mappings.by_exact.Goals as goal
 

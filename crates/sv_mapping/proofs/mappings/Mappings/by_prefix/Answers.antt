@@ -1,8 +1,6 @@
-use Rattle.std.proofs.Common.{◌≡◌, ◌≢◌, ◌-◌, ◌<◌, ◌++◌, ◌∙◌, length, take, get_or, Some, None, codes, sym, ap, arith}
-use Rattle.std.specs.FinMap.{get}
-use Rattle.std.proofs.lemmas.Bool.{false≢true}
-use Rattle.std.proofs.lemmas.Bool.Decides.{nat_tests}
-use Rattle.std.proofs.lemmas.Str.Pattern.{starts_char, rfind_char}
+use Rattle.sv_mapping.proofs.Prelude.{◌≡◌, ◌≢◌, ◌-◌, ◌<◌, ◌++◌, ◌∙◌, length, take, get_or, Some, None, codes, sym, ap, arith, get, false≢true, nat_tests}
+use Rattle.sv_mapping.proofs.Prelude.{rfind_char}
+use Rattle.std.proofs.lemmas.Str.Pattern.{starts_char}
 use Rattle.sv_mapping.proofs.PrefixLemmas.{SearchedDownTo, IsRooted, searched-start, searched-more, searched-all, no_prefix, unrooted_none, longest_prefix}
 use Rattle.sv_mapping.proofs.mappings.Mappings.by_prefix.Goals as goal
 use Rattle.sv_mapping.proofs.mappings.Mappings.by_prefix.Goals.{else-not-is_empty-via-then-not-is_empty+else-not-starts_with, else-not-is_empty-via-else-not-is_empty}

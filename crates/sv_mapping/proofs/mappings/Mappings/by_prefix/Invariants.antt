@@ -1,4 +1,4 @@
-use Rattle.std.proofs.Common.{length}
+use Rattle.sv_mapping.proofs.Prelude.{length}
 use Rattle.std.specs.Str.{IsUtf8}
 use Rattle.sv_mapping.proofs.PrefixLemmas.{IsRooted, SearchedDownTo}
 use Rattle.sv_mapping.proofs.mappings.Mappings.by_prefix.Given as goal

@@ -1,4 +1,4 @@
-use Rattle.std.proofs.Common.{rules}
+use Rattle.sv_mapping.proofs.Prelude.{rules}
 use Rattle.sv_mapping.proofs.BestLemmas.{answers_all, best_answer, no_match, no_answer, mapped_answer}
 use Rattle.sv_mapping.proofs.mappings.Mappings.find.Goals as goal
 

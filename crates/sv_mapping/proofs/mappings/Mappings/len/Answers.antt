@@ -1,5 +1,5 @@
-use Rattle.std.proofs.Common.{◌≡◌, ◌∙◌, length, vec_len, sym, ap, arith}
-use Rattle.std.specs.FinMap.{len}
+use Rattle.sv_mapping.proofs.Prelude.{◌≡◌, ◌∙◌, length, sym, ap, arith, len}
+use Rattle.std.proofs.Common.{vec_len}
 use Rattle.sv_mapping.proofs.TableLemmas.{len-sorted}
 use Rattle.sv_mapping.proofs.mappings.Mappings.len.Goals as goal
 

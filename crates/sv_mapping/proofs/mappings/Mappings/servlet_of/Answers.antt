@@ -1,7 +1,5 @@
-use Rattle.std.proofs.Common.{◌∙◌, ◌++◌, ◌<◌, Some, length, sym, ap, arith, length-append}
+use Rattle.sv_mapping.proofs.Prelude.{◌∙◌, ◌++◌, ◌<◌, Some, length, sym, ap, arith, length-append, get, IsPlaceOf, IsGapFor}
 use Rattle.sv_mapping.proofs.LengthLemmas.{get_long}
-use Rattle.std.specs.FinMap.{get}
-use Rattle.sv_mapping.specs.Search.{IsPlaceOf, IsGapFor}
 use Rattle.sv_mapping.proofs.TableLemmas.{get-place, get-gap}
 use Rattle.sv_mapping.proofs.mappings.Mappings.servlet_of.Goals as goal
 

@@ -1,8 +1,4 @@
-use Rattle.std.proofs.Common.{List, ℕ, lit<, subst}
-use Rattle.std.specs.Prelude.{IsUtf8}
-use Rattle.std.proofs.lemmas.Result.{IfOk-weaker}
-use Rattle.std.proofs.lemmas.Str.Pattern.{strip_prefix_char}
-use Rattle.sv_target.specs.Target.{IsTarget, IsBadTarget}
+use Rattle.sv_target.proofs.Prelude.{List, ℕ, lit<, subst, IsUtf8, IfOk-weaker, strip_prefix_char, IsTarget, IsBadTarget}
 use Rattle.sv_target.proofs.OriginLemmas.{within_ok, within_bad, unrooted_within}
 use Rattle.sv_target.proofs.target.Target.read_within.Goals as goal
 
