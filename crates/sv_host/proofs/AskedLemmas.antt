@@ -1,32 +1,15 @@
 -- What is gathered has its clients: as one more comes, as one is left out, and one after the other.
-use Rattle.std.proofs.Common.{◌≡◌, ℕ, zero, suc, ◌<◌, ◌≤◌, Bool, true, false, List, [], ◌∷◌, ◌++◌, Option, Some, None, arith, refl, sym, ap, subst, ◌∙◌}
-use Rattle.std.specs.Prelude.{IsTrue, IsFalse, remove, slice_get}
-use Rattle.sv_host.specs.declared.group.Asker.{Asker}
-use Rattle.sv_host.specs.declared.group.Asker.TheVariants.{Client, Command, Nobody}
-use Rattle.sv_host.specs.declared.group.Came.{Came}
-use Rattle.sv_host.specs.declared.group.Group.{Group}
-use Rattle.sv_host.specs.declared.group.Way.{Way}
-use Rattle.sv_host.specs.declared.packets.Packets.{Packets}
-use Rattle.sv_host.specs.declared.parked.ParkedClient.{ParkedClient}
-use Rattle.sv_host.specs.Clients.{AskedFor, GathersFor, Has, HasAsked, HaveWays, KeepsAll, MayAsk, refused_of}
-use Rattle.sv_host.specs.Group.{Comes, HasOneMore, IsAskedBy, IsRising, IsSame, before_of, inputs_of, number_of, request_in, request_of, ways_of}
-use Rattle.sv_host.specs.Parked.{without}
+use Rattle.sv_host.proofs.Prelude.{◌≡◌, ℕ, zero, suc, ◌<◌, ◌≤◌, Bool, true, false, List, [], ◌∷◌, ◌++◌, Option, Some, None, arith, refl, sym, ap, subst, ◌∙◌}
+use Rattle.sv_host.proofs.Prelude.{IsTrue, remove, slice_get, Asker, Client, Command, Nobody, Came, Group, Way, Packets, ParkedClient, AskedFor, GathersFor}
+use Rattle.sv_host.proofs.Prelude.{Has, HasAsked, HaveWays, KeepsAll, MayAsk, refused_of, Comes, HasOneMore, IsRising, IsSame, before_of, inputs_of, number_of}
+use Rattle.sv_host.proofs.Prelude.{ways_of, without, Input, Moment, Request, all_given, IsAbove, RiseIn, number_in, numbers_in}
+use Rattle.sv_host.proofs.GroupLemmas.{not_lower}
+use Rattle.std.specs.Prelude.{IsFalse}
+use Rattle.sv_host.specs.Group.{IsAskedBy, request_in, request_of}
 use Rattle.sv_host.proofs.ClientLemmas.{others_kept}
-use Rattle.sv_model.specs.declared.input.Input.{Input}
 use Rattle.sv_model.specs.declared.input.Input.TheVariants as input
-use Rattle.sv_model.specs.declared.key.Moment.{Moment}
-use Rattle.sv_model.specs.declared.request.Request.{Request}
-use Rattle.sv_node.specs.GroupCalls.{all_given}
-use Rattle.sv_node.specs.History.{IsAbove, RiseIn, number_in, numbers_in}
 
 -- ---- numbers that rise
-
-pub not_lower : (low : ℕ) (i : Input) → IsAbove low i → low ≤ number_in low i
-not_lower low (input.Ask number r) above = omega (arith, above)
-not_lower low (input.Packet p) above = omega arith
-not_lower low input.Poke above = omega arith
-not_lower low input.Tick above = omega arith
-not_lower low (input.Move k to) above = omega arith
 
 pub not_lower_all : (low : ℕ) (is : List (Moment × Input)) → RiseIn low (all_given is) → low ≤ numbers_in low (all_given is)
 not_lower_all low [] rise = omega arith

@@ -1,10 +1,9 @@
 -- Clients that are kept.
-use Rattle.std.proofs.Common.{◌≡◌, ◌≢◌, ℕ, Bool, cond, position, Option, Some, None, List, [], ◌∷◌, ◌++◌, get_or, arith, refl, ap, eqb-true, eq-eqb, ne_eqb}
+use Rattle.sv_host.proofs.Prelude.{◌≡◌, ◌≢◌, ℕ, Bool, cond, Option, Some, None, List, [], ◌∷◌, ◌++◌, get_or, arith, refl, ap, Has, without, ParkedClient}
+use Rattle.std.proofs.Common.{position, eqb-true, ne_eqb}
 use Rattle.std.proofs.lemmas.List.Quantifiers.{position-Some}
 use Rattle.std.proofs.lemmas.List.Sums.{sum_by-swap_remove, sum_by_push}
-use Rattle.sv_host.specs.Clients.{Has}
-use Rattle.sv_host.specs.Parked.{is_under, others_than, without}
-use Rattle.sv_host.specs.declared.parked.ParkedClient.{ParkedClient}
+use Rattle.sv_host.specs.Parked.{is_under, others_than}
 
 abbrev one_at : ℕ → ParkedClient → ℕ
 one_at token c = cond (is_under token c) 1 0
@@ -12,11 +11,6 @@ one_at token c = cond (is_under token c) 1 0
 -- one more
 pub has_more : (token : ℕ) (cs : List ParkedClient) (c : ParkedClient) → Has token cs → Has token (cs ++ c ∷ [])
 has_more token cs c has = omega (arith, has, sum_by_push (one_at token) cs c)
-
-pub has_new : (cs : List ParkedClient) (c : ParkedClient) → Has c.token (cs ++ c ∷ [])
-has_new cs c =
-    let one : one_at c.token c ≡ 1 = ap (λ (b : Bool). cond {A = ℕ} b 1 0) (eq-eqb c.token c.token refl) in
-    omega (arith, one, sum_by_push (one_at c.token) cs c)
 
 -- one less
 kept_at : (token other : ℕ) (cs : List ParkedClient) → other ≢ token → Has token cs → (at : Option ℕ) → position (is_under other) cs ≡ at → Has token (others_than at cs)

@@ -1,21 +1,18 @@
 -- What is told on a connection, as what happens on it.
-use Rattle.std.proofs.Common.{◌≡◌, ◌⊎◌, ◌∷◌, ℕ, Bool, false, List, [], Option, Some, None, inl, inr, refl, ap, sym, ◌∙◌, subst}
-use Rattle.std.specs.Prelude.{IfSome, slice_get}
+use Rattle.sv_host.proofs.Prelude.{◌≡◌, ◌⊎◌, ◌∷◌, ℕ, Bool, false, List, [], Option, Some, None, inl, inr, refl, ap, sym, ◌∙◌, subst, IfSome, slice_get, AllGoOn}
+use Rattle.sv_host.proofs.Prelude.{CarryOn, GoesBack, HasStory, came_of, Continues, GoOnBut, ObeysThere, parts, said_on, unread, elsewhere, held_at, held_in}
+use Rattle.sv_host.proofs.Prelude.{places_of, Answers, Tells, Connections, Open, State}
 use Rattle.sv_connection.specs.Speak.{memory_lines}
-use Rattle.sv_host.specs.Stories.{AllGoOn, CarryOn, GoesBack, HasStory, Says as SaysDeed, Parts as PartsDeed}
+use Rattle.sv_host.specs.Stories.{Says as SaysDeed, Parts as PartsDeed}
 use Rattle.sv_host.proofs.StoryLemmas.{all_at, all_places, all_same, back_begins, back_same, carry, has_one, rests}
 use Rattle.sv_model.specs.declared.response.Response.{Response}
 use Rattle.sv_net.proofs.ContinueLemmas.{saying_unread}
-use Rattle.sv_net.specs.Bytes.{came_of}
-use Rattle.sv_net.specs.Exchange.{Continues, GoOnBut, Obeys, ObeysThere, parts, said_on, unread}
-use Rattle.sv_net.specs.Places.{TellsAt, elsewhere, held_at, held_in, manner_at, manner_in, manner_of, places_of}
-use Rattle.sv_net.specs.Saying.{Answers, HearsNext, Says, Tells}
+use Rattle.sv_net.specs.Exchange.{Obeys}
+use Rattle.sv_net.specs.Places.{TellsAt, manner_at, manner_in, manner_of}
+use Rattle.sv_net.specs.Saying.{HearsNext, Says}
 use Rattle.sv_net.specs.Sending.{Admits, IsOnItsWay, IsOwn, Sends, SendsBehind}
-use Rattle.sv_net.specs.declared.connections.Connections.{Connections}
-use Rattle.sv_net.specs.declared.open.Open.{Open}
 use Rattle.sv_net.specs.declared.state.Next.{Next}
 use Rattle.sv_net.specs.declared.state.Next.TheVariants.{Close, Listen, Part}
-use Rattle.sv_net.specs.declared.state.State.{State}
 use Rattle.sv_net.specs.declared.state.State.TheVariants as state
 
 -- ---- a text

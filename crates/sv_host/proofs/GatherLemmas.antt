@@ -1,16 +1,8 @@
 -- What is gathered stands after what was gathered before.
-use Rattle.std.proofs.Common.{ℕ, List, [], ◌∷◌, ◌++◌, Option, Some, None, Err, ap, sym, subst, ◌∙◌, append_assoc}
-use Rattle.std.specs.List.{AllByRecursion}
-use Rattle.std.proofs.lemmas.List.{append-nil}
-use Rattle.sv_host.specs.declared.group.Group.{Group}
-use Rattle.sv_host.specs.declared.group.Way.{Way}
-use Rattle.sv_host.specs.Group.{HasMore, HasOneMore, IsSame, inputs_of}
+use Rattle.sv_host.proofs.Prelude.{ℕ, List, [], ◌∷◌, ◌++◌, Option, Some, None, Err, ap, sym, subst, ◌∙◌, append_assoc, AllByRecursion, append-nil, Group, Way}
+use Rattle.sv_host.proofs.Prelude.{HasMore, HasOneMore, IsSame, inputs_of, LacksSecrets, Stop, Input, Moment}
 use Rattle.sv_host.specs.Heard.{IsHeardOf}
 use Rattle.sv_host.specs.Secrets.{Draws}
-use Rattle.sv_host.specs.Stops.{LacksSecrets}
-use Rattle.sv_host.specs.declared.fault.Stop.{Stop}
-use Rattle.sv_model.specs.declared.input.Input.{Input}
-use Rattle.sv_model.specs.declared.key.Moment.{Moment}
 
 -- one more, which was heard on a connection
 pub one_more : {one : Moment × Input} {way : Way} {group next : Group} (number : ℕ) → HasOneMore one way group next → IsHeardOf number one.1 → HasMore group next

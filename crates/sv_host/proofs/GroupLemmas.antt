@@ -1,13 +1,7 @@
 -- One input more in a group, or one less.
-use Rattle.std.proofs.Common.{◌≡◌, ◌≤◌, ℕ, zero, suc, List, [], ◌∷◌, ◌++◌, length, get_or, ◌<◌, refl, ap, subst, sym, arith}
-use Rattle.std.specs.Prelude.{remove}
-use Rattle.std.specs.List.{AllByRecursion}
-use Rattle.sv_model.specs.declared.input.Input.{Input}
+use Rattle.sv_host.proofs.Prelude.{◌≡◌, ◌≤◌, ℕ, zero, suc, List, [], ◌∷◌, ◌++◌, length, get_or, ◌<◌, refl, ap, subst, sym, arith, remove, AllByRecursion, Input}
+use Rattle.sv_host.proofs.Prelude.{Moment, IsInput, all_given, IsAbove, number_in, RiseIn, numbers_in}
 use Rattle.sv_model.specs.declared.input.Input.TheVariants as input
-use Rattle.sv_model.specs.declared.key.Moment.{Moment}
-use Rattle.sv_model.specs.Ranges.{IsInput}
-use Rattle.sv_node.specs.GroupCalls.{all_given}
-use Rattle.sv_node.specs.History.{IsAbove, number_in, RiseIn, numbers_in}
 use Rattle.sv_node.proofs.HistoryLemmas.{lower_all, lower_numbers}
 
 pub all_within : (is : List (Moment × Input)) (i : Moment × Input) → AllByRecursion (λ x. IsInput x.1) is → IsInput i.1 → AllByRecursion (λ x. IsInput x.1) (is ++ i ∷ [])
@@ -44,7 +38,7 @@ within_less (x ∷ is) zero all = all.1
 within_less (x ∷ is) (suc at) all = (all.0, within_less is at all.1)
 
 -- an input that may come doesn't lower the number
-not_lower : (low : ℕ) (i : Input) → IsAbove low i → low ≤ number_in low i
+pub not_lower : (low : ℕ) (i : Input) → IsAbove low i → low ≤ number_in low i
 not_lower low (input.Ask number r) above = omega (arith, above)
 not_lower low (input.Packet p) above = omega arith
 not_lower low input.Poke above = omega arith

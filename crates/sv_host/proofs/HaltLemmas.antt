@@ -1,17 +1,9 @@
 -- Who has told a node to stop.
-use Rattle.std.proofs.Common.{◌≡◌, ◌<◌, ◌≤◌, ◌++◌, ℕ, zero, suc, Bool, true≢false, List, [], ◌∷◌, Vec, length, take, sym, ◌∙◌, subst, arith}
-use Rattle.std.specs.declared.alloc.Global.{Global}
+use Rattle.sv_host.proofs.Prelude.{◌≡◌, ◌<◌, ◌≤◌, ◌++◌, ℕ, zero, suc, Bool, true≢false, List, [], ◌∷◌, Vec, length, take, sym, ◌∙◌, subst, arith, Global, Stop}
+use Rattle.sv_host.proofs.Prelude.{came_of, turn_of, Finds, HearsAt, Heard, Open, Socket, State}
 use Rattle.sv_host.specs.Serve.{Halts}
 use Rattle.sv_host.specs.Stops.{IsTold, IsToldBy}
-use Rattle.sv_host.specs.declared.fault.Stop.{Stop}
-use Rattle.sv_net.specs.Bytes.{came_of}
-use Rattle.sv_net.specs.Exchange.{turn_of}
-use Rattle.sv_net.specs.Hearing.{Finds, HearsAt}
-use Rattle.sv_net.specs.declared.hearing.Heard.{Heard}
 use Rattle.sv_net.specs.declared.hearing.Heard.TheVariants as heard
-use Rattle.sv_net.specs.declared.open.Open.{Open}
-use Rattle.sv_net.specs.declared.socket.Socket.{Socket}
-use Rattle.sv_net.specs.declared.state.State.{State}
 use Rattle.sv_net.specs.declared.state.State.TheVariants as state
 use Rattle.sv_net.specs.declared.state.Turn.TheVariants as turn
 use Rattle.sv_record.specs.declared.frame.Frame.TheVariants.{Halt}

@@ -1,31 +1,17 @@
 -- Each output is handed on.
-use Rattle.std.proofs.Common.{◌≡◌, ◌<◌, ◌≤◌, ℕ, ◌+◌, Bool, false, List, [], ◌∷◌, Vec, length, drop, get_or, None, Result, Ok, refl, ap, sym, ◌∙◌, subst, true≢false, arith}
+use Rattle.sv_host.proofs.Prelude.{◌≡◌, ◌<◌, ℕ, ◌+◌, Bool, false, List, [], ◌∷◌, Vec, length, drop, get_or, None, Result, Ok, refl, ap, sym, ◌∙◌, subst}
+use Rattle.sv_host.proofs.Prelude.{true≢false, arith, Global, Concludes, ConcludesRefused, HandsOn, HandsOnAll, HandsOut, HandsOutFrom}
+use Rattle.sv_host.proofs.Prelude.{RefusesAll, way_at, last_taken, lets, Taken, Sending, All, Share, Nothing, Asker, Client, Command, Way, Server, packet_in}
+use Rattle.sv_host.proofs.Prelude.{Output, Answer, Refuse, Send, Moved, MoveRefused, Cause, StepFault, clients_of, GoOnBut, ObeysThere, held_at, naming_of}
+use Rattle.sv_host.proofs.Prelude.{Answers, refused_as}
 use Rattle.std.specs.Prelude.{is_none}
-use Rattle.std.specs.declared.alloc.Global.{Global}
-use Rattle.std.proofs.lemmas.List.{drop_all, drop_more}
-use Rattle.sv_host.specs.HandingOut.{Concludes, ConcludesRefused, HandsOn, HandsOnAll, HandsOut, HandsOutFrom, HandsOutGroup, RefusesAll, TellsNobody, TellsOne, way_at}
+use Rattle.std.proofs.lemmas.List.{drop_more}
+use Rattle.sv_host.specs.HandingOut.{TellsNobody, TellsOne}
 use Rattle.sv_model.specs.Cause.{cause_of}
-use Rattle.sv_host.specs.Outcome.{last_taken}
 use Rattle.sv_host.specs.Packets.{Passes}
-use Rattle.sv_host.specs.Round.{lets}
-use Rattle.sv_host.specs.declared.outcome.Taken.{Taken}
-use Rattle.sv_host.specs.declared.packets.Sending.{Sending}
-use Rattle.sv_host.specs.declared.packets.Sending.TheVariants.{All, Share, Nothing}
-use Rattle.sv_host.specs.declared.group.Asker.{Asker}
-use Rattle.sv_host.specs.declared.group.Asker.TheVariants.{Client, Command}
-use Rattle.sv_host.specs.declared.group.Way.{Way}
-use Rattle.sv_host.specs.declared.server.Server.{Server}
-use Rattle.sv_model.specs.Outputs.{packet_in}
-use Rattle.sv_model.specs.declared.output.Output.{Output}
-use Rattle.sv_model.specs.declared.output.Output.TheVariants.{Answer, Refuse, Send, Moved, MoveRefused}
-use Rattle.sv_model.specs.declared.output.Cause.{Cause}
-use Rattle.sv_model.specs.declared.site.StepFault.{StepFault}
 use Rattle.sv_net.proofs.SendingLemmas.{sends_nothing}
 use Rattle.sv_net.proofs.SpareLemmas.{spares_same}
-use Rattle.sv_host.specs.Parked.{clients_of}
-use Rattle.sv_net.specs.Exchange.{GoOnBut, ObeysThere}
-use Rattle.sv_net.specs.Places.{SparesClients, held_at, naming_of}
-use Rattle.sv_net.specs.Saying.{Answers, refused_as}
+use Rattle.sv_net.specs.Places.{SparesClients}
 
 -- a packet alone isn't sent
 is_packet : (sending : Sending) (output : Output) → Passes sending output false → packet_in output ≡ None → ⊥
@@ -73,9 +59,6 @@ one_refused ways at other way fault now before mid final within is refused all =
     subst (λ xs. RefusesAll xs fault now before final) (sym (drop_more ways at other within))
     (mid, subst (λ (w : Way). ConcludesRefused w.asker fault now before mid) is refused, all)
 
-pub none_refused : (ways : List Way) (at : ℕ) (fault : StepFault) (now : ℕ) (server : Server) → length ways ≤ at → RefusesAll (drop at ways) fault now server server
-none_refused ways at fault now server past = subst (λ xs. RefusesAll xs fault now server server) (sym (drop_all at ways past)) (refl, refl)
-
 -- what came of one input
 pub one_out : (asker : Asker) (answer : Result (Vec Output Global) StepFault) (outputs : Vec Output Global) (now : ℕ) (old new : Server) → answer ≡ Ok outputs
     → HandsOut asker (Ok outputs) now old new → HandsOut asker answer now old new
@@ -88,12 +71,6 @@ pub one_more_out : (at next : ℕ) (ways : List Way) (way : Way) (items rest : L
 one_more_out at next ways way items rest answer now before mid final is by up out all =
     subst (λ xs. HandsOutFrom at ways xs now before final) (sym is)
     (mid, subst (λ (w : Way). HandsOut w.asker answer now before mid) by out, subst (λ n. HandsOutFrom n ways rest now mid final) up all)
-
--- the group
-pub group_out : {T F : Type 0} (ways : List Way) (answers : Vec (Result (Vec Output Global) StepFault) Global) (whole : Result (Vec (Result (Vec Output Global) StepFault) Global) StepFault)
-    (result : Result T F) (now : ℕ) (old new : Server) → whole ≡ Ok answers → HandsOutFrom 0 ways answers.items now old new → HandsOutGroup ways whole result now old new
-group_out ways answers whole result now old new is out =
-    subst (λ (w : Result (Vec (Result (Vec Output Global) StepFault) Global) StepFault). HandsOutGroup ways w result now old new) (sym is) out
 
 pub none_out : (at : ℕ) (ways : List Way) (items : List (Result (Vec Output Global) StepFault)) (now : ℕ) (before final : Server) → length items ≡ 0 → TellsNobody before final
     → HandsOutFrom at ways items now before final

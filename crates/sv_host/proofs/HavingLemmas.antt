@@ -1,36 +1,20 @@
 -- Each request that waits at a node has its client: as more is gathered, and after a group.
-use Rattle.std.proofs.Common.{◌≡◌, ℕ, ◌+◌, List, [], map, Vec, vec_items, Global, Result, Ok, Err, arith, sym, ap, subst}
-use Rattle.std.specs.Prelude.{IfErr, OnOk, false}
-use Rattle.sv_host.specs.declared.group.Group.{Group}
-use Rattle.sv_host.specs.declared.group.Way.{Way}
-use Rattle.sv_host.specs.declared.parked.ParkedClient.{ParkedClient}
-use Rattle.sv_host.specs.declared.server.Server.{Server}
-use Rattle.sv_host.specs.Clients.{AskedFor, GathersFor, Has, HaveClients, HaveWays, WaitFor}
-use Rattle.sv_host.specs.Group.{IsRising, before_of, inputs_of, number_of, ways_of}
-use Rattle.sv_host.specs.HandingOut.{HandsOutGroup, RefusesAll, way_at}
-use Rattle.sv_host.specs.Parked.{clients_of}
-use Rattle.sv_host.specs.Serving.{HasGathered}
+use Rattle.sv_host.proofs.Prelude.{◌≡◌, ℕ, ◌+◌, List, [], map, Vec, vec_items, Result, Ok, Err, arith, sym, ap, subst, IfErr, OnOk, Group, Way, ParkedClient}
+use Rattle.sv_host.proofs.Prelude.{Server, AskedFor, GathersFor, Has, HaveClients, HaveWays, WaitFor, IsRising, before_of, inputs_of, number_of, ways_of}
+use Rattle.sv_host.proofs.Prelude.{HandsOutGroup, RefusesAll, way_at, clients_of, HasGathered, JournalFault, Input, Moment, Parked, Output, StepFault}
+use Rattle.sv_host.proofs.Prelude.{EngineMeaning, with_list, step_ends, IsCompaction, GroupEnds, behind, all_given, numbers_in, engine_of, journal_of}
+use Rattle.sv_host.proofs.Prelude.{setting_of, state_of, Node}
+use Rattle.std.proofs.Common.{Global}
+use Rattle.std.specs.Prelude.{false}
 use Rattle.sv_host.proofs.TellingLemmas.{askers_of, group_waits, refused_group_waits}
 use Rattle.sv_host.proofs.WaitLemmas.{wait_below, wait_map}
-use Rattle.sv_journal.specs.declared.journal_fault.JournalFault.{JournalFault}
 use Rattle.sv_journal.specs.declared.journal_fault.JournalFault.TheVariants as journal
-use Rattle.sv_model.specs.declared.input.Input.{Input}
-use Rattle.sv_model.specs.declared.key.Moment.{Moment}
-use Rattle.sv_model.specs.declared.node.Parked.{Parked}
-use Rattle.sv_model.specs.declared.output.Output.{Output}
-use Rattle.sv_model.specs.declared.site.StepFault.{StepFault}
 use Rattle.sv_model.specs.declared.site.StepFault.TheVariants as step
-use Rattle.sv_model.specs.Engine.{EngineMeaning}
 use Rattle.sv_model.specs.NodeState.{Node as State}
-use Rattle.sv_model.specs.Site.{with_list}
 use Rattle.sv_model.specs.Step.{View}
-use Rattle.sv_node.specs.Call.{step_ends}
-use Rattle.sv_node.specs.Compaction.{CompactionEnds, IsCompaction}
-use Rattle.sv_node.specs.Group.{Answer, GroupEnds, behind}
-use Rattle.sv_node.specs.GroupCalls.{all_given}
-use Rattle.sv_node.specs.History.{numbers_in}
-use Rattle.sv_node.specs.Node.{engine_of, journal_of, setting_of, state_of, view_of}
-use Rattle.sv_node.specs.declared.node.Node.{Node}
+use Rattle.sv_node.specs.Compaction.{CompactionEnds}
+use Rattle.sv_node.specs.Group.{Answer}
+use Rattle.sv_node.specs.Node.{view_of}
 
 -- more is gathered
 pub have_on : {E D : Type 0} (waiters others : List ParkedClient) (node : Node E D) (group next : Group) → HasGathered group next → GathersFor group next waiters others → HaveClients waiters node group → HaveClients others node next

@@ -1,15 +1,9 @@
 -- Wants of a group that are held, and those that are added.
-use Rattle.std.proofs.Common.{◌≡◌, ◌<◌, ℕ, zero, suc, ◌+◌, Bool, true, false, not, cond, List, [], ◌∷◌, ◌++◌, Option, Some, None, length, get_or, drop, ap, sym, ◌∙◌, refl, add-one, drop-cons, append_assoc}
-use Rattle.std.specs.Prelude.{remove, slice_get}
-use Rattle.std.specs.List.{sum_by}
-use Rattle.std.proofs.lemmas.List.Sums.{sum_by-cons}
-use Rattle.sv_model.specs.declared.input.Input.{Input}
-use Rattle.sv_model.specs.declared.key.Moment.{Moment}
-use Rattle.sv_model.specs.declared.node.Parked.{Parked}
+use Rattle.sv_host.proofs.Prelude.{◌≡◌, ℕ, zero, suc, ◌+◌, Bool, true, false, not, cond, List, [], ◌∷◌, ◌++◌, Option, Some, None, ap}
+use Rattle.sv_host.proofs.Prelude.{sym, ◌∙◌, refl, append_assoc, remove, slice_get, Input, Moment, Group}
+use Rattle.sv_host.proofs.Prelude.{inputs_of, others_in, HasMoreWants}
 use Rattle.sv_host.specs.declared.want.Want.{Want}
-use Rattle.sv_host.specs.declared.group.Group.{Group}
-use Rattle.sv_host.specs.Group.{inputs_of}
-use Rattle.sv_host.specs.Held.{is_other, is_want, is_want_at, others_in, HasMoreWants, IsWantAt}
+use Rattle.sv_host.specs.Held.{is_other, is_want, is_want_at, IsWantAt}
 use Rattle.sv_host.proofs.GatherLemmas.{all_both}
 
 -- one that is a want is none of the others
@@ -26,13 +20,6 @@ others_stay (i ∷ is) (suc at) want = ap (λ rest. cond (is_other i) (i ∷ res
 pub want_there : (i : Option (Moment × Input)) (w : Want) → IsWantAt i (Some w) → is_want_at i ≡ true
 want_there None w is = absurd is
 want_there (Some i) w is = ap is_want is
-
--- requests that wait are counted one by one
-pub count_on : (f : Parked → ℕ) (ps : List Parked) (i : ℕ) (p : Parked) → i < length ps → p ≡ get_or ps i p
-    → sum_by f (drop i ps) ≡ f p + sum_by f (drop (i + 1) ps)
-count_on f ps i p within is =
-    let front : drop i ps ≡ p ∷ drop (i + 1) ps = drop-cons ps i p within ∙ (λ j. sym is j ∷ drop (sym (add-one i) j) ps) in
-    ap (λ xs. sum_by f xs) front ∙ sum_by-cons f p (drop (i + 1) ps)
 
 -- wants were added, and then more of them
 pub more_wants_on : {group mid next : Group} → HasMoreWants group mid → HasMoreWants mid next → HasMoreWants group next

@@ -1,3 +1,4 @@
+mod Prelude
 pub mod SendLemmas
 pub mod LifeLemmas
 pub mod StopLemmas

@@ -1,24 +1,14 @@
 -- What a call that a node was told to make has made of it, whatever its fault becomes.
-use Rattle.std.proofs.Common.{◌≡◌, ◌≤◌, inr, ℕ, true, false, cond, IsTrue, Result, Ok, Err, Bool, List, map, Vec, Global, vec_items, arith}
-use Rattle.std.specs.Prelude.{IfErr, OnOk}
-use Rattle.sv_journal.specs.declared.journal_fault.JournalFault.{JournalFault}
+use Rattle.sv_host.proofs.Prelude.{◌≡◌, ◌≤◌, inr, ℕ, true, false, cond, Result, Ok, Err, Bool, List, map, Vec, vec_items, arith, IfErr, OnOk, JournalFault}
+use Rattle.sv_host.proofs.Prelude.{Moment, Input, Output, StepFault, EngineMeaning, with_list, step_ends, IsCompaction, all_given, RiseIn, numbers_in, GoesOn}
+use Rattle.sv_host.proofs.Prelude.{HasGone, journal_of, Node, gone_on}
+use Rattle.std.proofs.Common.{IsTrue, Global}
 use Rattle.sv_journal.specs.declared.journal_fault.JournalFault.TheVariants as journal
-use Rattle.sv_model.specs.declared.key.Moment.{Moment}
-use Rattle.sv_model.specs.declared.input.Input.{Input}
-use Rattle.sv_model.specs.declared.output.Output.{Output}
-use Rattle.sv_model.specs.declared.site.StepFault.{StepFault}
 use Rattle.sv_model.specs.declared.site.StepFault.TheVariants as step
-use Rattle.sv_model.specs.Engine.{EngineMeaning}
-use Rattle.sv_model.specs.Site.{with_list}
-use Rattle.sv_node.specs.Call.{step_ends, compaction_ends}
-use Rattle.sv_node.specs.Compaction.{IsCompaction}
+use Rattle.sv_node.specs.Call.{compaction_ends}
 use Rattle.sv_node.specs.Group.{Answer, IsGroup}
-use Rattle.sv_node.specs.GroupCalls.{all_given}
-use Rattle.sv_node.specs.History.{RiseIn, numbers_in, GoesOn, HasGone}
-use Rattle.sv_node.specs.Node.{journal_of}
-use Rattle.sv_node.specs.declared.node.Node.{Node}
 use Rattle.sv_node.proofs.GroupCallLemmas.{GroupBy, group_by}
-use Rattle.sv_node.proofs.HistoryLemmas.{CompactedBy, compacted_by, fails_wider, goes_wider, gone_on}
+use Rattle.sv_node.proofs.HistoryLemmas.{CompactedBy, compacted_by, fails_wider, goes_wider}
 
 -- both disks tell, by the names of a journal
 pub tell_by_names : {D : Type 0} (tells : D → Type 0) (on_a : Bool) (current other : D) → tells (cond on_a current other) → tells (cond on_a other current) → tells current × tells other

@@ -1,12 +1,7 @@
 -- What a tick that doesn't send a packet of a line has sent instead.
-use Rattle.std.proofs.Common.{◌≡◌, ◌≤◌, ◌<◌, ℕ, ◌+◌, ◌-◌, Bool, true, false, cond, not, min, List, [], ◌∷◌, Option, Some, None, inl, inr, refl, ap, sym, ◌∙◌, subst, arith, length}
-use Rattle.std.proofs.lemmas.Bool.Decides.{nat_tests}
-use Rattle.std.specs.Prelude.{nat_lt}
-use Rattle.sv_host.specs.declared.round.Line.{Line}
-use Rattle.sv_host.specs.declared.round.Part.{Part}
-use Rattle.sv_host.specs.declared.round.Rank.{Rank}
-use Rattle.sv_host.specs.Round.{is_next, IsPartOf}
-use Rattle.sv_host.specs.Turns.{IsRising, stands_in}
+use Rattle.sv_host.proofs.Prelude.{◌≡◌, ◌≤◌, ◌<◌, ℕ, ◌+◌, ◌-◌, Bool, true, false, cond, not, min, List, [], ◌∷◌, Option, Some, None, inl, inr, refl, ap, sym}
+use Rattle.sv_host.proofs.Prelude.{◌∙◌, subst, arith, length, nat_tests, nat_lt, Line, Part, Rank, is_next, IsPartOf, stands_in}
+use Rattle.sv_host.specs.Turns.{IsRising}
 use Rattle.sv_host.proofs.RankLemmas.{behind, behind_all, behind_before, behind_next, count, settled}
 use Rattle.sv_host.proofs.RunLemmas.{AreAmong, AreNext, last_moves, last_of, last_stays, taken, unsent_many, unsent_next}
 use Rattle.sv_host.proofs.PartLemmas.{both_sides, last_behind, last_front, part_end, part_sent, unsent_behind, unsent_front}

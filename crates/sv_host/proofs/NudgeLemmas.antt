@@ -1,43 +1,28 @@
 -- What pokes and ticks do for those who wait.
-use Rattle.std.proofs.Common.{◌≡◌, ◌≢◌, ◌⊎◌, inl, inr, ⊎_elim, ℕ, suc, ◌+◌, ◌<◌, ◌≤◌, Bool, true, false, cond, length, map, Vec, Global, vec_items, Option, Some, None, Result, Ok, Err, List, [], ◌∷◌, ◌++◌, refl, sym, ap, ◌∙◌, subst, arith}
-use Rattle.std.specs.Prelude.{IfOk, max, not}
-use Rattle.std.specs.List.{AllByRecursion, filter}
+use Rattle.sv_host.proofs.Prelude.{◌≡◌, ◌≢◌, ◌⊎◌, inl, inr, ℕ, suc, ◌+◌, ◌<◌, ◌≤◌, Bool, true, false, cond, length, map, Vec, vec_items, Option, Some, None}
+use Rattle.sv_host.proofs.Prelude.{Result, Ok, Err, List, [], ◌∷◌, ◌++◌, refl, sym, ap, ◌∙◌, subst, arith, IfOk, AllByRecursion, not-true, append-nil}
+use Rattle.sv_host.proofs.Prelude.{inputs_of, HasNudges, IsInTime, input_of, second_of, last_taken, Nudge, Poke, Tick, LateTick, Stop, Group, Taken, Quiet}
+use Rattle.sv_host.proofs.Prelude.{Refused, Input, Moment, Parked, Setting, Cause, Output, StepFault, left, EngineMeaning, decided, is_settled, known}
+use Rattle.sv_host.proofs.Prelude.{answer_of, answered_unless, no_birth, with_list, is_late, first_of, serve_first, Answered, IsAnswer, GroupEnds, behind}
+use Rattle.sv_host.proofs.Prelude.{left_by, engine_of, journal_of, setting_of, state_of, Node}
+use Rattle.std.proofs.Common.{⊎_elim, Global}
+use Rattle.std.specs.Prelude.{max, not}
+use Rattle.std.specs.List.{filter}
 use Rattle.std.proofs.lemmas.Bool.{leb-false}
-use Rattle.std.proofs.lemmas.List.{append_assoc, append-nil, length-append}
-use Rattle.sv_host.specs.Group.{inputs_of}
-use Rattle.sv_host.specs.Nudges.{IsNudge, HasNudge, HasNudges, IsTold, IsSettled, IsInTime, input_of, moment_of, second_of}
-use Rattle.sv_host.specs.Outcome.{sum_up, taken_of, last_taken, group_taken}
-use Rattle.sv_host.specs.declared.nudges.Nudge.{Nudge}
-use Rattle.sv_host.specs.declared.nudges.Nudge.TheVariants.{Poke, Tick, LateTick}
+use Rattle.std.proofs.lemmas.List.{append_assoc, length-append}
+use Rattle.sv_host.specs.Nudges.{IsNudge, HasNudge, IsTold, IsSettled, moment_of}
+use Rattle.sv_host.specs.Outcome.{sum_up, taken_of, group_taken}
 use Rattle.sv_host.specs.declared.nudges.Ticked.{Ticked}
 use Rattle.sv_host.specs.declared.nudges.Ticked.TheVariants as ticked
-use Rattle.sv_host.specs.declared.fault.Stop.{Stop}
-use Rattle.sv_host.specs.declared.group.Group.{Group}
-use Rattle.sv_host.specs.declared.outcome.Taken.{Taken}
-use Rattle.sv_host.specs.declared.outcome.Taken.TheVariants.{Quiet, Busy, MoveRefused, Refused}
-use Rattle.sv_model.specs.declared.input.Input.{Input}
+use Rattle.sv_host.specs.declared.outcome.Taken.TheVariants.{Busy, MoveRefused}
 use Rattle.sv_model.specs.declared.input.Input.TheVariants as input
-use Rattle.sv_model.specs.declared.key.Moment.{Moment}
-use Rattle.sv_model.specs.declared.node.Parked.{Parked}
-use Rattle.sv_model.specs.declared.node.Setting.{Setting}
-use Rattle.sv_model.specs.declared.output.Cause.{Cause}
 use Rattle.sv_model.specs.declared.output.MoveRefusal.{MoveRefusal}
-use Rattle.sv_model.specs.declared.output.Output.{Output}
 use Rattle.sv_model.specs.declared.output.Output.TheVariants as output
-use Rattle.sv_model.specs.declared.site.StepFault.{StepFault}
 use Rattle.sv_model.specs.declared.site.StepFault.TheVariants as step
-use Rattle.sv_model.specs.Decision.{left}
-use Rattle.sv_model.specs.Engine.{EngineMeaning}
 use Rattle.sv_model.specs.Membership.{In}
-use Rattle.sv_model.specs.Node.{decided}
-use Rattle.sv_model.specs.NodeState.{Node as State, is_settled, known}
-use Rattle.sv_model.specs.Serving.{answer_of, answered_unless, no_birth}
-use Rattle.sv_model.specs.Site.{with_list}
-use Rattle.sv_model.specs.Time.{is_late}
-use Rattle.sv_model.specs.Waiting.{first_of, serve_first, without}
-use Rattle.sv_node.specs.Group.{Answer, Answered, IsAnswer, GroupEnds, behind, left_by}
-use Rattle.sv_node.specs.Node.{engine_of, journal_of, setting_of, state_of}
-use Rattle.sv_node.specs.declared.node.Node.{Node}
+use Rattle.sv_model.specs.NodeState.{Node as State}
+use Rattle.sv_model.specs.Waiting.{without}
+use Rattle.sv_node.specs.Group.{Answer}
 use Rattle.sv_journal.proofs.EntryLemmas.{all_append}
 
 -- ---- the first that passes
@@ -69,10 +54,6 @@ passed_first test q ps p others false is rest = others rest
 passed : (test : Parked → Bool) (ps : List Parked) (p : Parked) → In p (filter test ps) → test p ≡ true
 passed test [] p i = absurd i
 passed test (q ∷ ps) p i = passed_first test q ps p (passed test ps p) (test q) refl i
-
-pub not_late : (b : Bool) → not b ≡ true → b ≡ false
-not_late true is = absurd cc
-not_late false is = refl
 
 -- ---- what is put out
 
@@ -150,7 +131,7 @@ module _ (m : EngineMeaning) (set : Setting) where
     tick_ends : (end second : ℕ) (n : State) (at : Moment) (a : Coded) → second ≤ at.steady → taken_of a ≢ Refused → IsInTime set second (left_by n (decided m set n at input.Tick) (plain a))
     tick_ends end second n at (Ok outs) since done = λ p i.
         let early = passed (λ q. not (is_late set at.steady q)) n.parked p i in
-        let late : is_late set at.steady p ≡ false = not_late (is_late set at.steady p) early in
+        let late : is_late set at.steady p ≡ false = not-true (is_late set at.steady p) early in
         omega (arith, since, leb-false (p.since + set.deadline) at.steady late)
     tick_ends end second n at (Err fault) since done = absurd (done refl)
 
@@ -258,10 +239,6 @@ one_more nudge second now count group mid next le was one = record {
 }
 
 -- ---- what is answered
-
-pub if_done : {P : Taken → Type 0} (r : Result Taken Stop) → ((taken : Taken) → r ≡ Ok taken → P taken) → IfOk r P
-if_done (Ok taken) f = f taken refl
-if_done (Err stop) f = tt
 
 pub refused_or : (t : Ticked) → (t ≡ ticked.Refused) ⊎ (t ≢ ticked.Refused)
 refused_or ticked.Ending = inr (λ is. cc)

@@ -1,18 +1,13 @@
 -- A tick's share of a line, packet by packet: which are sent, and which is the last in turn.
-use Rattle.std.proofs.Common.{◌≡◌, ℕ, ◌+◌, ◌-◌, Bool, true, false, cond, not, ◌&&◌, ◌||◌, List, [], ◌∷◌, ◌++◌, Option, Some, None, inl, inr, refl, ap, ◌∙◌, arith, length}
-use Rattle.std.proofs.lemmas.List.Sums.{sum_by-cons}
-use Rattle.std.specs.Prelude.{nat_lt}
-use Rattle.sv_model.specs.Outputs.{packet_in}
-use Rattle.sv_model.specs.declared.output.Output.{Output}
-use Rattle.sv_model.specs.declared.packet.Packet.{Packet}
-use Rattle.sv_host.specs.declared.round.Line.{Line}
-use Rattle.sv_host.specs.declared.round.Part.{Part}
-use Rattle.sv_host.specs.declared.round.Rank.{Rank}
+use Rattle.sv_host.proofs.Prelude.{◌≡◌, ℕ, ◌+◌, ◌-◌, Bool, true, false, cond, not, ◌&&◌, ◌||◌, List, [], ◌∷◌, ◌++◌, Option, Some, None, inl, inr, refl, ap, ◌∙◌}
+use Rattle.sv_host.proofs.Prelude.{arith, length, or_parts, sum_by-cons, nat_lt, packet_in, Output, Packet, Line, Part, Rank, behind_by, behind_in, front_by}
+use Rattle.sv_host.proofs.Prelude.{front_in, is_next, lets, part_of, sent_of, share_after, share_end, is_same, ranks_in, stands_in}
+use Rattle.std.proofs.lemmas.Bool.{or_from}
 use Rattle.sv_host.specs.declared.round.Share.{Share}
-use Rattle.sv_host.specs.Round.{behind_by, behind_in, front_by, front_in, has_left, is_in, is_next, is_want, lets, part_after, part_of, rank_of, sent_of, share_after, share_after_packet, share_end}
-use Rattle.sv_host.specs.Turns.{is_same, ranks_by, ranks_in, stands_in}
+use Rattle.sv_host.specs.Round.{has_left, is_in, is_want, part_after, rank_of, share_after_packet}
+use Rattle.sv_host.specs.Turns.{ranks_by}
 use Rattle.sv_host.proofs.RankLemmas.{count, settled}
-use Rattle.sv_host.proofs.RunLemmas.{last_of, neither, taken}
+use Rattle.sv_host.proofs.RunLemmas.{last_of, taken}
 
 -- a part after packets, and those of them that are sent
 abbrev pub part_end : Part → List Rank → Part
@@ -50,9 +45,6 @@ last_front l b f last (r ∷ rs) =
     one_front (λ (p : Part). (part_end p rs).last) (is_next l.last r) (nat_lt 0 b) (nat_lt 0 f) _ _ _ _ _
     (last_front l (b - 1) f last rs) (last_front l b f last rs) (last_front l b (f - 1) (Some r) rs)
 
-either_not : (a b : Bool) → a ≡ false → b ≡ false → (a || b) ≡ false
-either_not a b p q = grind (arith, p, q)
-
 -- one that a part doesn't send is not of those after that are sent, nor of those from the first one on
 pub unsent_behind : (q : Rank) (l : Line) (b f : ℕ) (w : Bool) (last : Option Rank) (rs : List Rank)
     → stands_in q (part_sent (record { before = l; behind = b; front = f; wraps = w; last = last }) rs) ≡ false
@@ -61,14 +53,14 @@ unsent_behind q l b f w last [] unsent = refl
 unsent_behind q l b f w last (r ∷ rs) unsent = elim (settled (is_next l.last r)) [
   | inl next ↦ elim (settled (nat_lt 0 b)) [
     | inl some ↦
-        let apart = neither (is_same q r) _ (rw (next, some) at unsent) in
+        let apart = or_parts (is_same q r) _ (rw (next, some) at unsent) in
         let rest = unsent_behind q l (b - 1) f w (cond w last (Some r)) rs apart.1 in
-        rw (next, some) (either_not (is_same q r) (stands_in q (taken (λ s. is_next l.last s) (b - 1) rs)) apart.0 rest)
+        rw (next, some) (or_from (is_same q r) (stands_in q (taken (λ s. is_next l.last s) (b - 1) rs)) apart.0 rest)
     | inr none ↦ rw (next, none) (unsent_behind q l b f w last rs (rw (next, none) at unsent))
   ]
   | inr next ↦ elim (settled (nat_lt 0 f)) [
     | inl some ↦
-        let apart = neither (is_same q r) _ (rw (next, some) at unsent) in
+        let apart = or_parts (is_same q r) _ (rw (next, some) at unsent) in
         rw next (unsent_behind q l b (f - 1) w (Some r) rs apart.1)
     | inr none ↦ rw next (unsent_behind q l b f w last rs (rw (next, none) at unsent))
   ]
@@ -81,15 +73,15 @@ unsent_front q l b f w last [] unsent = refl
 unsent_front q l b f w last (r ∷ rs) unsent = elim (settled (is_next l.last r)) [
   | inl next ↦ elim (settled (nat_lt 0 b)) [
     | inl some ↦
-        let apart = neither (is_same q r) _ (rw (next, some) at unsent) in
+        let apart = or_parts (is_same q r) _ (rw (next, some) at unsent) in
         rw next (unsent_front q l (b - 1) f w (cond w last (Some r)) rs apart.1)
     | inr none ↦ rw next (unsent_front q l b f w last rs (rw (next, none) at unsent))
   ]
   | inr next ↦ elim (settled (nat_lt 0 f)) [
     | inl some ↦
-        let apart = neither (is_same q r) _ (rw (next, some) at unsent) in
+        let apart = or_parts (is_same q r) _ (rw (next, some) at unsent) in
         let rest = unsent_front q l b (f - 1) w (Some r) rs apart.1 in
-        rw (next, some) (either_not (is_same q r) (stands_in q (taken (λ s. not (is_next l.last s)) (f - 1) rs)) apart.0 rest)
+        rw (next, some) (or_from (is_same q r) (stands_in q (taken (λ s. not (is_next l.last s)) (f - 1) rs)) apart.0 rest)
     | inr none ↦ rw (next, none) (unsent_front q l b f w last rs (rw (next, none) at unsent))
   ]
 ]

@@ -1,9 +1,6 @@
 -- The order of a tick's packets, and how many stand after one of them.
-use Rattle.std.proofs.Common.{◌≡◌, ◌⊎◌, ◌≤◌, ℕ, ◌+◌, Bool, true, false, cond, List, [], ◌∷◌, Option, Some, None, inl, inr, refl, ap, sym, ◌∙◌, arith, length}
-use Rattle.std.proofs.lemmas.Bool.Decides.{nat_tests}
-use Rattle.sv_host.specs.declared.round.Rank.{Rank}
-use Rattle.sv_host.specs.Round.{is_behind, is_next}
-use Rattle.sv_host.specs.Turns.{is_same, stands_in}
+use Rattle.sv_host.proofs.Prelude.{◌≡◌, ◌⊎◌, ◌≤◌, ℕ, ◌+◌, Bool, true, false, cond, List, [], ◌∷◌, Option, Some, None, inl, inr, refl, ap, sym, ◌∙◌, arith}
+use Rattle.sv_host.proofs.Prelude.{length, nat_tests, Rank, is_behind, is_next, is_same, stands_in}
 
 pub settled : (b : Bool) → (b ≡ true) ⊎ (b ≡ false)
 settled true = inl refl

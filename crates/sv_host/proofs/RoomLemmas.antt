@@ -1,11 +1,8 @@
 -- Requests of a group that stay, one after the other.
-use Rattle.std.proofs.Common.{◌≡◌, ◌<◌, ℕ, zero, suc, ◌+◌, Bool, true, false, cond, List, [], ◌∷◌, ◌++◌, Option, length, take, drop, ap, ◌∙◌, arith}
-use Rattle.std.specs.Prelude.{slice_get, remove}
-use Rattle.sv_model.specs.declared.input.Input.{Input}
-use Rattle.sv_model.specs.declared.key.Key.{Key}
-use Rattle.sv_model.specs.declared.key.Moment.{Moment}
+use Rattle.sv_host.proofs.Prelude.{◌≡◌, ◌<◌, ℕ, zero, suc, ◌+◌, Bool, true, false, cond, List, [], ◌∷◌, ◌++◌, Option, length, take, drop, ap, ◌∙◌, arith}
+use Rattle.sv_host.proofs.Prelude.{slice_get, remove, Input, Key, Moment, left_of}
 use Rattle.sv_host.specs.declared.room.Room.{Room}
-use Rattle.sv_host.specs.Room.{awaited_in, left_of, may_come, room_behind, stays}
+use Rattle.sv_host.specs.Room.{awaited_in, may_come, room_behind, stays}
 
 module _ (waits : Input → Option Key) where
   -- what is left of those from a place on, after those before it

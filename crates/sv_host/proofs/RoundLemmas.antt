@@ -1,8 +1,5 @@
 -- The packets of a tick, counted one by one.
-use Rattle.std.proofs.Common.{◌≡◌, ◌<◌, ℕ, ◌+◌, List, ◌∷◌, length, get_or, drop, ap, sym, ◌∙◌, add-one, drop-cons}
-use Rattle.std.proofs.lemmas.List.Sums.{sum_by-cons}
-use Rattle.std.specs.List.{sum_by}
-use Rattle.sv_model.specs.declared.output.Output.{Output}
+use Rattle.sv_host.proofs.Prelude.{◌≡◌, ◌<◌, ℕ, ◌+◌, List, ◌∷◌, length, get_or, drop, ap, sym, ◌∙◌, add-one, drop-cons, sum_by-cons, sum_by, Output}
 
 -- the one at a place, and those after it
 pub sum_on : (f : Output → ℕ) (os : List Output) (i : ℕ) (o : Output) → i < length os → o ≡ get_or os i o

@@ -1,11 +1,7 @@
 -- Packets of one side of a line in order, the first so many of which are sent: the last one sent, and how many stand after that one.
-use Rattle.std.proofs.Common.{◌≡◌, ◌≤◌, ◌<◌, ℕ, ◌+◌, ◌-◌, Bool, true, false, cond, ◌&&◌, ◌||◌, List, [], ◌∷◌, Option, Some, inl, inr, refl, ap, sym, ◌∙◌, arith}
-use Rattle.std.proofs.lemmas.Bool.Decides.{nat_tests}
-use Rattle.std.specs.Prelude.{nat_lt, IsTrue}
-use Rattle.std.specs.List.{AllByRecursion}
-use Rattle.sv_host.specs.declared.round.Rank.{Rank}
-use Rattle.sv_host.specs.Round.{is_behind, is_next}
-use Rattle.sv_host.specs.Turns.{IsRising, is_same, stands_in}
+use Rattle.sv_host.proofs.Prelude.{◌≡◌, ◌≤◌, ◌<◌, ℕ, ◌+◌, ◌-◌, Bool, true, false, cond, ◌&&◌, ◌||◌, List, [], ◌∷◌, Option, Some, inl, inr, refl, ap, sym, ◌∙◌}
+use Rattle.sv_host.proofs.Prelude.{arith, or_parts, nat_tests, nat_lt, IsTrue, AllByRecursion, Rank, is_behind, is_next, is_same, stands_in}
+use Rattle.sv_host.specs.Turns.{IsRising}
 use Rattle.sv_host.proofs.RankLemmas.{behind, behind_next, count, same_is, settled}
 
 -- one is sent of those that pass a test, where n may still be sent
@@ -59,9 +55,6 @@ last_moves ranks f (r ∷ rs) n last from (front, rising) (at, among) (it, next)
       rw e later
 ]
 
-pub neither : (a b : Bool) → (a || b) ≡ false → (a ≡ false) × (b ≡ false)
-neither a b e = (grind (arith, e), grind (arith, e))
-
 other : (a b : Bool) → a ≡ false → (a || b) ≡ true → b ≡ true
 other a b e either = grind (arith, e, either)
 
@@ -77,7 +70,7 @@ pub unsent_many : (f : Rank → Bool) (q : Rank) (rs : List Rank) (n : ℕ) → 
 unsent_many f q [] n passes at unsent = grind arith
 unsent_many f q (r ∷ rs) n passes at unsent = elim (settled (sends f n r)) [
   | inl e ↦
-      let apart = neither (is_same q r) (stands_in q (taken f (n - 1) rs)) (rw e at unsent) in
+      let apart = or_parts (is_same q r) (stands_in q (taken f (n - 1) rs)) (rw e at unsent) in
       let rest = unsent_many f q rs (n - 1) passes (other (is_same q r) (stands_in q rs) apart.0 at) apart.1 in
       let sent = is_sent f n r e in
       more_counted (f r) n (count f rs) sent.0 sent.1 rest
@@ -113,7 +106,7 @@ pub unsent_next : (f : Rank → Bool) (q : Rank) (rs : List Rank) (n : ℕ) (las
 unsent_next f q [] n last from rising passes at unsent is same = grind arith
 unsent_next f q (r ∷ rs) n last from (front, rising) passes at unsent is same = elim (settled (sends f n r)) [
   | inl e ↦
-      let apart = neither (is_same q r) (stands_in q (taken f (n - 1) rs)) (rw e at unsent) in
+      let apart = or_parts (is_same q r) (stands_in q (taken f (n - 1) rs)) (rw e at unsent) in
       let later = other (is_same q r) (stands_in q rs) apart.0 at in
       rw e (unsent_next f q rs (n - 1) (Some r) (Some r) rising passes later apart.1 (front_of r q rs front later) (λ z. refl))
   | inr e ↦ elim (settled (is_same q r)) [

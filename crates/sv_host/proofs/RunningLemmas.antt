@@ -1,8 +1,7 @@
 -- What a caller sees of the life of a process.
-use Rattle.std.specs.Prelude.{ℕ, List, Result, Ok, Err, IfOk}
-use Rattle.sv_model.specs.Engine.{EngineMeaning}
+use Rattle.sv_host.proofs.Prelude.{IfOk, EngineMeaning, IsLife}
+use Rattle.std.specs.Prelude.{ℕ, List, Result, Ok, Err}
 use Rattle.sv_net.specs.declared.persistence.Persistence.{Persistence}
-use Rattle.sv_node.specs.History.{IsLife}
 use Rattle.sv_host.specs.Host.{IsAt, setting_of}
 use Rattle.sv_host.specs.Running.{HasRun}
 use Rattle.sv_host.specs.declared.host.Host.{Host}

@@ -1,25 +1,14 @@
 -- What a node puts out can be sent.
-use Rattle.std.proofs.Common.{ℕ, List, [], ◌∷◌, map, Vec, Global, vec_items, Result, Ok, Err, sym, subst}
-use Rattle.std.specs.List.{AllByRecursion}
-use Rattle.sv_model.specs.declared.key.Moment.{Moment}
-use Rattle.sv_model.specs.declared.input.Input.{Input}
-use Rattle.sv_model.specs.declared.output.Output.{Output}
-use Rattle.sv_model.specs.declared.output.Output.TheVariants.{Answer, Refuse, Send, Moved, MoveRefused}
-use Rattle.sv_model.specs.declared.node.Setting.{Setting}
-use Rattle.sv_model.specs.declared.site.StepFault.{StepFault}
+use Rattle.sv_host.proofs.Prelude.{ℕ, List, [], ◌∷◌, map, Vec, vec_items, Result, Ok, Err, sym, subst, AllByRecursion, Moment, Input, Output, Answer, Refuse}
+use Rattle.sv_host.proofs.Prelude.{Send, Moved, MoveRefused, Setting, StepFault, EngineMeaning, decided, IsInput, with_list, left, Answered, GroupEnds}
+use Rattle.sv_host.proofs.Prelude.{engine_of, setting_of, state_of, journal_of, Node, AreSendable, IsHandedOn}
+use Rattle.std.proofs.Common.{Global}
 use Rattle.sv_model.specs.declared.site.StepFault.TheVariants.{Failed, Full, Device, Memory}
-use Rattle.sv_model.specs.Engine.{EngineMeaning}
 use Rattle.sv_model.specs.Limits.{KeepsLimits, NamesKeys}
-use Rattle.sv_model.specs.Node.{decided}
 use Rattle.sv_model.specs.NodeState.{Node as State}
-use Rattle.sv_model.specs.Ranges.{IsInput, IsRanged, IsSetting}
-use Rattle.sv_model.specs.Site.{with_list}
-use Rattle.sv_model.specs.Decision.{left}
+use Rattle.sv_model.specs.Ranges.{IsRanged, IsSetting}
 use Rattle.sv_model.proofs.RangeLemmas.{ranged}
-use Rattle.sv_node.specs.Group.{Answered, GroupEnds}
-use Rattle.sv_node.specs.Node.{engine_of, setting_of, state_of, journal_of}
-use Rattle.sv_node.specs.declared.node.Node.{Node}
-use Rattle.sv_host.specs.Outputs.{AreHandedOn, AreSendable, IsHandedOn, IsSendable}
+use Rattle.sv_host.specs.Outputs.{AreHandedOn, IsSendable}
 
 -- one by one
 pub first_of : (o : Output) (os : List Output) → AreSendable (o ∷ os) → IsSendable o

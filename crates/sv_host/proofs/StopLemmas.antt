@@ -1,16 +1,9 @@
 -- Why a node ends.
-use Rattle.std.proofs.Common.{◌≡◌, ◌⊎◌, inl, inr, ℕ, List, Result, Ok, Err, false}
-use Rattle.std.specs.Prelude.{IsTrue, IfErr, ⊤}
-use Rattle.sv_journal.specs.declared.journal_fault.JournalFault.{JournalFault}
+use Rattle.sv_host.proofs.Prelude.{◌≡◌, ◌⊎◌, inl, inr, ℕ, List, Result, Ok, Err, false, IsTrue, IfErr, ⊤, JournalFault, EngineMeaning, IsCompaction, journal_of}
+use Rattle.sv_host.proofs.Prelude.{Node, Stop, HasFailed}
 use Rattle.sv_journal.specs.declared.journal_fault.JournalFault.TheVariants as journal
-use Rattle.sv_model.specs.Engine.{EngineMeaning}
-use Rattle.sv_node.specs.Compaction.{IsCompaction}
-use Rattle.sv_node.specs.Node.{journal_of}
-use Rattle.sv_node.specs.declared.node.Node.{Node}
 use Rattle.sv_host.specs.declared.fault.HostFault.TheVariants as host
-use Rattle.sv_host.specs.declared.fault.Stop.{Stop}
 use Rattle.sv_host.specs.declared.fault.Stop.TheVariants.{Fault}
-use Rattle.sv_host.specs.Stops.{HasFailed}
 
 module _ {E D : Type 0} (meaning : E → EngineMeaning) (heard : E → List (List ℕ)) (tells : D → Type 0) (seen : D → List ℕ) (may_leave : D → List ℕ → Type 0) (moment : D → ℕ) (left_since : D → ℕ → List ℕ → Type 0) (failed : D → ℕ) (old new : Node E D) (live : IsTrue (journal_of old).live) where
   abbrev Compacted : JournalFault → Type 0

@@ -1,25 +1,17 @@
 -- What happens on connections, one thing after the other.
-use Rattle.std.proofs.Common.{◌≡◌, ◌≢◌, ◌⊎◌, ◌++◌, ◌∷◌, ℕ, Bool, List, [], Option, Some, None, Result, Ok, Err, slice_set, inl, inr, refl, ap, sym, ◌∙◌, subst}
-use Rattle.std.proofs.lemmas.List.{append-nil}
-use Rattle.std.specs.Prelude.{IfErr, IfOk, IfSome, OnErr, slice_get}
-use Rattle.sv_host.specs.Serve.{HearsOn, IsLeftBy, IsToldLast}
-use Rattle.sv_host.specs.Stories.{AllGoOn, AllGoOnWith, Begins, CarryOn, Deed, Does, GoesBack, HasStory, IsNewcomer, Story}
-use Rattle.sv_host.specs.Stories.{Rests, Hears, Parts}
-use Rattle.sv_host.specs.declared.peers.Peers.{Peers}
-use Rattle.sv_host.specs.declared.serve.Progress.{Progress}
-use Rattle.sv_host.specs.declared.server.Server.{Server}
+use Rattle.sv_host.proofs.Prelude.{◌≡◌, ◌≢◌, ◌⊎◌, ◌++◌, ◌∷◌, ℕ, Bool, List, [], Option, Some, None, Result, Ok, Err, slice_set, inl, inr, refl, ap, sym, ◌∙◌}
+use Rattle.sv_host.proofs.Prelude.{subst, append-nil, IfErr, IfOk, IfSome, slice_get, HearsOn, IsLeftBy, AllGoOn, CarryOn, Deed, GoesBack, HasStory, Story}
+use Rattle.sv_host.proofs.Prelude.{Rests, Hears, Parts, Peers, Progress, Server, same_held, came_of, went_of, Continues, parts, turn_of, unsent, Finds, HearsAt}
+use Rattle.sv_host.proofs.Prelude.{elsewhere, held_at, held_in, places_of, Connections, Heard, Open, State}
+use Rattle.std.specs.Prelude.{OnErr}
+use Rattle.sv_host.specs.Serve.{IsToldLast}
+use Rattle.sv_host.specs.Stories.{AllGoOnWith, Begins, Does, IsNewcomer}
 use Rattle.sv_net.proofs.ContinueLemmas as continue
-use Rattle.sv_net.proofs.PlaceLemmas.{same_held, taken_held}
+use Rattle.sv_net.proofs.PlaceLemmas.{taken_held}
 use Rattle.sv_net.proofs.SpareLemmas.{apart_same, same_or_apart}
-use Rattle.sv_net.specs.Bytes.{came_of, went_of}
-use Rattle.sv_net.specs.Exchange.{AllContinue, Continues, GoOnWith, parts, turn_of, unsent}
-use Rattle.sv_net.specs.Hearing.{Finds, HearsAt}
-use Rattle.sv_net.specs.Places.{HasStood, elsewhere, held_at, held_in, places_of}
-use Rattle.sv_net.specs.declared.connections.Connections.{Connections}
-use Rattle.sv_net.specs.declared.hearing.Heard.{Heard}
+use Rattle.sv_net.specs.Exchange.{AllContinue, GoOnWith}
+use Rattle.sv_net.specs.Places.{HasStood}
 use Rattle.sv_net.specs.declared.hearing.Heard.TheVariants as heard
-use Rattle.sv_net.specs.declared.open.Open.{Open}
-use Rattle.sv_net.specs.declared.state.State.{State}
 use Rattle.sv_net.specs.declared.state.State.TheVariants as state
 use Rattle.sv_net.specs.declared.state.Turn.TheVariants as turn
 

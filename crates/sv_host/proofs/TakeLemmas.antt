@@ -1,26 +1,13 @@
 -- What is given to the node is what has come.
-use Rattle.std.proofs.Common.{◌≡◌, ◌++◌, ℕ, Bool, false, List, [], Vec, Option, Some, None, Result, Ok, Err, inl, inr, ap, sym, ◌∙◌, subst, true≢false}
-use Rattle.std.specs.Prelude.{IfOk, IfSome}
-use Rattle.std.specs.Option.{option_map}
-use Rattle.std.specs.declared.alloc.Global.{Global}
-use Rattle.sv_host.specs.declared.group.Came.{Came}
-use Rattle.sv_host.specs.declared.peers.Peers.{Peers}
-use Rattle.sv_host.specs.declared.serve.Progress.{Progress}
+use Rattle.sv_host.proofs.Prelude.{◌≡◌, ◌++◌, ℕ, Bool, false, List, [], Vec, Option, Some, None, Result, Ok, Err, inl, inr, ap, sym, ◌∙◌, subst, true≢false}
+use Rattle.sv_host.proofs.Prelude.{IfOk, IfSome, option_map, Global, Came, Peers, Progress, Server, Comes, HearsOn, IsLeftBy, Request, Heard, Open, Socket}
+use Rattle.sv_host.proofs.Prelude.{State, came_of, went_of, Finds, HearsAt}
 use Rattle.sv_host.specs.declared.serve.Progress.TheVariants as progress
-use Rattle.sv_host.specs.declared.server.Server.{Server}
-use Rattle.sv_host.specs.Group.{Comes}
 use Rattle.sv_host.specs.Heard.{IsGivenAs, IsOfBytes, input_of}
-use Rattle.sv_host.specs.Serve.{Brings, GoesOn, HearsOn, IsHeard, IsLeftBy, Listens, StaysAt, Takes, came_in, is_more}
+use Rattle.sv_host.specs.Serve.{Brings, GoesOn, IsHeard, Listens, StaysAt, Takes, came_in, is_more}
 use Rattle.sv_model.specs.declared.input.Input.TheVariants as input
-use Rattle.sv_model.specs.declared.request.Request.{Request}
 use Rattle.sv_net.specs.declared.client.Client.{Client}
-use Rattle.sv_net.specs.declared.hearing.Heard.{Heard}
 use Rattle.sv_net.specs.declared.hearing.Heard.TheVariants as heard
-use Rattle.sv_net.specs.declared.open.Open.{Open}
-use Rattle.sv_net.specs.declared.socket.Socket.{Socket}
-use Rattle.sv_net.specs.declared.state.State.{State}
-use Rattle.sv_net.specs.Bytes.{came_of, went_of}
-use Rattle.sv_net.specs.Hearing.{Finds, HearsAt}
 use Rattle.sv_record.specs.declared.frame.Frame.{Frame}
 
 -- what may be given to the node comes

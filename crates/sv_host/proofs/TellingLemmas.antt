@@ -1,33 +1,17 @@
 -- Who goes on waiting when what a group has put out is handed to whom it is for: whoever is told nothing of it.
-use Rattle.std.proofs.Common.{◌≡◌, ◌≢◌, ℕ, zero, suc, ◌+◌, ◌<◌, ◌≤◌, List, [], ◌∷◌, map, Vec, vec_items, Result, Ok, Err, arith, sym, ap, subst, ◌∙◌}
-use Rattle.std.specs.Prelude.{⊤}
-use Rattle.std.specs.declared.alloc.Global.{Global}
-use Rattle.sv_host.specs.declared.group.Asker.{Asker}
-use Rattle.sv_host.specs.declared.group.Asker.TheVariants.{Client, Command, Nobody}
-use Rattle.sv_host.specs.declared.group.Way.{Way}
-use Rattle.sv_host.specs.declared.parked.ParkedClient.{ParkedClient}
-use Rattle.sv_host.specs.declared.server.Server.{Server}
-use Rattle.sv_host.specs.Clients.{AskedFor, Has, HasAsked, HaveWays, IsForOthers, KeepsOthers, MayAsk, WaitFor, refused_of}
-use Rattle.sv_host.specs.HandingOut.{Concludes, ConcludesRefused, HandsOn, HandsOnAll, HandsOut, HandsOutFrom, RefusesAll, way_at}
-use Rattle.sv_host.specs.Parked.{clients_of, without}
-use Rattle.sv_host.proofs.AskedLemmas.{asked_between, not_lower, refused_keeps}
+use Rattle.sv_host.proofs.Prelude.{◌≡◌, ◌≢◌, ℕ, zero, suc, ◌+◌, ◌<◌, ◌≤◌, List, [], ◌∷◌, map, Vec, vec_items, Result, Ok, Err, arith, sym, ap, subst, ◌∙◌, ⊤}
+use Rattle.sv_host.proofs.Prelude.{Global, Asker, Client, Command, Nobody, Way, ParkedClient, Server, AskedFor, Has, HasAsked, HaveWays, KeepsOthers, MayAsk}
+use Rattle.sv_host.proofs.Prelude.{WaitFor, refused_of, Concludes, ConcludesRefused, HandsOn, HandsOnAll, HandsOut, HandsOutFrom, RefusesAll, way_at}
+use Rattle.sv_host.proofs.Prelude.{clients_of, without, Input, Moment, Parked, Setting, Output, Answer, Refuse, Send, Moved, MoveRefused, StepFault}
+use Rattle.sv_host.proofs.Prelude.{EngineMeaning, decided, with_list, Answered, IsAnswer, behind, left_by, all_given, IsAbove, RiseIn, number_in, numbers_in}
+use Rattle.sv_host.proofs.GroupLemmas.{not_lower}
+use Rattle.sv_host.specs.Clients.{IsForOthers}
+use Rattle.sv_host.proofs.AskedLemmas.{asked_between, refused_keeps}
 use Rattle.sv_host.proofs.ClientLemmas.{others_kept}
 use Rattle.sv_host.proofs.WaitLemmas.{step_keeps, step_waits, wait_below, wait_map}
-use Rattle.sv_model.specs.declared.input.Input.{Input}
 use Rattle.sv_model.specs.declared.input.Input.TheVariants as input
-use Rattle.sv_model.specs.declared.key.Moment.{Moment}
-use Rattle.sv_model.specs.declared.node.Parked.{Parked}
-use Rattle.sv_model.specs.declared.node.Setting.{Setting}
-use Rattle.sv_model.specs.declared.output.Output.{Output}
-use Rattle.sv_model.specs.declared.output.Output.TheVariants.{Answer, Refuse, Send, Moved, MoveRefused}
-use Rattle.sv_model.specs.declared.site.StepFault.{StepFault}
-use Rattle.sv_model.specs.Engine.{EngineMeaning}
-use Rattle.sv_model.specs.Node.{decided}
 use Rattle.sv_model.specs.NodeState.{Node as State}
-use Rattle.sv_model.specs.Site.{with_list}
-use Rattle.sv_node.specs.Group.{Answered, IsAnswer, behind, bytes_of, entries_by, left_by}
-use Rattle.sv_node.specs.GroupCalls.{all_given}
-use Rattle.sv_node.specs.History.{IsAbove, RiseIn, number_in, numbers_in}
+use Rattle.sv_node.specs.Group.{bytes_of, entries_by}
 
 -- ---- outputs
 

@@ -1,24 +1,18 @@
 -- Steps one after the other: the turn comes to each packet that all their ticks put out.
-use Rattle.std.proofs.Common.{◌≡◌, ◌≤◌, ◌<◌, ℕ, ◌+◌, ◌*◌, ◌-◌, Bool, true, false, not, cond, min, List, [], ◌∷◌, ◌++◌, Option, Some, inl, inr, refl, ap, sym, ◌∙◌, subst, arith, length}
-use Rattle.std.proofs.lemmas.List.Sums.{sum_by-cons}
-use Rattle.std.specs.List.{AllByRecursion, sum_by, count_by}
-use Rattle.sv_model.specs.Outputs.{packet_in}
-use Rattle.sv_model.specs.declared.output.Output.{Output}
-use Rattle.sv_host.specs.declared.packets.Packets.{Packets}
+use Rattle.sv_host.proofs.Prelude.{◌≡◌, ◌≤◌, ◌<◌, ℕ, ◌+◌, ◌-◌, Bool, true, false, not, cond, min, List, [], ◌∷◌, ◌++◌, Option, Some, inl, inr, refl, ap, sym}
+use Rattle.sv_host.proofs.Prelude.{◌∙◌, subst, arith, length, or_parts, sum_by-cons, AllByRecursion, sum_by, packet_in, Output, Packets, Sending, All, Share}
+use Rattle.sv_host.proofs.Prelude.{Nothing, Line, Part, Rank, sending_end, IsPartOf, behind_in, front_in, is_next, lets, part_of, sent_of, share_after}
+use Rattle.sv_host.proofs.Prelude.{share_end, ranks_in, stands_in}
+use Rattle.std.proofs.Common.{◌*◌}
+use Rattle.std.specs.List.{count_by}
 use Rattle.sv_host.specs.declared.packets.Packets.TheVariants as packets
-use Rattle.sv_host.specs.declared.packets.Sending.{Sending}
-use Rattle.sv_host.specs.declared.packets.Sending.TheVariants.{All, Share, Nothing}
-use Rattle.sv_host.specs.declared.round.Line.{Line}
-use Rattle.sv_host.specs.declared.round.Part.{Part}
-use Rattle.sv_host.specs.declared.round.Rank.{Rank}
 use Rattle.sv_host.specs.declared.round.Round.{Round}
 use Rattle.sv_host.specs.declared.round.Share as share
 use Rattle.sv_host.specs.declared.round.TheConstants.{OTHERS, ROUND_LIMIT}
-use Rattle.sv_host.specs.Packets.{IsSending, round_left, sending_end, sent_by}
-use Rattle.sv_host.specs.Round.{IsPartOf, IsShareOf, IsShareOfWants, behind_in, front_in, is_next, left_of, lets, most_wants, part_of, round_after, sent_of, share_after, share_end}
-use Rattle.sv_host.specs.Turns.{AreInTurn, KeepsPlaces, PutsOut, SendsEachInTime, SendsEachInTurn, Step, TicksPutOut, is_sent_of, is_tick, kept_for, places_in, places_of, ranks_in, stands_in}
+use Rattle.sv_host.specs.Packets.{IsSending, round_left, sent_by}
+use Rattle.sv_host.specs.Round.{IsShareOf, IsShareOfWants, left_of, most_wants, round_after}
+use Rattle.sv_host.specs.Turns.{AreInTurn, KeepsPlaces, PutsOut, SendsEachInTime, SendsEachInTurn, Step, TicksPutOut, is_sent_of, is_tick, kept_for, places_in, places_of}
 use Rattle.sv_host.proofs.RankLemmas.{behind, settled}
-use Rattle.sv_host.proofs.RunLemmas.{neither}
 use Rattle.sv_host.proofs.PartLemmas.{behind_counted, both_sides, front_counted, part_end, part_of_end, sent_by_parts}
 use Rattle.sv_host.proofs.LineLemmas.{HasMoved, ahead, ahead_least, ahead_most, line_moves, line_stays}
 
@@ -142,7 +136,7 @@ unsent_far : (wants : Bool) (ranks : List Rank) (q : Rank) (round : Round) (ss :
     → behind ranks (Some q) + 1 + sum_by (λ s. places_of wants s) ss ≤ ahead ranks q (line_of wants round).last
 unsent_far wants ranks q round [] turns puts at unsent = omega (arith, ahead_least ranks q (line_of wants round).last at)
 unsent_far wants ranks q round (s ∷ ss) (turn, turns) (put, puts) at unsent =
-    let apart = neither (stands_in q (ranks_in wants (sent_by s.sending s.outputs))) (is_sent_of wants q ss) unsent in
+    let apart = or_parts (stands_in q (ranks_in wants (sent_by s.sending s.outputs))) (is_sent_of wants q ss) unsent in
     let now = step_moves wants s.packets s.sending ranks q round s.outputs turn put apart.0 in
     let later = unsent_far wants ranks q (round_left round (sending_end s.sending s.outputs)) ss turns puts at apart.1 in
     omega (arith, now, later, sum_by-cons (λ (x : Step). places_of wants x) s ss)

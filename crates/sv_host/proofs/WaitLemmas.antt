@@ -1,40 +1,29 @@
 -- Who waits at a node after a step, and to whom the step tells something: to nobody who goes on waiting.
-use Rattle.std.proofs.Common.{◌≡◌, ◌≢◌, ℕ, ◌<◌, ◌≤◌, ◌||◌, ◌==◌, Bool, true, false, cond, not, nat_le, Option, Some, None, List, [], ◌∷◌, ◌++◌, map, length, filter, filter_map, flat_map, arith, refl, ap}
-use Rattle.std.specs.Prelude.{⊤}
+use Rattle.sv_host.proofs.Prelude.{◌≡◌, ◌≢◌, ℕ, ◌<◌, ◌≤◌, ◌||◌, Bool, true, false, cond, not, Option, Some, None, List, [], ◌∷◌, ◌++◌, map, length, arith, refl}
+use Rattle.sv_host.proofs.Prelude.{ap, ⊤, Input, Key, Moment, Parked, Setting, Cause, Output, Refuse, Send, Moved, Packet, Request, EngineMeaning, decided}
+use Rattle.sv_host.proofs.Prelude.{is_settled, known, answer_of, answered_unless, no_birth, is_late, first_of, serve_first, Has, HasAsked, KeepsOthers, WaitFor}
+use Rattle.sv_host.proofs.Prelude.{IsAbove, number_in, ParkedClient}
+use Rattle.std.proofs.Common.{◌==◌, nat_le, filter, filter_map, flat_map}
 use Rattle.std.specs.FinMap.{entries}
 use Rattle.std.proofs.lemmas.Bool.{cond_both}
-use Rattle.sv_model.specs.declared.input.Input.{Input}
 use Rattle.sv_model.specs.declared.input.Input.TheVariants as input
-use Rattle.sv_model.specs.declared.key.Key.{Key}
-use Rattle.sv_model.specs.declared.key.Moment.{Moment}
 use Rattle.sv_model.specs.declared.key.Secret.{Secret}
-use Rattle.sv_model.specs.declared.node.Parked.{Parked}
-use Rattle.sv_model.specs.declared.node.Setting.{Setting}
-use Rattle.sv_model.specs.declared.output.Cause.{Cause}
-use Rattle.sv_model.specs.declared.output.Output.{Output}
-use Rattle.sv_model.specs.declared.output.Output.TheVariants.{Refuse, Send, Moved}
 use Rattle.sv_model.specs.declared.output.Cause.TheVariants.{Deadline, TableFull, ParkFull, WantsSpent}
 use Rattle.sv_model.specs.declared.outcome.Outcome.{Outcome}
 use Rattle.sv_model.specs.declared.output.MoveRefusal.TheVariants.{UnknownKey, NotActive, BadPeer, EpochsSpent}
-use Rattle.sv_model.specs.declared.packet.Packet.{Packet}
 use Rattle.sv_model.specs.declared.record.Record.TheVariants.{Gone as GoneRecord}
 use Rattle.sv_model.specs.declared.packet.Packet.TheVariants.{Want, Grant, Ack, No}
-use Rattle.sv_model.specs.declared.request.Request.{Request}
 use Rattle.sv_model.specs.declared.session.Session.{Session}
 use Rattle.sv_model.specs.declared.state.KeyState.{KeyState}
 use Rattle.sv_model.specs.declared.state.KeyState.TheVariants.{Active, Sent, Gone, Ended}
 use Rattle.sv_model.specs.declared.state.TheConstants.{PARK_LIMIT}
 use Rattle.sv_model.specs.Decision.{Decision, idle, with_record}
-use Rattle.sv_model.specs.Engine.{EngineMeaning}
 use Rattle.sv_model.specs.Migration.{hands_over, is_ours, is_wanted, move_refused, no_if_unmade, on_ack, on_grant, on_move, on_no, on_ours, on_packet, on_want, takes_over}
-use Rattle.sv_model.specs.Node.{decided}
-use Rattle.sv_model.specs.NodeState.{Durable, Node, epoch_in, is_crowded, is_dead, is_settled, is_unmade, known, lacks_room, last_number}
-use Rattle.sv_model.specs.Serving.{answer_of, answered_unless, no_birth, refused, served}
-use Rattle.sv_model.specs.Time.{deadlines, grant_again, is_late, is_quiet, on_tick, wants_again}
-use Rattle.sv_model.specs.Waiting.{first_of, on_ask, others, parks, serve_first, serve_parked, waits, wants, without}
-use Rattle.sv_host.specs.Clients.{AreForOthers, Has, HasAsked, KeepsOthers, Wait, WaitFor}
-use Rattle.sv_node.specs.History.{IsAbove, number_in}
-use Rattle.sv_host.specs.declared.parked.ParkedClient.{ParkedClient}
+use Rattle.sv_model.specs.NodeState.{Durable, Node, epoch_in, is_crowded, is_dead, is_unmade, lacks_room, last_number}
+use Rattle.sv_model.specs.Serving.{refused, served}
+use Rattle.sv_model.specs.Time.{deadlines, grant_again, is_quiet, on_tick, wants_again}
+use Rattle.sv_model.specs.Waiting.{on_ask, others, parks, serve_parked, waits, wants, without}
+use Rattle.sv_host.specs.Clients.{AreForOthers, Wait}
 
 -- ---- requests that wait
 
@@ -54,9 +43,6 @@ module _ (P : ℕ → Type 0) where
   pub wait_more : (low high : ℕ) (ps : List Parked) (p : Parked) → high < p.token → P p.token → Wait P low high ps → Wait P low p.token (ps ++ p ∷ [])
   wait_more low high [] p above holds w = (omega (arith, above, w), holds, omega arith)
   wait_more low high (q ∷ ps) p above holds w = (w.0, w.1, wait_more q.token high ps p above holds w.2)
-
-  wait_keeps : (low high : ℕ) (p : Parked) (ps qs : List Parked) (b : Bool) → (low < p.token) → P p.token → Wait P p.token high qs → Wait P low high (cond b (p ∷ qs) qs)
-  wait_keeps low high p ps qs b above holds w = cond_both b (p ∷ qs) qs (λ xs. Wait P low high xs) (λ _. (above, holds, w)) (λ _. wait_above low p.token high qs (omega (arith, above)) w)
 
 module _ (P Q : ℕ → Type 0) where
   pub wait_map : (low high : ℕ) (ps : List Parked) → ((token : ℕ) → low < token → token ≤ high → P token → Q token) → Wait P low high ps → Wait Q low high ps

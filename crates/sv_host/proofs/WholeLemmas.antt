@@ -1,20 +1,15 @@
 -- What a story says of its connection.
-use Rattle.std.proofs.Common.{◌≡◌, ◌≢◌, ◌++◌, ◌∷◌, ℕ, Bool, true, false, true≢false, List, [], inl, inr, refl, ap, sym, ◌∙◌, subst}
-use Rattle.std.proofs.lemmas.List.{append-nil, append_assoc}
-use Rattle.sv_connection.specs.Connection.{held_by}
+use Rattle.sv_host.proofs.Prelude.{◌≡◌, ◌≢◌, ◌++◌, ◌∷◌, ℕ, Bool, true, false, true≢false, List, [], inl, inr, refl, ap, sym, ◌∙◌, subst, append-nil, held_by}
+use Rattle.sv_host.proofs.Prelude.{Deed, Story, Rests, Hears, Parts, Request, came_of, parts, said_on, turn_of, unread, unsent, Finds, HearsAt, Heard, Open}
+use Rattle.sv_host.proofs.Prelude.{State}
+use Rattle.std.proofs.lemmas.List.{append_assoc}
 use Rattle.sv_host.specs.Serve.{IsBehindFrame}
-use Rattle.sv_host.specs.Stories.{AreClients, Deed, IsHeardTo, IsHearing, StoriesAreWhole, Story, asked_in, came_in, said_in}
-use Rattle.sv_host.specs.Stories.{Rests, Hears, Says, Parts}
-use Rattle.sv_model.specs.declared.request.Request.{Request}
-use Rattle.sv_net.specs.Bytes.{came_of}
-use Rattle.sv_net.specs.Exchange.{parts, said_on, turn_of, unread, unsent}
-use Rattle.sv_net.specs.Hearing.{BeginsBy, Finds, HearsAt, HearsClient, HearsFramer, HearsGreeter, HearsPeer}
+use Rattle.sv_host.specs.Stories.{AreClients, IsHeardTo, IsHearing, StoriesAreWhole, asked_in, came_in, said_in}
+use Rattle.sv_host.specs.Stories.{Says}
+use Rattle.sv_net.specs.Hearing.{BeginsBy, HearsClient, HearsFramer, HearsGreeter, HearsPeer}
 use Rattle.sv_net.specs.Life.{Splits}
 use Rattle.sv_net.specs.declared.client.Client.{Client}
-use Rattle.sv_net.specs.declared.hearing.Heard.{Heard}
 use Rattle.sv_net.specs.declared.hearing.Heard.TheVariants as heard
-use Rattle.sv_net.specs.declared.open.Open.{Open}
-use Rattle.sv_net.specs.declared.state.State.{State}
 use Rattle.sv_net.specs.declared.state.State.TheVariants as state
 use Rattle.sv_net.specs.declared.state.Turn.TheVariants as turn
 

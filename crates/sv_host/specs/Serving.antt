@@ -4,30 +4,29 @@ use Rattle.sv_host.specs.Clients.{HaveClients}
 use Rattle.sv_host.specs.declared.group.Group.{Group}
 use Rattle.sv_host.specs.Group.{IsRising, before_of}
 use Rattle.sv_host.specs.declared.parked.ParkedClient.{ParkedClient}
+use Rattle.sv_journal.specs.declared.disk.Disk as disk_trait
 use Rattle.sv_journal.specs.Journal.{disk_a, disk_b}
-use Rattle.sv_model.specs.Engine.{EngineMeaning}
+use Rattle.sv_model.specs.declared.engine.Engine as engine_trait
 use Rattle.sv_node.specs.History.{HasEnded, HasGone}
 use Rattle.sv_node.specs.Moments.{RunsWithoutLoss}
 use Rattle.sv_node.specs.Node.{IsNode, engine_of, journal_of}
 use Rattle.sv_node.specs.declared.node.Node.{Node}
 
 -- a node that may be given what was gathered, beside the clients that wait
-pub record IsServing {E D : Type 0} (fit : E → Type 0) (tells : D → Type 0) (seen : D → List ℕ) (may_leave : D → List ℕ → Type 0)
-    (waiters : List ParkedClient) (node : Node E D) (group : Group) : Type 0 where
-  pub valid : IsNode fit tells seen may_leave node
+pub record IsServing {E D : Type 0} (engine : engine_trait.Ghosts E) (disk : disk_trait.Ghosts D) (waiters : List ParkedClient) (node : Node E D) (group : Group) : Type 0 where
+  pub valid : IsNode engine.valid disk.tells disk.seen disk.may_leave node
   pub live : IsTrue (journal_of node).live
   pub rising : IsRising group
   pub clients : HaveClients waiters node group
 
 -- by what came of it: some groups were given to the node, and what is gathered from now on comes after them; these clients wait then
-pub record HasServed {E D T F : Type 0} (meaning : E → EngineMeaning) (heard : E → List (List ℕ)) (fit : E → Type 0) (tells : D → Type 0)
-    (seen : D → List ℕ) (may_leave : D → List ℕ → Type 0) (moment : D → ℕ) (left_since : D → ℕ → List ℕ → Type 0)
+pub record HasServed {E D T F : Type 0} (engine : engine_trait.Ghosts E) (disk : disk_trait.Ghosts D)
     (old : Node E D) (group : Group) (waiters : List ParkedClient) (new : Node E D) (next : Group) (answer : Result T F) : Type 0 where
-  pub valid : IsNode fit tells seen may_leave new
+  pub valid : IsNode engine.valid disk.tells disk.seen disk.may_leave new
   pub rising : IsRising next
-  pub gone : HasGone meaning heard tells may_leave (before_of group) (before_of next) old new answer
+  pub gone : HasGone engine.meaning engine.heard disk.tells disk.may_leave (before_of group) (before_of next) old new answer
   -- and a stop at any moment loses nothing
-  pub runs : RunsWithoutLoss meaning tells seen may_leave moment left_since (before_of group) old new
+  pub runs : RunsWithoutLoss engine.meaning disk.tells disk.seen disk.may_leave disk.moment disk.left_since (before_of group) old new
   pub clients : OnOk answer (HaveClients waiters new next)
 
 -- none was given to it: what has come was gathered
@@ -36,11 +35,10 @@ pub record HasGathered (group next : Group) : Type 0 where
   pub before : before_of next ≡ before_of group
 
 -- it served until its end, and was taken apart into these
-pub record HasLived {E D : Type 0} (meaning : E → EngineMeaning) (heard : E → List (List ℕ)) (fit : E → Type 0) (tells : D → Type 0)
-    (seen : D → List ℕ) (may_leave : D → List ℕ → Type 0) (moment : D → ℕ) (left_since : D → ℕ → List ℕ → Type 0)
-    (node : Node E D) (engine : E) (a b : D) : Type 0 where
+pub record HasLived {E D : Type 0} (engine : engine_trait.Ghosts E) (disk : disk_trait.Ghosts D)
+    (node : Node E D) (given_back : E) (a b : D) : Type 0 where
   pub last : Node E D
-  pub valid : IsNode fit tells seen may_leave last
-  pub ended : HasEnded meaning heard tells may_leave node last
-  pub runs : RunsWithoutLoss meaning tells seen may_leave moment left_since 0 node last
-  pub parts : ◌≡◌ {A = E × D × D} (engine, a, b) (engine_of last, disk_a (journal_of last), disk_b (journal_of last))
+  pub valid : IsNode engine.valid disk.tells disk.seen disk.may_leave last
+  pub ended : HasEnded engine.meaning engine.heard disk.tells disk.may_leave node last
+  pub runs : RunsWithoutLoss engine.meaning disk.tells disk.seen disk.may_leave disk.moment disk.left_since 0 node last
+  pub parts : ◌≡◌ {A = E × D × D} (given_back, a, b) (engine_of last, disk_a (journal_of last), disk_b (journal_of last))

@@ -113,9 +113,9 @@ pub fn compact_in_turn<E: Engine, D: Disk>(
     node: &mut Node<E, D>,
     group: &mut Group,
 ) -> Result<(), Stop>
-    requires { IsServing E.valid D.tells D.seen D.may_leave (clients_of server.old.parked) node.old group.old }
+    requires { IsServing E.Engine D.Disk (clients_of server.old.parked) node.old group.old }
     ensures stops { IfErr result (HasFailed node.new) }
-    ensures served { HasServed E.meaning E.heard E.valid D.tells D.seen D.may_leave D.moment D.left_since node.old group.old (clients_of server.new.parked) node.new group.new result }
+    ensures served { HasServed E.Engine D.Disk node.old group.old (clients_of server.new.parked) node.new group.new result }
     ensures carried { CarryOn server.old.connections server.new.connections }
 {
     compact(server, node)

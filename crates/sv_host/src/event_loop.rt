@@ -30,8 +30,8 @@ fn wait_on<E: Engine, D: Disk>(
     node: &mut Node<E, D>,
     group: &mut Group,
 ) -> Result<(), Stop>
-    requires { IsServing E.valid D.tells D.seen D.may_leave (clients_of server.old.parked) node.old group.old }
-    ensures served { HasServed E.meaning E.heard E.valid D.tells D.seen D.may_leave D.moment D.left_since node.old group.old (clients_of server.new.parked) node.new group.new result }
+    requires { IsServing E.Engine D.Disk (clients_of server.old.parked) node.old group.old }
+    ensures served { HasServed E.Engine D.Disk node.old group.old (clients_of server.new.parked) node.new group.new result }
     ensures carried { CarryOn server.old.connections server.new.connections }
     ensures reason { IfErr result HasReason }
 {
@@ -46,8 +46,8 @@ fn keep_time<E: Engine, D: Disk>(
     node: &mut Node<E, D>,
     group: &mut Group,
 ) -> Result<(), Stop>
-    requires { IsServing E.valid D.tells D.seen D.may_leave (clients_of server.old.parked) node.old group.old }
-    ensures served { HasServed E.meaning E.heard E.valid D.tells D.seen D.may_leave D.moment D.left_since node.old group.old (clients_of server.new.parked) node.new group.new result }
+    requires { IsServing E.Engine D.Disk (clients_of server.old.parked) node.old group.old }
+    ensures served { HasServed E.Engine D.Disk node.old group.old (clients_of server.new.parked) node.new group.new result }
     ensures carried { CarryOn server.old.connections server.new.connections }
     ensures reason { IfErr result HasReason }
 {
@@ -63,8 +63,8 @@ fn look_after<E: Engine, D: Disk>(
     node: &mut Node<E, D>,
     group: &mut Group,
 ) -> Result<(), Stop>
-    requires { IsServing E.valid D.tells D.seen D.may_leave (clients_of server.old.parked) node.old group.old }
-    ensures served { HasServed E.meaning E.heard E.valid D.tells D.seen D.may_leave D.moment D.left_since node.old group.old (clients_of server.new.parked) node.new group.new result }
+    requires { IsServing E.Engine D.Disk (clients_of server.old.parked) node.old group.old }
+    ensures served { HasServed E.Engine D.Disk node.old group.old (clients_of server.new.parked) node.new group.new result }
     ensures carried { CarryOn server.old.connections server.new.connections }
     ensures reason { IfErr result HasReason }
 {
@@ -79,8 +79,8 @@ fn end_turn<E: Engine, D: Disk>(
     node: &mut Node<E, D>,
     group: &mut Group,
 ) -> Result<(), Stop>
-    requires { IsServing E.valid D.tells D.seen D.may_leave (clients_of server.old.parked) node.old group.old }
-    ensures served { HasServed E.meaning E.heard E.valid D.tells D.seen D.may_leave D.moment D.left_since node.old group.old (clients_of server.new.parked) node.new group.new result }
+    requires { IsServing E.Engine D.Disk (clients_of server.old.parked) node.old group.old }
+    ensures served { HasServed E.Engine D.Disk node.old group.old (clients_of server.new.parked) node.new group.new result }
     ensures carried { CarryOn server.old.connections server.new.connections }
     ensures reason { IfErr result HasReason }
 {
@@ -117,8 +117,8 @@ fn step_some<E: Engine, D: Disk>(
     node: &mut Node<E, D>,
     group: &mut Group,
 ) -> Result<(), Stop>
-    requires { IsServing E.valid D.tells D.seen D.may_leave (clients_of server.old.parked) node.old group.old }
-    ensures served { HasServed E.meaning E.heard E.valid D.tells D.seen D.may_leave D.moment D.left_since node.old group.old (clients_of server.new.parked) node.new group.new result }
+    requires { IsServing E.Engine D.Disk (clients_of server.old.parked) node.old group.old }
+    ensures served { HasServed E.Engine D.Disk node.old group.old (clients_of server.new.parked) node.new group.new result }
     ensures carried { CarryOn server.old.connections server.new.connections }
     ensures reason { IfErr result HasReason }
 {
@@ -138,8 +138,8 @@ fn step_gathered<E: Engine, D: Disk>(
     node: &mut Node<E, D>,
     group: &mut Group,
 ) -> Result<(), Stop>
-    requires { IsServing E.valid D.tells D.seen D.may_leave (clients_of server.old.parked) node.old group.old }
-    ensures served { HasServed E.meaning E.heard E.valid D.tells D.seen D.may_leave D.moment D.left_since node.old group.old (clients_of server.new.parked) node.new group.new result }
+    requires { IsServing E.Engine D.Disk (clients_of server.old.parked) node.old group.old }
+    ensures served { HasServed E.Engine D.Disk node.old group.old (clients_of server.new.parked) node.new group.new result }
     ensures carried { CarryOn server.old.connections server.new.connections }
     ensures reason { IfErr result HasReason }
 {
@@ -157,8 +157,8 @@ fn finish_turn<E: Engine, D: Disk>(
     group: &mut Group,
     gathered: Result<(), Stop>,
 ) -> Result<(), Stop>
-    requires { IsServing E.valid D.tells D.seen D.may_leave (clients_of server.old.parked) node.old group.old }
-    ensures served { HasServed E.meaning E.heard E.valid D.tells D.seen D.may_leave D.moment D.left_since node.old group.old (clients_of server.new.parked) node.new group.new result }
+    requires { IsServing E.Engine D.Disk (clients_of server.old.parked) node.old group.old }
+    ensures served { HasServed E.Engine D.Disk node.old group.old (clients_of server.new.parked) node.new group.new result }
     ensures carried { CarryOn server.old.connections server.new.connections }
     ensures reason { IfErr gathered HasReason → IfErr result HasReason }
 {
@@ -198,8 +198,8 @@ fn take_turn<E: Engine, D: Disk>(
     group: &mut Group,
     acceptor: &mut Acceptor,
 ) -> Result<(), Stop>
-    requires { IsServing E.valid D.tells D.seen D.may_leave (clients_of server.old.parked) node.old group.old }
-    ensures served { HasServed E.meaning E.heard E.valid D.tells D.seen D.may_leave D.moment D.left_since node.old group.old (clients_of server.new.parked) node.new group.new result }
+    requires { IsServing E.Engine D.Disk (clients_of server.old.parked) node.old group.old }
+    ensures served { HasServed E.Engine D.Disk node.old group.old (clients_of server.new.parked) node.new group.new result }
     ensures carried { CarryOn server.old.connections server.new.connections }
     ensures reason { IfErr result HasReason }
 {

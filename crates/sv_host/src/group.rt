@@ -52,6 +52,8 @@ pub struct Group {
     before: u64,
     /// The number of the last request.
     number: u64,
+    /// So many were in the last group.
+    usual: usize,
     alloc: Global,
 }
 
@@ -63,6 +65,7 @@ impl Drop for Group {
             ways: _,
             before: _,
             number: _,
+            usual: _,
             alloc: _,
         } = self;
     }
@@ -105,6 +108,7 @@ impl Group {
             ways: Vec::new(alloc),
             before: 0,
             number: 0,
+            usual: 1,
             alloc,
         }
     }
@@ -133,13 +137,16 @@ impl Group {
         self.number
     }
 
-    /// Makes room for one more.
+    /// Makes room for one more; for the first one as much as the last group has needed, which is one piece of memory.
     fn reserve(&mut self) -> Result<(), AllocError>
         ensures room { OnOk result ((vec_len self.new.inputs < vec_capacity self.new.inputs) × (vec_len self.new.ways < vec_capacity self.new.ways)) }
         ensures full { OnErr result (IsFull self.old) }
         ensures same { IsSame self.old self.new }
         ensures before { before_of self.new ≡ before_of self.old }
     {
+        if self.inputs.capacity() == 0 {
+            self.inputs.try_reserve_exact(self.usual)?;
+        }
         self.inputs.try_reserve(1)?;
         self.ways.try_reserve(1)?;
         Ok(())
@@ -235,6 +242,7 @@ impl Group {
         ensures number { number_of self.new ≡ number_of self.old }
         ensures rising { IsRising self.new }
     {
+        self.usual = self.inputs.len();
         let inputs = replace(&mut self.inputs, Vec::new(self.alloc));
         let ways = replace(&mut self.ways, Vec::new(self.alloc));
         self.before = self.number;

@@ -187,7 +187,7 @@ fn live<E: Engine, D: Disk>(
     requires valid { IsNode E.valid D.tells D.seen D.may_leave node }
     requires live { IsTrue (journal_of node).live }
     requires nobody_waits { (state_of node).parked ≡ [] }
-    ensures lived { HasLived E.meaning E.heard E.valid D.tells D.seen D.may_leave D.moment D.left_since node result.engine result.a result.b }
+    ensures lived { HasLived E.Engine D.Disk node result.engine result.a result.b }
     ensures reason { HasReason result.stop }
 {
     let mut node = node;

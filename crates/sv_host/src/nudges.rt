@@ -189,8 +189,8 @@ fn tell<E: Engine, D: Disk>(
     group: &mut Group,
     nudges: Nudges,
 ) -> Result<Taken, Stop>
-    requires { IsServing E.valid D.tells D.seen D.may_leave (clients_of server.old.parked) node.old group.old }
-    ensures served { HasServed E.meaning E.heard E.valid D.tells D.seen D.may_leave D.moment D.left_since node.old group.old (clients_of server.new.parked) node.new group.new result }
+    requires { IsServing E.Engine D.Disk (clients_of server.old.parked) node.old group.old }
+    ensures served { HasServed E.Engine D.Disk node.old group.old (clients_of server.new.parked) node.new group.new result }
     ensures told { IfOk result (λ taken. taken ≢ Refused → IsTold E.meaning E.heard D.failed nudges.nudge (steady_of server.old.time) nudges.count node.old
         group.old node.new taken) }
     ensures emptied { IfOk result (λ _. inputs_of group.new ≡ []) }
@@ -215,8 +215,8 @@ pub fn settle<E: Engine, D: Disk>(
     node: &mut Node<E, D>,
     group: &mut Group,
 ) -> Result<bool, Stop>
-    requires { IsServing E.valid D.tells D.seen D.may_leave (clients_of server.old.parked) node.old group.old }
-    ensures served { HasServed E.meaning E.heard E.valid D.tells D.seen D.may_leave D.moment D.left_since node.old group.old (clients_of server.new.parked) node.new group.new result }
+    requires { IsServing E.Engine D.Disk (clients_of server.old.parked) node.old group.old }
+    ensures served { HasServed E.Engine D.Disk node.old group.old (clients_of server.new.parked) node.new group.new result }
     ensures settled { inputs_of group.old ≡ [] → IfOk result (λ settled. IsTrue settled → IsSettled (state_of node.new)) }
     ensures stops { IfErr result (IsSpent server.new) }
     ensures carried { CarryOn server.old.connections server.new.connections }
@@ -289,8 +289,8 @@ fn tick_all<E: Engine, D: Disk>(
     group: &mut Group,
     ticks: Nudges,
 ) -> Result<Ticked, Stop>
-    requires { IsServing E.valid D.tells D.seen D.may_leave (clients_of server.old.parked) node.old group.old }
-    ensures served { HasServed E.meaning E.heard E.valid D.tells D.seen D.may_leave D.moment D.left_since node.old group.old (clients_of server.new.parked) node.new group.new result }
+    requires { IsServing E.Engine D.Disk (clients_of server.old.parked) node.old group.old }
+    ensures served { HasServed E.Engine D.Disk node.old group.old (clients_of server.new.parked) node.new group.new result }
     ensures in_time { ticks.nudge ≢ Poke → 0 < ticks.count → IfOk result (λ ticked. ticked ≢ TickedRefused → IsInTime (setting_of node.new)
         (second_of ticks.nudge (steady_of server.old.time)) (state_of node.new)) }
     ensures stops { IfErr result (IsSpent server.new) }
@@ -313,8 +313,8 @@ fn end_waiting<E: Engine, D: Disk>(
     ticked: Ticked,
     second: u64,
 ) -> Result<Ticked, Stop>
-    requires { IsServing E.valid D.tells D.seen D.may_leave (clients_of server.old.parked) node.old group.old }
-    ensures served { HasServed E.meaning E.heard E.valid D.tells D.seen D.may_leave D.moment D.left_since node.old group.old (clients_of server.new.parked) node.new group.new result }
+    requires { IsServing E.Engine D.Disk (clients_of server.old.parked) node.old group.old }
+    ensures served { HasServed E.Engine D.Disk node.old group.old (clients_of server.new.parked) node.new group.new result }
     ensures in_time { ticked ≡ TickedRefused → IfOk result (λ ticked. ticked ≢ TickedRefused → IsInTime (setting_of node.new) second (state_of node.new)) }
     ensures same { ticked ≢ TickedRefused → (result ≡ Ok ticked) × (node.new ≡ node.old) }
     ensures stops { IfErr result (IsSpent server.new) }
@@ -333,8 +333,8 @@ fn tick_once<E: Engine, D: Disk>(
     node: &mut Node<E, D>,
     group: &mut Group,
 ) -> Result<Ticked, Stop>
-    requires { IsServing E.valid D.tells D.seen D.may_leave (clients_of server.old.parked) node.old group.old }
-    ensures served { HasServed E.meaning E.heard E.valid D.tells D.seen D.may_leave D.moment D.left_since node.old group.old (clients_of server.new.parked) node.new group.new result }
+    requires { IsServing E.Engine D.Disk (clients_of server.old.parked) node.old group.old }
+    ensures served { HasServed E.Engine D.Disk node.old group.old (clients_of server.new.parked) node.new group.new result }
     ensures in_time { IfOk result (λ ticked. ticked ≢ TickedRefused → IsInTime (setting_of node.new) (steady_of server.old.time) (state_of node.new)) }
     ensures stops { IfErr result (IsSpent server.new) }
     ensures carried { CarryOn server.old.connections server.new.connections }
@@ -352,8 +352,8 @@ pub fn tick<E: Engine, D: Disk>(
     node: &mut Node<E, D>,
     group: &mut Group,
 ) -> Result<bool, Stop>
-    requires { IsServing E.valid D.tells D.seen D.may_leave (clients_of server.old.parked) node.old group.old }
-    ensures served { HasServed E.meaning E.heard E.valid D.tells D.seen D.may_leave D.moment D.left_since node.old group.old (clients_of server.new.parked) node.new group.new result }
+    requires { IsServing E.Engine D.Disk (clients_of server.old.parked) node.old group.old }
+    ensures served { HasServed E.Engine D.Disk node.old group.old (clients_of server.new.parked) node.new group.new result }
     ensures in_time { IsFalse server.old.is_spared → server.old.ticked < steady_of server.old.time → IfOk result (λ done. IsTrue done → IsInTime
         (setting_of node.new) (steady_of server.old.time) (state_of node.new)) }
     ensures stops { IfErr result (IsSpent server.new) }
@@ -378,8 +378,8 @@ pub fn ask_again<E: Engine, D: Disk>(
     node: &mut Node<E, D>,
     group: &mut Group,
 ) -> Result<(), Stop>
-    requires { IsServing E.valid D.tells D.seen D.may_leave (clients_of server.old.parked) node.old group.old }
-    ensures served { HasServed E.meaning E.heard E.valid D.tells D.seen D.may_leave D.moment D.left_since node.old group.old (clients_of server.new.parked) node.new group.new result }
+    requires { IsServing E.Engine D.Disk (clients_of server.old.parked) node.old group.old }
+    ensures served { HasServed E.Engine D.Disk node.old group.old (clients_of server.new.parked) node.new group.new result }
     ensures stops { IfErr result (IsSpent server.new) }
     ensures carried { CarryOn server.old.connections server.new.connections }
 {
@@ -402,8 +402,8 @@ fn end_some<E: Engine, D: Disk>(
     node: &mut Node<E, D>,
     group: &mut Group,
 ) -> Result<(), Stop>
-    requires { IsServing E.valid D.tells D.seen D.may_leave (clients_of server.old.parked) node.old group.old }
-    ensures served { HasServed E.meaning E.heard E.valid D.tells D.seen D.may_leave D.moment D.left_since node.old group.old (clients_of server.new.parked) node.new group.new result }
+    requires { IsServing E.Engine D.Disk (clients_of server.old.parked) node.old group.old }
+    ensures served { HasServed E.Engine D.Disk node.old group.old (clients_of server.new.parked) node.new group.new result }
     ensures stops { IfErr result (IsSpent server.new) }
     ensures carried { CarryOn server.old.connections server.new.connections }
 {
@@ -423,8 +423,8 @@ pub fn expire<E: Engine, D: Disk>(
     node: &mut Node<E, D>,
     group: &mut Group,
 ) -> Result<(), Stop>
-    requires { IsServing E.valid D.tells D.seen D.may_leave (clients_of server.old.parked) node.old group.old }
-    ensures served { HasServed E.meaning E.heard E.valid D.tells D.seen D.may_leave D.moment D.left_since node.old group.old (clients_of server.new.parked) node.new group.new result }
+    requires { IsServing E.Engine D.Disk (clients_of server.old.parked) node.old group.old }
+    ensures served { HasServed E.Engine D.Disk node.old group.old (clients_of server.new.parked) node.new group.new result }
     ensures stops { IfErr result (IsSpent server.new) }
     ensures carried { CarryOn server.old.connections server.new.connections }
 {

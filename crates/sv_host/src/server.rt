@@ -141,7 +141,21 @@ impl Server {
         }
     }
 
-    /// Whether a second has begun since the node last looked at the time, by the clock that nobody sets. It looks at it now.
+    /// Whether a second may have begun since the node last looked at the time, by what was seen in this turn of the clock that nobody
+    /// sets. Where somebody waits, or a want is held, the time is wanted more exactly; and where nobody is connected the clock wasn't
+    /// looked at.
+    fn may_begin_second(&self) -> bool
+        ensures { IsFalse result → steady_of self.now.time ≤ self.now.ticked }
+    {
+        self.time.steady_seconds() > self.ticked
+            || self.connections.clock().as_secs() > self.ticked
+            || self.connections.is_empty()
+            || self.parked.may_wait()
+            || !self.holding.is_empty()
+    }
+
+    /// Whether a second has begun since the node last looked at the time, by the clock that nobody sets. It looks at it now, where one
+    /// may have.
     pub fn begins_second(&mut self, machine: &HostRuntime) -> bool
         ensures spared { IsTrue self.old.is_spared → IsFalse result }
         ensures begun { IsTrue result → (self.old.ticked < self.new.ticked) × (self.new.ticked ≡ steady_of self.new.time) }
@@ -151,7 +165,7 @@ impl Server {
         ensures clients { self.new.parked ≡ self.old.parked }
         ensures carried { CarryOn self.old.connections self.new.connections }
     {
-        if self.is_spared {
+        if self.is_spared || !self.may_begin_second() {
             return false;
         }
         let second = self.now(machine).steady_seconds();
@@ -301,8 +315,8 @@ impl Server {
         node: &mut Node<E, D>,
         group: &mut Group,
     ) -> Result<Taken, Stop>
-        requires { IsServing E.valid D.tells D.seen D.may_leave (clients_of self.old.parked) node.old group.old }
-        ensures served { HasServed E.meaning E.heard E.valid D.tells D.seen D.may_leave D.moment D.left_since node.old group.old (clients_of self.new.parked) node.new group.new result }
+        requires { IsServing E.Engine D.Disk (clients_of self.old.parked) node.old group.old }
+        ensures served { HasServed E.Engine D.Disk node.old group.old (clients_of self.new.parked) node.new group.new result }
         ensures told { IsHandedOut E.meaning E.heard D.failed node.old node.new group.old self.old self.new result }
         ensures emptied { inputs_of group.new ≡ [] }
         ensures stops { IfErr result IsLost }

@@ -1,7 +1,4 @@
-use Rattle.std.proofs.Common.{ap}
-use Rattle.sv_host.specs.Clients.{HaveClients}
-use Rattle.sv_host.specs.Group.{before_of}
-use Rattle.sv_host.specs.Parked.{clients_of}
+use Rattle.sv_host.proofs.Prelude.{ap, HaveClients, before_of, clients_of}
 use Rattle.sv_host.proofs.HavingLemmas.{have_same}
 use Rattle.sv_host.proofs.ServingLemmas.{on_any}
 use Rattle.sv_host.proofs.compaction.compact_in_turn.Goals as goal

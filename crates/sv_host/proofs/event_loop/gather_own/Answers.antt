@@ -1,5 +1,4 @@
-use Rattle.std.proofs.Common.{ap, ◌∙◌}
-use Rattle.sv_host.specs.Parked.{clients_of}
+use Rattle.sv_host.proofs.Prelude.{ap, ◌∙◌, clients_of}
 use Rattle.sv_host.proofs.AskedLemmas.{gathers_on, gathers_through}
 use Rattle.sv_host.proofs.event_loop.gather_own.Goals as goal
 

@@ -1,5 +1,4 @@
-use Rattle.std.proofs.Common.{ap}
-use Rattle.sv_host.specs.Parked.{clients_of}
+use Rattle.sv_host.proofs.Prelude.{ap, clients_of}
 use Rattle.sv_host.proofs.ServingLemmas.{serves_on, serves_same, served_then}
 use Rattle.sv_host.proofs.event_loop.keep_time.Goals as goal
 

@@ -1,10 +1,6 @@
-use Rattle.std.proofs.Common.{ap, Err, inl, refl, arith}
-use Rattle.std.specs.Prelude.{⊤}
-use Rattle.sv_host.specs.Group.{before_of}
-use Rattle.sv_host.specs.Parked.{clients_of}
+use Rattle.sv_host.proofs.Prelude.{ap, Err, inl, refl, arith, ⊤, before_of, clients_of, goes_nowhere, gone_join, runs_join, runs_nowhere}
 use Rattle.sv_host.proofs.HavingLemmas.{have_nobody, have_same}
-use Rattle.sv_node.proofs.HistoryLemmas.{goes_nowhere, goes_join, gone_join}
-use Rattle.sv_node.proofs.MomentLemmas.{runs_join, runs_nowhere}
+use Rattle.sv_node.proofs.HistoryLemmas.{goes_join}
 use Rattle.sv_host.proofs.event_loop.run.Goals as goal
 
 pub take_turn-requires : goal.take_turn-requires

@@ -1,10 +1,5 @@
-use Rattle.sv_host.specs.Stories.{CarryOn}
+use Rattle.sv_host.proofs.Prelude.{CarryOn, HaveClients, before_of, IsRising, clients_of, GoesOn, RunsWithoutLoss}
 use Rattle.std.specs.Prelude.{◌≡◌}
-use Rattle.sv_host.specs.Clients.{HaveClients}
-use Rattle.sv_host.specs.Group.{before_of, IsRising}
-use Rattle.sv_host.specs.Parked.{clients_of}
-use Rattle.sv_node.specs.History.{GoesOn}
-use Rattle.sv_node.specs.Moments.{RunsWithoutLoss}
 use Rattle.sv_node.specs.Node.{IsNode}
 use Rattle.sv_host.proofs.event_loop.run.Given as goal
 

@@ -1,5 +1,4 @@
-use Rattle.std.proofs.Common.{ap}
-use Rattle.sv_host.specs.Parked.{clients_of}
+use Rattle.sv_host.proofs.Prelude.{ap, clients_of}
 use Rattle.sv_host.proofs.ReasonLemmas.{ending_reasons}
 use Rattle.sv_host.proofs.ServingLemmas.{gathered_then, serves_gathered, serves_same}
 use Rattle.sv_host.proofs.event_loop.take_turn.Goals as goal

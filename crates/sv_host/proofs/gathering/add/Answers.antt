@@ -1,7 +1,4 @@
-use Rattle.std.proofs.Common.{ap, inr, refl}
-use Rattle.sv_host.specs.Parked.{clients_of}
-use Rattle.sv_host.specs.Secrets.{last_of}
-use Rattle.sv_host.specs.declared.server.Server.{Server}
+use Rattle.sv_host.proofs.Prelude.{ap, inr, refl, clients_of, last_of, Server}
 use Rattle.sv_host.proofs.AskedLemmas.{gathers_away, gathers_came, gathers_is, gathers_same}
 use Rattle.sv_host.proofs.GatherLemmas.{lacks, none_more, one_more}
 use Rattle.sv_host.proofs.gathering.add.Goals.{then-not-add, else-not-add}

@@ -1,7 +1,5 @@
-use Rattle.std.proofs.Common.{ap}
+use Rattle.sv_host.proofs.Prelude.{ap, Server, places_of}
 use Rattle.sv_host.proofs.StoryLemmas.{carry_continue, carry_places}
-use Rattle.sv_host.specs.declared.server.Server.{Server}
-use Rattle.sv_net.specs.Places.{places_of}
 use Rattle.sv_host.proofs.gathering.admit.Goals.{then-not-may_accept-via-then-not-may_accept, then-not-may_accept-via-else-not-may_accept+then-not-has_room}
 use Rattle.sv_host.proofs.gathering.admit.Goals as goal
 

@@ -1,8 +1,4 @@
-use Rattle.sv_host.specs.Stories.{CarryOn}
-use Rattle.sv_host.specs.Clients.{GathersFor}
-use Rattle.sv_host.specs.Group.{HasMore}
-use Rattle.sv_host.specs.Parked.{clients_of}
-use Rattle.sv_host.specs.Serving.{HasGathered}
+use Rattle.sv_host.proofs.Prelude.{CarryOn, GathersFor, HasMore, clients_of, HasGathered}
 use Rattle.sv_host.proofs.gathering.gather_door.Given as goal
 
 -- no group has been given to the node meanwhile, what was gathered stands after what was there, and has its clients

@@ -1,4 +1,4 @@
-use Rattle.std.proofs.Common.{◌∙◌}
+use Rattle.sv_host.proofs.Prelude.{◌∙◌}
 use Rattle.sv_host.proofs.AskedLemmas.{gathers_on}
 use Rattle.sv_host.proofs.GatherLemmas.{more_on}
 use Rattle.sv_host.proofs.gathering.gather_reported.Goals as goal

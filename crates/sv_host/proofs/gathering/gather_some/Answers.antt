@@ -1,10 +1,7 @@
-use Rattle.std.proofs.Common.{ap, ◌∙◌}
-use Rattle.sv_host.specs.Parked.{clients_of}
-use Rattle.sv_host.specs.declared.server.Server.{Server}
+use Rattle.sv_host.proofs.Prelude.{ap, ◌∙◌, clients_of, Server, places_of}
 use Rattle.sv_host.proofs.AskedLemmas.{gathers_is, gathers_on}
 use Rattle.sv_host.proofs.GatherLemmas.{more_on}
 use Rattle.sv_host.proofs.StoryLemmas.{carry_places, carry_stood}
-use Rattle.sv_net.specs.Places.{places_of}
 use Rattle.sv_host.proofs.gathering.gather_some.Goals.{else-loop-test, then-loop-test+in_ok-gather_one+else-not-branch+then-is_full}
 use Rattle.sv_host.proofs.gathering.gather_some.Goals as goal
 

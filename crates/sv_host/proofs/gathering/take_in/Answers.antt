@@ -1,4 +1,4 @@
-use Rattle.std.proofs.Common.{inl}
+use Rattle.sv_host.proofs.Prelude.{inl}
 use Rattle.sv_host.proofs.StoryLemmas.{carry, newly, with_continue}
 use Rattle.sv_host.proofs.gathering.take_in.Goals as goal
 

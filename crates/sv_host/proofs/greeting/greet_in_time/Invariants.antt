@@ -1,5 +1,4 @@
-use Rattle.sv_host.specs.Stories.{CarryOn}
-use Rattle.std.proofs.Common.{◌≡◌}
+use Rattle.sv_host.proofs.Prelude.{CarryOn, ◌≡◌}
 use Rattle.sv_host.proofs.greeting.greet_in_time.Given as goal
 
 -- nobody waits less

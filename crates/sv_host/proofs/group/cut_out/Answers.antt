@@ -1,4 +1,4 @@
-use Rattle.std.proofs.Common.{sym, arith}
+use Rattle.sv_host.proofs.Prelude.{sym, arith}
 use Rattle.sv_host.proofs.GroupLemmas.{nothing_there}
 use Rattle.sv_host.proofs.group.cut_out.Goals as goal
 

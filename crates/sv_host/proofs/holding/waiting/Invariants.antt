@@ -1,4 +1,4 @@
-use Rattle.std.proofs.Common.{◌≡◌, ◌≤◌, ◌+◌, ◌-◌, ◌^◌, min, drop}
+use Rattle.sv_host.proofs.Prelude.{◌≡◌, ◌≤◌, ◌+◌, ◌-◌, ◌^◌, min, drop}
 use Rattle.sv_host.specs.Holding.{waiting_in}
 use Rattle.sv_host.proofs.holding.waiting.Given as goal
 

@@ -1,8 +1,5 @@
-use Rattle.std.proofs.Common.{Err, ap, ◌∙◌}
-use Rattle.std.specs.Prelude.{⊤}
+use Rattle.sv_host.proofs.Prelude.{Err, ap, ◌∙◌, ⊤, gone_join, runs_join}
 use Rattle.sv_model.specs.NodeState.{Node as State}
-use Rattle.sv_node.proofs.HistoryLemmas.{gone_join}
-use Rattle.sv_node.proofs.MomentLemmas.{runs_join}
 use Rattle.sv_host.proofs.host.serve_all.Goals as goal
 
 pub serve_ready-requires-clause-live : goal.serve_ready-requires-clause-live

@@ -1,6 +1,4 @@
-use Rattle.std.proofs.Common.{inl, arith}
-use Rattle.sv_node.proofs.HistoryLemmas.{goes_nowhere}
-use Rattle.sv_node.proofs.MomentLemmas.{runs_nowhere}
+use Rattle.sv_host.proofs.Prelude.{inl, arith, goes_nowhere, runs_nowhere}
 use Rattle.sv_host.proofs.host.serve_ready.Goals as goal
 
 pub returns-in-Some-clause-ended : goal.returns-in-Some-clause-ended

@@ -1,9 +1,5 @@
-use Rattle.std.proofs.Common.{◌≡◌, Bool, false, ap, refl}
-use Rattle.sv_connection.specs.Connection.{held_by}
-use Rattle.sv_net.specs.Bytes.{IsQuiet}
-use Rattle.sv_host.specs.Serve.{IsSilent}
+use Rattle.sv_host.proofs.Prelude.{◌≡◌, Bool, false, ap, refl, held_by, IsQuiet, IsSilent, put_holds}
 use Rattle.sv_model.specs.Method.{is_head}
-use Rattle.sv_net.proofs.PlaceLemmas.{put_holds}
 use Rattle.sv_net.specs.declared.state.State.TheVariants.{Waiting}
 use Rattle.sv_host.proofs.intake.ask.Goals as goal
 

@@ -1,7 +1,4 @@
-use Rattle.std.proofs.Common.{refl}
-use Rattle.sv_net.proofs.PlaceLemmas.{put_holds}
-use Rattle.sv_net.specs.Bytes.{IsQuiet}
-use Rattle.sv_host.specs.Serve.{IsSilent}
+use Rattle.sv_host.proofs.Prelude.{refl, put_holds, IsQuiet, IsSilent}
 use Rattle.sv_host.proofs.intake.receive.Goals as goal
 
 -- what came after the packet is still to be heard

@@ -1,9 +1,5 @@
-use Rattle.std.proofs.Common.{◌≡◌, Bool, true, false, cond, ℕ, Option, Some, None, refl, sym, ap, subst, ◌∙◌}
-use Rattle.std.specs.Prelude.{IfSome}
-use Rattle.std.specs.Option.{option_map}
+use Rattle.sv_host.proofs.Prelude.{◌≡◌, Bool, true, false, cond, ℕ, Option, Some, None, refl, sym, ap, subst, ◌∙◌, IfSome, option_map, Came, Comes}
 use Rattle.sv_model.specs.Migration.{sender}
-use Rattle.sv_host.specs.declared.group.Came.{Came}
-use Rattle.sv_host.specs.Group.{Comes}
 use Rattle.sv_host.specs.Peers.{takes}
 use Rattle.sv_host.specs.Heard.{input_of}
 use Rattle.sv_record.specs.Frame.{IsFrame}

@@ -1,15 +1,6 @@
-use Rattle.std.proofs.Common.{ap, subst, sym}
-use Rattle.sv_host.specs.Clients.{HasAsked}
-use Rattle.sv_host.specs.declared.group.Asker.TheVariants.{Nobody}
-use Rattle.sv_host.specs.declared.nudges.Nudge.{Nudge}
-use Rattle.sv_host.specs.declared.nudges.Nudge.TheVariants.{Poke, Tick, LateTick}
-use Rattle.sv_host.specs.declared.parked.ParkedClient.{ParkedClient}
-use Rattle.sv_host.specs.Nudges.{input_of}
-use Rattle.sv_host.specs.Parked.{clients_of}
+use Rattle.sv_host.proofs.Prelude.{ap, subst, sym, HasAsked, Nobody, Nudge, Poke, Tick, LateTick, ParkedClient, input_of, clients_of, Input, number_of}
 use Rattle.sv_host.proofs.AskedLemmas.{gathers_nobody}
-use Rattle.sv_model.specs.declared.input.Input.{Input}
 use Rattle.std.specs.Prelude.{List}
-use Rattle.sv_host.specs.Group.{number_of}
 use Rattle.sv_host.proofs.nudges.add_nudge.Goals as goal
 
 pub add-requires-clause-above : goal.add-requires-clause-above

@@ -1,6 +1,4 @@
-use Rattle.std.proofs.Common.{◌≡◌, ◌∙◌, ◌+◌, ℕ, suc, arith, subst}
-use Rattle.sv_host.specs.Nudges.{HasNudges}
-use Rattle.sv_host.specs.Time.{steady_of}
+use Rattle.sv_host.proofs.Prelude.{◌≡◌, ◌∙◌, ◌+◌, ℕ, suc, arith, subst, HasNudges, steady_of}
 use Rattle.sv_host.proofs.AskedLemmas.{gathers_on}
 use Rattle.sv_host.proofs.NudgeLemmas.{one_more}
 use Rattle.sv_host.proofs.nudges.add_nudges.Goals as goal

@@ -1,10 +1,4 @@
-use Rattle.sv_host.specs.Stories.{CarryOn}
-use Rattle.std.proofs.Common.{◌≤◌}
-use Rattle.sv_host.specs.Clients.{GathersFor}
-use Rattle.sv_host.specs.Nudges.{HasNudges}
-use Rattle.sv_host.specs.Parked.{clients_of}
-use Rattle.sv_host.specs.Serving.{HasGathered}
-use Rattle.sv_host.specs.Time.{steady_of}
+use Rattle.sv_host.proofs.Prelude.{CarryOn, ◌≤◌, GathersFor, HasNudges, clients_of, HasGathered, steady_of}
 use Rattle.sv_host.proofs.nudges.add_nudges.Given as goal
 
 -- no group has been given to the node meanwhile, and so many were added

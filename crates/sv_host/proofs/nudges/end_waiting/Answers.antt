@@ -1,5 +1,4 @@
-use Rattle.std.proofs.Common.{arith}
-use Rattle.sv_host.specs.Time.{steady_of}
+use Rattle.sv_host.proofs.Prelude.{arith, steady_of}
 use Rattle.sv_host.proofs.NudgeLemmas.{late_enough}
 use Rattle.sv_host.proofs.nudges.end_waiting.Goals as goal
 

@@ -1,4 +1,4 @@
-use Rattle.std.proofs.Common.{refl}
+use Rattle.sv_host.proofs.Prelude.{refl}
 use Rattle.sv_host.proofs.ServingLemmas.{serves_on, served_none, served_out, served_then, served_well}
 use Rattle.sv_host.proofs.nudges.expire.Goals as goal
 

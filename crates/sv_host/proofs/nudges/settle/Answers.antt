@@ -1,6 +1,4 @@
-use Rattle.std.proofs.Common.{refl, ap, arith, length}
-use Rattle.sv_host.specs.Time.{steady_of}
-use Rattle.sv_host.specs.declared.outcome.Taken.TheVariants.{Quiet, Refused}
+use Rattle.sv_host.proofs.Prelude.{refl, ap, arith, length, steady_of, Quiet, Refused}
 use Rattle.sv_host.proofs.NudgeLemmas.{is_busy, not_both, served, settled}
 use Rattle.sv_host.proofs.ServingLemmas.{served_none, served_out, served_then, served_well}
 use Rattle.sv_host.proofs.nudges.settle.Goals as goal

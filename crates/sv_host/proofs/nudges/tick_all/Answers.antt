@@ -1,8 +1,4 @@
-use Rattle.std.proofs.Common.{sym, subst}
-use Rattle.sv_model.specs.declared.node.Setting.{Setting}
-use Rattle.sv_node.specs.Node.{state_of}
-use Rattle.sv_host.specs.Nudges.{second_of, IsInTime}
-use Rattle.sv_host.specs.Time.{steady_of}
+use Rattle.sv_host.proofs.Prelude.{sym, subst, Setting, state_of, second_of, IsInTime, steady_of}
 use Rattle.sv_host.proofs.NudgeLemmas.{in_time}
 use Rattle.sv_host.proofs.ServingLemmas.{goes_by}
 use Rattle.sv_host.proofs.nudges.tick_all.Goals as goal

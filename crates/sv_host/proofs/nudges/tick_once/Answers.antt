@@ -1,5 +1,4 @@
-use Rattle.std.proofs.Common.{arith}
-use Rattle.sv_host.specs.Time.{steady_of}
+use Rattle.sv_host.proofs.Prelude.{arith, steady_of}
 use Rattle.sv_host.proofs.NudgeLemmas.{end_by}
 use Rattle.sv_host.proofs.ServingLemmas.{served_then}
 use Rattle.sv_host.proofs.nudges.tick_once.Goals as goal

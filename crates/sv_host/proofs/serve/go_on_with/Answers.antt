@@ -1,9 +1,7 @@
-use Rattle.std.proofs.Common.{[], inr, refl, sym, ◌∙◌}
-use Rattle.std.proofs.lemmas.List.{append-nil}
+use Rattle.sv_host.proofs.Prelude.{[], inr, refl, sym, ◌∙◌, append-nil, came_of}
 use Rattle.sv_host.proofs.HaltLemmas.{not_served}
 use Rattle.sv_host.proofs.StoryLemmas.{err_more, reads, serves, with_answer, with_continue}
 use Rattle.sv_host.proofs.TakeLemmas.{all_heard, read, served}
-use Rattle.sv_net.specs.Bytes.{came_of}
 use Rattle.sv_host.proofs.serve.go_on_with.Goals as goal
 
 pub returns-in-Serve-clause-heard : goal.returns-in-Serve-clause-heard

@@ -1,4 +1,4 @@
-use Rattle.std.proofs.Common.{[], inr, refl}
+use Rattle.sv_host.proofs.Prelude.{[], inr, refl}
 use Rattle.sv_host.proofs.HaltLemmas.{told}
 use Rattle.sv_host.proofs.StoryLemmas.{err_more, with_answer, with_read}
 use Rattle.sv_host.proofs.TakeLemmas.{all_heard, listens}

@@ -1,4 +1,4 @@
-use Rattle.std.proofs.Common.{sym, ◌∙◌}
+use Rattle.sv_host.proofs.Prelude.{sym, ◌∙◌}
 use Rattle.sv_host.proofs.StoryLemmas.{carry_lifted, carry_stood, carry_taken}
 use Rattle.sv_host.proofs.serve.serve.Goals as goal
 

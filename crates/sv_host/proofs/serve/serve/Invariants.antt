@@ -1,6 +1,4 @@
-use Rattle.sv_host.specs.Stories.{CarryOn}
-use Rattle.sv_host.specs.Clients.{KeepsAll}
-use Rattle.sv_host.specs.Parked.{clients_of}
+use Rattle.sv_host.proofs.Prelude.{CarryOn, KeepsAll, clients_of}
 use Rattle.sv_host.proofs.serve.serve.Given as goal
 
 -- whoever waits goes on waiting

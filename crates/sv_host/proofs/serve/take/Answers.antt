@@ -1,9 +1,6 @@
-use Rattle.std.proofs.Common.{◌≡◌, ◌∙◌, None, ap, refl, slice_set, subst}
-use Rattle.sv_net.proofs.PlaceLemmas.{nobody_holds, put_holds, same_held}
-use Rattle.sv_net.specs.declared.hearing.Heard.{Heard}
+use Rattle.sv_host.proofs.Prelude.{◌≡◌, ◌∙◌, None, ap, refl, slice_set, subst, put_holds, same_held, Heard, IsLeftBy, HearsAt}
+use Rattle.sv_net.proofs.PlaceLemmas.{nobody_holds}
 use Rattle.sv_net.specs.declared.hearing.Heard.TheVariants as heard
-use Rattle.sv_host.specs.Serve.{IsLeftBy}
-use Rattle.sv_net.specs.Hearing.{HearsAt}
 use Rattle.sv_host.proofs.HaltLemmas.{halts}
 use Rattle.sv_host.proofs.TakeLemmas.{asked, brings, framed, gives_asked, gives_framed, left_as, stays}
 use Rattle.sv_host.proofs.serve.take.Goals as goal

@@ -1,10 +1,5 @@
-use Rattle.std.proofs.Common.{◌≡◌, ◌≤◌, ◌++◌, ◌∷◌, [], ℕ, List, ap, sym, ◌∙◌, subst}
-use Rattle.std.specs.List.{AllByRecursion}
-use Rattle.sv_model.specs.Ranges.{IsInput}
-use Rattle.sv_model.specs.declared.input.Input.{Input}
-use Rattle.sv_model.specs.declared.key.Moment.{Moment}
-use Rattle.sv_node.specs.GroupCalls.{all_given}
-use Rattle.sv_node.specs.History.{RiseIn, numbers_in, number_in}
+use Rattle.sv_host.proofs.Prelude.{◌≡◌, ◌≤◌, ◌++◌, ◌∷◌, [], ℕ, List, ap, sym, ◌∙◌, subst, AllByRecursion, IsInput, Input, Moment, all_given, RiseIn, numbers_in}
+use Rattle.sv_host.proofs.Prelude.{number_in}
 use Rattle.sv_node.proofs.HistoryLemmas.{lower_input, lower_number}
 use Rattle.sv_host.proofs.GroupLemmas.{all_within, rises_on, number_on}
 use Rattle.sv_host.proofs.group.Group.add.Goals as goal

@@ -1,10 +1,4 @@
-use Rattle.std.proofs.Common.{◌≤◌, List, sym, subst, arith}
-use Rattle.std.specs.List.{AllByRecursion}
-use Rattle.sv_model.specs.Ranges.{IsInput}
-use Rattle.sv_model.specs.declared.input.Input.{Input}
-use Rattle.sv_model.specs.declared.key.Moment.{Moment}
-use Rattle.sv_node.specs.GroupCalls.{all_given}
-use Rattle.sv_node.specs.History.{RiseIn, numbers_in}
+use Rattle.sv_host.proofs.Prelude.{◌≤◌, List, sym, subst, arith, AllByRecursion, IsInput, Input, Moment, all_given, RiseIn, numbers_in}
 use Rattle.sv_host.proofs.GroupLemmas.{within_less, rises_less, number_less}
 use Rattle.sv_host.proofs.group.Group.leave_out.Goals as goal
 

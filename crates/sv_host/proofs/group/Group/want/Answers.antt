@@ -1,8 +1,4 @@
-use Rattle.std.proofs.Common.{List, subst, sym}
-use Rattle.std.specs.List.{AllByRecursion}
-use Rattle.sv_model.specs.declared.input.Input.{Input}
-use Rattle.sv_model.specs.declared.key.Moment.{Moment}
-use Rattle.sv_model.specs.Ranges.{IsInput}
+use Rattle.sv_host.proofs.Prelude.{List, subst, sym, AllByRecursion, Input, Moment, IsInput}
 use Rattle.sv_host.proofs.GroupLemmas.{within_at}
 use Rattle.sv_host.proofs.group.Group.want.Goals as goal
 

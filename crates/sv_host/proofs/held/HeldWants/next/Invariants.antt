@@ -1,4 +1,4 @@
-use Rattle.std.proofs.Common.{◌≡◌, drop}
+use Rattle.sv_host.proofs.Prelude.{◌≡◌, drop}
 use Rattle.sv_host.specs.Held.{next_from, next_of, wants_of}
 use Rattle.sv_host.specs.Lease.{leases_of}
 use Rattle.sv_host.proofs.held.HeldWants.next.Given as goal

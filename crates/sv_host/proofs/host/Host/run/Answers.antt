@@ -1,5 +1,4 @@
-use Rattle.std.proofs.Common.{sym, subst}
-use Rattle.sv_node.specs.History.{IsLife}
+use Rattle.sv_host.proofs.Prelude.{sym, subst, IsLife}
 use Rattle.sv_node.proofs.HistoryLemmas.{lived}
 use Rattle.sv_node.proofs.MomentLemmas.{lives}
 use Rattle.sv_node.specs.Moments.{LivesWithoutLoss}

@@ -1,4 +1,4 @@
-use Rattle.std.proofs.Common.{◌≡◌, drop}
+use Rattle.sv_host.proofs.Prelude.{◌≡◌, drop}
 use Rattle.sv_host.specs.Room.{counted_all, room_of}
 use Rattle.sv_host.proofs.room.Room.of.Given as goal
 

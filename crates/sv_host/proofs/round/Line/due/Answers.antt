@@ -1,7 +1,5 @@
-use Rattle.std.proofs.Common.{ap, arith}
-use Rattle.sv_model.specs.Outputs.{packet_in}
+use Rattle.sv_host.proofs.Prelude.{ap, arith, packet_in, behind_by, behind_in, front_by, front_in}
 use Rattle.std.proofs.Math.ListN.{drop_of_length-le}
-use Rattle.sv_host.specs.Round.{behind_by, behind_in, front_by, front_in}
 use Rattle.sv_host.proofs.RoundLemmas.{sum_on}
 use Rattle.sv_host.proofs.round.Line.due.Goals as goal
 

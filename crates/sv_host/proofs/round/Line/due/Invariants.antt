@@ -1,5 +1,4 @@
-use Rattle.std.proofs.Common.{◌≡◌, ◌≤◌, ◌+◌, ◌-◌, ◌^◌, min, drop}
-use Rattle.sv_host.specs.Round.{behind_in, front_in}
+use Rattle.sv_host.proofs.Prelude.{◌≡◌, ◌≤◌, ◌+◌, ◌-◌, ◌^◌, min, drop, behind_in, front_in}
 use Rattle.sv_host.proofs.round.Line.due.Given as goal
 
 -- those before were counted

@@ -1,5 +1,5 @@
 use Rattle.sv_host.proofs.DeedLemmas.{carry_told, tells_story}
-use Rattle.sv_net.specs.Saying.{Tells}
+use Rattle.sv_host.proofs.Prelude.{Tells}
 use Rattle.sv_host.proofs.server.Server.answer.Goals as goal
 
 -- who waits under the number is told, and nobody else

@@ -1,4 +1,4 @@
-use Rattle.std.proofs.Common.{refl}
+use Rattle.sv_host.proofs.Prelude.{refl}
 use Rattle.sv_host.proofs.DeedLemmas.{carry_obeyed}
 use Rattle.sv_host.proofs.HandLemmas.{commanded}
 use Rattle.sv_host.proofs.StoryLemmas.{carry_stood}

@@ -1,4 +1,4 @@
-use Rattle.std.proofs.Common.{refl}
+use Rattle.sv_host.proofs.Prelude.{refl}
 use Rattle.sv_host.proofs.DeedLemmas.{carry_obeyed}
 use Rattle.sv_host.proofs.HandLemmas.{client_refused, command_refused}
 use Rattle.sv_host.proofs.server.Server.conclude_refused.Goals as goal

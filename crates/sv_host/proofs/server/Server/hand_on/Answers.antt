@@ -1,9 +1,6 @@
 use Rattle.sv_host.proofs.HandLemmas.{one_handed}
 use Rattle.sv_host.proofs.SendLemmas.{others_of}
-use Rattle.std.specs.Vec.Iter.{into_iter_items}
-use Rattle.std.proofs.Common.{arith, length, ap, sym, ◌∙◌, subst}
-use Rattle.sv_host.specs.Packets.{sending_end}
-use Rattle.sv_host.specs.Outputs.{AreSendable}
+use Rattle.sv_host.proofs.Prelude.{into_iter_items, arith, length, ap, sym, ◌∙◌, subst, sending_end, AreSendable}
 use Rattle.sv_host.proofs.server.Server.hand_on.Goals as goal
 
 pub loop-output-preserved : goal.loop-output-preserved

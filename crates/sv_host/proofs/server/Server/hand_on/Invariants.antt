@@ -1,10 +1,4 @@
-use Rattle.sv_host.specs.Stories.{CarryOn}
-use Rattle.std.proofs.Common.{◌≡◌, length}
-use Rattle.std.specs.Vec.Iter.{into_iter_items, into_iter_len}
-use Rattle.sv_host.specs.HandingOut.{HandsOnAll}
-use Rattle.sv_host.specs.Outputs.{AreSendable}
-use Rattle.sv_host.specs.Packets.{sending_end}
-use Rattle.sv_host.specs.declared.server.Server.{Server}
+use Rattle.sv_host.proofs.Prelude.{CarryOn, ◌≡◌, length, into_iter_items, into_iter_len, HandsOnAll, AreSendable, sending_end, Server}
 use Rattle.sv_host.proofs.server.Server.hand_on.Given as goal
 
 -- what is left can be sent, and whoever hands it on has handed on all, and leaves the round as all do

@@ -1,10 +1,4 @@
-use Rattle.std.proofs.Common.{◌∙◌, arith, length, ap, refl, subst, sym}
-use Rattle.std.specs.List.{AllByRecursion}
-use Rattle.std.specs.Vec.Iter.{into_iter_items}
-use Rattle.sv_host.specs.Outcome.{last_taken}
-use Rattle.sv_host.specs.Outputs.{IsHandedOn}
-use Rattle.sv_host.specs.Time.{seconds_of}
-use Rattle.sv_host.specs.declared.outcome.Taken.TheVariants.{Quiet}
+use Rattle.sv_host.proofs.Prelude.{◌∙◌, arith, length, ap, refl, subst, sym, AllByRecursion, into_iter_items, last_taken, IsHandedOn, seconds_of, Quiet}
 use Rattle.sv_host.proofs.HandLemmas.{all_out, none_out, none_taken, one_more_out}
 use Rattle.sv_host.proofs.server.Server.hand_out_all.Goals as goal
 

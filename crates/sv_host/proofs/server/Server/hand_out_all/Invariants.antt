@@ -1,12 +1,5 @@
-use Rattle.sv_host.specs.Stories.{CarryOn}
-use Rattle.std.proofs.Common.{◌≡◌, ◌+◌, ◌<◌, ◌^◌, length}
-use Rattle.std.specs.List.{AllByRecursion}
-use Rattle.std.specs.Vec.Iter.{into_iter_items, into_iter_len}
-use Rattle.sv_host.specs.HandingOut.{HandsOutFrom}
-use Rattle.sv_host.specs.Outcome.{last_taken}
-use Rattle.sv_host.specs.Outputs.{IsHandedOn}
-use Rattle.sv_host.specs.declared.outcome.Taken.TheVariants.{Quiet}
-use Rattle.sv_host.specs.declared.server.Server.{Server}
+use Rattle.sv_host.proofs.Prelude.{CarryOn, ◌≡◌, ◌+◌, ◌<◌, ◌^◌, length, AllByRecursion, into_iter_items, into_iter_len, HandsOutFrom, last_taken, IsHandedOn}
+use Rattle.sv_host.proofs.Prelude.{Quiet, Server}
 use Rattle.sv_host.proofs.server.Server.hand_out_all.Given as goal
 
 -- what is left can be sent, and whoever hands it out has handed out all

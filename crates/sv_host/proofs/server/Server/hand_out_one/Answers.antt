@@ -1,4 +1,4 @@
-use Rattle.std.proofs.Common.{refl}
+use Rattle.sv_host.proofs.Prelude.{refl}
 use Rattle.sv_host.proofs.HandLemmas.{one_out}
 use Rattle.sv_host.proofs.server.Server.hand_out_one.Goals as goal
 

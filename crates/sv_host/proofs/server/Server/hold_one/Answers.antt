@@ -1,5 +1,4 @@
-use Rattle.std.proofs.Common.{ap, ◌∙◌}
-use Rattle.sv_host.specs.Held.{others_in}
+use Rattle.sv_host.proofs.Prelude.{ap, ◌∙◌, others_in}
 use Rattle.sv_host.proofs.AskedLemmas.{gathers_less}
 use Rattle.sv_host.proofs.HoldingLemmas.{others_stay, want_there}
 use Rattle.sv_host.proofs.server.Server.hold_one.Goals as goal

@@ -1,10 +1,4 @@
-use Rattle.sv_host.specs.Stories.{CarryOn}
-use Rattle.std.proofs.Common.{◌≡◌}
-use Rattle.sv_host.specs.Clients.{GathersFor}
-use Rattle.sv_host.specs.Group.{inputs_of}
-use Rattle.sv_host.specs.Held.{others_in}
-use Rattle.sv_host.specs.Parked.{clients_of}
-use Rattle.sv_host.specs.Serving.{HasGathered}
+use Rattle.sv_host.proofs.Prelude.{CarryOn, ◌≡◌, GathersFor, inputs_of, others_in, clients_of, HasGathered}
 use Rattle.sv_host.proofs.server.Server.hold_wants.Given as goal
 
 -- no group has been given to the node meanwhile, and what is no want is there still

@@ -1,4 +1,4 @@
-use Rattle.std.proofs.Common.{sym}
+use Rattle.sv_host.proofs.Prelude.{sym}
 use Rattle.sv_host.proofs.AskedLemmas.{gathers_refused}
 use Rattle.sv_host.proofs.server.Server.keep_one.Goals as goal
 

@@ -1,8 +1,4 @@
-use Rattle.std.proofs.Common.{◌≡◌, ◌<◌, Bool, cond, suc, length, ap, sym, ◌∙◌, arith}
-use Rattle.std.specs.Prelude.{remove}
-use Rattle.sv_node.specs.Node.{durable_of, engine_of, setting_of}
-use Rattle.sv_host.specs.Group.{inputs_of}
-use Rattle.sv_host.specs.Room.{awaited_by}
+use Rattle.sv_host.proofs.Prelude.{◌≡◌, ◌<◌, Bool, cond, suc, length, ap, sym, ◌∙◌, arith, remove, durable_of, engine_of, setting_of, inputs_of, awaited_by}
 use Rattle.sv_host.proofs.AskedLemmas.{gathers_on}
 use Rattle.sv_host.proofs.RoomLemmas.{kept_on, one_less}
 use Rattle.sv_host.proofs.server.Server.keep_shares.Goals.{then-keep_one, else-keep_one}

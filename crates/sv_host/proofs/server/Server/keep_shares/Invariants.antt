@@ -1,11 +1,5 @@
-use Rattle.sv_host.specs.Stories.{CarryOn}
-use Rattle.std.proofs.Common.{◌≡◌, ◌≤◌, ◌+◌, length}
-use Rattle.sv_node.specs.Node.{durable_of, engine_of, setting_of}
-use Rattle.sv_host.specs.Clients.{GathersFor}
-use Rattle.sv_host.specs.Group.{inputs_of}
-use Rattle.sv_host.specs.Parked.{clients_of}
-use Rattle.sv_host.specs.Room.{awaited_by, left_of}
-use Rattle.sv_host.specs.Serving.{HasGathered}
+use Rattle.sv_host.proofs.Prelude.{CarryOn, ◌≡◌, ◌≤◌, ◌+◌, length, durable_of, engine_of, setting_of, GathersFor, inputs_of, clients_of, awaited_by, left_of}
+use Rattle.sv_host.proofs.Prelude.{HasGathered}
 use Rattle.sv_host.proofs.RoomLemmas.{left_from}
 use Rattle.sv_host.proofs.server.Server.keep_shares.Given as goal
 

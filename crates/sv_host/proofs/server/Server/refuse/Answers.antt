@@ -1,6 +1,5 @@
 use Rattle.sv_host.proofs.DeedLemmas.{answers_story, carry_told}
-use Rattle.sv_net.specs.Places.{naming_of}
-use Rattle.sv_net.specs.Saying.{Answers, refused_as}
+use Rattle.sv_host.proofs.Prelude.{naming_of, Answers, refused_as}
 use Rattle.sv_host.proofs.server.Server.refuse.Goals as goal
 
 -- who waits under the number is refused, and nobody else

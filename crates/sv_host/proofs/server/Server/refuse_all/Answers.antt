@@ -1,4 +1,4 @@
-use Rattle.std.proofs.Common.{arith, refl}
+use Rattle.sv_host.proofs.Prelude.{arith, refl}
 use Rattle.sv_host.proofs.HandLemmas.{one_refused}
 use Rattle.sv_host.proofs.server.Server.refuse_all.Goals as goal
 

@@ -1,7 +1,4 @@
-use Rattle.sv_host.specs.Stories.{CarryOn}
-use Rattle.std.proofs.Common.{drop}
-use Rattle.sv_host.specs.HandingOut.{RefusesAll}
-use Rattle.sv_host.specs.declared.server.Server.{Server}
+use Rattle.sv_host.proofs.Prelude.{CarryOn, drop, RefusesAll, Server}
 use Rattle.sv_host.proofs.server.Server.refuse_all.Given as goal
 
 -- whoever refuses those that are left has refused all

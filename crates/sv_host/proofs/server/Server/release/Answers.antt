@@ -1,4 +1,4 @@
-use Rattle.std.proofs.Common.{◌∙◌}
+use Rattle.sv_host.proofs.Prelude.{◌∙◌}
 use Rattle.sv_host.proofs.AskedLemmas.{gathers_on}
 use Rattle.sv_host.proofs.HoldingLemmas.{more_wants_on}
 use Rattle.sv_host.proofs.server.Server.release.Goals as goal

@@ -1,8 +1,4 @@
-use Rattle.sv_host.specs.Stories.{CarryOn}
-use Rattle.sv_host.specs.Clients.{GathersFor}
-use Rattle.sv_host.specs.Held.{HasMoreWants}
-use Rattle.sv_host.specs.Parked.{clients_of}
-use Rattle.sv_host.specs.Serving.{HasGathered}
+use Rattle.sv_host.proofs.Prelude.{CarryOn, GathersFor, HasMoreWants, clients_of, HasGathered}
 use Rattle.sv_host.proofs.server.Server.release.Given as goal
 
 -- no group has been given to the node meanwhile, and what was added are wants

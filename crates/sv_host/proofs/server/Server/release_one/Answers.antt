@@ -1,11 +1,7 @@
-use Rattle.std.proofs.Common.{ap, subst, sym}
-use Rattle.sv_host.specs.Clients.{HasAsked}
-use Rattle.sv_host.specs.Parked.{clients_of}
-use Rattle.sv_host.specs.declared.group.Asker.TheVariants.{Nobody}
+use Rattle.sv_host.proofs.Prelude.{ap, subst, sym, HasAsked, clients_of, Nobody, Input}
 use Rattle.sv_host.specs.declared.packets.Packets.TheVariants.{All}
 use Rattle.sv_host.proofs.AskedLemmas.{gathers_nobody}
 use Rattle.sv_host.proofs.server.Server.release_one.Goals as goal
-use Rattle.sv_model.specs.declared.input.Input.{Input}
 
 pub returns-clause-clients : goal.returns-clause-clients
 returns-clause-clients c =

@@ -1,17 +1,5 @@
-use Rattle.std.proofs.Common.{◌≤◌, ℕ, List, map, vec_items, ap, sym, subst, ◌∙◌}
-use Rattle.std.specs.List.{AllByRecursion}
-use Rattle.sv_model.specs.declared.input.Input.{Input}
-use Rattle.sv_model.specs.declared.key.Moment.{Moment}
-use Rattle.sv_model.specs.Ranges.{IsInput}
-use Rattle.sv_host.specs.HandingOut.{HandsOutGroup}
-use Rattle.sv_host.specs.Parked.{clients_of}
-use Rattle.sv_host.specs.Time.{seconds_of}
-use Rattle.sv_host.specs.declared.group.Way.{Way}
-use Rattle.sv_model.specs.Site.{with_list}
-use Rattle.sv_node.specs.Group.{GroupEnds}
-use Rattle.sv_node.specs.GroupCalls.{all_given}
-use Rattle.sv_node.specs.History.{RiseIn, numbers_in}
-use Rattle.sv_node.specs.Node.{engine_of}
+use Rattle.sv_host.proofs.Prelude.{◌≤◌, ℕ, List, map, vec_items, ap, sym, subst, ◌∙◌, AllByRecursion, Input, Moment, IsInput, HandsOutGroup, clients_of}
+use Rattle.sv_host.proofs.Prelude.{seconds_of, Way, with_list, GroupEnds, all_given, RiseIn, numbers_in, engine_of}
 use Rattle.sv_node.proofs.MomentLemmas.{group_runs}
 use Rattle.sv_host.proofs.HavingLemmas.{have_group}
 use Rattle.sv_host.proofs.LifeLemmas.{group_served}
