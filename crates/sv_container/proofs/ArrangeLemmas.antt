@@ -1,10 +1,9 @@
 -- Objects that are brought into an order, one by one.
-use Rattle.std.proofs.Common.{◌≡◌, ◌≢◌, ℕ, ◌<◌, ◌≤◌, ◌+◌, List, [], ◌∷◌, ◌++◌, length, get_or, set, take, drop, map, arith, sym, ◌∙◌, ap, refl, subst, ⊎_elim}
+use Rattle.sv_container.proofs.Prelude.{◌≡◌, ◌≢◌, ℕ, ◌<◌, ◌≤◌, ◌+◌, List, [], ◌∷◌, ◌++◌, length, get_or, set, take, drop, map, arith, sym, ◌∙◌, ap, refl, subst}
+use Rattle.sv_container.proofs.Prelude.{⊎_elim, cases_eq, append_assoc, append-nil, drop_all, drop_more, get_or-map, length-map, map-append, map_more}
+use Rattle.sv_container.proofs.Prelude.{take_more_set, IsFoundAt, declared_from, label, label_of, labels_of, Named}
 use Rattle.std.specs.List.{SwappedAt}
-use Rattle.std.proofs.lemmas.Bool.{cases_eq}
-use Rattle.std.proofs.lemmas.List.{append_assoc, append-nil, drop_all, drop_more, get_or-map, length-map, length-set, map-append, map_more, take-set, take-set-le, take_all, take_more_set}
-use Rattle.sv_container.specs.Deployment.{IsFoundAt, declared_from, label, label_of, labels_of}
-use Rattle.sv_container.specs.declared.named.Named.{Named}
+use Rattle.std.proofs.lemmas.List.{length-set, take-set, take-set-le}
 
 -- an element that is swapped in stands after those before it
 swapped_in : {X : Type 0} (xs : List X) (at place : ℕ) (d v : X) → at ≤ place → place < length xs → v ≡ get_or xs at d
@@ -56,10 +55,6 @@ module _ {O : Type 0} where
       ∙ (ap (λ (l : List (ℕ × List ℕ)). l ++ label context text ∷ []) named
       ∙ (append_assoc was before (label context text ∷ [])
       ∙ ap (λ (l : List (ℕ × List ℕ)). was ++ l) (sym more))))
-
-  -- where as many are declared as there are
-  pub all_labelled : (ns : List (Named O)) (n : ℕ) (all : List (ℕ × List ℕ)) → length ns ≤ n → labels_of (take n ns) ≡ all → labels_of ns ≡ all
-  all_labelled ns n all h e = ap (λ (l : List (Named O)). labels_of l) (sym (take_all n ns h)) ∙ e
 
 -- the names of one more context are in order
 pub one_more_context : {C : Type 0} (f : C → List (List ℕ)) (cs : List C) (n : ℕ) (c : C) (its : List (List ℕ)) (was step all : List (ℕ × List ℕ))

@@ -1,19 +1,16 @@
 -- Objects that are put into their applications.
-use Rattle.std.proofs.Common.{◌≡◌, ◌≢◌, ℕ, ◌<◌, ◌≤◌, ◌+◌, zero, suc, List, [], ◌∷◌, ◌++◌, length, get_or, set, take, drop, map, arith, sym, ◌∙◌, ap, refl, All, subst}
-use Rattle.std.proofs.lemmas.List.{append-nil, append_assoc, drop-map, get_or-set_other, length-set, map-append, take-map, take_more_set, drop_all, take_all}
+use Rattle.sv_container.proofs.Prelude.{◌≡◌, ◌≢◌, ℕ, ◌<◌, ◌≤◌, ◌+◌, zero, suc, List, [], ◌∷◌, ◌++◌, length, get_or, set, take, drop, map, arith, sym, ◌∙◌, ap}
+use Rattle.sv_container.proofs.Prelude.{refl, All, subst, append-nil, append_assoc, get_or-set_other, map-append, take_more_set, drop_all, take_all, All-append}
+use Rattle.sv_container.proofs.Prelude.{All-cons, All-map, Phase, New, rows, Hosted, App, IsSoundApp, identity_of, frame_of, identities_of, plan_with}
+use Rattle.sv_container.proofs.Prelude.{AreNamedNew, hosted_of, Application, Named}
+use Rattle.std.proofs.lemmas.List.{drop-map, length-set, take-map}
 use Rattle.std.proofs.Math.Seq.{drop-cons}
-use Rattle.std.proofs.lemmas.List.Elements.{All-append, All-cons, All-drop, All-map, All-take}
+use Rattle.std.proofs.lemmas.List.Elements.{All-drop, All-take}
 use Rattle.sv_servlet.specs.Filter.{Filters}
 use Rattle.sv_servlet.specs.Servlet.{Serves}
-use Rattle.sv_servlet.specs.declared.servlet.Phase.{Phase}
-use Rattle.sv_servlet.specs.declared.servlet.Phase.TheVariants.{New}
-use Rattle.sv_dispatch.specs.Rows.{rows}
-use Rattle.sv_dispatch.specs.declared.hosted.Hosted.{Hosted}
-use Rattle.sv_container.specs.Application.{App, Identity, IsSoundApp, Plan, identity_of, is_able, plan_of}
-use Rattle.sv_container.specs.Deployment.{frame_of, identities_of, identity_of_named, plan_with, plans_for}
-use Rattle.sv_container.specs.Life.{AreAble, AreNamedNew, AreNew, hosted_of}
-use Rattle.sv_container.specs.declared.application.Application.{Application}
-use Rattle.sv_container.specs.declared.named.Named.{Named}
+use Rattle.sv_container.specs.Application.{Identity, Plan, is_able, plan_of}
+use Rattle.sv_container.specs.Deployment.{identity_of_named, plans_for}
+use Rattle.sv_container.specs.Life.{AreAble, AreNew}
 
 -- ---- the next object
 

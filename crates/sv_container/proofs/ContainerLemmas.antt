@@ -1,14 +1,9 @@
 -- Applications that are taken out of service one by one.
-use Rattle.std.proofs.Common.{◌≡◌, ◌≢◌, ℕ, ◌<◌, ◌≤◌, ◌+◌, ◌-◌, ◌∙◌, zero, suc, List, [], ◌∷◌, length, get_or, set, take, min, arith, sym, ap, refl, All, subst}
-use Rattle.std.proofs.lemmas.List.{get_or-map, get_or-set_other, get_or-set_same, length-map, take_all}
-use Rattle.sv_servlet.specs.Filter.{Filters}
-use Rattle.sv_servlet.specs.Servlet.{Serves}
-use Rattle.sv_servlet.specs.declared.servlet.Phase.{Phase}
-use Rattle.sv_dispatch.specs.Rows.{row, rows}
-use Rattle.sv_dispatch.specs.declared.hosted.Hosted.{Hosted}
-use Rattle.sv_container.specs.Application.{App, IsLaunched, IsSoundApp, app_of, apps_of}
-use Rattle.sv_container.specs.Life.{IsLive, ready_count, ready_filters, ready_servlets}
-use Rattle.sv_container.specs.declared.application.Application.{Application}
+use Rattle.sv_container.proofs.Prelude.{◌≡◌, ◌≢◌, ℕ, ◌<◌, ◌≤◌, ◌+◌, ◌-◌, ◌∙◌, zero, suc, List, [], ◌∷◌, length, get_or, set, take, min, arith, sym, ap, refl}
+use Rattle.sv_container.proofs.Prelude.{All, subst, get_or-map, get_or-set_other, get_or-set_same, length-map, take_all, Phase, row, rows, Hosted, App}
+use Rattle.sv_container.proofs.Prelude.{IsLaunched, IsSoundApp, app_of, apps_of, IsLive, ready_count, ready_filters, ready_servlets, Application}
+use Rattle.sv_servlet.specs.declared.servlet.Servlet as servlet_trait
+use Rattle.sv_servlet.specs.declared.filter.Filter as filter_trait
 
 -- ---- sums that stop at the top
 
@@ -67,66 +62,66 @@ module _ {O M : Type 0} (meaning : O → M) (phase : O → Phase) where
   live hs launched k d h =
       subst IsLaunched (get_or-map (row meaning phase) hs k d (row meaning phase d) h) (launched k (row meaning phase d) (rw (length-map hs (row meaning phase)) h))
 
-module _ {S F : Type 0} (serves : S → Serves) (servlet_phase : S → Phase) (filtering : F → Filters) (filter_phase : F → Phase) (old : List (Application S F)) where
-  pub all_long : length (apps_of serves servlet_phase filtering filter_phase old) ≡ length old
+module _ {S F : Type 0} (servlet : servlet_trait.Ghosts S) (filter : filter_trait.Ghosts F) (old : List (Application S F)) where
+  pub all_long : length (apps_of servlet filter old) ≡ length old
   unfolding apps_of
-  all_long = length-map old (app_of serves servlet_phase filtering filter_phase)
+  all_long = length-map old (app_of servlet filter)
 
   app_there : (at : ℕ) (n : Application S F) → at < length old → n ≡ get_or old at n
-      → get_or (apps_of serves servlet_phase filtering filter_phase old) at (app_of serves servlet_phase filtering filter_phase n) ≡ app_of serves servlet_phase filtering filter_phase n
+      → get_or (apps_of servlet filter old) at (app_of servlet filter n) ≡ app_of servlet filter n
   unfolding apps_of
-  app_there at n h e = get_or-map (app_of serves servlet_phase filtering filter_phase) old at n (app_of serves servlet_phase filtering filter_phase n) h ∙ ap (app_of serves servlet_phase filtering filter_phase) (sym e)
+  app_there at n h e = get_or-map (app_of servlet filter) old at n (app_of servlet filter n) h ∙ ap (app_of servlet filter) (sym e)
 
-  sound_there : (at : ℕ) (n : Application S F) → at < length old → n ≡ get_or old at n → All IsSoundApp (apps_of serves servlet_phase filtering filter_phase old)
-      → IsSoundApp (app_of serves servlet_phase filtering filter_phase n)
+  sound_there : (at : ℕ) (n : Application S F) → at < length old → n ≡ get_or old at n → All IsSoundApp (apps_of servlet filter old)
+      → IsSoundApp (app_of servlet filter n)
   sound_there at n h e sound =
-      let within : at < length (apps_of serves servlet_phase filtering filter_phase old) = rw all_long h in
-      subst IsSoundApp (app_there at n h e) (sound at (app_of serves servlet_phase filtering filter_phase n) within)
+      let within : at < length (apps_of servlet filter old) = rw all_long h in
+      subst IsSoundApp (app_there at n h e) (sound at (app_of servlet filter n) within)
 
-  pub live_servlets : (at : ℕ) (n : Application S F) → at < length old → n ≡ get_or old at n → All IsSoundApp (apps_of serves servlet_phase filtering filter_phase old)
-      → All (IsLive servlet_phase) n.stage.servlets.items
-  live_servlets at n h e sound = live serves servlet_phase n.stage.servlets.items (sound_there at n h e sound).servlets
+  pub live_servlets : (at : ℕ) (n : Application S F) → at < length old → n ≡ get_or old at n → All IsSoundApp (apps_of servlet filter old)
+      → All (IsLive servlet.servlet_phase) n.stage.servlets.items
+  live_servlets at n h e sound = live servlet.serves servlet.servlet_phase n.stage.servlets.items (sound_there at n h e sound).servlets
 
   pub live_filters : (at : ℕ) (n : Application S F) (hs : List (Hosted F)) → at < length old → n ≡ get_or old at n → hs ≡ n.stage.filters.items
-      → All IsSoundApp (apps_of serves servlet_phase filtering filter_phase old) → All (IsLive filter_phase) hs
+      → All IsSoundApp (apps_of servlet filter old) → All (IsLive filter.filter_phase) hs
   live_filters at n hs h e same sound =
-      subst (All (IsLive filter_phase)) (sym same) (live filtering filter_phase n.stage.filters.items (sound_there at n h e sound).filters)
+      subst (All (IsLive filter.filter_phase)) (sym same) (live filter.filtering filter.filter_phase n.stage.filters.items (sound_there at n h e sound).filters)
 
   -- the counts after a turn
   module _ (at count one sum top : ℕ) (n : Application S F) (some : 0 < at) (within : at ≤ length old) (e : n ≡ get_or old (at - 1) n) (adds : sum ≡ min (count + one) top) where
-    place : at - 1 < length (apps_of serves servlet_phase filtering filter_phase old)
+    place : at - 1 < length (apps_of servlet filter old)
     place = rw all_long (omega (arith, some, within))
 
-    its_app : get_or (apps_of serves servlet_phase filtering filter_phase old) (at - 1) (app_of serves servlet_phase filtering filter_phase n) ≡ app_of serves servlet_phase filtering filter_phase n
+    its_app : get_or (apps_of servlet filter old) (at - 1) (app_of servlet filter n) ≡ app_of servlet filter n
     its_app = let h : at - 1 < length old = omega (arith, some, within) in app_there (at - 1) n h e
 
-    pub servlets_turned : one ≡ ready_count (rows serves servlet_phase n.stage.servlets.items)
-        → min (count + ready_servlets (take at (apps_of serves servlet_phase filtering filter_phase old))) top ≡ min (ready_servlets (apps_of serves servlet_phase filtering filter_phase old)) top
-        → min (sum + ready_servlets (take (at - 1) (apps_of serves servlet_phase filtering filter_phase old))) top ≡ min (ready_servlets (apps_of serves servlet_phase filtering filter_phase old)) top
+    pub servlets_turned : one ≡ ready_count (rows servlet.serves servlet.servlet_phase n.stage.servlets.items)
+        → min (count + ready_servlets (take at (apps_of servlet filter old))) top ≡ min (ready_servlets (apps_of servlet filter old)) top
+        → min (sum + ready_servlets (take (at - 1) (apps_of servlet filter old))) top ≡ min (ready_servlets (apps_of servlet filter old)) top
     servlets_turned counts c =
         let next : at ≡ suc (at - 1) = omega (arith, some) in
         rw adds
-        (one_more_total (λ a. ready_count a.table.servlets) ready_servlets no_servlets more_servlets top (apps_of serves servlet_phase filtering filter_phase old) at (at - 1) count one
-        (app_of serves servlet_phase filtering filter_phase n) next place (counts ∙ ap (λ (a : App). ready_count a.table.servlets) (sym its_app)) c)
+        (one_more_total (λ a. ready_count a.table.servlets) ready_servlets no_servlets more_servlets top (apps_of servlet filter old) at (at - 1) count one
+        (app_of servlet filter n) next place (counts ∙ ap (λ (a : App). ready_count a.table.servlets) (sym its_app)) c)
 
-    pub filters_turned : one ≡ ready_count (rows filtering filter_phase n.stage.filters.items)
-        → min (count + ready_filters (take at (apps_of serves servlet_phase filtering filter_phase old))) top ≡ min (ready_filters (apps_of serves servlet_phase filtering filter_phase old)) top
-        → min (sum + ready_filters (take (at - 1) (apps_of serves servlet_phase filtering filter_phase old))) top ≡ min (ready_filters (apps_of serves servlet_phase filtering filter_phase old)) top
+    pub filters_turned : one ≡ ready_count (rows filter.filtering filter.filter_phase n.stage.filters.items)
+        → min (count + ready_filters (take at (apps_of servlet filter old))) top ≡ min (ready_filters (apps_of servlet filter old)) top
+        → min (sum + ready_filters (take (at - 1) (apps_of servlet filter old))) top ≡ min (ready_filters (apps_of servlet filter old)) top
     filters_turned counts c =
         let next : at ≡ suc (at - 1) = omega (arith, some) in
         rw adds
-        (one_more_total (λ a. ready_count a.table.filters) ready_filters no_filters more_filters top (apps_of serves servlet_phase filtering filter_phase old) at (at - 1) count one
-        (app_of serves servlet_phase filtering filter_phase n) next place (counts ∙ ap (λ (a : App). ready_count a.table.filters) (sym its_app)) c)
+        (one_more_total (λ a. ready_count a.table.filters) ready_filters no_filters more_filters top (apps_of servlet filter old) at (at - 1) count one
+        (app_of servlet filter n) next place (counts ∙ ap (λ (a : App). ready_count a.table.filters) (sym its_app)) c)
 
   pub servlets_to_come : (at top : ℕ) → at ≡ length old
-      → min (0 + ready_servlets (take at (apps_of serves servlet_phase filtering filter_phase old))) top ≡ min (ready_servlets (apps_of serves servlet_phase filtering filter_phase old)) top
+      → min (0 + ready_servlets (take at (apps_of servlet filter old))) top ≡ min (ready_servlets (apps_of servlet filter old)) top
   servlets_to_come at top all =
-      all_to_come (λ a. ready_count a.table.servlets) ready_servlets no_servlets more_servlets top (apps_of serves servlet_phase filtering filter_phase old) at (all ∙ sym all_long)
+      all_to_come (λ a. ready_count a.table.servlets) ready_servlets no_servlets more_servlets top (apps_of servlet filter old) at (all ∙ sym all_long)
 
   pub filters_to_come : (at top : ℕ) → at ≡ length old
-      → min (0 + ready_filters (take at (apps_of serves servlet_phase filtering filter_phase old))) top ≡ min (ready_filters (apps_of serves servlet_phase filtering filter_phase old)) top
+      → min (0 + ready_filters (take at (apps_of servlet filter old))) top ≡ min (ready_filters (apps_of servlet filter old)) top
   filters_to_come at top all =
-      all_to_come (λ a. ready_count a.table.filters) ready_filters no_filters more_filters top (apps_of serves servlet_phase filtering filter_phase old) at (all ∙ sym all_long)
+      all_to_come (λ a. ready_count a.table.filters) ready_filters no_filters more_filters top (apps_of servlet filter old) at (all ∙ sym all_long)
 
 pub servlets_counted : (apps : List App) (at count top : ℕ) → at ≡ 0 → count ≤ top → min (count + ready_servlets (take at apps)) top ≡ min (ready_servlets apps) top → count ≡ min (ready_servlets apps) top
 servlets_counted apps at count top = none_to_come (λ a. ready_count a.table.servlets) ready_servlets no_servlets more_servlets top apps at count

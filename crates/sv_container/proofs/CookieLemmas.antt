@@ -1,22 +1,19 @@
 -- The cookie of a session can be the value of a field.
-use Rattle.std.proofs.Common.{◌≡◌, ℕ, ◌<◌, Bool, true, false, Option, Some, None, List, [], ◌∷◌, ◌++◌, refl, arith}
+use Rattle.sv_container.proofs.Prelude.{◌≡◌, ℕ, ◌<◌, Bool, true, false, Option, Some, None, List, [], ◌∷◌, ◌++◌, refl, arith, nat_tests, All-append}
+use Rattle.sv_container.proofs.Prelude.{IsFieldValue, Key, Secret, is_sendable}
 use Rattle.std.specs.Prelude.{codes}
 use Rattle.std.specs.Int.{bytes_high_first}
-use Rattle.std.proofs.lemmas.Bool.Decides.{nat_tests}
-use Rattle.std.proofs.lemmas.List.Elements.{All-append, All-weaker}
+use Rattle.std.proofs.lemmas.List.Elements.{All-weaker}
 use Rattle.hex.specs.Hex.{IsBytes, encode_lower, is_hex_digit}
 use Rattle.hex.proofs.HexLemmas.{decode_of-encode_lower, decode_of-ok}
-use Rattle.http_header.specs.FieldValue.{IsFieldValue}
 use Rattle.http_header.specs.Token.{is_value_byte}
 use Rattle.http_header.proofs.TokenLemmas.{AllPass-from_test}
 use Rattle.sv_mapping.specs.Pattern.{is_printed}
-use Rattle.sv_model.specs.declared.key.Key.{Key}
-use Rattle.sv_model.specs.declared.key.Secret.{Secret}
 use Rattle.sv_target.proofs.ByteLemmas.{IsBytes-cons, IsBytes-bytes_high_first}
 use Rattle.sv_target.specs.SessionCookie.{cookie_text, session_bytes}
 use Rattle.sv_config.specs.declared.cookie.SameSite.{SameSite}
 use Rattle.sv_config.specs.declared.cookie.SameSite.TheVariants.{Strict, Lax, None as AnySite}
-use Rattle.sv_container.specs.SetCookie.{cookie_path, cookie_value, is_sendable, same_site_text, secure_text}
+use Rattle.sv_container.specs.SetCookie.{cookie_path, cookie_value, same_site_text, secure_text}
 use Rattle.sv_container.specs.declared.set_cookie.SessionCookie.{SessionCookie}
 
 digit_fits : (c : ℕ) → is_hex_digit c ≡ true → is_value_byte c ≡ true

@@ -1,32 +1,21 @@
 -- The application that serves a path.
-use Rattle.std.proofs.Common.{◌≡◌, ℕ, ◌<◌, true, Option, Some, List, [], ◌∷◌, length, get_or, set, map, refl, sym, ap, ◌∙◌, subst, string_bytes, All}
-use Rattle.std.specs.Prelude.{IfSome, IsTrue, slice_get}
+use Rattle.sv_container.proofs.Prelude.{◌≡◌, ℕ, ◌<◌, true, Option, Some, List, [], ◌∷◌, length, get_or, set, map, refl, sym, ap, ◌∙◌, subst, string_bytes, All}
+use Rattle.sv_container.proofs.Prelude.{IfSome, slice_get, get_or_from_slice_get, slice_get-get_or, get_or-map, context_at, path_in_context, Told, Key, Secret}
+use Rattle.sv_container.proofs.Prelude.{Outcome, Request, Session, session_cookie, admission, length-map, Application, App, IsSoundApp, app_of, apps_of}
+use Rattle.sv_container.proofs.Prelude.{heard_by_all, heard_of, Deployed, IsSound, container_meaning, deployed, place_for, served, served_by, served_in}
+use Rattle.std.specs.Prelude.{IsTrue}
 use Rattle.std.proofs.Math.Seq.{map-set_same}
-use Rattle.std.proofs.lemmas.Option.{get_or_from_slice_get, slice_get-get_or, slice_get-map, slice_get_within}
-use Rattle.std.proofs.lemmas.List.{get_or-map}
-use Rattle.sv_mapping.specs.Context.{IsChosen, chosen_context, context_at, path_in_context}
+use Rattle.std.proofs.lemmas.Option.{slice_get-map, slice_get_within}
+use Rattle.sv_mapping.specs.Context.{IsChosen, chosen_context}
 use Rattle.sv_mapping.specs.Path.{is_at_or_below}
 use Rattle.sv_mapping.proofs.ContextLemmas.{chosen_facts}
 use Rattle.sv_model.specs.Engine.{heard_all}
-use Rattle.sv_model.specs.declared.event.Told.{Told}
-use Rattle.sv_model.specs.declared.key.Key.{Key}
-use Rattle.sv_model.specs.declared.key.Secret.{Secret}
-use Rattle.sv_model.specs.declared.outcome.Outcome.{Outcome}
 use Rattle.sv_model.specs.declared.request.Cookie.{Cookie}
-use Rattle.sv_model.specs.declared.request.Request.{Request}
-use Rattle.sv_model.specs.declared.session.Session.{Session}
-use Rattle.sv_target.specs.SessionCookie.{session_cookie}
-use Rattle.sv_container.specs.Admission.{admission}
-use Rattle.std.proofs.lemmas.List.{length-map}
-use Rattle.sv_servlet.specs.Filter.{Filters}
-use Rattle.sv_servlet.specs.Servlet.{Serves}
-use Rattle.sv_servlet.specs.declared.servlet.Phase.{Phase}
-use Rattle.sv_container.specs.declared.application.Application.{Application}
 use Rattle.sv_container.specs.declared.container.Container.{Container}
-use Rattle.sv_container.specs.Application.{App, IsSoundApp, app_of, apps_of}
 use Rattle.sv_container.specs.Laws.{place_is}
-use Rattle.sv_container.specs.Listening.{heard_by_all, heard_of}
-use Rattle.sv_container.specs.Serving.{Deployed, IsSound, container_meaning, deployed, named_by, place_for, served, served_by, served_in}
+use Rattle.sv_container.specs.Serving.{named_by}
+use Rattle.sv_servlet.specs.declared.servlet.Servlet as servlet_trait
+use Rattle.sv_servlet.specs.declared.filter.Filter as filter_trait
 
 -- the context has the path, and there is an application, which is in service
 pub record IsPlace (d : Deployed) (path : List ℕ) (place : ℕ) (a : App) : Type 0 where
@@ -69,22 +58,22 @@ sound_at apps place a sound is = subst IsSoundApp (get_or_from_slice_get apps pl
 
 -- ---- the applications of the code
 
-module _ {S F : Type 0} (serves : S → Serves) (servlet_phase : S → Phase) (filtering : F → Filters) (filter_phase : F → Phase) where
+module _ {S F : Type 0} (servlet : servlet_trait.Ghosts S) (filter : filter_trait.Ghosts F) where
   pub app_there : (apps : List (Application S F)) (i : ℕ) (a : Application S F) → i < length apps → a ≡ get_or apps i a
-      → slice_get (apps_of serves servlet_phase filtering filter_phase apps) i ≡ Some (app_of serves servlet_phase filtering filter_phase a)
+      → slice_get (apps_of servlet filter apps) i ≡ Some (app_of servlet filter a)
   unfolding apps_of
-  app_there apps i a h e = image_there (app_of serves servlet_phase filtering filter_phase) apps i a h e
+  app_there apps i a h e = image_there (app_of servlet filter) apps i a h e
 
-  pub apps_length : (apps : List (Application S F)) → length (apps_of serves servlet_phase filtering filter_phase apps) ≡ length apps
+  pub apps_length : (apps : List (Application S F)) → length (apps_of servlet filter apps) ≡ length apps
   unfolding apps_of
-  apps_length apps = length-map apps (app_of serves servlet_phase filtering filter_phase)
+  apps_length apps = length-map apps (app_of servlet filter)
 
   -- an application that is changed into an equal one leaves all as they were
   pub apps_same : (apps : List (Application S F)) (i : ℕ) (m n : Application S F)
-      → app_of serves servlet_phase filtering filter_phase m ≡ app_of serves servlet_phase filtering filter_phase n → n ≡ get_or apps i n
-      → apps_of serves servlet_phase filtering filter_phase (set apps i m) ≡ apps_of serves servlet_phase filtering filter_phase apps
+      → app_of servlet filter m ≡ app_of servlet filter n → n ≡ get_or apps i n
+      → apps_of servlet filter (set apps i m) ≡ apps_of servlet filter apps
   unfolding apps_of
-  apps_same apps i m n s e = map-set_same (app_of serves servlet_phase filtering filter_phase) apps i m n (s ∙ ap (app_of serves servlet_phase filtering filter_phase) e)
+  apps_same apps i m n s e = map-set_same (app_of servlet filter) apps i m n (s ∙ ap (app_of servlet filter) e)
 
 -- ---- the container of the code
 
@@ -98,23 +87,23 @@ below_there d path whole context place h same is =
     let chosen = chosen_is d.paths path place (place_is d path place (sym h)).0 in
     rw (same, is) chosen.below
 
-module _ {S F L : Type 0} (serves : S → Serves) (servlet_phase : S → Phase) (filtering : F → Filters) (filter_phase : F → Phase)
+module _ {S F L : Type 0} (servlet : servlet_trait.Ghosts S) (filter : filter_trait.Ghosts F)
     (hears : L → Told → List ℕ → List ℕ) (c : Container S F L) where
   abbrev D : Deployed
-  D = deployed serves servlet_phase filtering filter_phase hears c
+  D = deployed servlet filter hears c
 
   abbrev A : Application S F → App
-  A = app_of serves servlet_phase filtering filter_phase
+  A = app_of servlet filter
 
   pub app_within : (path : List ℕ) (place : ℕ) → Some place ≡ place_for D path → place < length c.applications.items
-  app_within path place h = rw (apps_length serves servlet_phase filtering filter_phase c.applications.items) at (place_within D path place (sym h))
+  app_within path place h = rw (apps_length servlet filter c.applications.items) at (place_within D path place (sym h))
 
   pub path_within : (path : List ℕ) (place : ℕ) → Some place ≡ place_for D path → place < length c.paths.items
   path_within path place h = rw (length-map c.paths.items string_bytes) at (chosen_is D.paths path place (place_is D path place (sym h)).0).within
 
   there_is : (path : List ℕ) (place : ℕ) (a : Application S F) → Some place ≡ place_for D path → a ≡ get_or c.applications.items place a
       → slice_get D.apps place ≡ Some (A a)
-  there_is path place a h e = app_there serves servlet_phase filtering filter_phase c.applications.items place a (app_within path place h) e
+  there_is path place a h e = app_there servlet filter c.applications.items place a (app_within path place h) e
 
   pub sound_one : (path : List ℕ) (place : ℕ) (a : Application S F) → IsSound D → Some place ≡ place_for D path → a ≡ get_or c.applications.items place a
       → IsSoundApp (A a)
@@ -144,14 +133,14 @@ module _ {S F L : Type 0} (serves : S → Serves) (servlet_phase : S → Phase) 
 
   -- an application that is changed into an equal one leaves the container sound, and its meaning as it was
   pub sound_kept : (place : ℕ) (m n : Application S F) → IsSound D → A m ≡ A n → n ≡ get_or c.applications.items place n
-      → All IsSoundApp (apps_of serves servlet_phase filtering filter_phase (set c.applications.items place m))
-  sound_kept place m n sound s e = subst (All IsSoundApp) (sym (apps_same serves servlet_phase filtering filter_phase c.applications.items place m n s e)) sound
+      → All IsSoundApp (apps_of servlet filter (set c.applications.items place m))
+  sound_kept place m n sound s e = subst (All IsSoundApp) (sym (apps_same servlet filter c.applications.items place m n s e)) sound
 
   pub meaning_kept : (place : ℕ) (m n : Application S F) → A m ≡ A n → n ≡ get_or c.applications.items place n
-      → container_meaning (record { paths = D.paths; apps = apps_of serves servlet_phase filtering filter_phase (set c.applications.items place m); ears = D.ears }) ≡ container_meaning D
+      → container_meaning (record { paths = D.paths; apps = apps_of servlet filter (set c.applications.items place m); ears = D.ears }) ≡ container_meaning D
   meaning_kept place m n s e =
       ap (λ (apps : List App). container_meaning (record { paths = D.paths; apps = apps; ears = D.ears }))
-      (apps_same serves servlet_phase filtering filter_phase c.applications.items place m n s e)
+      (apps_same servlet filter c.applications.items place m n s e)
 
 -- ---- events
 

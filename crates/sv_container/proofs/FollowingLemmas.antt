@@ -1,35 +1,21 @@
 -- Each response follows its request.
-use Rattle.std.proofs.Common.{ℕ, Option, Some, None, List, refl}
-use Rattle.std.specs.Prelude.{IfSome, Bool, true, false, cond, is_some, option_map, slice_get}
-use Rattle.std.specs.Str.{bytes_eq}
-use Rattle.sv_model.specs.declared.key.Key.{Key}
-use Rattle.sv_model.specs.declared.key.Secret.{Secret}
-use Rattle.sv_model.specs.declared.request.Request.{Request}
-use Rattle.sv_model.specs.declared.session.Session.{Session}
-use Rattle.sv_mapping.specs.Context.{context_at, path_in_context}
-use Rattle.sv_model.specs.declared.response.Response.{Response}
-use Rattle.sv_once.specs.Answer.{Answer, answer_in}
-use Rattle.sv_once.specs.Asked.{is_key, key_of, mark_of}
-use Rattle.sv_once.specs.Entries.{known, memory_in}
-use Rattle.sv_once.specs.declared.choice.Choice.{Choice}
-use Rattle.sv_once.specs.declared.entry.Entry.{Entry}
-use Rattle.sv_session.specs.Edit.{Edit, begun}
-use Rattle.sv_session.specs.declared.edit.Edited.{Edited}
+use Rattle.sv_container.proofs.Prelude.{ℕ, Option, Some, None, List, refl, IfSome, is_some, option_map, slice_get, bytes_eq, Key, Secret, Request, Session}
+use Rattle.sv_container.proofs.Prelude.{context_at, path_in_context, Response, answer_in, is_key, key_of, mark_of, known, memory_in, Choice, Entry, Edit, begun}
+use Rattle.sv_container.proofs.Prelude.{Edited, Admission, held_of, App, recalled, recalled_by, refused, repeated, told_again, Answered, Deployed, answered_by}
+use Rattle.sv_container.proofs.Prelude.{bared, or_full, outcome_by, place_for, remembering, served_by, served_in, served_new, served_unless, unserved, BadKey}
+use Rattle.sv_container.proofs.Prelude.{Reused, Gone, Full}
+use Rattle.std.specs.Prelude.{Bool, true, false, cond}
+use Rattle.sv_once.specs.Answer.{Answer}
 use Rattle.sv_servlet.specs.Reply.{new_reply}
 use Rattle.sv_servlet.specs.ReplyState.{ReplyState}
 use Rattle.sv_servlet.specs.Servlet.{lent}
 use Rattle.sv_dispatch.specs.Pages.{served as served_by_table}
 use Rattle.sv_dispatch.specs.declared.request.Ended.{Ended}
 use Rattle.sv_dispatch.specs.declared.request.Ended.TheVariants.{Normal, ErrorPage, Plain}
-use Rattle.sv_container.specs.declared.admission.Admission.{Admission}
-use Rattle.sv_container.specs.Admission.{held_of}
-use Rattle.sv_container.specs.Application.{App}
 use Rattle.sv_container.specs.Following.{IsFollowed, answers_follow}
-use Rattle.sv_container.specs.Recalling.{held_memory, recalled, recalled_by, refused, repeated, told_again}
-use Rattle.sv_container.specs.Serving.{Answered, Deployed, answered_by, asked, bared, or_full, outcome_by, place_for, remembering, replied, served_at, served_by, served_in}
-use Rattle.sv_container.specs.Serving.{served_new, served_unless, unserved}
+use Rattle.sv_container.specs.Recalling.{held_memory}
+use Rattle.sv_container.specs.Serving.{asked, replied, served_at}
 use Rattle.sv_container.specs.declared.recall.Refusal.{Refusal}
-use Rattle.sv_container.specs.declared.recall.Refusal.TheVariants.{BadKey, Reused, Gone, Full}
 
 replied_follows : (r : Request) (ended : Ended) (reply : ReplyState) → IsFollowed r (replied r ended reply)
 replied_follows r Normal reply = record { close = refl; head_only = refl }

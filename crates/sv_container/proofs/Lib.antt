@@ -1,3 +1,4 @@
+mod Prelude
 pub mod CookieLemmas
 pub mod LoopLemmas
 pub mod TellLemmas

@@ -1,22 +1,17 @@
 -- Objects that are initialised and destroyed one by one.
-use Rattle.std.proofs.Common.{◌≡◌, ℕ, ◌≢◌, ◌<◌, ◌≤◌, ◌+◌, ◌-◌, zero, suc, List, [], ◌∷◌, length, get_or, set, take, map, arith, sym, ◌∙◌, ap, refl, Bool, true, false, All, slice_get, subst, Option, Some, None}
-use Rattle.std.specs.Prelude.{◌&&◌, if◌then◌else◌, nat_lt, IfSome}
+use Rattle.sv_container.proofs.Prelude.{◌≡◌, ℕ, ◌≢◌, ◌<◌, ◌≤◌, ◌+◌, ◌-◌, zero, suc, List, [], ◌∷◌, length, get_or, set, take, map, arith, sym, ◌∙◌, ap, refl}
+use Rattle.sv_container.proofs.Prelude.{Bool, true, false, All, subst, Option, Some, None, IfSome, nat_tests, get_or-map, get_or-set_other, length-map}
+use Rattle.sv_container.proofs.Prelude.{take_all, All-map, get_or_from_slice_get, Phase, row, rows, Hosted, IsLaunched, identity_of, IsInitialised, IsLive}
+use Rattle.sv_container.proofs.Prelude.{ready_count, Pairwise, is_sendable}
+use Rattle.std.proofs.Common.{slice_get}
+use Rattle.std.specs.Prelude.{◌&&◌, if◌then◌else◌, nat_lt}
 use Rattle.std.specs.List.{list_all}
-use Rattle.std.proofs.lemmas.Bool.Decides.{nat_tests}
-use Rattle.std.proofs.lemmas.List.{get_or-map, get_or-set_other, length-map, take_all}
-use Rattle.std.proofs.lemmas.List.Elements.{All-map}
 use Rattle.std.proofs.lemmas.List.Folds.{list_all-map}
 use Rattle.std.proofs.lemmas.List.Sums.{AllPass-from_list_all}
-use Rattle.std.proofs.lemmas.Option.{get_or_from_slice_get}
 use Rattle.sv_mapping.specs.declared.filter.FilterMapping.{FilterMapping}
-use Rattle.sv_servlet.specs.declared.servlet.Phase.{Phase}
 use Rattle.sv_servlet.specs.declared.servlet.Phase.TheVariants.{Ready}
-use Rattle.sv_dispatch.specs.Rows.{IsReadyAt, Row, row, rows}
-use Rattle.sv_dispatch.specs.declared.hosted.Hosted.{Hosted}
-use Rattle.sv_container.specs.Application.{IsLaunched, can_serve, identity_of, names_filter, phase_of_mark}
-use Rattle.sv_container.specs.Life.{IsInitialised, IsLive, ready_count}
-use Rattle.sv_container.specs.Pairs.{Pairwise}
-use Rattle.sv_container.specs.SetCookie.{is_sendable}
+use Rattle.sv_dispatch.specs.Rows.{IsReadyAt, Row}
+use Rattle.sv_container.specs.Application.{can_serve, names_filter, phase_of_mark}
 use Rattle.sv_container.proofs.LoopLemmas.{head_pair, tail_pairs}
 
 -- ---- counting

@@ -1,9 +1,6 @@
 -- Loops that change the elements of a list one by one.
-use Rattle.std.proofs.Common.{◌≡◌, ◌≢◌, ℕ, ◌<◌, ◌≤◌, ◌+◌, ◌-◌, suc, List, [], ◌∷◌, length, length-set, get_or, set, map, arith, ◌∙◌, refl, ⊎_elim, subst}
-use Rattle.std.proofs.lemmas.List.{get_or-set_same, get_or-set_other}
-use Rattle.std.proofs.lemmas.Bool.{cases_eq}
-use Rattle.std.proofs.lemmas.Option.{slice_get-get_or}
-use Rattle.sv_container.specs.Pairs.{Pairwise}
+use Rattle.sv_container.proofs.Prelude.{◌≡◌, ◌≢◌, ℕ, ◌<◌, ◌≤◌, ◌+◌, ◌-◌, suc, List, [], ◌∷◌, length, length-set, get_or, set, map, arith, ◌∙◌, refl, ⊎_elim}
+use Rattle.sv_container.proofs.Prelude.{subst, get_or-set_same, get_or-set_other, cases_eq, slice_get-get_or, Pairwise}
 
 -- an element that is there doesn't hang on the default
 there : {X : Type 0} (xs : List X) (i : ℕ) (c d : X) → i < length xs → get_or xs i c ≡ get_or xs i d
@@ -26,12 +23,6 @@ pub record ChangedBehind {X : Type 0} (R : X → X → Type 0) (xs ys : List X) 
   pub rest : (k : ℕ) (d : X) → k < i → get_or ys k d ≡ get_or xs k d
 
 module _ {X : Type 0} (R : X → X → Type 0) (xs ys : List X) where
-  pub none_changed : Changed R xs xs 0
-  none_changed = record { long = refl; done = λ k d h. absurd (omega (arith, h)); rest = λ k d a b. refl }
-
-  pub none_changed_behind : ChangedBehind R xs xs (length xs)
-  none_changed_behind = record { within = omega arith; long = refl; done = λ k d a b. absurd (omega (arith, a, b)); rest = λ k d a. refl }
-
   -- the element at a place is as it was
   pub old_there : (i : ℕ) (n d : X) → i < length xs → n ≡ get_or ys i n → Changed R xs ys i → n ≡ get_or xs i d
   old_there i n d h e c =

@@ -1,45 +1,28 @@
 -- What a session remembers of a key stays until enough newer ones have come, and a request that is asked again changes nothing.
-use Rattle.std.proofs.Common.{◌≡◌, refl, sym, ap, ◌∙◌, subst, ℕ, zero, suc, ◌+◌, ◌<◌, ◌≤◌, ◌⊎◌, inl, inr, Bool, true, false, cond, ◌&&◌, List, [], ◌∷◌, length, Option, Some, None, arith}
-use Rattle.std.specs.Prelude.{IfSome, is_none, is_some, max, min, option_map, take}
-use Rattle.std.specs.Str.{bytes_eq}
+use Rattle.sv_container.proofs.Prelude.{◌≡◌, refl, sym, ap, ◌∙◌, subst, ℕ, zero, suc, ◌+◌, ◌<◌, ◌≤◌, ◌⊎◌, inl, inr, Bool, true, false, cond, ◌&&◌, List, []}
+use Rattle.sv_container.proofs.Prelude.{◌∷◌, length, Option, Some, None, arith, IfSome, is_some, option_map, bytes_eq, bytes_eq-Decides, Key, Secret, Birth}
+use Rattle.sv_container.proofs.Prelude.{Fate, Untouched, Kept, Ended, Outcome, Request, Response, Session, answer_in, is_key, key_of, mark_of, IsSmall, known}
+use Rattle.sv_container.proofs.Prelude.{memory_in, Choice, Entry, begun, joined, Edited, App, Ask, after, kept_in, left_by, outcome_at, recalled, recalled_by}
+use Rattle.sv_container.proofs.Prelude.{refused, repeated, told_again, Answered, answered_by, edited_of, or_full, outcome_by, remembering, served_in}
+use Rattle.sv_container.proofs.Prelude.{served_new, served_unless, unserved, Admission, is_turned_away, context_at, path_in_context, is_expired, session_cookie}
+use Rattle.sv_container.proofs.Prelude.{BadKey, Gone, Reused}
+use Rattle.std.specs.Prelude.{is_none, max, min, take}
 use Rattle.std.proofs.lemmas.List.{length-take}
 use Rattle.std.proofs.lemmas.Option.{same_Some}
-use Rattle.std.proofs.lemmas.Slice.Eq.{bytes_eq-Decides}
-use Rattle.sv_model.specs.declared.key.Key.{Key}
-use Rattle.sv_model.specs.declared.key.Secret.{Secret}
-use Rattle.sv_model.specs.declared.outcome.Birth.{Birth}
-use Rattle.sv_model.specs.declared.outcome.Fate.{Fate}
-use Rattle.sv_model.specs.declared.outcome.Fate.TheVariants.{Untouched, Kept, Ended}
-use Rattle.sv_model.specs.declared.outcome.Outcome.{Outcome}
-use Rattle.sv_model.specs.declared.request.Request.{Request}
-use Rattle.sv_model.specs.declared.response.Response.{Response}
-use Rattle.sv_model.specs.declared.session.Session.{Session}
-use Rattle.sv_once.specs.Answer.{answer_in, is_kept, kept_answer, response_of, shown}
-use Rattle.sv_once.specs.Asked.{is_key, key_of, mark_of}
-use Rattle.sv_once.specs.Entries.{IsSmall, known, memory_bytes, memory_in, remembered}
+use Rattle.sv_once.specs.Answer.{is_kept, kept_answer, response_of, shown}
+use Rattle.sv_once.specs.Entries.{memory_bytes, remembered}
 use Rattle.sv_once.specs.Room.{bare, memory_of, session_with}
-use Rattle.sv_once.specs.declared.choice.Choice.{Choice}
-use Rattle.sv_once.specs.declared.entry.Entry.{Entry}
 use Rattle.sv_once.proofs.AnswerLemmas.{kept_none, kept_read, kept_small}
 use Rattle.sv_once.proofs.AskedLemmas.{key_small, mark_small}
 use Rattle.sv_once.proofs.PartsLemmas.{both_true}
 use Rattle.sv_once.proofs.EntryLemmas.{memory_read, memory_small, remembered_small}
 use Rattle.sv_once.proofs.RoomLemmas.{remembers}
-use Rattle.sv_session.specs.Edit.{begun}
-use Rattle.sv_session.specs.Expiry.{joined}
-use Rattle.sv_session.specs.declared.edit.Edited.{Edited}
-use Rattle.sv_container.specs.Application.{App}
-use Rattle.sv_container.specs.Once.{AnswersAgain, Ask, IsJoined, LeavesWhatCounts, Rises, admitted, after, again, answer_at, counting, counts, counts_by, kept_in, keys_in, last_of, left, left_by, named_again, one_where, outcome_at}
-use Rattle.sv_container.specs.Recalling.{entry_for, memory_after, memory_with, next_memory, old_secret, recalled, recalled_by, refused, repeated, told_again}
-use Rattle.sv_container.specs.Serving.{Answered, answered_by, birth_with, edited_of, edited_with, fate_with, or_full, outcome_by, remembering, served_in, served_new, served_unless, unserved}
-use Rattle.sv_container.specs.declared.admission.Admission.{Admission}
+use Rattle.sv_container.specs.Once.{AnswersAgain, IsJoined, LeavesWhatCounts, Rises, admitted, again, answer_at, counting, counts, counts_by, keys_in, last_of, left, named_again, one_where}
+use Rattle.sv_container.specs.Recalling.{entry_for, memory_after, memory_with, next_memory, old_secret}
+use Rattle.sv_container.specs.Serving.{birth_with, edited_with, fate_with}
 use Rattle.sv_container.specs.declared.admission.Admission.TheVariants.{Expired, Joined}
-use Rattle.sv_container.specs.Admission.{is_turned_away, turned_away}
+use Rattle.sv_container.specs.Admission.{turned_away}
 use Rattle.sv_container.proofs.EngineLemmas.{served_is}
-use Rattle.sv_mapping.specs.Context.{context_at, path_in_context}
-use Rattle.sv_model.specs.Session.{is_expired}
-use Rattle.sv_target.specs.SessionCookie.{session_cookie}
-use Rattle.sv_container.specs.declared.recall.Refusal.TheVariants.{BadKey, Gone, Reused}
 
 same_bytes : (xs : List ℕ) → bytes_eq xs xs ≡ true
 same_bytes xs = (bytes_eq-Decides xs xs).1 refl

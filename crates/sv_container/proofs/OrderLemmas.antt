@@ -1,30 +1,18 @@
 -- The requests of one session, in the order of all commits.
-use Rattle.std.proofs.Common.{◌≡◌, ◌≢◌, ◌⊎◌, inl, inr, refl, sym, ap, ◌∙◌, ℕ, Bool, true, false, cond, ◌&&◌, true≢false, List, [], ◌∷◌, Option, Some, None}
-use Rattle.std.specs.Prelude.{option_map, slice_get}
+use Rattle.sv_container.proofs.Prelude.{◌≡◌, ◌≢◌, ◌⊎◌, inl, inr, refl, sym, ap, ◌∙◌, ℕ, Bool, true, false, cond, ◌&&◌, List, [], ◌∷◌, Option, Some, None}
+use Rattle.sv_container.proofs.Prelude.{option_map, slice_get, Key, Secret, Birth, Fate, Untouched, Kept, Ended, Outcome, Request, Session, is_expired}
+use Rattle.sv_container.proofs.Prelude.{context_at, path_in_context, joined, session_cookie, is_turned_away, App, Ask, after, kept_in, left_by, outcome_at}
+use Rattle.sv_container.proofs.Prelude.{Deployed, IsSound, container_meaning, place_for, served}
+use Rattle.std.proofs.Common.{true≢false}
 use Rattle.sv_model.specs.declared.commit.Commit.{Commit}
 use Rattle.sv_model.specs.declared.commit.Commit.TheVariants.{Served, Expired}
-use Rattle.sv_model.specs.declared.key.Key.{Key}
-use Rattle.sv_model.specs.declared.key.Secret.{Secret}
-use Rattle.sv_model.specs.declared.outcome.Birth.{Birth}
 use Rattle.sv_model.specs.declared.outcome.Birth.TheVariants.{Absent, Alive, Ended as BirthEnded}
-use Rattle.sv_model.specs.declared.outcome.Fate.{Fate}
-use Rattle.sv_model.specs.declared.outcome.Fate.TheVariants.{Untouched, Kept, Ended}
-use Rattle.sv_model.specs.declared.outcome.Outcome.{Outcome}
-use Rattle.sv_model.specs.declared.request.Request.{Request}
-use Rattle.sv_model.specs.declared.session.Session.{Session}
 use Rattle.sv_model.specs.Container.{Store, AreLawful, IsLawful, IsNewKey, always, born, committed, fated, handed_if, held_by, made_with, after as run}
 use Rattle.sv_model.specs.Keys.{same_key}
-use Rattle.sv_model.specs.Session.{is_expired}
 use Rattle.sv_model.proofs.KeyLemmas.{keys_tell}
-use Rattle.sv_mapping.specs.Context.{context_at, path_in_context}
 use Rattle.sv_session.specs.Edit.{IsFateOf}
-use Rattle.sv_session.specs.Expiry.{joined}
-use Rattle.sv_target.specs.SessionCookie.{session_cookie}
-use Rattle.sv_container.specs.Admission.{is_turned_away}
-use Rattle.sv_container.specs.Application.{App}
 use Rattle.sv_container.specs.Laws.{joined_stays, sound_there, touches_only_handed}
-use Rattle.sv_container.specs.Once.{AreJoined, Ask, IsAnsweredInOrder, IsInOrder, IsJoinedAt, after, ask_by, ask_if, asks_in, is_for, kept_in, left_by, outcome_at, with_ask}
-use Rattle.sv_container.specs.Serving.{Deployed, IsSound, container_meaning, place_for, served}
+use Rattle.sv_container.specs.Once.{AreJoined, IsAnsweredInOrder, IsInOrder, IsJoinedAt, ask_by, ask_if, asks_in, is_for, with_ask}
 use Rattle.sv_container.proofs.OnceLemmas.{is_joined}
 
 cond_true : (b x : Bool) → x ≡ true → cond b true x ≡ true

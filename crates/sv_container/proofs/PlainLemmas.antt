@@ -1,20 +1,10 @@
 -- What is served where sessions remember nothing.
-use Rattle.std.proofs.Common.{◌≡◌, ◌∙◌, refl, ap, sym, ℕ, false, List, None, Option, Some, option_map}
-use Rattle.std.specs.Prelude.{is_some}
-use Rattle.sv_model.specs.declared.key.Key.{Key}
-use Rattle.sv_model.specs.declared.key.Secret.{Secret}
-use Rattle.sv_model.specs.declared.outcome.Outcome.{Outcome}
-use Rattle.sv_model.specs.declared.request.Request.{Request}
-use Rattle.sv_model.specs.declared.response.Response.{Response}
-use Rattle.sv_model.specs.declared.session.Session.{Session}
-use Rattle.sv_session.specs.Edit.{Edit, begun}
-use Rattle.sv_session.specs.declared.edit.Edited.{Edited}
-use Rattle.sv_container.specs.Admission.{expired_of, held_of, is_away, joined_of, secret_of}
-use Rattle.sv_container.specs.Application.{App}
-use Rattle.sv_container.specs.Recalling.{recalled}
-use Rattle.sv_container.specs.Serving.{Answered, answered, answered_by, bared, edited_of, memory_if, or_full, outcome_by, plain_parts, remembering, remembering_with, served_in, served_new, served_unless, unserved}
-use Rattle.sv_once.specs.declared.choice.Choice.{Choice}
-use Rattle.sv_container.specs.declared.admission.Admission.{Admission}
+use Rattle.sv_container.proofs.Prelude.{◌≡◌, ◌∙◌, refl, ap, sym, ℕ, false, List, None, Option, Some, is_some, Key, Secret, Outcome, Request, Response, Session}
+use Rattle.sv_container.proofs.Prelude.{Edit, begun, Edited, expired_of, held_of, App, recalled, Answered, answered, answered_by, bared, edited_of, memory_if}
+use Rattle.sv_container.proofs.Prelude.{or_full, outcome_by, plain_parts, remembering, remembering_with, served_in, served_new, served_unless, unserved, Choice}
+use Rattle.sv_container.proofs.Prelude.{Admission}
+use Rattle.std.proofs.Common.{option_map}
+use Rattle.sv_container.specs.Admission.{is_away, joined_of, secret_of}
 
 none_of : (c : Option Choice) → is_some c ≡ false → c ≡ None
 none_of None none = refl

@@ -1,10 +1,9 @@
 -- Applications that are made ready for their objects, one by one.
-use Rattle.std.proofs.Common.{◌≡◌, ℕ, ◌+◌, List, [], ◌∷◌, ◌++◌, length, map, sym, ◌∙◌, ap, subst, All}
-use Rattle.std.proofs.lemmas.List.{append_assoc, append-nil, length_push, map_push, nil_from_length}
-use Rattle.std.proofs.lemmas.List.Elements.{All-append, All-cons, All-nil}
-use Rattle.sv_config.specs.declared.deployment.Context.{Context}
-use Rattle.sv_container.specs.Deployment.{Frame, IsEmpty, frame_of, frame_of_context, frames_from}
-use Rattle.sv_container.specs.declared.application.Application.{Application}
+use Rattle.sv_container.proofs.Prelude.{◌≡◌, ℕ, ◌+◌, List, [], ◌∷◌, ◌++◌, length, map, sym, ◌∙◌, ap, subst, All, append_assoc, append-nil, All-append, All-cons}
+use Rattle.sv_container.proofs.Prelude.{Context, frame_of, Application}
+use Rattle.std.proofs.lemmas.List.{length_push, map_push, nil_from_length}
+use Rattle.std.proofs.lemmas.List.Elements.{All-nil}
+use Rattle.sv_container.specs.Deployment.{Frame, IsEmpty, frame_of_context, frames_from}
 
 module _ {S F : Type 0} where
   -- one more application has the frame of its context

@@ -1,22 +1,11 @@
 -- What is served, by its parts.
-use Rattle.std.proofs.Common.{◌≡◌, ◌∙◌, refl, ap, sym, ℕ, Bool, List, None, Option, Some, option_map}
-use Rattle.std.specs.Prelude.{is_some}
-use Rattle.sv_model.specs.declared.key.Key.{Key}
-use Rattle.sv_model.specs.declared.key.Secret.{Secret}
-use Rattle.sv_model.specs.declared.event.Told.{Told}
-use Rattle.sv_model.specs.declared.outcome.Birth.{Birth}
-use Rattle.sv_model.specs.declared.outcome.Fate.{Fate}
-use Rattle.sv_model.specs.declared.outcome.Outcome.{Outcome}
-use Rattle.sv_model.specs.declared.request.Request.{Request}
-use Rattle.sv_model.specs.declared.response.Response.{Response}
-use Rattle.sv_model.specs.declared.session.Session.{Session}
-use Rattle.sv_session.specs.Edit.{Edit, begun}
-use Rattle.sv_session.specs.declared.edit.Edited.{Edited}
-use Rattle.sv_container.specs.Admission.{arrival_of, expired_of, held_of}
-use Rattle.sv_container.specs.Application.{App}
-use Rattle.sv_container.specs.Recalling.{recalled}
-use Rattle.sv_container.specs.Serving.{Answered, answered, answered_by, bared, edited_of, memory_if, or_full, plain_parts, remembering, remembering_with, served_apart, served_in, served_new, served_parts, unserved}
-use Rattle.sv_container.specs.declared.admission.Admission.{Admission}
+use Rattle.sv_container.proofs.Prelude.{◌≡◌, ◌∙◌, refl, ap, sym, ℕ, Bool, List, None, Option, is_some, Key, Secret, Told, Birth, Fate, Outcome, Request}
+use Rattle.sv_container.proofs.Prelude.{Response, Session, Edit, begun, Edited, expired_of, held_of, App, recalled, Answered, answered, answered_by, bared}
+use Rattle.sv_container.proofs.Prelude.{edited_of, memory_if, or_full, plain_parts, remembering, remembering_with, served_apart, served_in, served_new}
+use Rattle.sv_container.proofs.Prelude.{Admission}
+use Rattle.std.proofs.Common.{option_map}
+use Rattle.sv_container.specs.Admission.{arrival_of}
+use Rattle.sv_container.specs.Serving.{served_parts}
 use Rattle.sv_container.specs.declared.admission.Arrival.{Arrival}
 
 module _ (a b : App) (r : Request) (path : List ℕ) (arrival : Arrival) (bare : Admission) (memory : List ℕ) (joined : Admission) (now : ℕ) (fresh : Key × Secret) where
@@ -47,11 +36,6 @@ module _ (a : App) (r : Request) (path : List ℕ) (joined : Admission) (now : �
       → served_apart a r path arrival bare memory joined now fresh ≡ served_in a r path joined now fresh
   unfolding served_in served_new remembering
   served_apart_is bare memory arrival arrival_is none memory_is held_is expired_is = rw (none, arrival_is, memory_is, held_is, expired_is) refl
-
-  -- of which something is
-  pub unserved_is : (response : Response) → recalled a.once r (held_of joined) ≡ Some response → unserved a joined response ≡ served_in a r path joined now fresh
-  unfolding served_in
-  unserved_is response some = rw (some) refl
 
 pub edited_is_of : (e : Edited) (b : Edit) → e.fate ≡ b.fate → e.birth ≡ b.birth → e.id_changed ≡ b.id_changed → e.events ≡ b.events → e ≡ edited_of b
 edited_is_of e b fate birth id_changed events =

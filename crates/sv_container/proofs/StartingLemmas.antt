@@ -1,17 +1,14 @@
 -- Labels of which there are fewer than are wanted, or more.
-use Rattle.std.proofs.Common.{◌≡◌, ℕ, ◌<◌, ◌≤◌, ◌+◌, Bool, true, false, cond, List, [], ◌∷◌, ◌++◌, length, get_or, take, drop, map, arith, sym, ◌∙◌, ap, refl}
+use Rattle.sv_container.proofs.Prelude.{◌≡◌, ℕ, ◌<◌, ◌≤◌, ◌+◌, Bool, true, false, cond, List, [], ◌∷◌, ◌++◌, length, get_or, take, drop, map, arith, sym, ◌∙◌}
+use Rattle.sv_container.proofs.Prelude.{ap, refl, IsPermutation, get_or-map, length-map, map_more, bytes_eq-Decides, Context, declared_from, label, label_of}
+use Rattle.sv_container.proofs.Prelude.{labels_of, is_label, times, Named}
 use Rattle.std.specs.Prelude.{◌==◌, bytes_eq, count_by, sum_by}
-use Rattle.std.specs.List.Sorted.{IsPermutation}
-use Rattle.std.proofs.lemmas.Bool.{false≢true, and_from, and_parts, eq-eqb, eqb-true}
-use Rattle.std.proofs.lemmas.List.{get_or-map, length-map, map_more}
+use Rattle.std.proofs.lemmas.Bool.{false≢true, and_from, and_parts, eq-eqb, eqb-true, false_from_ne_true}
 use Rattle.std.proofs.lemmas.List.Sums.{count_by_more_no, count_by_more_yes, sum_by-append, sum_by-cons, sum_by-take-le}
 use Rattle.std.proofs.lemmas.List.Sorted.{sum_by-IsPermutation}
-use Rattle.std.proofs.lemmas.Slice.Eq.{bytes_eq-Decides}
-use Rattle.sv_config.specs.declared.deployment.Context.{Context}
 use Rattle.sv_container.specs.declared.arrange.Kind.{Kind}
-use Rattle.sv_container.specs.Deployment.{declared, declared_from, label, label_of, labels_of}
-use Rattle.sv_container.specs.Starting.{HasAll, Lacks, is_label, times}
-use Rattle.sv_container.specs.declared.named.Named.{Named}
+use Rattle.sv_container.specs.Deployment.{declared}
+use Rattle.sv_container.specs.Starting.{HasAll, Lacks}
 use Rattle.sv_container.proofs.ArrangeLemmas.{an_element, one_more_context}
 
 sum_by_map : {X Y : Type 0} (f : Y → ℕ) (g : X → Y) (xs : List X) → sum_by f (map g xs) ≡ sum_by (λ x. f (g x)) xs
@@ -22,22 +19,18 @@ sum_by_map f g (x ∷ xs) = sum_by-cons f (g x) (map g xs) ∙ (ap (λ n. f (g x
 is_label_itself : (its : ℕ × List ℕ) → is_label its its ≡ true
 is_label_itself its = and_from (its.0 == its.0) (bytes_eq its.1 its.1) (eq-eqb its.0 its.0 refl) ((bytes_eq-Decides its.1 its.1).1 refl)
 
-no_true : (b : Bool) → (b ≡ true → ⊥) → b ≡ false
-no_true true h = absurd (h refl)
-no_true false h = refl
-
 clash : (b : Bool) → b ≡ false → b ≡ true → ⊥
 clash true p q = false≢true (sym p)
 clash false p q = false≢true q
 
 -- a label of another context, and one of another name
 pub other_context : (its other : ℕ × List ℕ) → (other.0 ≡ its.0 → ⊥) → is_label its other ≡ false
-other_context its other differs = no_true (is_label its other) (λ yes.
+other_context its other differs = false_from_ne_true (is_label its other) (λ yes.
     let parts = and_parts (its.0 == other.0) (bytes_eq its.1 other.1) yes in
     differs (sym (eqb-true its.0 other.0 parts.0)))
 
 pub other_name : (its other : ℕ × List ℕ) (text : List ℕ) → text ≡ other.1 → bytes_eq text its.1 ≡ false → is_label its other ≡ false
-other_name its other text is differs = no_true (is_label its other) (λ yes.
+other_name its other text is differs = false_from_ne_true (is_label its other) (λ yes.
     let parts = and_parts (its.0 == other.0) (bytes_eq its.1 other.1) yes in
     clash (bytes_eq text its.1) differs ((bytes_eq-Decides text its.1).1 (is ∙ sym ((bytes_eq-Decides its.1 other.1).0 parts.1))))
 

@@ -1,10 +1,7 @@
 -- What listeners note that are told one by one.
-use Rattle.std.proofs.Common.{◌≡◌, ◌∙◌, ◌+◌, ◌<◌, ◌≤◌, List, [], ◌∷◌, ap, arith, drop, get_or, length, ℕ, refl, sym}
-use Rattle.std.proofs.lemmas.List.{drop_all, drop_more}
-use Rattle.sv_model.specs.declared.event.Told.{Told}
-use Rattle.sv_container.specs.Listening.{Ear, ear_of, ears_of, heard_by, heard_by_all, heard_of, noted_of}
-use Rattle.sv_container.specs.Pairs.{Pairwise}
-use Rattle.sv_container.specs.declared.named.Named.{Named}
+use Rattle.sv_container.proofs.Prelude.{◌≡◌, ◌∙◌, ◌+◌, ◌<◌, ◌≤◌, List, [], ◌∷◌, ap, arith, drop, get_or, length, ℕ, refl, sym, drop_all, drop_more, Told}
+use Rattle.sv_container.proofs.Prelude.{ears_of, heard_by_all, heard_of, noted_of, Pairwise, Named}
+use Rattle.sv_container.specs.Listening.{Ear, ear_of, heard_by}
 use Rattle.sv_container.proofs.LoopLemmas.{head_pair, same_map, tail_pairs}
 
 -- a listener after an event

@@ -17,6 +17,8 @@ use Rattle.sv_once.specs.declared.choice.Choice.{Choice}
 use Rattle.sv_container.specs.SetCookie.{is_sendable}
 use Rattle.sv_container.specs.declared.application.Application.{Application}
 use Rattle.sv_container.specs.declared.set_cookie.SessionCookie.{SessionCookie}
+use Rattle.sv_servlet.specs.declared.servlet.Servlet as servlet_trait
+use Rattle.sv_servlet.specs.declared.filter.Filter as filter_trait
 
 pub record App : Type 0 where
   -- the number of its context in sessions, their cookies and events
@@ -36,8 +38,8 @@ pub record App : Type 0 where
   pub table : Table
 
 -- an application, by the members of the two traits
-abbrev pub app_of : {S F : Type 0} → (S → Serves) → (S → Phase) → (F → Filters) → (F → Phase) → Application S F → App
-app_of serves servlet_phase filtering filter_phase a = record {
+abbrev pub app_of : {S F : Type 0} → servlet_trait.Ghosts S → filter_trait.Ghosts F → Application S F → App
+app_of servlet filter a = record {
   number = a.number;
   path = a.path;
   cookie = a.cookie;
@@ -45,11 +47,11 @@ app_of serves servlet_phase filtering filter_phase a = record {
   is_in_service = a.is_in_service;
   once = a.once;
   settings = a.settings;
-  table = table_of serves servlet_phase filtering filter_phase a.stage;
+  table = table_of servlet filter a.stage;
 }
 
-unfoldable pub apps_of : {S F : Type 0} → (S → Serves) → (S → Phase) → (F → Filters) → (F → Phase) → List (Application S F) → List App
-apps_of serves servlet_phase filtering filter_phase apps = map (app_of serves servlet_phase filtering filter_phase) apps
+unfoldable pub apps_of : {S F : Type 0} → servlet_trait.Ghosts S → filter_trait.Ghosts F → List (Application S F) → List App
+apps_of servlet filter apps = map (app_of servlet filter) apps
 
 -- ---- which applications are sound
 

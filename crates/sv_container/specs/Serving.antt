@@ -23,14 +23,12 @@ use Rattle.sv_once.specs.declared.choice.Choice.{Choice}
 use Rattle.sv_session.specs.Edit.{Edit, begun, fate_of}
 use Rattle.sv_session.specs.declared.edit.Edited.{Edited}
 use Rattle.sv_servlet.specs.Call.{Asked}
-use Rattle.sv_servlet.specs.Filter.{Filters}
 use Rattle.sv_servlet.specs.Reply.{new_reply}
 use Rattle.sv_servlet.specs.ReplyState.{ReplyState}
-use Rattle.sv_servlet.specs.Servlet.{lent, Serves}
-use Rattle.sv_servlet.specs.declared.servlet.Phase.{Phase}
+use Rattle.sv_servlet.specs.Servlet.{lent}
 use Rattle.sv_target.specs.SessionCookie.{session_cookie}
 use Rattle.sv_dispatch.specs.Pages.{Ran, served as served_by_table}
-use Rattle.sv_dispatch.specs.Place.{place_of}
+use Rattle.sv_dispatch.specs.MappedPath.{mapped_path_of}
 use Rattle.sv_dispatch.specs.declared.request.Ended.{Ended}
 use Rattle.sv_dispatch.specs.declared.request.Ended.TheVariants.{Normal, ErrorPage, Plain}
 use Rattle.sv_container.specs.declared.admission.Admission.{Admission}
@@ -45,6 +43,8 @@ use Rattle.sv_container.specs.Listening.{Ear, ears_of, heard_by_all}
 use Rattle.sv_container.specs.Outcome.{outcome_of, served_outside, told, unserved_of}
 use Rattle.sv_container.specs.Recalling.{held_memory, next_memory, old_secret, recalled, refused}
 use Rattle.sv_container.specs.SetCookie.{announced, with_cookie}
+use Rattle.sv_servlet.specs.declared.servlet.Servlet as servlet_trait
+use Rattle.sv_servlet.specs.declared.filter.Filter as filter_trait
 
 -- what is deployed: the context path of each application by its number, the applications, and the listeners
 pub record Deployed : Type 0 where
@@ -53,10 +53,10 @@ pub record Deployed : Type 0 where
   pub ears : List Ear
 
 -- a container, by the members of the three traits
-abbrev pub deployed : {S F L : Type 0} → (S → Serves) → (S → Phase) → (F → Filters) → (F → Phase) → (L → Told → List ℕ → List ℕ) → Container S F L → Deployed
-deployed serves servlet_phase filtering filter_phase hears c = record {
+abbrev pub deployed : {S F L : Type 0} → servlet_trait.Ghosts S → filter_trait.Ghosts F → (L → Told → List ℕ → List ℕ) → Container S F L → Deployed
+deployed servlet filter hears c = record {
   paths = map string_bytes c.paths.items;
-  apps = apps_of serves servlet_phase filtering filter_phase c.applications.items;
+  apps = apps_of servlet filter c.applications.items;
   ears = ears_of hears c.listeners.items;
 }
 
@@ -91,7 +91,7 @@ named_by d r = named_at d r (place_for d r.path)
 -- what the servlet of a path within the context is asked (section "Request Path Elements")
 abbrev pub asked : App → Request → List ℕ → Asked
 asked a r path =
-    let place = place_of a.table.patterns path in
+    let place = mapped_path_of a.table.patterns path in
     record {
       method = r.method;
       request_uri = r.raw_path;

@@ -2,7 +2,7 @@
 
 ghost use Rattle.std.specs.Prelude.{◌≡◌, IfOk, IsTrue, None, Some, false, is_some, option_map, true};
 ghost use Rattle.sv_dispatch.specs.Pages.{ran, served as served_by_table};
-ghost use Rattle.sv_dispatch.specs.Place.{place_of};
+ghost use Rattle.sv_dispatch.specs.MappedPath.{mapped_path_of};
 ghost use Rattle.sv_dispatch.specs.Stages.{lent_of};
 ghost use Rattle.sv_container.specs.Application.{IsSoundApp, app_of};
 ghost use Rattle.sv_container.specs.Recalling.{refused as refused_page};
@@ -33,8 +33,8 @@ use sv_target::session_cookie;
 
 /// The servlet path and the path info of a path within a context; without a servlet, as the default one sees them.
 fn shown<'a>(patterns: &Mappings, path: &'a str) -> (&'a str, Option<&'a str>)
-    ensures servlet_path { result.0.now ≡ (place_of patterns.now path.now).servlet_path }
-    ensures path_info { option_map (λ t. t.now) result.1 ≡ (place_of patterns.now path.now).path_info }
+    ensures servlet_path { result.0.now ≡ (mapped_path_of patterns.now path.now).servlet_path }
+    ensures path_info { option_map (λ t. t.now) result.1 ≡ (mapped_path_of patterns.now path.now).path_info }
 {
     match patterns.find(path) {
         Some(found) => (found.servlet_path(path), found.path_info(path)),
@@ -89,13 +89,11 @@ impl<S: Servlet, F: Filter> Application<S, F> {
         request: &Request,
         path: &str,
     ) -> Result<Ended, AllocError>
-        requires sound { IsSoundApp (app_of S.serves S.servlet_phase F.filtering F.filter_phase self.old) }
+        requires sound { IsSoundApp (app_of S.Servlet F.Filter self.old) }
         requires serving { self.old.is_in_service ≡ true }
-        ensures same { app_of S.serves S.servlet_phase F.filtering F.filter_phase self.new
-            ≡ app_of S.serves S.servlet_phase F.filtering F.filter_phase self.old }
-        ensures ran { IfOk result (λ ended. ran ended (lent_of self.new.stage)
-            ≡ served_by_table (app_of S.serves S.servlet_phase F.filtering F.filter_phase self.old).table
-            (asked (app_of S.serves S.servlet_phase F.filtering F.filter_phase self.old) request.now path.now) (lent_of self.old.stage)) }
+        ensures same { app_of S.Servlet F.Filter self.new ≡ app_of S.Servlet F.Filter self.old }
+        ensures ran { IfOk result (λ ended. ran ended (lent_of self.new.stage) ≡ served_by_table (app_of S.Servlet F.Filter self.old).table
+            (asked (app_of S.Servlet F.Filter self.old) request.now path.now) (lent_of self.old.stage)) }
     {
         let (servlet_path, path_info) = shown(&self.stage.patterns, path);
         let attributes = RequestAttributes::new(alloc);
@@ -127,12 +125,10 @@ impl<S: Servlet, F: Filter> Application<S, F> {
         path: &str,
         edit: SessionEdit,
     ) -> Result<(Response, SessionEdit), AllocError>
-        requires sound { IsSoundApp (app_of S.serves S.servlet_phase F.filtering F.filter_phase self.old) }
+        requires sound { IsSoundApp (app_of S.Servlet F.Filter self.old) }
         requires serving { self.old.is_in_service ≡ true }
-        ensures same { app_of S.serves S.servlet_phase F.filtering F.filter_phase self.new
-            ≡ app_of S.serves S.servlet_phase F.filtering F.filter_phase self.old }
-        ensures answer { IfOk result (λ r. answered r.0 r.1 ≡ answered_by
-            (app_of S.serves S.servlet_phase F.filtering F.filter_phase self.old) request.now path.now edit) }
+        ensures same { app_of S.Servlet F.Filter self.new ≡ app_of S.Servlet F.Filter self.old }
+        ensures answer { IfOk result (λ r. answered r.0 r.1 ≡ answered_by (app_of S.Servlet F.Filter self.old) request.now path.now edit) }
     {
         self.stage.edit = edit;
         self.stage.reply = Reply::new(alloc);
@@ -169,7 +165,7 @@ impl<S: Servlet, F: Filter> Application<S, F> {
     ) -> Result<Outcome, AllocError>
         requires path { IsTrue (is_sendable self.now.path) }
         requires name { IsTrue (is_sendable self.now.cookie.name) }
-        ensures { IfOk result (λ o. o ≡ plain_parts (app_of S.serves S.servlet_phase F.filtering F.filter_phase self.now) joined expired fresh response edited) }
+        ensures { IfOk result (λ o. o ≡ plain_parts (app_of S.Servlet F.Filter self.now) joined expired fresh response edited) }
     {
         let announced = announced(joined, fresh, &edited);
         let response = with_cookie(
@@ -230,11 +226,10 @@ impl<S: Servlet, F: Filter> Application<S, F> {
         now: u64,
         fresh: (Key, Secret),
     ) -> Result<Outcome, AllocError>
-        requires sound { IsSoundApp (app_of S.serves S.servlet_phase F.filtering F.filter_phase self.old) }
+        requires sound { IsSoundApp (app_of S.Servlet F.Filter self.old) }
         requires serving { self.old.is_in_service ≡ true }
-        ensures same { app_of S.serves S.servlet_phase F.filtering F.filter_phase self.new
-            ≡ app_of S.serves S.servlet_phase F.filtering F.filter_phase self.old }
-        ensures outcome { IfOk result (λ o. o ≡ served_apart (app_of S.serves S.servlet_phase F.filtering F.filter_phase self.old) request.now path.now
+        ensures same { app_of S.Servlet F.Filter self.new ≡ app_of S.Servlet F.Filter self.old }
+        ensures outcome { IfOk result (λ o. o ≡ served_apart (app_of S.Servlet F.Filter self.old) request.now path.now
             arrival admission memory (spec.admission self.old.once self.old.number request.now (session_cookie self.old.cookie.name request.now.cookies self.old.number)
             (option_map (λ s. (s.0, s.1.now)) handed.entry) now) now fresh) }
     {
@@ -265,9 +260,9 @@ impl<S: Servlet, F: Filter> Application<S, F> {
         admission: Admission,
         response: Response,
     ) -> Result<Outcome, AllocError>
-        requires sound { IsSoundApp (app_of S.serves S.servlet_phase F.filtering F.filter_phase self.now) }
+        requires sound { IsSoundApp (app_of S.Servlet F.Filter self.now) }
         requires serving { self.now.is_in_service ≡ true }
-        ensures { IfOk result (λ o. o ≡ unserved (app_of S.serves S.servlet_phase F.filtering F.filter_phase self.now) admission response) }
+        ensures { IfOk result (λ o. o ≡ unserved (app_of S.Servlet F.Filter self.now) admission response) }
     {
         let renamed = admission.renamed();
         let (expired, held) = admission.into_parts();
@@ -319,9 +314,9 @@ impl<S: Servlet, F: Filter> Application<S, F> {
         handed: Option<(Key, &Session)>,
         now: u64,
     ) -> Result<Outcome, AllocError>
-        requires sound { IsSoundApp (app_of S.serves S.servlet_phase F.filtering F.filter_phase self.now) }
+        requires sound { IsSoundApp (app_of S.Servlet F.Filter self.now) }
         requires serving { self.now.is_in_service ≡ true }
-        ensures { IfOk result (λ o. o ≡ unserved (app_of S.serves S.servlet_phase F.filtering F.filter_phase self.now)
+        ensures { IfOk result (λ o. o ≡ unserved (app_of S.Servlet F.Filter self.now)
             (spec.admission self.now.once self.now.number request.now (session_cookie self.now.cookie.name request.now.cookies self.now.number)
             (option_map (λ s. (s.0, s.1.now)) handed.entry) now) (refused_page Full request.now)) }
     {
@@ -359,13 +354,11 @@ impl<S: Servlet, F: Filter> Application<S, F> {
         now: u64,
         fresh: (Key, Secret),
     ) -> Result<Outcome, AllocError>
-        requires sound { IsSoundApp (app_of S.serves S.servlet_phase F.filtering F.filter_phase self.old) }
+        requires sound { IsSoundApp (app_of S.Servlet F.Filter self.old) }
         requires serving { self.old.is_in_service ≡ true }
         requires plain { is_some self.old.once ≡ false }
-        ensures same { app_of S.serves S.servlet_phase F.filtering F.filter_phase self.new
-            ≡ app_of S.serves S.servlet_phase F.filtering F.filter_phase self.old }
-        ensures outcome { IfOk result (λ o. o ≡ served_in (app_of S.serves S.servlet_phase F.filtering F.filter_phase self.old) request.now path.now admission
-            now fresh) }
+        ensures same { app_of S.Servlet F.Filter self.new ≡ app_of S.Servlet F.Filter self.old }
+        ensures outcome { IfOk result (λ o. o ≡ served_in (app_of S.Servlet F.Filter self.old) request.now path.now admission now fresh) }
     {
         let joined = admission.joined();
         let (expired, held) = admission.into_parts();
@@ -388,14 +381,12 @@ impl<S: Servlet, F: Filter> Application<S, F> {
         now: u64,
         fresh: (Key, Secret),
     ) -> Result<Outcome, AllocError>
-        requires sound { IsSoundApp (app_of S.serves S.servlet_phase F.filtering F.filter_phase self.old) }
+        requires sound { IsSoundApp (app_of S.Servlet F.Filter self.old) }
         requires serving { self.old.is_in_service ≡ true }
         requires admitted { admission ≡ spec.admission self.old.once self.old.number request.now (session_cookie self.old.cookie.name request.now.cookies self.old.number)
             (option_map (λ s. (s.0, s.1.now)) handed) now }
-        ensures same { app_of S.serves S.servlet_phase F.filtering F.filter_phase self.new
-            ≡ app_of S.serves S.servlet_phase F.filtering F.filter_phase self.old }
-        ensures outcome { IfOk result (λ o. o ≡ served_in (app_of S.serves S.servlet_phase F.filtering F.filter_phase self.old) request.now path.now admission
-            now fresh) }
+        ensures same { app_of S.Servlet F.Filter self.new ≡ app_of S.Servlet F.Filter self.old }
+        ensures outcome { IfOk result (λ o. o ≡ served_in (app_of S.Servlet F.Filter self.old) request.now path.now admission now fresh) }
     {
         let mut admission = admission;
         let arrival = admission.arrival();
@@ -421,11 +412,10 @@ impl<S: Servlet, F: Filter> Application<S, F> {
         now: u64,
         fresh: (Key, Secret),
     ) -> Result<Outcome, EngineFault>
-        requires sound { IsSoundApp (app_of S.serves S.servlet_phase F.filtering F.filter_phase self.old) }
+        requires sound { IsSoundApp (app_of S.Servlet F.Filter self.old) }
         requires serving { self.old.is_in_service ≡ true }
-        ensures same { app_of S.serves S.servlet_phase F.filtering F.filter_phase self.new
-            ≡ app_of S.serves S.servlet_phase F.filtering F.filter_phase self.old }
-        ensures outcome { IfOk result (λ o. o ≡ served_by (Some (app_of S.serves S.servlet_phase F.filtering F.filter_phase self.old)) request.now path.now
+        ensures same { app_of S.Servlet F.Filter self.new ≡ app_of S.Servlet F.Filter self.old }
+        ensures outcome { IfOk result (λ o. o ≡ served_by (Some (app_of S.Servlet F.Filter self.old)) request.now path.now
             (option_map (λ s. (s.0, s.1.now)) handed.entry) now fresh) }
     {
         let admission = self.admit(alloc, request, handed, now)?;
@@ -442,12 +432,11 @@ impl<S: Servlet, F: Filter> Application<S, F> {
         now: u64,
         fresh: (Key, Secret),
     ) -> Result<Outcome, AllocError>
-        requires sound { IsSoundApp (app_of S.serves S.servlet_phase F.filtering F.filter_phase self.old) }
+        requires sound { IsSoundApp (app_of S.Servlet F.Filter self.old) }
         requires serving { self.old.is_in_service ≡ true }
         requires plain { is_some self.old.once ≡ false }
-        ensures same { app_of S.serves S.servlet_phase F.filtering F.filter_phase self.new
-            ≡ app_of S.serves S.servlet_phase F.filtering F.filter_phase self.old }
-        ensures outcome { IfOk result (λ o. o ≡ served_by (Some (app_of S.serves S.servlet_phase F.filtering F.filter_phase self.old)) request.now path.now
+        ensures same { app_of S.Servlet F.Filter self.new ≡ app_of S.Servlet F.Filter self.old }
+        ensures outcome { IfOk result (λ o. o ≡ served_by (Some (app_of S.Servlet F.Filter self.old)) request.now path.now
             (option_map (λ s. (s.0, s.1.now)) handed.entry) now fresh) }
     {
         let admission = self.admit(alloc, request, handed, now)?;

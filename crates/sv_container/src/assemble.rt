@@ -55,9 +55,9 @@ impl<S: Servlet, F: Filter> Application<S, F> {
         requires empty { spec.IsEmpty self.old }
         requires servlets { AreNamedNew S.servlet_phase (into_iter_items servlets.old) }
         requires filters { AreNamedNew F.filter_phase (into_iter_items filters.old) }
-        ensures sound { IsSoundApp (app_of S.serves S.servlet_phase F.filtering F.filter_phase self.new) }
-        ensures service { self.new.is_in_service ≡ is_able (app_of S.serves S.servlet_phase F.filtering F.filter_phase self.new) }
-        ensures plan { plan_of (app_of S.serves S.servlet_phase F.filtering F.filter_phase self.new)
+        ensures sound { IsSoundApp (app_of S.Servlet F.Filter self.new) }
+        ensures service { self.new.is_in_service ≡ is_able (app_of S.Servlet F.Filter self.new) }
+        ensures plan { plan_of (app_of S.Servlet F.Filter self.new)
             ≡ spec.plan_with (spec.frame_of self.old) (take (spec.frame_of self.old).servlets (spec.identities_of S.serves (into_iter_items servlets.old)))
             (take (spec.frame_of self.old).filters (spec.identities_of F.filtering (into_iter_items filters.old))) }
         ensures servlets { into_iter_items servlets.new ≡ drop (spec.frame_of self.old).servlets (into_iter_items servlets.old) }
@@ -80,9 +80,9 @@ pub fn assemble_all<S: Servlet, F: Filter, L: Listener>(
     requires empty { All spec.IsEmpty applications.old.items }
     requires servlets { AreNamedNew S.servlet_phase servlets.items }
     requires filters { AreNamedNew F.filter_phase filters.items }
-    ensures sound { All IsSoundApp (apps_of S.serves S.servlet_phase F.filtering F.filter_phase applications.new.items) }
-    ensures service { AreAble (apps_of S.serves S.servlet_phase F.filtering F.filter_phase applications.new.items) }
-    ensures plans { map plan_of (apps_of S.serves S.servlet_phase F.filtering F.filter_phase applications.new.items)
+    ensures sound { All IsSoundApp (apps_of S.Servlet F.Filter applications.new.items) }
+    ensures service { AreAble (apps_of S.Servlet F.Filter applications.new.items) }
+    ensures plans { map plan_of (apps_of S.Servlet F.Filter applications.new.items)
         ≡ spec.plans_for (map spec.frame_of applications.old.items) (spec.identities_of S.serves servlets.items)
         (spec.identities_of F.filtering filters.items) }
     ensures listeners { ears_of L.hears listeners.new.items ≡ ears_of L.hears listeners.old.items }

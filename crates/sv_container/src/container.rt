@@ -50,13 +50,12 @@ impl<S: Servlet, F: Filter, L: Listener> Container<S, F, L> {
     ) -> Result<Container<S, F, L>, NotStarted<S, F, L>>
         requires servlets { AreNamedNew S.servlet_phase servlets.items }
         requires filters { AreNamedNew F.filter_phase filters.items }
-        ensures sound { IfOk result (λ c. IsSound (deployed S.serves S.servlet_phase F.filtering F.filter_phase L.hears c)) }
-        ensures service { IfOk result (λ c. AreAble (deployed S.serves S.servlet_phase F.filtering F.filter_phase L.hears c).apps) }
-        ensures paths { IfOk result (λ c. (deployed S.serves S.servlet_phase F.filtering F.filter_phase L.hears c).paths
-            ≡ map path_of deployment.contexts.items) }
+        ensures sound { IfOk result (λ c. IsSound (deployed S.Servlet F.Filter L.hears c)) }
+        ensures service { IfOk result (λ c. AreAble (deployed S.Servlet F.Filter L.hears c).apps) }
+        ensures paths { IfOk result (λ c. (deployed S.Servlet F.Filter L.hears c).paths ≡ map path_of deployment.contexts.items) }
         ensures deployed { IfOk result (λ c. IsDeployed S.serves F.filtering deployment.contexts.items servlets.items filters.items listeners.items L.hears
-            (deployed S.serves S.servlet_phase F.filtering F.filter_phase L.hears c).apps
-            (deployed S.serves S.servlet_phase F.filtering F.filter_phase L.hears c).ears) }
+            (deployed S.Servlet F.Filter L.hears c).apps
+            (deployed S.Servlet F.Filter L.hears c).ears) }
         ensures fault { IfErr result (λ e. IsFaultFor e.fault (servlet_labels deployment.contexts.items servlets.items)
             (filter_labels deployment.contexts.items filters.items) (listener_labels deployment.contexts.items listeners.items)) }
         ensures servlets_back { IfErr result (λ e. IsPermutation servlets.items e.servlets.items) }
@@ -101,10 +100,9 @@ impl<S: Servlet, F: Filter, L: Listener> Container<S, F, L> {
     /// Takes the applications out of service, the last first: of each the servlets, then the filters that are ready are
     /// destroyed, the last first, then its listeners are told that it goes down. All objects are dropped at the end.
     pub fn shutdown(self) -> Stopped
-        requires { IsSound (deployed S.serves S.servlet_phase F.filtering F.filter_phase L.hears self) }
-        ensures servlets { result.servlets ≡ min (ready_servlets (deployed S.serves S.servlet_phase F.filtering F.filter_phase L.hears self).apps)
-            (2 ^ 64 - 1) }
-        ensures filters { result.filters ≡ min (ready_filters (deployed S.serves S.servlet_phase F.filtering F.filter_phase L.hears self).apps) (2 ^ 64 - 1) }
+        requires { IsSound (deployed S.Servlet F.Filter L.hears self) }
+        ensures servlets { result.servlets ≡ min (ready_servlets (deployed S.Servlet F.Filter L.hears self).apps) (2 ^ 64 - 1) }
+        ensures filters { result.filters ≡ min (ready_filters (deployed S.Servlet F.Filter L.hears self).apps) (2 ^ 64 - 1) }
     {
         let Container {
             paths: _,

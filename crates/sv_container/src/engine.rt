@@ -16,7 +16,7 @@ impl<S: Servlet, F: Filter, L: Listener> Container<S, F, L> {
     /// The place, where there is an application in service.
     #[tactic(auto, unfolding(crate::specs::Application::apps_of))]
     fn in_service(&self, place: usize) -> Option<usize>
-        ensures { result ≡ in_service place (slice_get (apps_of S.serves S.servlet_phase F.filtering F.filter_phase self.now.applications.items) place) }
+        ensures { result ≡ in_service place (slice_get (apps_of S.Servlet F.Filter self.now.applications.items) place) }
     {
         let application = self.applications.get(place)?;
         if application.is_in_service {
@@ -29,7 +29,7 @@ impl<S: Servlet, F: Filter, L: Listener> Container<S, F, L> {
     /// The place of the application of a path, where it is in service.
     #[tactic(auto, unfolding(crate::specs::Serving::place_for))]
     fn place_of(&self, path: &str) -> Option<usize>
-        ensures { result ≡ place_for (deployed S.serves S.servlet_phase F.filtering F.filter_phase L.hears self.now) path.now }
+        ensures { result ≡ place_for (deployed S.Servlet F.Filter L.hears self.now) path.now }
     {
         let place = choose_context(self.paths.as_slice(), path)?;
         self.in_service(place)
@@ -41,11 +41,11 @@ impl<S: Servlet, F: Filter, L: Listener> Engine for Container<S, F, L> {
     ghost use Rattle.sv_container.specs.Serving.{IsSound, container_meaning, deployed};
     ghost use Rattle.sv_container.specs.Laws.{touches_only_handed, keeps_limits, names_keys};
 
-    ghost meaning = { λ c. container_meaning (deployed S.serves S.servlet_phase F.filtering F.filter_phase L.hears c) };
+    ghost meaning = { λ c. container_meaning (deployed S.Servlet F.Filter L.hears c) };
 
     ghost heard = { λ c. noted_of L.noted c.listeners.items };
 
-    ghost valid = { λ c. IsSound (deployed S.serves S.servlet_phase F.filtering F.filter_phase L.hears c) };
+    ghost valid = { λ c. IsSound (deployed S.Servlet F.Filter L.hears c) };
 
     fn names(&self, request: &Request) -> Option<(Key, Secret)> {
         let place = self.place_of(request.path.as_str())?;
@@ -79,9 +79,9 @@ impl<S: Servlet, F: Filter, L: Listener> Engine for Container<S, F, L> {
         tell_all(&mut self.listeners, told);
     }
 
-    ghost untouched = { λ c v. touches_only_handed (deployed S.serves S.servlet_phase F.filtering F.filter_phase L.hears c) v };
+    ghost untouched = { λ c v. touches_only_handed (deployed S.Servlet F.Filter L.hears c) v };
 
-    ghost within_limits = { λ c v. keeps_limits (deployed S.serves S.servlet_phase F.filtering F.filter_phase L.hears c) v };
+    ghost within_limits = { λ c v. keeps_limits (deployed S.Servlet F.Filter L.hears c) v };
 
-    ghost names_keys = { λ c v. names_keys (deployed S.serves S.servlet_phase F.filtering F.filter_phase L.hears c) };
+    ghost names_keys = { λ c v. names_keys (deployed S.Servlet F.Filter L.hears c) };
 }

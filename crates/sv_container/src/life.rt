@@ -102,10 +102,9 @@ impl<S: Servlet, F: Filter> Application<S, F> {
     pub fn launch(&mut self)
         requires servlets { AreNew S.servlet_phase self.old.stage.servlets.items }
         requires filters { AreNew F.filter_phase self.old.stage.filters.items }
-        ensures sound { IsSoundApp (app_of S.serves S.servlet_phase F.filtering F.filter_phase self.new) }
-        ensures plan { plan_of (app_of S.serves S.servlet_phase F.filtering F.filter_phase self.new)
-            ≡ plan_of (app_of S.serves S.servlet_phase F.filtering F.filter_phase self.old) }
-        ensures service { self.new.is_in_service ≡ is_able (app_of S.serves S.servlet_phase F.filtering F.filter_phase self.new) }
+        ensures sound { IsSoundApp (app_of S.Servlet F.Filter self.new) }
+        ensures plan { plan_of (app_of S.Servlet F.Filter self.new) ≡ plan_of (app_of S.Servlet F.Filter self.old) }
+        ensures service { self.new.is_in_service ≡ is_able (app_of S.Servlet F.Filter self.new) }
     {
         init_filters(&mut self.stage.filters);
         init_servlets(&mut self.stage.servlets);

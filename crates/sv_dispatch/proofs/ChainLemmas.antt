@@ -1,14 +1,8 @@
-use Rattle.std.proofs.Common.{◌≡◌, ℕ, ◌<◌, ◌≤◌, ◌+◌, suc, List, [], ◌∷◌, ◌++◌, length, get_or, drop, arith, sym, ◌∙◌, ap, refl, add-one, drop-cons, append_assoc, append-nil, true, false, All, Some, subst}
-use Rattle.std.proofs.lemmas.List.Elements.{All-pop}
-use Rattle.std.proofs.lemmas.List.{drop_all}
-use Rattle.sv_servlet.specs.Servlet.{Serves, Lent}
-use Rattle.sv_servlet.specs.Filter.{Filters, verdict}
-use Rattle.sv_dispatch.specs.Rows.{Row, IsReadyAt, before_at, after_at}
-use Rattle.sv_servlet.specs.Call.{Asked}
-use Rattle.sv_servlet.specs.declared.filter.Before.{Before}
-use Rattle.sv_servlet.specs.declared.filter.Before.TheVariants.{Pass}
-use Rattle.sv_dispatch.specs.Dispatching.{Table, Begun, begun, befores, afters, passes, shown_behind}
-use Rattle.sv_dispatch.specs.Sight.{Sight, call_of}
+use Rattle.sv_dispatch.proofs.Prelude.{◌≡◌, ℕ, ◌<◌, ◌≤◌, ◌+◌, suc, List, [], ◌∷◌, ◌++◌, length, get_or, drop, arith, sym, ◌∙◌, ap, refl, add-one, drop-cons}
+use Rattle.sv_dispatch.proofs.Prelude.{true, false, All, Some, subst, All-pop, drop_all, Serves, Lent, Filters, Row, IsReadyAt, before_at, after_at, Asked}
+use Rattle.sv_dispatch.proofs.Prelude.{Before, Pass, Table, Begun, begun, befores, afters, passes, shown_behind, Sight, call_of}
+use Rattle.std.proofs.Common.{append_assoc, append-nil}
+use Rattle.sv_servlet.specs.Filter.{verdict}
 
 -- the filters before, and then what follows
 abbrev pub joined : List ℕ → Begun → Begun

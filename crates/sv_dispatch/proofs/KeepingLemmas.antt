@@ -1,32 +1,24 @@
 -- A dispatch goes on with what it was lent.
-use Rattle.std.proofs.Common.{◌≡◌, ℕ, zero, suc, Bool, true, false, cond, List, [], ◌∷◌, Option, Some, None, slice_get, All, refl, sym, ◌∙◌, subst}
-use Rattle.std.specs.Prelude.{IfSome}
-use Rattle.std.proofs.lemmas.Option.{get_or_from_slice_get, slice_get_within}
-use Rattle.sv_mapping.specs.declared.dispatcher.Dispatcher.{Dispatcher}
-use Rattle.sv_mapping.specs.declared.dispatcher.Dispatcher.TheVariants.{Request, Forward as ByForward, Include as ByInclude, Error}
+use Rattle.sv_dispatch.proofs.Prelude.{◌≡◌, ℕ, zero, suc, Bool, true, false, cond, List, [], ◌∷◌, Option, Some, None, slice_get, All, refl, sym, ◌∙◌, subst}
+use Rattle.sv_dispatch.proofs.Prelude.{IfSome, get_or_from_slice_get, slice_get_within, Dispatcher, Request, Error, Asked, Filters, Lent, Serves, Before, Pass}
+use Rattle.sv_dispatch.proofs.Prelude.{PassWith, Stop, Next, Done, Forward, Include, SendError, Fault, Begun, Outcome, Table, afters, answered, ask, befores}
+use Rattle.sv_dispatch.proofs.Prelude.{begun, begun_by, chain_of, closed, closed_by, dispatched, emptied, entered, holding, let_go, passes, performed, placed}
+use Rattle.sv_dispatch.proofs.Prelude.{resumed, resumed_by, serving, showing, shown_behind, visit_of, mapped_path_of, Row, after_at, after_by, before_at}
+use Rattle.sv_dispatch.proofs.Prelude.{before_by, labels_of_rows, ready_at, served, served_by, Sight, call_of, Ending, Finished, Failed, Faulted, Abandoned}
+use Rattle.sv_dispatch.proofs.Prelude.{MappedPath, Ask, Visit}
+use Rattle.sv_mapping.specs.declared.dispatcher.Dispatcher.TheVariants.{Forward as ByForward, Include as ByInclude}
 use Rattle.sv_session.proofs.EditLemmas.{KeepsEdit-refl}
 use Rattle.sv_servlet.proofs.KeepsLemmas.{KeepsLent-refl, KeepsLent-trans, cleared_keeps}
-use Rattle.sv_servlet.specs.Call.{Asked}
-use Rattle.sv_servlet.specs.Filter.{Filters, FilterKeeps, Verdict}
-use Rattle.sv_servlet.specs.Servlet.{KeepsLent, Lent, Serves}
-use Rattle.sv_servlet.specs.declared.filter.Before.{Before}
-use Rattle.sv_servlet.specs.declared.filter.Before.TheVariants.{Pass, PassWith, Stop, SendError as RefuseBy, Fault as RefuseFor}
-use Rattle.sv_servlet.specs.declared.servlet.Next.{Next}
-use Rattle.sv_servlet.specs.declared.servlet.Next.TheVariants.{Done, Forward, Include, SendError, Fault}
-use Rattle.sv_dispatch.specs.Dispatching.{Begun, Outcome, Table, afters, answered, ask, befores, begun, begun_by, chain_of, closed, closed_by, dispatched, emptied, entered, holding, let_go, passes, performed, placed, resumed, resumed_by, serving, showing, shown_behind, visit_at, visit_by, visit_of, visit_to}
+use Rattle.sv_servlet.specs.Filter.{FilterKeeps, Verdict}
+use Rattle.sv_servlet.specs.Servlet.{KeepsLent}
+use Rattle.sv_servlet.specs.declared.filter.Before.TheVariants.{SendError as RefuseBy, Fault as RefuseFor}
+use Rattle.sv_dispatch.specs.Dispatching.{visit_at, visit_by, visit_to}
 use Rattle.sv_dispatch.specs.Keeping.{ServletKeeps, TableKeeps, dispatch_keeps, includes_by, is_below_include}
-use Rattle.sv_dispatch.specs.Place.{place_of}
-use Rattle.sv_dispatch.specs.Rows.{Row, after_at, after_by, before_at, before_by, labels_of_rows, ready_at, served, served_by}
-use Rattle.sv_dispatch.specs.Sight.{Sight, call_of, forwarded, is_forwarded, values_of_request, with_params}
+use Rattle.sv_dispatch.specs.Sight.{forwarded, is_forwarded, values_of_request, with_params}
 use Rattle.sv_dispatch.specs.Attributes.{with_values}
 use Rattle.sv_dispatch.specs.Destination.{destination_of}
 use Rattle.sv_dispatch.specs.declared.attributes.Group.TheVariants.{Forward as ForwardGroup}
-use Rattle.sv_dispatch.specs.declared.mode.Ending.{Ending}
-use Rattle.sv_dispatch.specs.declared.mode.Ending.TheVariants.{Finished, Failed, Faulted, Abandoned}
-use Rattle.sv_dispatch.specs.declared.place.Place.{Place}
 use Rattle.sv_dispatch.specs.declared.destination.Destination.{Destination}
-use Rattle.sv_dispatch.specs.declared.visit.Ask.{Ask}
-use Rattle.sv_dispatch.specs.declared.visit.Visit.{Visit}
 
 there : {X : Type 0} (P : X → Type 0) (xs : List X) (k : ℕ) (found : Option X) → slice_get xs k ≡ found → All P xs → IfSome found P
 there P xs k None is all = tt
@@ -108,7 +100,7 @@ forwarded_included s target path info =
     let p : Sight = with_params s target.params in
     either_included (is_forwarded p) p (record p { attributes = with_values ForwardGroup (values_of_request p.request) p.attributes }) s.is_included refl refl
 
-visit_included : (a : Ask) (target : Destination) (p : Place) (d : Dispatcher) → (visit_at a target p d).view.is_included ≡ includes_by d a.view
+visit_included : (a : Ask) (target : Destination) (p : MappedPath) (d : Dispatcher) → (visit_at a target p d).view.is_included ≡ includes_by d a.view
 visit_included a target p Request = refl
 visit_included a target p ByForward = forwarded_included a.view target p.servlet_path p.path_info
 visit_included a target p ByInclude = refl
@@ -117,7 +109,7 @@ visit_included a target p Error = forwarded_included a.view target p.servlet_pat
 module _ (t : Table) (a : Ask) where
   visited_to : (d : Dispatcher) (found : Option Destination) → IfSome (visit_to t (record a { dispatcher = d }) found) (λ v. v.view.is_included ≡ includes_by d a.view)
   visited_to d None = tt
-  visited_to d (Some target) = visit_included (record a { dispatcher = d }) target (place_of t.patterns target.path) d
+  visited_to d (Some target) = visit_included (record a { dispatcher = d }) target (mapped_path_of t.patterns target.path) d
 
   visited_by : (d : Dispatcher) → IfSome (visit_by t (record a { dispatcher = d }) d) (λ v. v.view.is_included ≡ includes_by d a.view)
   visited_by Request = refl

@@ -1,3 +1,4 @@
+mod Prelude
 pub mod RowLemmas
 pub mod ChainLemmas
 pub mod ViewLemmas
@@ -5,7 +6,7 @@ pub mod TurnLemmas
 pub mod RunLemmas
 pub mod StepLemmas
 pub mod OpenLemmas
-pub mod PlaceLemmas
+pub mod MappedPathLemmas
 pub mod PageLemmas
 pub mod SoundLemmas
 pub mod KeepingLemmas

@@ -1,22 +1,14 @@
 -- The filters before a servlet, and the servlet that is found.
-use Rattle.std.proofs.Common.{◌≡◌, ◌≢◌, ℕ, suc, Bool, true, false, cond, List, [], ◌∷◌, arith, sym, ◌∙◌, ap, refl, Some, None, Option, Result, Ok, Err, IfOk, subst, All}
-use Rattle.std.proofs.lemmas.List.Elements.{All-cons, All-nil}
-use Rattle.sv_servlet.specs.Call.{Asked}
-use Rattle.sv_servlet.specs.Filter.{Filters}
-use Rattle.sv_servlet.specs.Servlet.{Lent}
-use Rattle.sv_servlet.specs.declared.filter.Before.{Before}
-use Rattle.sv_servlet.specs.declared.filter.Before.TheVariants.{Pass, PassWith, Stop, SendError, Fault}
-use Rattle.sv_dispatch.specs.Dispatching.{Table, Outcome, outcome, Begun, begun, befores, afters, begun_by, chain_of, closed, dispatched, found_or_sent, performed, placed, serving, showing, entered, bad_path, to_serve, visit_of}
-use Rattle.sv_dispatch.specs.Rows.{Row, IsReadyAt, labels_of_rows, ready_at}
-use Rattle.sv_dispatch.specs.Sight.{Sight, call_of}
-use Rattle.sv_dispatch.specs.Stack.{opened, IsOpen}
+use Rattle.sv_dispatch.proofs.Prelude.{◌≡◌, ℕ, suc, Bool, true, false, cond, List, [], ◌∷◌, arith, sym, ◌∙◌, ap, refl, Some, None, Option, Result, Ok, Err}
+use Rattle.sv_dispatch.proofs.Prelude.{IfOk, subst, All, All-cons, All-nil, Asked, Filters, Lent, Before, Pass, PassWith, Stop, Table, Outcome, outcome, Begun}
+use Rattle.sv_dispatch.proofs.Prelude.{begun, befores, afters, begun_by, chain_of, closed, dispatched, performed, placed, serving, showing, entered, visit_of}
+use Rattle.sv_dispatch.proofs.Prelude.{Row, IsReadyAt, labels_of_rows, ready_at, Sight, call_of, opened, IsOpen, Ask, Ending, Finished, Failed, Faulted}
+use Rattle.sv_dispatch.proofs.Prelude.{Abandoned, Open, Visit}
+use Rattle.std.proofs.Common.{◌≢◌}
+use Rattle.sv_servlet.specs.declared.filter.Before.TheVariants.{SendError, Fault}
+use Rattle.sv_dispatch.specs.Dispatching.{found_or_sent, bad_path, to_serve}
 use Rattle.sv_dispatch.specs.Stages.{IsSound}
 use Rattle.sv_dispatch.proofs.SoundLemmas.{chain_all, servlet_ready}
-use Rattle.sv_dispatch.specs.declared.visit.Ask.{Ask}
-use Rattle.sv_dispatch.specs.declared.mode.Ending.{Ending}
-use Rattle.sv_dispatch.specs.declared.mode.Ending.TheVariants.{Finished, Failed, Faulted, Abandoned}
-use Rattle.sv_dispatch.specs.declared.mode.Open.{Open}
-use Rattle.sv_dispatch.specs.declared.visit.Visit.{Visit}
 
 -- a dispatch that was not abandoned ends by `after`
 pub closed_kept : (fs : List (Row Filters)) (ps : List ℕ) (call : Asked) (ended : Ending) (l m : Lent) → ended ≢ Abandoned → m ≡ afters fs ps call l →

@@ -1,18 +1,10 @@
 -- A page that is found, and an error dispatch that ended.
-use Rattle.std.proofs.Common.{◌≡◌, ℕ, ◌<◌, ◌≤◌, ◌+◌, List, length, get_or, drop, drop-cons, add-one, sym, ◌∙◌, ap, Bool, true, false, Option, Some, None, Result, Ok, Err, IfOk}
-use Rattle.std.proofs.lemmas.List.{drop_all}
-use Rattle.sv_mapping.specs.declared.dispatcher.Dispatcher.TheVariants.{Request, Error}
-use Rattle.sv_servlet.specs.Call.{Asked}
-use Rattle.sv_servlet.specs.ReplyState.{ReplyState}
-use Rattle.sv_servlet.specs.Servlet.{Lent, lent}
-use Rattle.sv_dispatch.specs.Dispatching.{Table, outcome, ask, dispatched}
-use Rattle.sv_dispatch.specs.Pages.{first_page, servlet_name, path_of, paged, shown_page, readied, readied_reply, ran, served, settled, settled_all}
-use Rattle.sv_dispatch.specs.Place.{place_of}
-use Rattle.sv_dispatch.specs.Rows.{Label, labels_of_rows, name_at}
-use Rattle.sv_dispatch.specs.Sight.{Sight, errored, first_sight}
-use Rattle.sv_dispatch.specs.declared.place.Place.{Place}
+use Rattle.sv_dispatch.proofs.Prelude.{◌≡◌, ℕ, ◌<◌, ◌≤◌, ◌+◌, List, length, get_or, drop, drop-cons, add-one, sym, ◌∙◌, ap, Bool, true, false, Option, Some}
+use Rattle.sv_dispatch.proofs.Prelude.{None, Result, Ok, Err, IfOk, drop_all, Request, Error, Asked, ReplyState, Lent, lent, Table, outcome, ask, dispatched}
+use Rattle.sv_dispatch.proofs.Prelude.{first_page, paged, mapped_path_of, Label, labels_of_rows, name_at, Sight, errored, MappedPath, Ending}
+use Rattle.sv_dispatch.specs.Pages.{servlet_name, path_of, shown_page, readied, readied_reply, ran, served, settled, settled_all}
+use Rattle.sv_dispatch.specs.Sight.{first_sight}
 use Rattle.sv_dispatch.specs.declared.request.Ended.{Ended}
-use Rattle.sv_dispatch.specs.declared.mode.Ending.{Ending}
 use Rattle.sv_dispatch.specs.declared.page.ErrorPage.{ErrorPage}
 use Rattle.sv_dispatch.specs.declared.page.PageFor.{PageFor}
 
@@ -29,10 +21,10 @@ unfolding first_page
 page_none f ps i all h k = rw (drop_all i ps h) at k
 
 -- the name of the request's servlet, as the code finds it
-pub name_is : (t : Table) (call : Asked) (ls : List Label) (place : Place) (text path name : List ℕ) → name ≡ name_at ls place.servlet → labels_of_rows t.servlets ≡ ls → place ≡ place_of t.patterns text → text ≡ path → path ≡ path_of call →
+pub name_is : (t : Table) (call : Asked) (ls : List Label) (place : MappedPath) (text path name : List ℕ) → name ≡ name_at ls place.servlet → labels_of_rows t.servlets ≡ ls → place ≡ mapped_path_of t.patterns text → text ≡ path → path ≡ path_of call →
     name ≡ servlet_name t call
 name_is t call ls place text path name n l p s r =
-    n ∙ (ap (λ (x : List Label). name_at x place.servlet) (sym l) ∙ ap (λ (x : Place). name_at (labels_of_rows t.servlets) x.servlet) (p ∙ ap (place_of t.patterns) (s ∙ r)))
+    n ∙ (ap (λ (x : List Label). name_at x place.servlet) (sym l) ∙ ap (λ (x : MappedPath). name_at (labels_of_rows t.servlets) x.servlet) (p ∙ ap (mapped_path_of t.patterns) (s ∙ r)))
 
 -- an error dispatch that ended
 pub page_shown : (t u : Table) (call : Asked) (status : ℕ) (message : List ℕ) (left left' : ℕ) (l m : Lent) (reply : ReplyState) (path : List ℕ) (page : Option (List ℕ)) (view : Sight) (ended : Ending) → page ≡ Some path →

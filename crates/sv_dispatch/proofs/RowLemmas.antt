@@ -1,13 +1,9 @@
-use Rattle.std.proofs.Common.{◌≡◌, ℕ, ◌<◌, List, length, get_or, Some, slice_get, option_map, sym, ◌∙◌, ap, slice_set}
+use Rattle.sv_dispatch.proofs.Prelude.{◌≡◌, ℕ, ◌<◌, List, length, get_or, Some, slice_get, option_map, sym, ◌∙◌, ap, slice_get-get_or, slice_get-map, Phase}
+use Rattle.sv_dispatch.proofs.Prelude.{Ready, Hosted, Serves, Filters, rows, IsReadyAt, served, served_by, before_at, before_by, after_at, after_by}
+use Rattle.std.proofs.Common.{slice_set}
 use Rattle.std.proofs.Math.Seq.{map-set_same}
 use Rattle.std.proofs.lemmas.List.{length-map}
-use Rattle.std.proofs.lemmas.Option.{slice_get-get_or, slice_get-map}
-use Rattle.sv_servlet.specs.declared.servlet.Phase.{Phase}
-use Rattle.sv_servlet.specs.declared.servlet.Phase.TheVariants.{Ready}
-use Rattle.sv_dispatch.specs.declared.hosted.Hosted.{Hosted}
-use Rattle.sv_servlet.specs.Servlet.{Serves}
-use Rattle.sv_servlet.specs.Filter.{Filters}
-use Rattle.sv_dispatch.specs.Rows.{row, rows, IsReadyAt, served, served_by, before_at, before_by, after_at, after_by}
+use Rattle.sv_dispatch.specs.Rows.{row}
 
 -- a ready place is within the list
 pub ready_within : {O M : Type 0} (f : O → M) (p : O → Phase) (ns : List (Hosted O)) (k : ℕ) → IsReadyAt (rows f p ns) k → k < length ns

@@ -1,26 +1,16 @@
 -- One call of a servlet, and one return from a dispatch that was asked for.
-use Rattle.std.proofs.Common.{◌≡◌, ℕ, zero, suc, ◌≤◌, ◌+◌, ◌-◌, true, List, arith, add-one, sym, ◌∙◌, ap, refl, subst, Result, Ok, Err, IfOk, OnOk}
-use Rattle.sv_mapping.specs.declared.dispatcher.Dispatcher.{Dispatcher}
+use Rattle.sv_dispatch.proofs.Prelude.{◌≡◌, ℕ, zero, suc, ◌≤◌, ◌+◌, ◌-◌, true, List, arith, add-one, sym, ◌∙◌, ap, refl, subst, Result, Ok, Err, IfOk, OnOk}
+use Rattle.sv_dispatch.proofs.Prelude.{Dispatcher, Asked, held, ReplyState, Lent, lent, Next, Forward, Include, SendError, Table, Outcome, outcome, ask, closed}
+use Rattle.sv_dispatch.proofs.Prelude.{dispatched, holding, let_go, resumed, serving, served, call_of, current, opened, reentered, IsOpen, IsModeOf, Open}
+use Rattle.sv_dispatch.proofs.Prelude.{Frame, Mode, Leave, Ending, Finished, Failed, Faulted, Abandoned}
 use Rattle.sv_mapping.specs.declared.dispatcher.Dispatcher.TheVariants.{Forward as ByForward, Include as ByInclude}
-use Rattle.sv_servlet.specs.Call.{Asked}
-use Rattle.sv_servlet.specs.Reply.{cleared, held}
-use Rattle.sv_servlet.specs.ReplyState.{ReplyState}
-use Rattle.sv_servlet.specs.Servlet.{Lent, lent, Answer, answer}
-use Rattle.sv_servlet.specs.declared.servlet.Next.{Next}
-use Rattle.sv_servlet.specs.declared.servlet.Next.TheVariants.{Forward, Include, SendError}
-use Rattle.sv_dispatch.specs.Dispatching.{Table, Outcome, outcome, ask, closed, dispatched, holding, let_go, resumed, sent, serving}
-use Rattle.sv_dispatch.specs.Rows.{served}
-use Rattle.sv_dispatch.specs.Sight.{call_of}
-use Rattle.sv_dispatch.specs.Stack.{current, opened, followed, reentered, closed_open, serving_open, nesting, IsOpen, IsModeOf}
+use Rattle.sv_servlet.specs.Reply.{cleared}
+use Rattle.sv_servlet.specs.Servlet.{Answer, answer}
+use Rattle.sv_dispatch.specs.Dispatching.{sent}
+use Rattle.sv_dispatch.specs.Stack.{followed, closed_open, serving_open, nesting}
 use Rattle.sv_dispatch.proofs.TurnLemmas.{dispatched_left, serving_turns, resumed_same}
-use Rattle.sv_dispatch.specs.declared.mode.Open.{Open}
 use Rattle.sv_dispatch.specs.declared.mode.Then.{Then}
 use Rattle.sv_dispatch.specs.declared.mode.Then.TheVariants.{Return, Resume}
-use Rattle.sv_dispatch.specs.declared.mode.Frame.{Frame}
-use Rattle.sv_dispatch.specs.declared.mode.Mode.{Mode}
-use Rattle.sv_dispatch.specs.declared.mode.Mode.TheVariants.{Leave}
-use Rattle.sv_dispatch.specs.declared.mode.Ending.{Ending}
-use Rattle.sv_dispatch.specs.declared.mode.Ending.TheVariants.{Finished, Failed, Faulted, Abandoned}
 
 pub one_less : (n : ℕ) → (n ≡ 0 → ⊥) → n ≡ (n - 1) + 1
 one_less zero h = absurd (h refl)

@@ -1,15 +1,14 @@
 -- What a sound table says of a servlet that is found and of a chain.
-use Rattle.std.proofs.Common.{◌≡◌, ℕ, ◌<◌, suc, List, [], ◌∷◌, length, cond, Bool, true, false, Option, Some, None, slice_get, option_map, All, arith, refl, sym, ap, ◌∙◌, subst}
-use Rattle.std.specs.Prelude.{◌==◌, filter, map, not, IfSome}
-use Rattle.std.proofs.lemmas.List.Elements.{All-append, All-cons, All-filter, All-map}
-use Rattle.std.proofs.lemmas.Option.{get_or_from_slice_get, same_Some, slice_get-map, slice_get_within}
+use Rattle.sv_dispatch.proofs.Prelude.{◌≡◌, ℕ, ◌<◌, suc, List, [], ◌∷◌, length, cond, Bool, true, false, Option, Some, None, slice_get, option_map, All, arith}
+use Rattle.sv_dispatch.proofs.Prelude.{refl, sym, ap, ◌∙◌, subst, IfSome, All-cons, get_or_from_slice_get, slice_get-map, slice_get_within, Dispatcher, Serves}
+use Rattle.sv_dispatch.proofs.Prelude.{Ready, IsReadyAt, Row, labels_of_rows, ready_at, ready_by}
+use Rattle.std.specs.Prelude.{◌==◌, filter, map, not}
+use Rattle.std.proofs.lemmas.List.Elements.{All-append, All-filter, All-map}
+use Rattle.std.proofs.lemmas.Option.{same_Some}
 use Rattle.sv_mapping.specs.Dispatcher.{carries}
 use Rattle.sv_mapping.specs.Filter.{chain, matches_path, names_servlet, without_repeats}
-use Rattle.sv_mapping.specs.declared.dispatcher.Dispatcher.{Dispatcher}
 use Rattle.sv_mapping.specs.declared.filter.FilterMapping.{FilterMapping}
-use Rattle.sv_servlet.specs.Servlet.{Serves}
-use Rattle.sv_servlet.specs.declared.servlet.Phase.TheVariants.{Ready}
-use Rattle.sv_dispatch.specs.Rows.{IsReadyAt, Row, label_of_row, labels_of_rows, ready_at, ready_by}
+use Rattle.sv_dispatch.specs.Rows.{label_of_row}
 use Rattle.sv_dispatch.specs.Stages.{IsMarked}
 
 -- ---- servlets

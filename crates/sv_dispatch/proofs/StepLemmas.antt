@@ -1,16 +1,12 @@
 -- One step of a run: what all of it gives stays.
-use Rattle.std.proofs.Common.{◌≡◌, ℕ, zero, suc, ◌<◌, ◌≤◌, ◌+◌, ◌-◌, List, [], ◌∷◌, ◌++◌, length, length-append, reverse, arith, sym, ◌∙◌, ap, refl, subst, All, Some, Result, Ok, Err, IfOk, OnOk}
+use Rattle.sv_dispatch.proofs.Prelude.{◌≡◌, ℕ, zero, suc, ◌<◌, ◌≤◌, ◌+◌, ◌-◌, List, [], ◌∷◌, ◌++◌, length, arith, sym, ◌∙◌, ap, refl, subst, All, Some, Result}
+use Rattle.sv_dispatch.proofs.Prelude.{Ok, Err, IfOk, OnOk, All-nil, All-pop, Lent, Table, Outcome, outcome, dispatched, current, reentered, whole, work}
+use Rattle.sv_dispatch.proofs.Prelude.{weight, IsRunning, IsOpen, IsModeOf, need, Ask, Frame, Mode, Enter, Leave, Ending, Abandoned}
+use Rattle.std.proofs.Common.{length-append, reverse}
 use Rattle.std.proofs.lemmas.List.{reverse-append}
-use Rattle.std.proofs.lemmas.List.Elements.{All-nil, All-push, All-pop}
-use Rattle.sv_servlet.specs.Servlet.{Lent}
-use Rattle.sv_dispatch.specs.Dispatching.{Table, Outcome, outcome, dispatched}
-use Rattle.sv_dispatch.specs.Stack.{current, reentered, plugged, whole, work, weight, IsRunning, IsOpen, IsModeOf, need}
-use Rattle.sv_dispatch.specs.declared.visit.Ask.{Ask}
-use Rattle.sv_dispatch.specs.declared.mode.Frame.{Frame}
-use Rattle.sv_dispatch.specs.declared.mode.Mode.{Mode}
-use Rattle.sv_dispatch.specs.declared.mode.Mode.TheVariants.{Enter, Leave, Nest}
-use Rattle.sv_dispatch.specs.declared.mode.Ending.{Ending}
-use Rattle.sv_dispatch.specs.declared.mode.Ending.TheVariants.{Abandoned}
+use Rattle.std.proofs.lemmas.List.Elements.{All-push}
+use Rattle.sv_dispatch.specs.Stack.{plugged}
+use Rattle.sv_dispatch.specs.declared.mode.Mode.TheVariants.{Nest}
 
 -- a step within the dispatch at hand
 pub keeps : (t : Table) (fs : List Frame) (m n m' : Mode) (left left' : ℕ) (l l' : Lent) → length fs < 16 → m ≡ n →

@@ -1,20 +1,11 @@
 -- Service calls: a dispatch leaves no more than there were, and more turns than calls change nothing.
-use Rattle.std.proofs.Common.{◌≡◌, ℕ, zero, suc, ◌≤◌, true, List, arith, refl, Option, Some, None}
+use Rattle.sv_dispatch.proofs.Prelude.{◌≡◌, ℕ, zero, suc, ◌≤◌, true, List, arith, refl, Option, Some, None, Asked, Filters, Serves, Lent, Before, Pass}
+use Rattle.sv_dispatch.proofs.Prelude.{PassWith, Stop, Next, Done, Forward, Include, SendError, Fault, Table, Outcome, ask, answered, begun_by, befores}
+use Rattle.sv_dispatch.proofs.Prelude.{chain_of, closed, closed_by, dispatched, emptied, entered, holding, let_go, performed, placed, resumed, resumed_by}
+use Rattle.sv_dispatch.proofs.Prelude.{serving, showing, visit_of, Row, served, labels_of_rows, ready_at, Sight, call_of, Ask, Ending, Finished, Failed}
+use Rattle.sv_dispatch.proofs.Prelude.{Faulted, Abandoned, Visit}
 use Rattle.sv_mapping.specs.declared.dispatcher.Dispatcher.TheVariants.{Forward as ByForward, Include as ByInclude}
-use Rattle.sv_servlet.specs.Call.{Asked}
-use Rattle.sv_servlet.specs.Filter.{Filters}
-use Rattle.sv_servlet.specs.Servlet.{Serves, Lent}
-use Rattle.sv_servlet.specs.declared.filter.Before.{Before}
-use Rattle.sv_servlet.specs.declared.filter.Before.TheVariants.{Pass, PassWith, Stop, SendError as RefuseBy, Fault as RefuseFor}
-use Rattle.sv_servlet.specs.declared.servlet.Next.{Next}
-use Rattle.sv_servlet.specs.declared.servlet.Next.TheVariants.{Done, Forward, Include, SendError, Fault}
-use Rattle.sv_dispatch.specs.Dispatching.{Table, Outcome, ask, answered, begun_by, befores, chain_of, closed, closed_by, dispatched, emptied, entered, holding, let_go, performed, placed, resumed, resumed_by, serving, showing, visit_of}
-use Rattle.sv_dispatch.specs.Rows.{Row, served, labels_of_rows, ready_at}
-use Rattle.sv_dispatch.specs.Sight.{Sight, call_of}
-use Rattle.sv_dispatch.specs.declared.visit.Ask.{Ask}
-use Rattle.sv_dispatch.specs.declared.mode.Ending.{Ending}
-use Rattle.sv_dispatch.specs.declared.mode.Ending.TheVariants.{Finished, Failed, Faulted, Abandoned}
-use Rattle.sv_dispatch.specs.declared.visit.Visit.{Visit}
+use Rattle.sv_servlet.specs.declared.filter.Before.TheVariants.{SendError as RefuseBy, Fault as RefuseFor}
 
 -- a nested dispatch leaves no more service calls than there were
 abbrev pub Spends : (Ask → ℕ → Lent → Outcome) → Type 0

@@ -1,9 +1,8 @@
 -- Labels of rows, and what a chain of a sound table is.
-use Rattle.std.proofs.Common.{◌≡◌, ℕ, List, [], ◌∷◌, ap, sym, ◌∙◌, refl, true, false, cond, Option, ◌<◌, ◌≤◌, length, get_or, Some, None, slice_get, option_map}
-use Rattle.std.proofs.lemmas.Option.{slice_get-map, slice_get-get_or, slice_get_past}
-use Rattle.sv_servlet.specs.declared.servlet.Phase.{Phase}
-use Rattle.sv_dispatch.specs.Rows.{rows, label, Label, labels, labels_of_rows, ready_at, ready_by, name_at, name_by}
-use Rattle.sv_dispatch.specs.declared.hosted.Hosted.{Hosted}
+use Rattle.sv_dispatch.proofs.Prelude.{◌≡◌, ℕ, List, [], ◌∷◌, ap, sym, ◌∙◌, refl, true, false, cond, Option, ◌<◌, ◌≤◌, length, get_or, Some, None, slice_get}
+use Rattle.sv_dispatch.proofs.Prelude.{option_map, slice_get-map, slice_get-get_or, Phase, rows, Label, labels_of_rows, ready_at, ready_by, name_at, Hosted}
+use Rattle.std.proofs.lemmas.Option.{slice_get_past}
+use Rattle.sv_dispatch.specs.Rows.{label, labels, name_by}
 
 -- the rows of objects have the objects' labels
 pub labels_rows : {O M : Type 0} (f : O → M) (p : O → Phase) (hs : List (Hosted O)) → labels_of_rows (rows f p hs) ≡ labels hs

@@ -14,11 +14,11 @@ use Rattle.sv_servlet.specs.declared.filter.Before.{Before}
 use Rattle.sv_servlet.specs.declared.filter.Before.TheVariants.{Pass, PassWith, Stop, SendError as RefuseBy, Fault as RefuseFor}
 use Rattle.sv_servlet.specs.declared.servlet.Next.{Next}
 use Rattle.sv_servlet.specs.declared.servlet.Next.TheVariants.{Done, Forward, Include, SendError, Fault}
-use Rattle.sv_dispatch.specs.Place.{place_of}
+use Rattle.sv_dispatch.specs.MappedPath.{mapped_path_of}
 use Rattle.sv_dispatch.specs.Rows.{Row, served, before_at, after_at, labels_of_rows, ready_at}
 use Rattle.sv_dispatch.specs.Sight.{Sight, attributed, call_of, forwarded, included}
 use Rattle.sv_dispatch.specs.Destination.{destination_of}
-use Rattle.sv_dispatch.specs.declared.place.Place.{Place}
+use Rattle.sv_dispatch.specs.declared.mapped_path.MappedPath.{MappedPath}
 use Rattle.sv_dispatch.specs.declared.visit.Ask.{Ask}
 use Rattle.sv_dispatch.specs.declared.mode.Ending.{Ending}
 use Rattle.sv_dispatch.specs.declared.mode.Ending.TheVariants.{Finished, Failed, Faulted, Abandoned}
@@ -191,21 +191,21 @@ abbrev pub visit : Dispatcher → Sight → List ℕ → Option ℕ → Visit
 visit dispatcher s path servlet = record { dispatcher = dispatcher; view = s; path = path; servlet = servlet }
 
 -- what a dispatch to a target shows
-abbrev pub shown_at : Dispatcher → Sight → Destination → Place → Sight
+abbrev pub shown_at : Dispatcher → Sight → Destination → MappedPath → Sight
 shown_at Request s target p = s
 shown_at ByForward s target p = forwarded s target p.servlet_path p.path_info
 shown_at ByInclude s target p = included s target p.servlet_path p.path_info
 shown_at Error s target p = forwarded s target p.servlet_path p.path_info
 
-abbrev pub visit_at : Ask → Destination → Place → Dispatcher → Visit
+abbrev pub visit_at : Ask → Destination → MappedPath → Dispatcher → Visit
 visit_at a target p dispatcher = visit dispatcher (shown_at dispatcher a.view target p) target.path p.servlet
 
 abbrev pub visit_to : Table → Ask → Option Destination → Option Visit
 visit_to t a None = None
-visit_to t a (Some target) = Some (visit_at a target (place_of t.patterns target.path) a.dispatcher)
+visit_to t a (Some target) = Some (visit_at a target (mapped_path_of t.patterns target.path) a.dispatcher)
 
 abbrev pub visit_by : Table → Ask → Dispatcher → Option Visit
-visit_by t a Request = Some (visit Request a.view a.path (place_of t.patterns a.path).servlet)
+visit_by t a Request = Some (visit Request a.view a.path (mapped_path_of t.patterns a.path).servlet)
 visit_by t a ByForward = visit_to t a (destination_of a.view.request.context_path a.path)
 visit_by t a ByInclude = visit_to t a (destination_of a.view.request.context_path a.path)
 visit_by t a Error = visit_to t a (destination_of a.view.request.context_path a.path)

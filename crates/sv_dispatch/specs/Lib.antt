@@ -2,7 +2,7 @@ pub mod Values
 pub mod Attributes
 pub mod Sight
 pub mod Destination
-pub mod Place
+pub mod MappedPath
 pub mod Rows
 pub mod Dispatching
 pub mod Pages

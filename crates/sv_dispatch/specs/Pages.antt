@@ -5,7 +5,7 @@ use Rattle.sv_servlet.specs.Call.{Asked}
 use Rattle.sv_servlet.specs.ReplyState.{ReplyState}
 use Rattle.sv_servlet.specs.Servlet.{Lent, lent}
 use Rattle.sv_dispatch.specs.Dispatching.{Table, Outcome, ask, dispatched}
-use Rattle.sv_dispatch.specs.Place.{place_of}
+use Rattle.sv_dispatch.specs.MappedPath.{mapped_path_of}
 use Rattle.sv_dispatch.specs.Rows.{labels_of_rows, name_at}
 use Rattle.sv_dispatch.specs.Sight.{first_sight, errored}
 use Rattle.sv_dispatch.specs.declared.request.Ended.{Ended}
@@ -85,7 +85,7 @@ path_of call = joined_path call.servlet_path call.path_info
 
 -- the name of the servlet that the request is mapped to
 abbrev pub servlet_name : Table → Asked → List ℕ
-servlet_name t call = name_at (labels_of_rows t.servlets) (place_of t.patterns (path_of call)).servlet
+servlet_name t call = name_at (labels_of_rows t.servlets) (mapped_path_of t.patterns (path_of call)).servlet
 
 -- an error in an error page gives the plain page of 500
 abbrev pub shown_by : ℕ → Outcome → Ending → Ran

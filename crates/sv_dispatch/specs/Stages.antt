@@ -1,18 +1,18 @@
 -- What contracts know of a stage.
 use Rattle.std.specs.Prelude.{◌≡◌, All, true}
-use Rattle.sv_servlet.specs.Filter.{Filters}
-use Rattle.sv_servlet.specs.Servlet.{Serves, Lent, lent}
-use Rattle.sv_servlet.specs.declared.servlet.Phase.{Phase}
+use Rattle.sv_servlet.specs.Servlet.{Lent, lent}
 use Rattle.sv_servlet.specs.declared.servlet.Phase.TheVariants.{Ready}
 use Rattle.sv_dispatch.specs.Dispatching.{Table}
 use Rattle.sv_dispatch.specs.Rows.{IsReadyAt, Row, rows}
 use Rattle.sv_dispatch.specs.declared.stage.Stage.{Stage}
+use Rattle.sv_servlet.specs.declared.servlet.Servlet as servlet_trait
+use Rattle.sv_servlet.specs.declared.filter.Filter as filter_trait
 
--- its objects and what leads to them, by the members of the two traits
-abbrev pub table_of : {S F : Type 0} → (S → Serves) → (S → Phase) → (F → Filters) → (F → Phase) → Stage S F → Table
-table_of serves servlet_phase filtering filter_phase s = record {
-  servlets = rows serves servlet_phase s.servlets.items;
-  filters = rows filtering filter_phase s.filters.items;
+-- its objects and what leads to them, by the ghost members of the two traits
+abbrev pub table_of : {S F : Type 0} → servlet_trait.Ghosts S → filter_trait.Ghosts F → Stage S F → Table
+table_of servlet filter s = record {
+  servlets = rows servlet.serves servlet.servlet_phase s.servlets.items;
+  filters = rows filter.filtering filter.filter_phase s.filters.items;
   patterns = s.patterns;
   chains = s.chains.items;
   pages = s.pages.items;

@@ -39,11 +39,10 @@ pub fn run_befores<'a, S: Servlet, F: Filter>(
     view: View<'a>,
     chain: &[usize],
 ) -> Result<(Vec<usize>, View<'a>, Before), AllocError>
-    requires { All (IsReadyAt (table_of S.serves S.servlet_phase F.filtering F.filter_phase stage.old).filters) chain.now }
-    ensures same { table_of S.serves S.servlet_phase F.filtering F.filter_phase stage.new
-        ≡ table_of S.serves S.servlet_phase F.filtering F.filter_phase stage.old }
+    requires { All (IsReadyAt (table_of S.Servlet F.Filter stage.old).filters) chain.now }
+    ensures same { table_of S.Servlet F.Filter stage.new ≡ table_of S.Servlet F.Filter stage.old }
     ensures begun { IfOk result (λ r. begun r.0.items r.1 r.2 (lent_of stage.new)
-        ≡ befores (table_of S.serves S.servlet_phase F.filtering F.filter_phase stage.old).filters chain.now view.entry (lent_of stage.old)) }
+        ≡ befores (table_of S.Servlet F.Filter stage.old).filters chain.now view.entry (lent_of stage.old)) }
 {
     let mut passed = Vec::new(alloc);
     let mut view = view;
@@ -71,10 +70,9 @@ pub fn run_afters<S: Servlet, F: Filter>(
     call: &Call<'_>,
     mut passed: Vec<usize>,
 ) -> Result<(), AllocError>
-    requires { All (IsReadyAt (table_of S.serves S.servlet_phase F.filtering F.filter_phase stage.old).filters) passed.items }
-    ensures same { table_of S.serves S.servlet_phase F.filtering F.filter_phase stage.new
-        ≡ table_of S.serves S.servlet_phase F.filtering F.filter_phase stage.old }
-    ensures lent { OnOk result (lent_of stage.new ≡ afters (table_of S.serves S.servlet_phase F.filtering F.filter_phase stage.old).filters passed.items
+    requires { All (IsReadyAt (table_of S.Servlet F.Filter stage.old).filters) passed.items }
+    ensures same { table_of S.Servlet F.Filter stage.new ≡ table_of S.Servlet F.Filter stage.old }
+    ensures lent { OnOk result (lent_of stage.new ≡ afters (table_of S.Servlet F.Filter stage.old).filters passed.items
         call.now (lent_of stage.old)) }
 {
     while let Some(k) = passed.pop() {
@@ -95,14 +93,13 @@ pub fn begin<'a, S: Servlet, F: Filter>(
     stage: &mut Stage<S, F>,
     visit: Visit<'a>,
 ) -> Result<(Vec<usize>, Visit<'a>, Before), AllocError>
-    requires { IsSound (table_of S.serves S.servlet_phase F.filtering F.filter_phase stage.old) }
-    ensures same { table_of S.serves S.servlet_phase F.filtering F.filter_phase stage.new
-        ≡ table_of S.serves S.servlet_phase F.filtering F.filter_phase stage.old }
-    ensures ready { IfOk result (λ r. All (IsReadyAt (table_of S.serves S.servlet_phase F.filtering F.filter_phase stage.new).filters) r.0.items) }
+    requires { IsSound (table_of S.Servlet F.Filter stage.old) }
+    ensures same { table_of S.Servlet F.Filter stage.new ≡ table_of S.Servlet F.Filter stage.old }
+    ensures ready { IfOk result (λ r. All (IsReadyAt (table_of S.Servlet F.Filter stage.new).filters) r.0.items) }
     ensures visit { IfOk result (λ r. r.1 ≡ showing r.1.view visit.entry) }
     ensures begun { IfOk result (λ r. begun r.0.items r.1.view r.2 (lent_of stage.new)
-        ≡ befores (table_of S.serves S.servlet_phase F.filtering F.filter_phase stage.old).filters
-        (chain_of (table_of S.serves S.servlet_phase F.filtering F.filter_phase stage.old) visit.entry) visit.entry.view (lent_of stage.old)) }
+        ≡ befores (table_of S.Servlet F.Filter stage.old).filters
+        (chain_of (table_of S.Servlet F.Filter stage.old) visit.entry) visit.entry.view (lent_of stage.old)) }
 {
     let chain = chain_of(alloc, stage, &visit)?;
     let Visit {
@@ -130,7 +127,7 @@ fn chain_of<S: Servlet, F: Filter>(
     stage: &Stage<S, F>,
     visit: &Visit<'_>,
 ) -> Result<Vec<usize>, AllocError>
-    ensures { IfOk result (λ chain. chain.items ≡ chain_of (table_of S.serves S.servlet_phase F.filtering F.filter_phase stage.now) visit.now) }
+    ensures { IfOk result (λ chain. chain.items ≡ chain_of (table_of S.Servlet F.Filter stage.now) visit.now) }
 {
     match filters_for(
         alloc,
@@ -149,7 +146,7 @@ pub fn servlet_at<S: Servlet, F: Filter>(
     stage: &Stage<S, F>,
     servlet: Option<usize>,
 ) -> Option<usize>
-    ensures { result ≡ ready_at (labels_of_rows (table_of S.serves S.servlet_phase F.filtering F.filter_phase stage.now).servlets) servlet }
+    ensures { result ≡ ready_at (labels_of_rows (table_of S.Servlet F.Filter stage.now).servlets) servlet }
 {
     ready_at(&stage.servlets, servlet)
 }

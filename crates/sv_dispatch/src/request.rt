@@ -7,9 +7,9 @@ ghost use Rattle.sv_dispatch.specs.Sight.{errored, first_sight};
 ghost use Rattle.sv_dispatch.specs.Stages.{table_of, lent_of, IsSound};
 
 use crate::hosted::name_at;
+use crate::mapped_path::mapped_path_of;
 use crate::mode::Ending;
 use crate::page::{page_of_error, page_of_fault};
-use crate::place::place_of;
 use crate::stack::dispatch;
 use crate::stage::Stage;
 use crate::view::View;
@@ -73,10 +73,10 @@ fn error_view<'a, S: Servlet, F: Filter>(
     message: &str,
 ) -> Result<View<'a>, AllocError>
     ensures { IfOk result (λ view. view ≡ errored (first_sight call.now) status message.now
-        (spec.servlet_name (table_of S.serves S.servlet_phase F.filtering F.filter_phase stage.now) call.now)) }
+        (spec.servlet_name (table_of S.Servlet F.Filter stage.now) call.now)) }
 {
     let path = path_of(alloc, call)?;
-    let place = place_of(alloc, &stage.patterns, path.as_str())?;
+    let place = mapped_path_of(alloc, &stage.patterns, path.as_str())?;
     View::of(call).errored(
         alloc,
         status,
@@ -87,8 +87,7 @@ fn error_view<'a, S: Servlet, F: Filter>(
 
 /// The plain page of 500 stands at the end.
 fn give_plain<S: Servlet, F: Filter>(stage: &mut Stage<S, F>) -> Ended
-    ensures same { table_of S.serves S.servlet_phase F.filtering F.filter_phase stage.new
-        ≡ table_of S.serves S.servlet_phase F.filtering F.filter_phase stage.old }
+    ensures same { table_of S.Servlet F.Filter stage.new ≡ table_of S.Servlet F.Filter stage.old }
     ensures ran { spec.ran result (lent_of stage.new) ≡ spec.plain 500 (lent_of stage.old) }
 {
     make_ready(&mut stage.reply, 500);
@@ -97,8 +96,7 @@ fn give_plain<S: Servlet, F: Filter>(stage: &mut Stage<S, F>) -> Ended
 
 /// How a request ends after the dispatch to its error page.
 fn page_ended<S: Servlet, F: Filter>(stage: &mut Stage<S, F>, status: u16, ended: Ending) -> Ended
-    ensures same { table_of S.serves S.servlet_phase F.filtering F.filter_phase stage.new
-        ≡ table_of S.serves S.servlet_phase F.filtering F.filter_phase stage.old }
+    ensures same { table_of S.Servlet F.Filter stage.new ≡ table_of S.Servlet F.Filter stage.old }
     ensures ran { (left : ℕ) → spec.ran result (lent_of stage.new) ≡ spec.shown_page status (outcome ended left (lent_of stage.old)) }
 {
     match ended {
@@ -120,13 +118,12 @@ fn show_page<'a, S: Servlet, F: Filter>(
     message: &str,
     page: Option<Text>,
 ) -> Result<Ended, AllocError>
-    requires sound { IsSound (table_of S.serves S.servlet_phase F.filtering F.filter_phase stage.old) }
+    requires sound { IsSound (table_of S.Servlet F.Filter stage.old) }
     requires least { 400 ≤ status }
     requires most { status ≤ 599 }
-    ensures same { table_of S.serves S.servlet_phase F.filtering F.filter_phase stage.new
-        ≡ table_of S.serves S.servlet_phase F.filtering F.filter_phase stage.old }
+    ensures same { table_of S.Servlet F.Filter stage.new ≡ table_of S.Servlet F.Filter stage.old }
     ensures ran { IfOk result (λ ended. spec.ran ended (lent_of stage.new)
-        ≡ spec.paged (table_of S.serves S.servlet_phase F.filtering F.filter_phase stage.old) call.now status message.now left (lent_of stage.old) page) }
+        ≡ spec.paged (table_of S.Servlet F.Filter stage.old) call.now status message.now left (lent_of stage.old) page) }
 {
     make_ready(&mut stage.reply, status);
     let Some(path) = page else {
@@ -155,11 +152,10 @@ fn settle<'a, S: Servlet, F: Filter>(
     call: &'a Call<'a>,
     ended: Ending,
 ) -> Result<Ended, AllocError>
-    requires { IsSound (table_of S.serves S.servlet_phase F.filtering F.filter_phase stage.old) }
-    ensures same { table_of S.serves S.servlet_phase F.filtering F.filter_phase stage.new
-        ≡ table_of S.serves S.servlet_phase F.filtering F.filter_phase stage.old }
+    requires { IsSound (table_of S.Servlet F.Filter stage.old) }
+    ensures same { table_of S.Servlet F.Filter stage.new ≡ table_of S.Servlet F.Filter stage.old }
     ensures ran { IfOk result (λ given. spec.ran given (lent_of stage.new)
-        ≡ spec.settled_all (table_of S.serves S.servlet_phase F.filtering F.filter_phase stage.old) call.now (outcome ended left (lent_of stage.old))) }
+        ≡ spec.settled_all (table_of S.Servlet F.Filter stage.old) call.now (outcome ended left (lent_of stage.old))) }
 {
     match ended {
         Ending::Finished => Ok(Ended::Normal),
@@ -184,11 +180,10 @@ pub fn run<S: Servlet, F: Filter>(
     stage: &mut Stage<S, F>,
     call: Call<'_>,
 ) -> Result<Ended, AllocError>
-    requires { IsSound (table_of S.serves S.servlet_phase F.filtering F.filter_phase stage.old) }
-    ensures same { table_of S.serves S.servlet_phase F.filtering F.filter_phase stage.new
-        ≡ table_of S.serves S.servlet_phase F.filtering F.filter_phase stage.old }
+    requires { IsSound (table_of S.Servlet F.Filter stage.old) }
+    ensures same { table_of S.Servlet F.Filter stage.new ≡ table_of S.Servlet F.Filter stage.old }
     ensures ran { IfOk result (λ ended. spec.ran ended (lent_of stage.new)
-        ≡ spec.served (table_of S.serves S.servlet_phase F.filtering F.filter_phase stage.old) call.entry (lent_of stage.old)) }
+        ≡ spec.served (table_of S.Servlet F.Filter stage.old) call.entry (lent_of stage.old)) }
 {
     let mut left = CALLS;
     let ask = Ask {

@@ -37,15 +37,14 @@ fn step<'a, S: Servlet, F: Filter>(
     left: &mut u32,
     mode: Mode<'a>,
 ) -> Result<Mode<'a>, AllocError>
-    requires sound { IsSound (table_of S.serves S.servlet_phase F.filtering F.filter_phase stage.old) }
-    requires running { IsRunning (table_of S.serves S.servlet_phase F.filtering F.filter_phase stage.old) frames.old.items mode }
+    requires sound { IsSound (table_of S.Servlet F.Filter stage.old) }
+    requires running { IsRunning (table_of S.Servlet F.Filter stage.old) frames.old.items mode }
     requires on { IsOn frames.old.items mode }
-    ensures same { table_of S.serves S.servlet_phase F.filtering F.filter_phase stage.new
-        ≡ table_of S.serves S.servlet_phase F.filtering F.filter_phase stage.old }
-    ensures running { IfOk result (IsRunning (table_of S.serves S.servlet_phase F.filtering F.filter_phase stage.old) frames.new.items) }
+    ensures same { table_of S.Servlet F.Filter stage.new ≡ table_of S.Servlet F.Filter stage.old }
+    ensures running { IfOk result (IsRunning (table_of S.Servlet F.Filter stage.old) frames.new.items) }
     ensures less { IfOk result (λ next. work frames.new.items next left.new < work frames.old.items mode.entry left.old) }
-    ensures whole { IfOk result (λ next. whole (table_of S.serves S.servlet_phase F.filtering F.filter_phase stage.old) 16 frames.new.items next left.new
-        (lent_of stage.new) ≡ whole (table_of S.serves S.servlet_phase F.filtering F.filter_phase stage.old) 16 frames.old.items mode.entry left.old
+    ensures whole { IfOk result (λ next. whole (table_of S.Servlet F.Filter stage.old) 16 frames.new.items next left.new
+        (lent_of stage.new) ≡ whole (table_of S.Servlet F.Filter stage.old) 16 frames.old.items mode.entry left.old
         (lent_of stage.old)) }
 {
     match mode {
@@ -72,11 +71,10 @@ pub fn dispatch<'a, S: Servlet, F: Filter>(
     left: &mut u32,
     ask: Ask<'a>,
 ) -> Result<Ending, AllocError>
-    requires { IsSound (table_of S.serves S.servlet_phase F.filtering F.filter_phase stage.old) }
-    ensures same { table_of S.serves S.servlet_phase F.filtering F.filter_phase stage.new
-        ≡ table_of S.serves S.servlet_phase F.filtering F.filter_phase stage.old }
+    requires { IsSound (table_of S.Servlet F.Filter stage.old) }
+    ensures same { table_of S.Servlet F.Filter stage.new ≡ table_of S.Servlet F.Filter stage.old }
     ensures outcome { IfOk result (λ ended. outcome ended left.new (lent_of stage.new)
-        ≡ dispatched (table_of S.serves S.servlet_phase F.filtering F.filter_phase stage.old) 16 ask.entry left.old (lent_of stage.old)) }
+        ≡ dispatched (table_of S.Servlet F.Filter stage.old) 16 ask.entry left.old (lent_of stage.old)) }
 {
     let mut frames = Vec::new(alloc);
     let mut mode = Mode::Enter(ask);

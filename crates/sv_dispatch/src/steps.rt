@@ -40,13 +40,12 @@ fn finish<'a, S: Servlet, F: Filter>(
     passed: Vec<usize>,
     ended: Ending,
 ) -> Result<Mode<'a>, AllocError>
-    requires ready { All (IsReadyAt (table_of S.serves S.servlet_phase F.filtering F.filter_phase stage.old).filters) passed.items }
+    requires ready { All (IsReadyAt (table_of S.Servlet F.Filter stage.old).filters) passed.items }
     requires kept { ended ≢ Abandoned }
-    ensures same { table_of S.serves S.servlet_phase F.filtering F.filter_phase stage.new
-        ≡ table_of S.serves S.servlet_phase F.filtering F.filter_phase stage.old }
+    ensures same { table_of S.Servlet F.Filter stage.new ≡ table_of S.Servlet F.Filter stage.old }
     ensures mode { IfOk result (λ mode. mode ≡ Leave ended) }
     ensures closed { OnOk result ((left : ℕ) → outcome ended left (lent_of stage.new)
-        ≡ closed (table_of S.serves S.servlet_phase F.filtering F.filter_phase stage.old).filters passed.items (call_of view.entry 0)
+        ≡ closed (table_of S.Servlet F.Filter stage.old).filters passed.items (call_of view.entry 0)
         (outcome ended left (lent_of stage.old))) }
 {
     run_afters(stage, &view.call(0), passed)?;
@@ -60,7 +59,7 @@ fn to_serve<S: Servlet, F: Filter>(
     visit: &Visit<'_>,
     before: Before,
 ) -> Result<usize, Ending>
-    ensures servlet { result ≡ to_serve (table_of S.serves S.servlet_phase F.filtering F.filter_phase stage.now).servlets visit.now before }
+    ensures servlet { result ≡ to_serve (table_of S.Servlet F.Filter stage.now).servlets visit.now before }
     ensures kept { IfErr result (λ ended. ended ≢ Abandoned) }
 {
     match before {
@@ -80,15 +79,14 @@ fn open<'a, S: Servlet, F: Filter>(
     stage: &mut Stage<S, F>,
     visit: Visit<'a>,
 ) -> Result<Mode<'a>, AllocError>
-    requires { IsSound (table_of S.serves S.servlet_phase F.filtering F.filter_phase stage.old) }
-    ensures same { table_of S.serves S.servlet_phase F.filtering F.filter_phase stage.new
-        ≡ table_of S.serves S.servlet_phase F.filtering F.filter_phase stage.old }
-    ensures held { IfOk result (IsModeOf (table_of S.serves S.servlet_phase F.filtering F.filter_phase stage.old)) }
+    requires { IsSound (table_of S.Servlet F.Filter stage.old) }
+    ensures same { table_of S.Servlet F.Filter stage.new ≡ table_of S.Servlet F.Filter stage.old }
+    ensures held { IfOk result (IsModeOf (table_of S.Servlet F.Filter stage.old)) }
     ensures need { IfOk result (λ mode. need mode ≤ 1) }
     ensures less { IfOk result (λ mode. weight mode < 2) }
-    ensures current { IfOk result (λ mode. (e left : ℕ) → current (table_of S.serves S.servlet_phase F.filtering F.filter_phase stage.old) (suc e) mode left
-        (lent_of stage.new) ≡ performed (table_of S.serves S.servlet_phase F.filtering F.filter_phase stage.old)
-        (dispatched (table_of S.serves S.servlet_phase F.filtering F.filter_phase stage.old) e) visit.entry left (lent_of stage.old)) }
+    ensures current { IfOk result (λ mode. (e left : ℕ) → current (table_of S.Servlet F.Filter stage.old) (suc e) mode left
+        (lent_of stage.new) ≡ performed (table_of S.Servlet F.Filter stage.old)
+        (dispatched (table_of S.Servlet F.Filter stage.old) e) visit.entry left (lent_of stage.old)) }
 {
     let (passed, visit, before) = begin(alloc, stage, visit)?;
     match to_serve(alloc, stage, &visit, before) {
@@ -108,13 +106,12 @@ fn close<'a, S: Servlet, F: Filter>(
     held: Open<'a>,
     ended: Ending,
 ) -> Result<Mode<'a>, AllocError>
-    requires ready { All (IsReadyAt (table_of S.serves S.servlet_phase F.filtering F.filter_phase stage.old).filters) held.passed.items }
+    requires ready { All (IsReadyAt (table_of S.Servlet F.Filter stage.old).filters) held.passed.items }
     requires kept { ended ≢ Abandoned }
-    ensures same { table_of S.serves S.servlet_phase F.filtering F.filter_phase stage.new
-        ≡ table_of S.serves S.servlet_phase F.filtering F.filter_phase stage.old }
+    ensures same { table_of S.Servlet F.Filter stage.new ≡ table_of S.Servlet F.Filter stage.old }
     ensures mode { IfOk result (λ mode. mode ≡ Leave ended) }
     ensures closed { OnOk result ((left : ℕ) → outcome ended left (lent_of stage.new)
-        ≡ closed_open (table_of S.serves S.servlet_phase F.filtering F.filter_phase stage.old) held.entry (outcome ended left (lent_of stage.old))) }
+        ≡ closed_open (table_of S.Servlet F.Filter stage.old) held.entry (outcome ended left (lent_of stage.old))) }
 {
     let Open {
         view,
@@ -153,14 +150,13 @@ fn follow<'a, S: Servlet, F: Filter>(
     held: Open<'a>,
     next: Next,
 ) -> Result<Mode<'a>, AllocError>
-    requires { IsOpen (table_of S.serves S.servlet_phase F.filtering F.filter_phase stage.old) held }
-    ensures same { table_of S.serves S.servlet_phase F.filtering F.filter_phase stage.new
-        ≡ table_of S.serves S.servlet_phase F.filtering F.filter_phase stage.old }
-    ensures held { IfOk result (IsModeOf (table_of S.serves S.servlet_phase F.filtering F.filter_phase stage.old)) }
+    requires { IsOpen (table_of S.Servlet F.Filter stage.old) held }
+    ensures same { table_of S.Servlet F.Filter stage.new ≡ table_of S.Servlet F.Filter stage.old }
+    ensures held { IfOk result (IsModeOf (table_of S.Servlet F.Filter stage.old)) }
     ensures need { IfOk result (λ mode. need mode ≤ 1) }
     ensures less { IfOk result (λ mode. weight mode ≤ 6) }
-    ensures current { IfOk result (λ mode. (e left : ℕ) → current (table_of S.serves S.servlet_phase F.filtering F.filter_phase stage.old) (suc e) mode left
-        (lent_of stage.new) ≡ followed (table_of S.serves S.servlet_phase F.filtering F.filter_phase stage.old) e held.entry left (lent_of stage.old) next) }
+    ensures current { IfOk result (λ mode. (e left : ℕ) → current (table_of S.Servlet F.Filter stage.old) (suc e) mode left
+        (lent_of stage.new) ≡ followed (table_of S.Servlet F.Filter stage.old) e held.entry left (lent_of stage.old) next) }
 {
     match next {
         Next::Done => close(stage, held, Ending::Finished),
@@ -186,14 +182,13 @@ pub fn serve<'a, S: Servlet, F: Filter>(
     left: &mut u32,
     held: Open<'a>,
 ) -> Result<Mode<'a>, AllocError>
-    requires { IsOpen (table_of S.serves S.servlet_phase F.filtering F.filter_phase stage.old) held }
-    ensures same { table_of S.serves S.servlet_phase F.filtering F.filter_phase stage.new
-        ≡ table_of S.serves S.servlet_phase F.filtering F.filter_phase stage.old }
-    ensures held { IfOk result (IsModeOf (table_of S.serves S.servlet_phase F.filtering F.filter_phase stage.old)) }
+    requires { IsOpen (table_of S.Servlet F.Filter stage.old) held }
+    ensures same { table_of S.Servlet F.Filter stage.new ≡ table_of S.Servlet F.Filter stage.old }
+    ensures held { IfOk result (IsModeOf (table_of S.Servlet F.Filter stage.old)) }
     ensures need { IfOk result (λ mode. need mode ≤ 1) }
     ensures less { IfOk result (λ mode. weight mode + 7 * left.new < 7 * left.old + 1) }
-    ensures current { IfOk result (λ mode. (e : ℕ) → current (table_of S.serves S.servlet_phase F.filtering F.filter_phase stage.old) (suc e) mode left.new
-        (lent_of stage.new) ≡ opened (table_of S.serves S.servlet_phase F.filtering F.filter_phase stage.old) e held.entry left.old (lent_of stage.old)) }
+    ensures current { IfOk result (λ mode. (e : ℕ) → current (table_of S.Servlet F.Filter stage.old) (suc e) mode left.new
+        (lent_of stage.new) ≡ opened (table_of S.Servlet F.Filter stage.old) e held.entry left.old (lent_of stage.old)) }
 {
     if *left == 0 {
         return Ok(Mode::Leave(Ending::Abandoned));
@@ -216,15 +211,14 @@ fn perform<'a, S: Servlet, F: Filter>(
     left: &mut u32,
     visit: Visit<'a>,
 ) -> Result<Mode<'a>, AllocError>
-    requires { IsSound (table_of S.serves S.servlet_phase F.filtering F.filter_phase stage.old) }
-    ensures same { table_of S.serves S.servlet_phase F.filtering F.filter_phase stage.new
-        ≡ table_of S.serves S.servlet_phase F.filtering F.filter_phase stage.old }
-    ensures held { IfOk result (IsModeOf (table_of S.serves S.servlet_phase F.filtering F.filter_phase stage.old)) }
+    requires { IsSound (table_of S.Servlet F.Filter stage.old) }
+    ensures same { table_of S.Servlet F.Filter stage.new ≡ table_of S.Servlet F.Filter stage.old }
+    ensures held { IfOk result (IsModeOf (table_of S.Servlet F.Filter stage.old)) }
     ensures need { IfOk result (λ mode. need mode ≤ 1) }
     ensures less { IfOk result (λ mode. weight mode + 7 * left.new < 7 * left.old + 2) }
-    ensures current { IfOk result (λ mode. (e : ℕ) → current (table_of S.serves S.servlet_phase F.filtering F.filter_phase stage.old) (suc e) mode left.new
-        (lent_of stage.new) ≡ performed (table_of S.serves S.servlet_phase F.filtering F.filter_phase stage.old)
-        (dispatched (table_of S.serves S.servlet_phase F.filtering F.filter_phase stage.old) e) visit.entry left.old (lent_of stage.old)) }
+    ensures current { IfOk result (λ mode. (e : ℕ) → current (table_of S.Servlet F.Filter stage.old) (suc e) mode left.new
+        (lent_of stage.new) ≡ performed (table_of S.Servlet F.Filter stage.old)
+        (dispatched (table_of S.Servlet F.Filter stage.old) e) visit.entry left.old (lent_of stage.old)) }
 {
     match open(alloc, stage, visit)? {
         Mode::Serve(held) => serve(stage, left, held),
@@ -239,14 +233,13 @@ pub fn enter<'a, S: Servlet, F: Filter>(
     left: &mut u32,
     ask: Ask<'a>,
 ) -> Result<Mode<'a>, AllocError>
-    requires { IsSound (table_of S.serves S.servlet_phase F.filtering F.filter_phase stage.old) }
-    ensures same { table_of S.serves S.servlet_phase F.filtering F.filter_phase stage.new
-        ≡ table_of S.serves S.servlet_phase F.filtering F.filter_phase stage.old }
-    ensures held { IfOk result (IsModeOf (table_of S.serves S.servlet_phase F.filtering F.filter_phase stage.old)) }
+    requires { IsSound (table_of S.Servlet F.Filter stage.old) }
+    ensures same { table_of S.Servlet F.Filter stage.new ≡ table_of S.Servlet F.Filter stage.old }
+    ensures held { IfOk result (IsModeOf (table_of S.Servlet F.Filter stage.old)) }
     ensures need { IfOk result (λ mode. need mode ≤ 1) }
     ensures less { IfOk result (λ mode. weight mode + 7 * left.new < 7 * left.old + 3) }
-    ensures current { IfOk result (λ mode. (e : ℕ) → current (table_of S.serves S.servlet_phase F.filtering F.filter_phase stage.old) (suc e) mode left.new
-        (lent_of stage.new) ≡ dispatched (table_of S.serves S.servlet_phase F.filtering F.filter_phase stage.old) (suc e) ask.entry left.old (lent_of stage.old)) }
+    ensures current { IfOk result (λ mode. (e : ℕ) → current (table_of S.Servlet F.Filter stage.old) (suc e) mode left.new
+        (lent_of stage.new) ≡ dispatched (table_of S.Servlet F.Filter stage.old) (suc e) ask.entry left.old (lent_of stage.old)) }
 {
     match visit_of(alloc, stage, ask)? {
         Some(visit) => perform(alloc, stage, left, visit),
@@ -270,14 +263,13 @@ pub fn leave<'a, S: Servlet, F: Filter>(
     frame: Frame<'a>,
     ended: Ending,
 ) -> Result<Mode<'a>, AllocError>
-    requires { IsOpen (table_of S.serves S.servlet_phase F.filtering F.filter_phase stage.old) frame.held }
-    ensures same { table_of S.serves S.servlet_phase F.filtering F.filter_phase stage.new
-        ≡ table_of S.serves S.servlet_phase F.filtering F.filter_phase stage.old }
-    ensures held { IfOk result (IsModeOf (table_of S.serves S.servlet_phase F.filtering F.filter_phase stage.old)) }
+    requires { IsOpen (table_of S.Servlet F.Filter stage.old) frame.held }
+    ensures same { table_of S.Servlet F.Filter stage.new ≡ table_of S.Servlet F.Filter stage.old }
+    ensures held { IfOk result (IsModeOf (table_of S.Servlet F.Filter stage.old)) }
     ensures need { IfOk result (λ mode. need mode ≤ 1) }
     ensures less { IfOk result (λ mode. weight mode < 2) }
-    ensures current { IfOk result (λ mode. (e left : ℕ) → current (table_of S.serves S.servlet_phase F.filtering F.filter_phase stage.old) (suc e) mode left
-        (lent_of stage.new) ≡ reentered (table_of S.serves S.servlet_phase F.filtering F.filter_phase stage.old) e frame.entry
+    ensures current { IfOk result (λ mode. (e left : ℕ) → current (table_of S.Servlet F.Filter stage.old) (suc e) mode left
+        (lent_of stage.new) ≡ reentered (table_of S.Servlet F.Filter stage.old) e frame.entry
         (outcome ended left (lent_of stage.old))) }
 {
     let Frame { held, then } = frame;

@@ -2,12 +2,12 @@
 
 ghost use Rattle.std.specs.Prelude.{◌≡◌, IfOk};
 ghost use Rattle.sv_dispatch.specs.Dispatching.{shown_at, visit, visit_at, visit_of};
-ghost use Rattle.sv_dispatch.specs.Place.{place_of};
+ghost use Rattle.sv_dispatch.specs.MappedPath.{mapped_path_of};
 ghost use Rattle.sv_dispatch.specs.Stages.{table_of};
 ghost use Rattle.sv_mapping.specs.declared.dispatcher.Dispatcher.TheVariants.{Request};
 
 use crate::destination::{Destination, destination_of};
-use crate::place::{Place, place_of, servlet_of};
+use crate::mapped_path::{MappedPath, mapped_path_of, servlet_of};
 use crate::stage::Stage;
 use crate::view::View;
 use std::alloc::{AllocError, Global};
@@ -42,7 +42,7 @@ fn shown<'a>(
     dispatcher: Dispatcher,
     view: View<'a>,
     target: Destination,
-    place: Place,
+    place: MappedPath,
 ) -> Result<View<'a>, AllocError>
     ensures { IfOk result (λ shown. shown ≡ shown_at dispatcher view.entry target place) }
 {
@@ -68,9 +68,9 @@ fn visit_at<'a, S: Servlet, F: Filter>(
     target: Destination,
 ) -> Result<Visit<'a>, AllocError>
     ensures { IfOk result (λ visit. visit ≡ visit_at ask.entry target
-        (place_of (table_of S.serves S.servlet_phase F.filtering F.filter_phase stage.now).patterns target.path) ask.entry.dispatcher) }
+        (mapped_path_of (table_of S.Servlet F.Filter stage.now).patterns target.path) ask.entry.dispatcher) }
 {
-    let place = place_of(alloc, &stage.patterns, target.path.as_str())?;
+    let place = mapped_path_of(alloc, &stage.patterns, target.path.as_str())?;
     let path = target.path.copy(alloc)?;
     let servlet = place.servlet;
     let dispatcher = ask.dispatcher;
@@ -86,7 +86,7 @@ fn visit_at<'a, S: Servlet, F: Filter>(
 /// The dispatch of a request, whose path is as it came.
 fn visit_as_it_came<'a, S: Servlet, F: Filter>(stage: &Stage<S, F>, ask: Ask<'a>) -> Visit<'a>
     ensures { result ≡ visit Request ask.entry.view ask.entry.path
-        (place_of (table_of S.serves S.servlet_phase F.filtering F.filter_phase stage.now).patterns ask.entry.path).servlet }
+        (mapped_path_of (table_of S.Servlet F.Filter stage.now).patterns ask.entry.path).servlet }
 {
     let servlet = servlet_of(&stage.patterns, ask.path.as_str());
     Visit {
@@ -104,7 +104,7 @@ pub fn visit_of<'a, S: Servlet, F: Filter>(
     stage: &Stage<S, F>,
     ask: Ask<'a>,
 ) -> Result<Option<Visit<'a>>, AllocError>
-    ensures { IfOk result (λ visit. visit ≡ visit_of (table_of S.serves S.servlet_phase F.filtering F.filter_phase stage.now) ask.entry) }
+    ensures { IfOk result (λ visit. visit ≡ visit_of (table_of S.Servlet F.Filter stage.now) ask.entry) }
 {
     if let Dispatcher::Request = ask.dispatcher {
         return Ok(Some(visit_as_it_came(stage, ask)));

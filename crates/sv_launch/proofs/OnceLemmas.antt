@@ -1,5 +1,6 @@
 -- Streams that begin, go on and end.
 use Rattle.std.proofs.Common.{◌≡◌, refl, sym, ap, ◌∙◌, subst, inl, inr, ℕ, ◌+◌, ◌^◌, List, [], Bool, false, Option, Some, None, Result, Ok}
+use Rattle.std.proofs.KnownBytes.{prepend_known-nil}
 use Rattle.std.specs.Io.KnownBytes.{prepend_known}
 use Rattle.sv_model.specs.declared.key.Secret.{Secret}
 use Rattle.sv_model.specs.Engine.{EngineMeaning}
@@ -15,16 +16,11 @@ use Rattle.sv_launch.specs.declared.stream.OnceFault.{OnceFault}
 use Rattle.sv_host.specs.Secrets.{secret_of}
 use Rattle.sv_launch.specs.Once.{turn_of, ending, Reaches, AtStart, Behind, IsUnderway, HasServed}
 
--- with nothing held what is unread is what is to come
-pub nothing_held : (to_come : Option (List ℕ)) → prepend_known [] to_come ≡ to_come
-nothing_held None = refl
-nothing_held (Some xs) = refl
-
 -- what the first call sees
 pub first_sight : {S : Type 0} (c : Connection) (to_come written : Option (List ℕ)) (site : S) → IsFresh c false → sight_of c to_come written site ≡ sight to_come written site false
 first_sight c to_come written site new =
     ap (λ rest. sight (prepend_known rest to_come) written site c.closed) new.empty
-    ∙ ap (λ unread. sight unread written site c.closed) (nothing_held to_come)
+    ∙ ap (λ unread. sight unread written site c.closed) (prepend_known-nil to_come)
     ∙ ap (sight to_come written site) new.not_closed
 
 -- where another request is taken, none waits

@@ -267,8 +267,7 @@ impl<'a, S: ServletTable, F: FilterTable, L: ListenerTable> Application<'a, S, F
         ensures launched { IfOk result (λ container. IsLaunched ⟦<FilesOr<'f, S::Servlet> as Servlet>⟧.serves F.Filter.filtering L.Listener.hears
             (λ context name. files_or files.now context name (S.servlets self.now.servlets name)) (λ context name. F.filters self.now.filters name)
             (λ context name. L.listeners self.now.listeners name) deployment.contexts.items
-            (deployed ⟦<FilesOr<'f, S::Servlet> as Servlet>⟧.serves ⟦<FilesOr<'f, S::Servlet> as Servlet>⟧.servlet_phase F.Filter.filtering
-            F.Filter.filter_phase L.Listener.hears container)) }
+            (deployed ⟦<FilesOr<'f, S::Servlet> as Servlet>⟧ F.Filter.Filter L.Listener.hears container)) }
     {
         let Objects {
             servlets,

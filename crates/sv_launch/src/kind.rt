@@ -12,7 +12,7 @@ use sv_servlet::{GenericServlet, Servlet};
 use sv_web::{FileServlet, Web};
 
 /// The objects of one kind that names stand for.
-pub trait Kind {
+pub trait NamedObjects {
     type Object: Drop;
 
     /// What the meanings of such objects are.
@@ -54,7 +54,7 @@ pub struct ServletsOf<'f, T> {
 /// A servlet of files, or one of another type.
 pub type FilesOr<'f, S> = OneOf<GenericServlet<Web<FileServlet<'f>>>, S>;
 
-impl<'f, T: ServletTable> Kind for ServletsOf<'f, T> {
+impl<'f, T: ServletTable> NamedObjects for ServletsOf<'f, T> {
     ghost use Rattle.std.specs.Prelude.{◌≡◌};
     ghost use Rattle.sv_launch.specs.Served.{files_or};
     ghost use Rattle.sv_servlet.specs.Servlet.{Serves};
@@ -98,7 +98,7 @@ impl<'f, T: ServletTable> Kind for ServletsOf<'f, T> {
 #[derive(Clone, Copy)]
 pub struct FiltersOf<T>(pub T);
 
-impl<T: FilterTable> Kind for FiltersOf<T> {
+impl<T: FilterTable> NamedObjects for FiltersOf<T> {
     ghost use Rattle.std.specs.Prelude.{◌≡◌};
     ghost use Rattle.sv_servlet.specs.Filter.{Filters};
     ghost use Rattle.sv_servlet.specs.declared.servlet.Phase.TheVariants.{New};
@@ -133,7 +133,7 @@ impl<T: FilterTable> Kind for FiltersOf<T> {
 #[derive(Clone, Copy)]
 pub struct ListenersOf<T>(pub T);
 
-impl<T: ListenerTable> Kind for ListenersOf<T> {
+impl<T: ListenerTable> NamedObjects for ListenersOf<T> {
     ghost use Rattle.sv_launch.specs.Objects.{Hears};
 
     type Object = T::Listener;

@@ -30,7 +30,7 @@ pub use descriptor::{deployment_in, read_config};
 pub use fault::Fault;
 pub use files::{Clash, Owner, Written};
 pub use idle::Idle;
-pub use kind::{FilesOr, FiltersOf, Kind, ListenersOf, ServletsOf};
+pub use kind::{FilesOr, FiltersOf, ListenersOf, NamedObjects, ServletsOf};
 pub use objects::objects_of;
 pub use one_of::OneOf;
 pub use program::{launch, number_of, words_of};

@@ -7,7 +7,7 @@ ghost use Rattle.sv_launch.specs.Objects.{object_data, is_missing, looked_up, lo
 ghost use Rattle.sv_launch.specs.declared.fault.Fault.TheVariants.{Memory, MissingObject};
 
 use crate::fault::Fault;
-use crate::kind::Kind;
+use crate::kind::NamedObjects;
 use std::alloc::Global;
 use sv_config::Context;
 use sv_container::Named;
@@ -15,7 +15,7 @@ use sv_container::Named;
 /// The objects of one kind that these contexts declare, in order: each new, and what its name stands for.
 ///
 /// A name that stands for nothing of the kind is [`Fault::MissingObject`].
-pub fn objects_of<K: Kind>(
+pub fn objects_of<K: NamedObjects>(
     alloc: Global,
     kind: &K,
     contexts: &[Context],
@@ -34,7 +34,7 @@ pub fn objects_of<K: Kind>(
 }
 
 /// Adds the objects that a context declares.
-fn add_objects<K: Kind>(
+fn add_objects<K: NamedObjects>(
     alloc: Global,
     kind: &K,
     objects: &mut Vec<Named<K::Object>>,

@@ -1,4 +1,4 @@
-use Rattle.std.proofs.Common.{◌∙◌}
+use Rattle.sv_container.proofs.Prelude.{◌∙◌}
 use Rattle.sv_container.proofs.ShownLemmas.{info_found, info_missing, path_found, path_missing}
 use Rattle.sv_container.proofs.answer.shown.Goals as goal
 

@@ -1,8 +1,6 @@
-use Rattle.std.proofs.Common.{◌≡◌, ◌+◌, ◌<◌, length, take, arith, refl, subst, string_bytes}
-use Rattle.std.proofs.lemmas.List.Sorted.{IsPermutation-swap, IsPermutation-trans, length_permutation}
-use Rattle.std.specs.List.Sorted.{IsPermutation}
-use Rattle.sv_container.specs.Deployment.{IsFoundAt, label, labels_of}
-use Rattle.sv_container.specs.Starting.{times}
+use Rattle.sv_container.proofs.Prelude.{◌≡◌, ◌+◌, ◌<◌, length, take, arith, refl, subst, string_bytes, IsPermutation-trans, IsPermutation, IsFoundAt, label}
+use Rattle.sv_container.proofs.Prelude.{labels_of, times}
+use Rattle.std.proofs.lemmas.List.Sorted.{IsPermutation-swap, length_permutation}
 use Rattle.sv_container.proofs.ArrangeLemmas.{one_more_named}
 use Rattle.sv_container.proofs.StartingLemmas.{lacks_next}
 use Rattle.sv_container.proofs.arrange.arrange_context.Goals as goal

@@ -1,6 +1,4 @@
-use Rattle.std.proofs.Common.{◌≡◌, ◌≤◌, ◌+◌, ◌++◌, length, take, map, string_bytes}
-use Rattle.std.specs.List.Sorted.{IsPermutation}
-use Rattle.sv_container.specs.Deployment.{label, labels_of}
+use Rattle.sv_container.proofs.Prelude.{◌≡◌, ◌≤◌, ◌+◌, ◌++◌, length, take, map, string_bytes, IsPermutation, label, labels_of}
 use Rattle.sv_container.proofs.arrange.arrange_context.Given as goal
 
 abbrev pub invariant-loop-count : goal.invariant-loop-count

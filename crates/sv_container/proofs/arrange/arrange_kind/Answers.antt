@@ -1,6 +1,5 @@
-use Rattle.std.proofs.Common.{◌<◌, ◌≤◌, length, arith}
-use Rattle.std.proofs.lemmas.List.Sorted.{IsPermutation-refl, IsPermutation-trans}
-use Rattle.sv_container.specs.Deployment.{names_of}
+use Rattle.sv_container.proofs.Prelude.{◌<◌, ◌≤◌, length, arith, IsPermutation-trans, names_of}
+use Rattle.std.proofs.lemmas.List.Sorted.{IsPermutation-refl}
 use Rattle.sv_container.proofs.ArrangeLemmas.{no_more_contexts, none_labelled, one_more_context}
 use Rattle.sv_container.proofs.StartingLemmas.{has_all, lacks_context, lacks_last}
 use Rattle.sv_container.proofs.arrange.arrange_kind.Goals as goal

@@ -1,6 +1,4 @@
-use Rattle.std.proofs.Common.{◌≡◌, ◌≤◌, ◌++◌, length, take, drop, map}
-use Rattle.std.specs.List.Sorted.{IsPermutation}
-use Rattle.sv_container.specs.Deployment.{declared_from, labels_of, names_of}
+use Rattle.sv_container.proofs.Prelude.{◌≡◌, ◌≤◌, ◌++◌, length, take, drop, map, IsPermutation, declared_from, labels_of, names_of}
 use Rattle.sv_container.proofs.arrange.arrange_kind.Given as goal
 
 abbrev pub invariant-loop-number : goal.invariant-loop-number

@@ -1,6 +1,4 @@
-use Rattle.std.proofs.Common.{◌≡◌, ◌∙◌, false, sym}
-use Rattle.sv_container.specs.Deployment.{label, label_of}
-use Rattle.sv_container.specs.Starting.{is_label}
+use Rattle.sv_container.proofs.Prelude.{◌≡◌, ◌∙◌, false, sym, label, label_of, is_label}
 use Rattle.sv_container.proofs.StartingLemmas.{other_context, other_name, times_past}
 use Rattle.sv_container.proofs.arrange.find.Goals as goal
 use Rattle.sv_container.proofs.arrange.find.Goals.{else-object-context-via-then-object-context+else-eq, else-object-context-via-else-object-context}

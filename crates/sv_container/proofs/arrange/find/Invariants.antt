@@ -1,6 +1,4 @@
-use Rattle.std.proofs.Common.{◌≡◌, take}
-use Rattle.sv_container.specs.Deployment.{label, labels_of}
-use Rattle.sv_container.specs.Starting.{times}
+use Rattle.sv_container.proofs.Prelude.{◌≡◌, take, label, labels_of, times}
 use Rattle.sv_container.proofs.arrange.find.Given as goal
 
 -- none stands between the first place and this one

@@ -1,5 +1,4 @@
-use Rattle.std.proofs.Common.{◌≡◌, ◌∷◌, ◌∙◌, arith, drop, sym}
-use Rattle.std.specs.Vec.Iter.{into_iter_items}
+use Rattle.sv_container.proofs.Prelude.{◌≡◌, ◌∷◌, ◌∙◌, arith, drop, sym, into_iter_items}
 use Rattle.sv_container.proofs.AssembleLemmas.{more_dropped, one_more_filled}
 use Rattle.sv_container.proofs.assemble.fill.Goals as goal
 

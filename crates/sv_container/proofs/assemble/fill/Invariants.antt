@@ -1,7 +1,4 @@
-use Rattle.std.proofs.Common.{◌≡◌, ◌≤◌, take, drop, map, length}
-use Rattle.std.specs.Vec.{vec_capacity}
-use Rattle.std.specs.Vec.Iter.{into_iter_items}
-use Rattle.sv_container.specs.Life.{hosted_of}
+use Rattle.sv_container.proofs.Prelude.{◌≡◌, ◌≤◌, take, drop, map, length, vec_capacity, into_iter_items, hosted_of}
 use Rattle.sv_container.proofs.assemble.fill.Given as goal
 
 abbrev pub invariant-loop-count : goal.invariant-loop-count

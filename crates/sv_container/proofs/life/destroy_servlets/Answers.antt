@@ -1,4 +1,4 @@
-use Rattle.std.proofs.Common.{◌≡◌, ◌≤◌, ◌+◌, ◌∙◌, arith, length, length-set, refl}
+use Rattle.sv_container.proofs.Prelude.{◌≡◌, ◌≤◌, ◌+◌, ◌∙◌, arith, length, length-set, refl}
 use Rattle.sv_container.proofs.LifeLemmas.{all_counted, count_fits, none_counted, one_more_counted, rest_as_before}
 use Rattle.sv_container.proofs.life.destroy_servlets.Goals as goal
 

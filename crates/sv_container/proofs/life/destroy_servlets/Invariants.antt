@@ -1,6 +1,4 @@
-use Rattle.std.proofs.Common.{◌≡◌, ℕ, ◌+◌, ◌<◌, ◌≤◌, length, get_or, take}
-use Rattle.sv_dispatch.specs.Rows.{rows}
-use Rattle.sv_container.specs.Life.{ready_count}
+use Rattle.sv_container.proofs.Prelude.{◌≡◌, ℕ, ◌+◌, ◌<◌, ◌≤◌, length, get_or, take, rows, ready_count}
 use Rattle.sv_container.proofs.life.destroy_servlets.Given as goal
 
 abbrev pub invariant-loop-at : goal.invariant-loop-at

@@ -1,6 +1,4 @@
-use Rattle.std.proofs.Common.{◌<◌, length}
-use Rattle.sv_servlet.specs.Filter.{FilterKeeps}
-use Rattle.sv_container.specs.Life.{IsInitialised}
+use Rattle.sv_container.proofs.Prelude.{◌<◌, length, FilterKeeps, IsInitialised}
 use Rattle.sv_container.proofs.LoopLemmas.{one_more}
 use Rattle.sv_container.proofs.life.init_filters.Goals as goal
 

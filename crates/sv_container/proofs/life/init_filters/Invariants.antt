@@ -1,5 +1,4 @@
-use Rattle.sv_servlet.specs.Filter.{FilterKeeps}
-use Rattle.sv_container.specs.Life.{IsInitialised}
+use Rattle.sv_container.proofs.Prelude.{FilterKeeps, IsInitialised}
 use Rattle.sv_container.proofs.LoopLemmas.{Changed}
 use Rattle.sv_container.proofs.life.init_filters.Given as goal
 

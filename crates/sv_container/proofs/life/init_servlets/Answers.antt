@@ -1,6 +1,4 @@
-use Rattle.std.proofs.Common.{◌<◌, length}
-use Rattle.sv_dispatch.specs.Keeping.{ServletKeeps}
-use Rattle.sv_container.specs.Life.{IsInitialised}
+use Rattle.sv_container.proofs.Prelude.{◌<◌, length, ServletKeeps, IsInitialised}
 use Rattle.sv_container.proofs.LoopLemmas.{one_more}
 use Rattle.sv_container.proofs.life.init_servlets.Goals as goal
 

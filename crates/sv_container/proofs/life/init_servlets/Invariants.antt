@@ -1,5 +1,4 @@
-use Rattle.sv_dispatch.specs.Keeping.{ServletKeeps}
-use Rattle.sv_container.specs.Life.{IsInitialised}
+use Rattle.sv_container.proofs.Prelude.{ServletKeeps, IsInitialised}
 use Rattle.sv_container.proofs.LoopLemmas.{Changed}
 use Rattle.sv_container.proofs.life.init_servlets.Given as goal
 

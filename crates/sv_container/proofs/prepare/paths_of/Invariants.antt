@@ -1,4 +1,4 @@
-use Rattle.std.proofs.Common.{◌≡◌, map, take, string_bytes}
+use Rattle.sv_container.proofs.Prelude.{◌≡◌, map, take, string_bytes}
 use Rattle.sv_container.specs.Deployment as spec
 use Rattle.sv_container.proofs.prepare.paths_of.Given as goal
 

@@ -1,5 +1,4 @@
-use Rattle.std.proofs.Common.{◌≡◌, ◌∙◌, ap, arith, length, sym}
-use Rattle.std.specs.Vec.Iter.{into_iter_items}
+use Rattle.sv_container.proofs.Prelude.{◌≡◌, ◌∙◌, ap, arith, length, sym, into_iter_items}
 use Rattle.sv_container.proofs.PrepareLemmas.{all_frames, one_more_empty, one_more_frame}
 use Rattle.sv_container.proofs.prepare.prepare.Goals as goal
 

@@ -1,5 +1,5 @@
-use Rattle.std.proofs.Common.{◌≡◌, ◌++◌, All, length, map}
-use Rattle.std.specs.Vec.Iter.{into_iter_items, into_iter_len}
+use Rattle.sv_container.proofs.Prelude.{◌≡◌, ◌++◌, All, length, map, into_iter_items}
+use Rattle.std.specs.Vec.Iter.{into_iter_len}
 use Rattle.sv_container.specs.Deployment as spec
 use Rattle.sv_container.proofs.prepare.prepare.Given as goal
 

@@ -1,4 +1,4 @@
-use Rattle.std.proofs.Common.{◌≡◌, map, take}
+use Rattle.sv_container.proofs.Prelude.{◌≡◌, map, take}
 use Rattle.sv_container.specs.Deployment as spec
 use Rattle.sv_container.proofs.prepare.settings_of.Given as goal
 

@@ -1,5 +1,4 @@
-use Rattle.std.proofs.Common.{subst, sym, ◌∙◌}
-use Rattle.sv_once.specs.Entries.{IsSmall}
+use Rattle.sv_container.proofs.Prelude.{subst, sym, ◌∙◌, IsSmall}
 use Rattle.sv_container.proofs.OnceLemmas.{entry_small}
 use Rattle.sv_container.proofs.remember.next_memory.Goals as goal
 

@@ -1,5 +1,5 @@
-use Rattle.std.proofs.Common.{Err, ap, arith, rules, subst, sym, ◌∙◌}
-use Rattle.http_header.specs.FieldValue.{IsFieldValue}
+use Rattle.sv_container.proofs.Prelude.{ap, arith, subst, sym, ◌∙◌, IsFieldValue}
+use Rattle.std.proofs.Common.{Err, rules}
 use Rattle.sv_container.proofs.CookieLemmas.{cookie_fits}
 use Rattle.sv_container.proofs.set_cookie.cookie_field.Goals as goal
 

@@ -1,4 +1,4 @@
-use Rattle.std.proofs.Common.{◌∙◌, arith}
+use Rattle.sv_container.proofs.Prelude.{◌∙◌, arith}
 use Rattle.sv_container.proofs.TellLemmas.{all_heard, one_heard}
 use Rattle.sv_container.proofs.tell.tell_all.Goals as goal
 

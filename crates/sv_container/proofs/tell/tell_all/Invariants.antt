@@ -1,5 +1,4 @@
-use Rattle.std.proofs.Common.{◌≡◌, drop}
-use Rattle.sv_container.specs.Listening.{ears_of, heard_of, noted_of}
+use Rattle.sv_container.proofs.Prelude.{◌≡◌, drop, ears_of, heard_of, noted_of}
 use Rattle.sv_container.proofs.tell.tell_all.Given as goal
 
 abbrev pub invariant-loop-one : goal.invariant-loop-one

@@ -1,4 +1,4 @@
-use Rattle.std.proofs.Common.{◌<◌, length}
+use Rattle.sv_container.proofs.Prelude.{◌<◌, length}
 use Rattle.sv_container.proofs.LoopLemmas.{all_changed, one_more}
 use Rattle.sv_container.proofs.TellLemmas.{IsTold, all_noted, same_ears}
 use Rattle.sv_container.proofs.tell.tell_in_order.Goals as goal

@@ -1,4 +1,4 @@
-use Rattle.std.proofs.Common.{◌≡◌, arith}
+use Rattle.sv_container.proofs.Prelude.{◌≡◌, arith}
 use Rattle.sv_container.proofs.LoopLemmas.{all_changed_behind, one_more_before}
 use Rattle.sv_container.proofs.TellLemmas.{IsTold, all_noted, same_ears}
 use Rattle.sv_container.proofs.tell.tell_in_reverse.Goals as goal

@@ -1,4 +1,4 @@
-use Rattle.std.proofs.Common.{◌∙◌, ap}
+use Rattle.sv_dispatch.proofs.Prelude.{◌∙◌, ap}
 use Rattle.sv_dispatch.proofs.OpenLemmas.{passed_ready, chain_ready}
 use Rattle.sv_dispatch.proofs.chain.begin.Goals as goal
 

@@ -1,4 +1,4 @@
-use Rattle.std.proofs.Common.{ap}
+use Rattle.sv_dispatch.proofs.Prelude.{ap}
 use Rattle.sv_dispatch.proofs.ChainLemmas.{no_items, afters_end, afters_pop, filters_kept, ready_last, ready_front}
 use Rattle.sv_dispatch.proofs.chain.run_afters.Goals as goal
 

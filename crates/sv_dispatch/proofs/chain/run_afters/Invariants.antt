@@ -1,13 +1,10 @@
-use Rattle.std.proofs.Common.{◌≡◌, All, vec_len}
-use Rattle.sv_dispatch.specs.Rows.{IsReadyAt}
-use Rattle.sv_dispatch.specs.Dispatching.{afters}
-use Rattle.sv_dispatch.specs.Stages.{table_of, lent_of}
+use Rattle.sv_dispatch.proofs.Prelude.{◌≡◌, All, IsReadyAt, afters, table_of, lent_of}
+use Rattle.std.proofs.Common.{vec_len}
 use Rattle.sv_dispatch.proofs.chain.run_afters.Given as goal
 
 abbrev pub invariant-loop-k : goal.invariant-loop-k
 invariant-loop-k g l =
-    let table = table_of g.S.Servlet.serves g.S.Servlet.servlet_phase
-    g.F.Filter.filtering g.F.Filter.filter_phase in
+    let table = table_of g.S.Servlet g.F.Filter in
     record {
       same : table l.stage ≡ table l.fn.stage;
       ready : All (IsReadyAt (table l.fn.stage).filters) l.passed.items;

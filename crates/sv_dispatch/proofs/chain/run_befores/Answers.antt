@@ -1,4 +1,4 @@
-use Rattle.std.proofs.Common.{ap, refl, sym, ◌∙◌}
+use Rattle.sv_dispatch.proofs.Prelude.{ap, refl, sym, ◌∙◌}
 use Rattle.sv_dispatch.proofs.ChainLemmas.{befores_pass, befores_stop, befores_end, filters_kept, ready_at}
 use Rattle.sv_dispatch.proofs.chain.run_befores.Goals as goal
 

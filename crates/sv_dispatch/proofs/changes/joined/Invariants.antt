@@ -1,4 +1,4 @@
-use Rattle.std.proofs.Common.{◌≡◌, ◌++◌, drop}
+use Rattle.sv_dispatch.proofs.Prelude.{◌≡◌, ◌++◌, drop}
 use Rattle.sv_dispatch.proofs.changes.joined.Given as goal
 
 abbrev pub invariant-loop-param : goal.invariant-loop-param

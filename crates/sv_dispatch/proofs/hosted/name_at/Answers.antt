@@ -1,6 +1,5 @@
-use Rattle.std.proofs.Common.{◌∙◌, sym}
+use Rattle.sv_dispatch.proofs.Prelude.{◌∙◌, sym, ltb-false}
 use Rattle.sv_dispatch.proofs.ViewLemmas.{name_there, name_past}
-use Rattle.std.proofs.lemmas.Bool.{ltb-false}
 use Rattle.sv_dispatch.proofs.hosted.name_at.Goals as goal
 
 pub returns-in-Some-get : goal.returns-in-Some-get

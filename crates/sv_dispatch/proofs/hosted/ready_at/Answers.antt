@@ -1,6 +1,5 @@
-use Rattle.std.proofs.Common.{sym}
+use Rattle.sv_dispatch.proofs.Prelude.{sym, ltb-false}
 use Rattle.sv_dispatch.proofs.ViewLemmas.{ready_yes, ready_not, ready_past}
-use Rattle.std.proofs.lemmas.Bool.{ltb-false}
 use Rattle.sv_dispatch.proofs.hosted.ready_at.Goals as goal
 
 pub returns-then-hosted : goal.returns-then-hosted

@@ -1,5 +1,5 @@
-use Rattle.std.proofs.Common.{◌≡◌, drop}
-use Rattle.sv_dispatch.specs.Pages.{first_page, is_for_status}
+use Rattle.sv_dispatch.proofs.Prelude.{◌≡◌, drop, first_page}
+use Rattle.sv_dispatch.specs.Pages.{is_for_status}
 use Rattle.sv_dispatch.proofs.page.page_for_status.Given as goal
 
 abbrev pub invariant-loop-page : goal.invariant-loop-page

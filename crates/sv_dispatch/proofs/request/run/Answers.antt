@@ -1,5 +1,5 @@
 use Rattle.sv_dispatch.proofs.PageLemmas.{run_settled}
-use Rattle.sv_dispatch.specs.Stages.{lent_of}
+use Rattle.sv_dispatch.proofs.Prelude.{lent_of}
 use Rattle.sv_dispatch.proofs.request.run.Goals as goal
 
 pub returns-clause-ran : goal.returns-clause-ran

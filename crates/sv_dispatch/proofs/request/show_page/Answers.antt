@@ -1,6 +1,5 @@
-use Rattle.std.proofs.Common.{◌∙◌, refl}
+use Rattle.sv_dispatch.proofs.Prelude.{◌∙◌, refl, lent_of}
 use Rattle.sv_dispatch.proofs.PageLemmas.{page_shown}
-use Rattle.sv_dispatch.specs.Stages.{lent_of}
 use Rattle.sv_dispatch.proofs.request.show_page.Goals as goal
 
 pub returns-clause-ran : goal.returns-clause-ran

@@ -1,4 +1,5 @@
-use Rattle.std.proofs.Common.{refl, rules}
+use Rattle.sv_dispatch.proofs.Prelude.{refl}
+use Rattle.std.proofs.Common.{rules}
 use Rattle.sv_dispatch.proofs.StepLemmas.{starts, starts_running, ends, no_frames}
 use Rattle.sv_dispatch.proofs.stack.dispatch.Goals as goal
 

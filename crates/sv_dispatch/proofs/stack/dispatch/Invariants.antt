@@ -1,13 +1,9 @@
-use Rattle.std.proofs.Common.{◌≡◌}
-use Rattle.sv_dispatch.specs.Dispatching.{dispatched}
-use Rattle.sv_dispatch.specs.Stack.{whole, work, IsRunning}
-use Rattle.sv_dispatch.specs.Stages.{table_of, lent_of}
+use Rattle.sv_dispatch.proofs.Prelude.{◌≡◌, dispatched, whole, work, IsRunning, table_of, lent_of}
 use Rattle.sv_dispatch.proofs.stack.dispatch.Given as goal
 
 abbrev pub invariant-loop-mode : goal.invariant-loop-mode
 invariant-loop-mode g l =
-    let table = table_of g.S.Servlet.serves g.S.Servlet.servlet_phase
-    g.F.Filter.filtering g.F.Filter.filter_phase in
+    let table = table_of g.S.Servlet g.F.Filter in
     record {
       same : table l.stage ≡ table l.fn.stage;
       running : IsRunning (table l.fn.stage) l.frames.items l.mode;

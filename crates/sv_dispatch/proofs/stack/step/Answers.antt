@@ -1,7 +1,5 @@
-use Rattle.std.proofs.Common.{ap, arith, ◌≤◌, ◌<◌, length}
-use Rattle.std.proofs.lemmas.Result.{IfOk-weaker}
-use Rattle.sv_dispatch.specs.Stack.{need}
-use Rattle.sv_dispatch.specs.declared.mode.Mode.TheVariants.{Enter, Serve}
+use Rattle.sv_dispatch.proofs.Prelude.{ap, arith, ◌≤◌, ◌<◌, length, IfOk-weaker, need, Enter}
+use Rattle.sv_dispatch.specs.declared.mode.Mode.TheVariants.{Serve}
 use Rattle.sv_dispatch.proofs.StepLemmas.{keeps, too_deep, pushes_less, pushes_over, pushes_running_over, pops, pops_running}
 use Rattle.sv_dispatch.proofs.stack.step.Goals as goal
 

@@ -1,5 +1,4 @@
-use Rattle.std.proofs.Common.{◌∙◌, sym}
-use Rattle.std.proofs.lemmas.Result.{IfOk-weaker}
+use Rattle.sv_dispatch.proofs.Prelude.{◌∙◌, sym, IfOk-weaker}
 use Rattle.sv_dispatch.proofs.OpenLemmas.{enters, enters_not}
 use Rattle.sv_dispatch.proofs.steps.enter.Goals as goal
 

@@ -1,7 +1,5 @@
-use Rattle.std.proofs.Common.{◌∙◌, refl}
+use Rattle.sv_dispatch.proofs.Prelude.{◌∙◌, refl, Done, Fault, Finished, Faulted}
 use Rattle.sv_dispatch.proofs.RunLemmas.{follow_end, follow_error, follow_forward, follow_include, left_by, nests}
-use Rattle.sv_servlet.specs.declared.servlet.Next.TheVariants.{Done, Fault}
-use Rattle.sv_dispatch.specs.declared.mode.Ending.TheVariants.{Finished, Faulted}
 use Rattle.sv_dispatch.proofs.steps.follow.Goals as goal
 
 pub returns-in-Done-clause-current : goal.returns-in-Done-clause-current

@@ -1,10 +1,5 @@
-use Rattle.std.proofs.Common.{◌∙◌, sym, ap, subst, arith, ◌<◌, ◌≤◌, Bool}
-use Rattle.sv_servlet.specs.Reply.{held}
-use Rattle.std.proofs.lemmas.Result.{IfOk-weaker}
-use Rattle.sv_dispatch.specs.Stack.{IsModeOf, need, weight}
-use Rattle.sv_dispatch.specs.declared.mode.Mode.{Mode}
+use Rattle.sv_dispatch.proofs.Prelude.{◌∙◌, sym, ap, subst, arith, ◌<◌, ◌≤◌, Bool, held, IfOk-weaker, IsModeOf, need, weight, Mode, Faulted}
 use Rattle.sv_dispatch.proofs.RunLemmas.{left_by, leave_return, abandon_return, abandon_resume, fault_resume, finish_resume, fail_resume}
-use Rattle.sv_dispatch.specs.declared.mode.Ending.TheVariants.{Faulted}
 use Rattle.sv_dispatch.proofs.steps.leave.Goals as goal
 
 pub returns-in-Abandoned-clause-current : goal.returns-in-Abandoned-clause-current

@@ -1,4 +1,4 @@
-use Rattle.std.proofs.Common.{◌∙◌, sym, refl}
+use Rattle.sv_dispatch.proofs.Prelude.{◌∙◌, sym, refl}
 use Rattle.sv_dispatch.proofs.OpenLemmas.{opens, opens_at, opens_not}
 use Rattle.sv_dispatch.proofs.RunLemmas.{left_by}
 use Rattle.sv_dispatch.proofs.steps.open.Goals as goal

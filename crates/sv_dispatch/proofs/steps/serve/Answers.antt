@@ -1,4 +1,4 @@
-use Rattle.std.proofs.Common.{refl}
+use Rattle.sv_dispatch.proofs.Prelude.{refl}
 use Rattle.sv_dispatch.proofs.ChainLemmas.{servlets_kept}
 use Rattle.sv_dispatch.proofs.RunLemmas.{one_less, serve_none, serves, stays_mode, stays_open}
 use Rattle.sv_dispatch.proofs.steps.serve.Goals as goal

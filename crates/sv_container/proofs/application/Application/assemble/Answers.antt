@@ -1,9 +1,4 @@
-use Rattle.std.proofs.Common.{◌≡◌, ◌∙◌, map, take}
-use Rattle.std.specs.Vec.{vec_capacity}
-use Rattle.std.specs.Vec.Iter.{into_iter_items}
-use Rattle.sv_dispatch.specs.Rows.{rows}
-use Rattle.sv_container.specs.Application.{identity_of}
-use Rattle.sv_container.specs.Deployment.{frame_of, identities_of, plan_with}
+use Rattle.sv_container.proofs.Prelude.{◌≡◌, ◌∙◌, map, take, vec_capacity, into_iter_items, rows, identity_of, frame_of, identities_of, plan_with}
 use Rattle.sv_container.proofs.AssembleLemmas.{identities_filled, new_taken}
 use Rattle.sv_container.proofs.application.Application.assemble.Goals as goal
 

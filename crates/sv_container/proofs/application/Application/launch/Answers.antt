@@ -1,6 +1,4 @@
-use Rattle.std.proofs.Common.{sym, ◌∙◌, refl}
-use Rattle.sv_servlet.specs.Filter.{FilterKeeps}
-use Rattle.sv_dispatch.specs.Keeping.{ServletKeeps}
+use Rattle.sv_container.proofs.Prelude.{sym, ◌∙◌, refl, FilterKeeps, ServletKeeps}
 use Rattle.sv_container.proofs.LifeLemmas.{able_by_rows, all_keep, all_launched, filters_serving, same_identities, serving_of}
 use Rattle.sv_container.proofs.application.Application.launch.Goals as goal
 

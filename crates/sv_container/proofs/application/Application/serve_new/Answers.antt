@@ -1,19 +1,12 @@
-use Rattle.std.proofs.Common.{◌∙◌, ap, None, Some, option_map}
-use Rattle.std.proofs.lemmas.Result.{IfOk-weaker}
-use Rattle.sv_target.specs.SessionCookie.{session_cookie}
-use Rattle.sv_container.specs.Admission.{admission}
-use Rattle.sv_container.specs.Application.{App, app_of}
-use Rattle.sv_container.specs.Recalling.{refused}
-use Rattle.sv_container.specs.Serving.{unserved}
-use Rattle.sv_container.specs.declared.admission.Admission.{Admission}
-use Rattle.sv_container.specs.declared.recall.Refusal.TheVariants.{Full}
+use Rattle.sv_container.proofs.Prelude.{◌∙◌, ap, None, Some, IfOk-weaker, session_cookie, admission, App, app_of, refused, unserved, Admission, Full}
+use Rattle.std.proofs.Common.{option_map}
 use Rattle.sv_container.proofs.ServeLemmas.{edited_is_of, served_apart_by}
 use Rattle.sv_container.proofs.application.Application.serve_new.Goals as goal
 
 pub returns-then-branch-clause-outcome : goal.returns-then-branch-clause-outcome
 returns-then-branch-clause-outcome g c =
-    let before : App = app_of g.S.Servlet.serves g.S.Servlet.servlet_phase g.F.Filter.filtering g.F.Filter.filter_phase c.args.self.now in
-    let behind : App = app_of g.S.Servlet.serves g.S.Servlet.servlet_phase g.F.Filter.filtering g.F.Filter.filter_phase c.answer.new.self in
+    let before : App = app_of g.S.Servlet g.F.Filter c.args.self.now in
+    let behind : App = app_of g.S.Servlet g.F.Filter c.answer.new.self in
     let edited = edited_is_of c.finish-edited.result c.in_ok-response.edit c.finish-edited.ensures.fate c.finish-edited.ensures.birth
     c.finish-edited.ensures.id_changed c.finish-edited.ensures.events in
     IfOk-weaker c.plain_outcome.result _ _
@@ -25,8 +18,8 @@ returns-then-branch-clause-outcome g c =
 
 pub returns-else-branch-clause-outcome : goal.returns-else-branch-clause-outcome
 returns-else-branch-clause-outcome g c =
-    let before : App = app_of g.S.Servlet.serves g.S.Servlet.servlet_phase g.F.Filter.filtering g.F.Filter.filter_phase c.args.self.now in
-    let behind : App = app_of g.S.Servlet.serves g.S.Servlet.servlet_phase g.F.Filter.filtering g.F.Filter.filter_phase c.answer.new.self in
+    let before : App = app_of g.S.Servlet g.F.Filter c.args.self.now in
+    let behind : App = app_of g.S.Servlet g.F.Filter c.answer.new.self in
     let edited = edited_is_of c.finish-edited.result c.in_ok-response.edit c.finish-edited.ensures.fate c.finish-edited.ensures.birth
     c.finish-edited.ensures.id_changed c.finish-edited.ensures.events in
     let joined_at : App → Admission =

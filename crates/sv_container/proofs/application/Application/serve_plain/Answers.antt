@@ -1,13 +1,12 @@
-use Rattle.std.proofs.lemmas.Result.{IfOk-weaker}
-use Rattle.sv_container.specs.Application.{App, app_of}
+use Rattle.sv_container.proofs.Prelude.{IfOk-weaker, App, app_of}
 use Rattle.sv_container.proofs.PlainLemmas.{served_plain}
 use Rattle.sv_container.proofs.ServeLemmas.{edited_is_of}
 use Rattle.sv_container.proofs.application.Application.serve_plain.Goals as goal
 
 pub returns-clause-outcome : goal.returns-clause-outcome
 returns-clause-outcome g c =
-    let before : App = app_of g.S.Servlet.serves g.S.Servlet.servlet_phase g.F.Filter.filtering g.F.Filter.filter_phase c.args.self.now in
-    let behind : App = app_of g.S.Servlet.serves g.S.Servlet.servlet_phase g.F.Filter.filtering g.F.Filter.filter_phase c.answer.new.self in
+    let before : App = app_of g.S.Servlet g.F.Filter c.args.self.now in
+    let behind : App = app_of g.S.Servlet g.F.Filter c.answer.new.self in
     let edited = edited_is_of c.finish-edited.result c.in_ok-response.edit c.finish-edited.ensures.fate c.finish-edited.ensures.birth
     c.finish-edited.ensures.id_changed c.finish-edited.ensures.events in
     IfOk-weaker c.plain_outcome.result _ _

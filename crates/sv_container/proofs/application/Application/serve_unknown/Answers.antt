@@ -1,8 +1,5 @@
-use Rattle.std.proofs.Common.{◌∙◌, ap, subst, sym}
-use Rattle.std.proofs.lemmas.Result.{IfOk-weaker}
-use Rattle.sv_container.specs.Application.{App, app_of}
-use Rattle.sv_container.specs.Serving.{Recalls, served_apart}
-use Rattle.sv_container.specs.declared.admission.Admission.{Admission}
+use Rattle.sv_container.proofs.Prelude.{◌∙◌, ap, subst, sym, IfOk-weaker, App, app_of, served_apart, Admission}
+use Rattle.sv_container.specs.Serving.{Recalls}
 use Rattle.sv_container.specs.declared.recall.Recall.{Recall}
 use Rattle.sv_container.specs.declared.recall.Recall.TheVariants.{New}
 use Rattle.sv_container.proofs.ServeLemmas.{served_apart_is}
@@ -10,7 +7,7 @@ use Rattle.sv_container.proofs.application.Application.serve_unknown.Goals as go
 
 pub returns-in-New-clause-outcome : goal.returns-in-New-clause-outcome
 returns-in-New-clause-outcome g c =
-    let before : App = app_of g.S.Servlet.serves g.S.Servlet.servlet_phase g.F.Filter.filtering g.F.Filter.filter_phase c.args.self.now in
+    let before : App = app_of g.S.Servlet g.F.Filter c.args.self.now in
     let recalls : Recalls before.once c.args.request.now c.args.admission c.recall.new.admission (New c.in-New.memory) =
     subst (λ (x : Recall). Recalls before.once c.args.request.now c.args.admission c.recall.new.admission x) c.in-New.is c.in_ok-response.ensures in
     IfOk-weaker c.serve_new.result _ _

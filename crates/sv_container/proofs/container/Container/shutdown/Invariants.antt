@@ -1,6 +1,5 @@
-use Rattle.std.proofs.Common.{◌≡◌, ℕ, ◌+◌, ◌-◌, ◌^◌, ◌<◌, ◌≤◌, length, get_or, take, min}
-use Rattle.sv_container.specs.Application.{apps_of}
-use Rattle.sv_container.specs.Life.{ready_filters, ready_servlets}
+use Rattle.sv_container.proofs.Prelude.{◌≡◌, ℕ, ◌+◌, ◌-◌, ◌<◌, ◌≤◌, length, get_or, take, min, apps_of, ready_filters, ready_servlets}
+use Rattle.std.proofs.Common.{◌^◌}
 use Rattle.sv_container.proofs.container.Container.shutdown.Given as goal
 
 abbrev pub invariant-loop-at : goal.invariant-loop-at
@@ -10,8 +9,8 @@ invariant-loop-at g l = record {
   rest : (k : ℕ) (d : _) → k < l.at → get_or l.applications.items k d ≡ get_or l.fn.self.applications.items k d;
   few_servlets : l.servlets ≤ 2 ^ 64 - 1;
   few_filters : l.filters ≤ 2 ^ 64 - 1;
-  servlets : min (l.servlets + ready_servlets (take l.at (apps_of g.S.Servlet.serves g.S.Servlet.servlet_phase g.F.Filter.filtering g.F.Filter.filter_phase l.fn.self.applications.items))) (2 ^ 64 - 1)
-      ≡ min (ready_servlets (apps_of g.S.Servlet.serves g.S.Servlet.servlet_phase g.F.Filter.filtering g.F.Filter.filter_phase l.fn.self.applications.items)) (2 ^ 64 - 1);
-  filters : min (l.filters + ready_filters (take l.at (apps_of g.S.Servlet.serves g.S.Servlet.servlet_phase g.F.Filter.filtering g.F.Filter.filter_phase l.fn.self.applications.items))) (2 ^ 64 - 1)
-      ≡ min (ready_filters (apps_of g.S.Servlet.serves g.S.Servlet.servlet_phase g.F.Filter.filtering g.F.Filter.filter_phase l.fn.self.applications.items)) (2 ^ 64 - 1);
+  servlets : min (l.servlets + ready_servlets (take l.at (apps_of g.S.Servlet g.F.Filter l.fn.self.applications.items))) (2 ^ 64 - 1)
+      ≡ min (ready_servlets (apps_of g.S.Servlet g.F.Filter l.fn.self.applications.items)) (2 ^ 64 - 1);
+  filters : min (l.filters + ready_filters (take l.at (apps_of g.S.Servlet g.F.Filter l.fn.self.applications.items))) (2 ^ 64 - 1)
+      ≡ min (ready_filters (apps_of g.S.Servlet g.F.Filter l.fn.self.applications.items)) (2 ^ 64 - 1);
 }

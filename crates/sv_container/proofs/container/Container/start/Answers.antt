@@ -1,6 +1,5 @@
-use Rattle.std.proofs.Common.{◌≡◌}
+use Rattle.sv_container.proofs.Prelude.{◌≡◌, New}
 use Rattle.std.proofs.lemmas.List.Sorted.{All-permutation}
-use Rattle.sv_servlet.specs.declared.servlet.Phase.TheVariants.{New}
 use Rattle.sv_container.specs.declared.arrange.Kind.TheVariants.{Servlet, Filter, Listener}
 use Rattle.sv_container.proofs.StartingLemmas.{exact}
 use Rattle.sv_container.proofs.container.Container.start.Goals as goal
