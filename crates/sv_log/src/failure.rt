@@ -29,9 +29,9 @@ impl fmt::Display for Site<'_> {
 
 /// What the system said, where it refused something.
 #[derive(Clone, Copy)]
-struct Said<'a>(Option<&'a io::Error>);
+struct SystemSaid<'a>(Option<&'a io::Error>);
 
-impl fmt::Display for Said<'_> {
+impl fmt::Display for SystemSaid<'_> {
     fn fmt<W: fmt::Write>(&self, f: &mut fmt::Formatter<W>) -> fmt::Result {
         let Some(error) = self.0 else {
             return Ok(());
@@ -58,7 +58,7 @@ pub struct Failure<'a> {
 impl fmt::Display for Failure<'_> {
     fn fmt<W: fmt::Write>(&self, f: &mut fmt::Formatter<W>) -> fmt::Result {
         let (fault, status, site) = (self.fault, self.status, self.site);
-        let said = Said(self.error);
+        let said = SystemSaid(self.error);
         write!(f, "failed fault={fault} status={status}{site}{said}")
     }
 }

@@ -6,7 +6,7 @@ use std::fmt;
 
 /// What a figure does.
 #[derive(Clone, Copy)]
-pub enum Kind {
+pub enum FigureKind {
     /// It only rises, from 0 at the start.
     Counter,
     Gauge,
@@ -14,12 +14,12 @@ pub enum Kind {
     Histogram,
 }
 
-impl fmt::Display for Kind {
+impl fmt::Display for FigureKind {
     fn fmt<W: fmt::Write>(&self, f: &mut fmt::Formatter<W>) -> fmt::Result {
         f.write_str(match self {
-            Kind::Counter => "counter",
-            Kind::Gauge => "gauge",
-            Kind::Histogram => "histogram",
+            FigureKind::Counter => "counter",
+            FigureKind::Gauge => "gauge",
+            FigureKind::Histogram => "histogram",
         })
     }
 }
@@ -29,7 +29,7 @@ impl fmt::Display for Kind {
 pub struct Family {
     /// After `kegbramble_`.
     pub name: &'static str,
-    pub kind: Kind,
+    pub kind: FigureKind,
     pub help: &'static str,
 }
 

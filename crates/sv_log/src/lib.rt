@@ -31,7 +31,7 @@ mod turnover;
 pub use census::Census;
 pub use event::{Event, Refusal};
 pub use failure::{Failure, Site};
-pub use family::{Family, Kind};
+pub use family::{Family, FigureKind};
 pub use figures::{Figures, Gauges};
 pub use level::Level;
 pub use log::{Log, STANDARD_ERROR};

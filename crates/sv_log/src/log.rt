@@ -3,7 +3,7 @@
 use crate::event::Event;
 use crate::level::Level;
 use crate::stamp::Stamp;
-use crate::tally::{Entry, Said, Tally};
+use crate::tally::{Entry, Tally, Telling};
 use std::alloc::{AllocError, Global};
 use std::fs::{File, Files, OpenOptions};
 use std::io::Write;
@@ -172,7 +172,7 @@ impl Log {
     pub fn note(&mut self, event: Event) {
         self.say_ended(event);
         if let Some(level) = event.level()
-            && self.tally.count(event, self.second) == Said::Now
+            && self.tally.count(event, self.second) == Telling::Now
         {
             self.say(level, event);
         }

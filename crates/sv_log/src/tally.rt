@@ -44,7 +44,7 @@ pub struct Tally {
 
 /// What is to be done with an event.
 #[derive(Clone, Copy, PartialEq, Eq)]
-pub enum Said {
+pub enum Telling {
     /// Its line is to be written.
     Now,
     /// It is counted, and said once its next line may be written.
@@ -68,13 +68,13 @@ impl Tally {
     }
 
     /// Counts an event of this second.
-    pub fn count(&mut self, event: Event, second: u64) -> Said {
+    pub fn count(&mut self, event: Event, second: u64) -> Telling {
         if let Some(place) = self.place_of(event) {
             if let Some(entry) = self.entries.get_mut(place) {
                 entry.event = event;
                 entry.times = entry.times.saturating_add(1);
             }
-            return Said::Later;
+            return Telling::Later;
         }
         if self.entries.len() < KINDS {
             let added: Result<(), AllocFailed<Entry>> = self.entries.push(Entry {
@@ -83,11 +83,11 @@ impl Tally {
                 said: second,
             });
             if added.is_ok() {
-                return Said::Now;
+                return Telling::Now;
             }
         }
         self.skipped = self.skipped.saturating_add(1);
-        Said::Later
+        Telling::Later
     }
 
     /// How many kinds are on the list.

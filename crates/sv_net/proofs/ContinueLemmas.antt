@@ -1,17 +1,12 @@
 -- Who goes on.
-use Rattle.std.proofs.Common.{◌≡◌, ◌⊎◌, ℕ, Bool, true, false, true≢false, List, [], ◌∷◌, ◌++◌, Option, Some, None, slice_set, inl, inr, refl, ap, sym, ◌∙◌, subst}
-use Rattle.std.specs.Prelude.{IfSome, slice_get}
-use Rattle.sv_net.specs.declared.connections.Connections.{Connections}
-use Rattle.sv_net.specs.declared.open.Open.{Open}
-use Rattle.sv_net.specs.declared.socket.Socket.{Socket}
-use Rattle.sv_net.specs.declared.state.Next.{Next}
-use Rattle.sv_net.specs.declared.state.Next.TheVariants.{Close, Listen, Part}
-use Rattle.sv_net.specs.declared.state.State.{State}
+use Rattle.sv_net.proofs.Prelude.{◌≡◌, ◌⊎◌, ℕ, Bool, true, false, true≢false, List, [], ◌∷◌, ◌++◌, Option, Some, None, slice_set, inl, inr, refl, ap, sym, ◌∙◌}
+use Rattle.sv_net.proofs.Prelude.{subst, IfSome, slice_get, Connections, Open, Socket, Next, Close, Listen, Part, State, Leaves, came_of, went_of, AllContinue}
+use Rattle.sv_net.proofs.Prelude.{Continues, Obeys, parts, said_on, unread, unsent, HasStood, IsKept, Keeps, elsewhere, held_at, held_in, places_of, Follows}
+use Rattle.sv_net.proofs.Prelude.{FollowsOn, Says}
 use Rattle.sv_net.specs.declared.state.State.TheVariants as state
-use Rattle.sv_net.specs.Bytes.{IsQuiet, Leaves, came_of, went_of}
-use Rattle.sv_net.specs.Exchange.{AllContinue, Continues, GoOnBut, GoOnWith, Obeys, IsLike, parts, said_on, unread, unread_behind, unsent}
-use Rattle.sv_net.specs.Places.{HasStood, IsKept, Keeps, elsewhere, held_at, held_in, places_of}
-use Rattle.sv_net.specs.Saying.{Follows, FollowsOn, IsSaying, Says}
+use Rattle.sv_net.specs.Bytes.{IsQuiet}
+use Rattle.sv_net.specs.Exchange.{GoOnBut, GoOnWith, IsLike, unread_behind}
+use Rattle.sv_net.specs.Saying.{IsSaying}
 use Rattle.sv_net.proofs.PlaceLemmas.{holds_more, nobody_holds, same_held, set_holds}
 use Rattle.sv_net.proofs.SayingLemmas.{follows_unsent, said_before, said_kept}
 use Rattle.sv_net.proofs.SpareLemmas.{apart_same, same_or_apart}
@@ -56,16 +51,6 @@ continues_like was held on like =
       parts_on = λ p. like.parts_is ∙ p;
       came = λ p. ap came_of on;
       unread_is = like.unread_is;
-    }
-
--- more of what was to be said has left
-pub continues_leaving : (was held : Open) (text left : List ℕ) → unsent was.state ≡ text → unsent held.state ≡ left → unread held.state ≡ unread was.state → parts was.state ≡ false → Leaves was.socket held.socket text left → Continues was held
-continues_leaving was held text left is_text rest same whole leaves =
-    record {
-      said = ap (λ xs. went_of held.socket ++ xs) rest ∙ leaves.said ∙ ap (λ xs. went_of was.socket ++ xs) (sym is_text);
-      parts_on = λ p. absurd (true≢false (sym p ∙ whole));
-      came = λ p. leaves.came;
-      unread_is = same;
     }
 
 -- what is still to be heard after a text

@@ -1,3 +1,4 @@
+mod Prelude
 pub mod PlaceLemmas
 pub mod SayingLemmas
 pub mod SpareLemmas

@@ -1,7 +1,5 @@
 -- What came of a client is what was given and what is kept.
-use Rattle.std.proofs.Common.{◌≡◌, ℕ, List, [], ◌∷◌, ◌++◌, ap, sym, ◌∙◌, subst}
-use Rattle.std.proofs.lemmas.List.{append-nil, append_assoc}
-use Rattle.sv_connection.specs.Connection.{held_by}
+use Rattle.sv_net.proofs.Prelude.{◌≡◌, ℕ, List, [], ◌∷◌, ◌++◌, ap, sym, ◌∙◌, subst, append-nil, append_assoc, held_by}
 use Rattle.sv_connection.specs.declared.received.Received.TheVariants.{Request, Refused, More, Closed}
 use Rattle.sv_net.specs.Life.{Came, KeepsBytes, Splits, asked_in, came_in}
 

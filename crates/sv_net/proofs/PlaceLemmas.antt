@@ -1,9 +1,6 @@
 -- What stands at one place of a list.
-use Rattle.std.proofs.Common.{◌≡◌, ℕ, zero, suc, List, [], ◌∷◌, Option, Some, None, slice_set, inl, inr, refl, ap, sym, ◌∙◌, subst}
-use Rattle.std.specs.Prelude.{IfSome, slice_get}
-use Rattle.sv_net.specs.declared.connections.Connections.{Connections}
-use Rattle.sv_net.specs.declared.open.Open.{Open}
-use Rattle.sv_net.specs.Places.{places_of, elsewhere, with_at, held_in, held_at, HasStood, IsKept, Keeps}
+use Rattle.sv_net.proofs.Prelude.{◌≡◌, ℕ, zero, suc, List, [], ◌∷◌, Option, Some, None, slice_set, inl, inr, refl, ap, sym, ◌∙◌, subst, IfSome, slice_get}
+use Rattle.sv_net.proofs.Prelude.{Connections, Open, places_of, elsewhere, with_at, held_in, held_at, HasStood, IsKept, Keeps}
 
 module _ {A : Type 0} where
   -- of two things that are set at one place the last one stands there

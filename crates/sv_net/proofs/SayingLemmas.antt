@@ -1,8 +1,7 @@
 -- What is said to a client is the text of a response, and is said once.
-use Rattle.std.proofs.Common.{◌≡◌, ℕ, Bool, List, [], ◌++◌, Vec, Option, Some, None, inl, inr, refl, ap, sym, ◌∙◌, subst}
-use Rattle.std.specs.Prelude.{IfSome}
-use Rattle.std.specs.declared.alloc.Global.{Global}
-use Rattle.std.proofs.lemmas.List.{append-nil}
+use Rattle.sv_net.proofs.Prelude.{◌≡◌, ℕ, Bool, List, [], ◌++◌, Vec, Option, Some, None, inl, inr, refl, ap, sym, ◌∙◌, subst, IfSome, Global, append-nil, Open}
+use Rattle.sv_net.proofs.Prelude.{Socket, Next, Close, Listen, Part, State, Leaves, came_of, went_of, said_on, unread, unsent, IsKept, held_in, Follows}
+use Rattle.sv_net.proofs.Prelude.{FollowsOn, HearsNext, Says, Tells}
 use Rattle.sv_connection.specs.declared.outcome.Outcome.{Outcome}
 use Rattle.sv_connection.specs.declared.outcome.Outcome.TheVariants.{Answered}
 use Rattle.sv_connection.specs.declared.reply.Naming.{Naming}
@@ -10,16 +9,9 @@ use Rattle.sv_connection.specs.Speak.{memory_lines, IsLateAnswer, IsSaid}
 use Rattle.sv_message.specs.Response.{IsResponseText}
 use Rattle.sv_model.specs.declared.output.Cause.{Cause}
 use Rattle.sv_model.specs.declared.response.Response.{Response}
-use Rattle.sv_net.specs.declared.open.Open.{Open}
-use Rattle.sv_net.specs.declared.socket.Socket.{Socket}
-use Rattle.sv_net.specs.declared.state.Next.{Next}
-use Rattle.sv_net.specs.declared.state.Next.TheVariants.{Close, Listen, Part}
-use Rattle.sv_net.specs.declared.state.State.{State}
 use Rattle.sv_net.specs.declared.state.State.TheVariants as state
-use Rattle.sv_net.specs.Bytes.{Leaves, came_of, went_of}
-use Rattle.sv_net.specs.Exchange.{said_on, unread, unsent}
-use Rattle.sv_net.specs.Places.{IsKept, held_in, manner_in, manner_of}
-use Rattle.sv_net.specs.Saying.{Answers, Follows, FollowsOn, HearsNext, Says, Tells, refused_as}
+use Rattle.sv_net.specs.Places.{manner_in, manner_of}
+use Rattle.sv_net.specs.Saying.{Answers, refused_as}
 use Rattle.sv_net.proofs.PlaceLemmas.{holds_more}
 
 -- ---- a text

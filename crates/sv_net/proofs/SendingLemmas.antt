@@ -1,23 +1,18 @@
 -- What becomes of a text for a node.
-use Rattle.std.proofs.Common.{◌≡◌, ◌⊎◌, ◌<◌, ℕ, suc, true, List, [], ◌∷◌, ◌++◌, Vec, Option, Some, None, slice_set, length, get_or, inl, inr, refl, ap, sym, ◌∙◌, subst, arith}
-use Rattle.std.specs.Prelude.{All, Contains, IfSome, position, slice_get}
+use Rattle.sv_net.proofs.Prelude.{◌≡◌, ◌⊎◌, ◌<◌, ℕ, suc, true, List, [], ◌∷◌, ◌++◌, Vec, Option, Some, None, slice_set, length, inl, inr, refl, ap, sym, ◌∙◌}
+use Rattle.sv_net.proofs.Prelude.{subst, IfSome, slice_get, Global, append-nil, Connections, Open, Socket, Leaves, went_of, unsent, HasStood, IsKept, Keeps}
+use Rattle.sv_net.proofs.Prelude.{elsewhere, held_at, held_in, places_of, with_at, IsOnItsWay, SendsBehind}
+use Rattle.std.proofs.Common.{get_or, arith}
+use Rattle.std.specs.Prelude.{Contains, position}
 use Rattle.std.specs.List.{swap_remove}
-use Rattle.std.specs.declared.alloc.Global.{Global}
 use Rattle.std.proofs.lemmas.Bool.{eqb-true}
-use Rattle.std.proofs.lemmas.List.{append-nil}
-use Rattle.std.proofs.lemmas.List.Elements.{All-contains_itself, All-push}
+use Rattle.std.proofs.lemmas.List.Elements.{All-contains_itself}
 use Rattle.std.proofs.lemmas.List.Quantifiers.{position-Some}
 use Rattle.std.proofs.lemmas.List.Sorted.{All-permutation, IsPermutation-swap_remove}
-use Rattle.sv_net.specs.declared.connections.Connections.{Connections}
 use Rattle.sv_net.specs.declared.links.Link.{Link}
-use Rattle.sv_net.specs.declared.open.Open.{Open}
-use Rattle.sv_net.specs.declared.socket.Socket.{Socket}
 use Rattle.sv_net.specs.declared.state.State.TheVariants.{Calling}
-use Rattle.sv_net.specs.Bytes.{Leaves, went_of}
-use Rattle.sv_net.specs.Exchange.{unsent}
-use Rattle.sv_net.specs.Places.{HasStood, IsKept, Keeps, elsewhere, held_at, held_in, places_of, with_at}
-use Rattle.sv_net.specs.Sending.{Admits, AreAmong, IsLinkTo, IsOnItsWay, SamePeople, Sends, SendsBehind, is_to, links_of}
-use Rattle.sv_net.proofs.PlaceLemmas.{keep_holds, nobody_holds, set_holds}
+use Rattle.sv_net.specs.Sending.{Admits, AreAmong, IsLinkTo, SamePeople, Sends, is_to, links_of}
+use Rattle.sv_net.proofs.PlaceLemmas.{keep_holds, set_holds}
 use Rattle.sv_net.proofs.SpareLemmas.{apart_same, same_or_apart}
 
 -- ---- the links
@@ -46,13 +41,6 @@ among_then old mid new first next = λ k d lt. in_old old mid _ first (next k d 
 either_then : (old mid : List Link) (one other : Link) → AreAmong old mid → Contains mid other ⊎ (other ≡ one) → Contains old other ⊎ (other ≡ one)
 either_then old mid one other among (inl there) = inl (in_old old mid other among there)
 either_then old mid one other among (inr is) = inr is
-
--- one of them is put back, or was not
-pub put_back : (old new : List Link) (link : Link) → (new ≡ old ++ link ∷ []) ⊎ (new ≡ old) → All (λ other. Contains old other ⊎ (other ≡ link)) new
-put_back old new link (inl is) =
-    subst (λ xs. All (λ other. Contains old other ⊎ (other ≡ link)) xs) (sym is)
-    (All-push (λ other. Contains old other ⊎ (other ≡ link)) old link (λ k d lt. inl (All-contains_itself old k d lt)) (inr refl))
-put_back old new link (inr is) = λ k d lt. inl (same_among old new is k d lt)
 
 -- ---- who stands where
 
@@ -83,9 +71,6 @@ put_at P p q one old mid new good same put others (inl here) =
     (set_holds (λ held. (held_at old p ≡ Some held) ⊎ P held) (places_of mid) p one (inr good)))
 put_at P p q one old mid new good same put others (inr apart) = stays P (held_at old q) (held_at new q) (apart_same p q mid new others apart ∙ same q)
 
-pub admits_one : (P : Open → Type 0) (place : ℕ) (one : Open) (old mid new : Connections) → P one → SamePeople old mid → places_of new ≡ with_at place one mid → elsewhere place new ≡ elsewhere place mid → Admits P old new
-admits_one P place one old mid new good same put others q = put_at P place q one old mid new good same put others (same_or_apart place q)
-
 -- and is kept there
 newcomer : (P : Open → Type 0) (o : Option Open) (was : Open) → o ≡ None → (o ≡ Some was) ⊎ P was → P was
 newcomer P o was none (inl is) = cc
@@ -103,10 +88,6 @@ kept_at P Q p q old mid new none keeps more came stood others (inl here) =
 kept_at P Q p q old mid new none keeps more came stood others (inr apart) =
     moves_on P Q (held_at old q) (held_at mid q) (held_at new q) (apart_same p q mid new others apart) more (came q)
 
-pub admits_kept : (P Q : Open → Type 0) (place : ℕ) (old mid new : Connections) → held_at old place ≡ None → ((was h : Open) → IsKept was h → P was → Q h) → ((h : Open) → P h → Q h) → Admits P old mid → HasStood place mid new
-    → elsewhere place new ≡ elsewhere place mid → Admits Q old new
-admits_kept P Q place old mid new none keeps more came stood others q = kept_at P Q place q old mid new none keeps more came stood others (same_or_apart place q)
-
 -- and is kept where nobody stood
 kept_in : (P : Open → Type 0) (o n : Option Open) → IfSome n P → IfSome n (λ h. (o ≡ Some h) ⊎ P h)
 kept_in P o None good = tt
@@ -122,18 +103,6 @@ pub admits_keep : (P : Open → Type 0) (place : ℕ) (was : Open) (old mid new 
     → ((held : Open) → IsKept was held → P held) → Admits P old new
 admits_keep P place was old mid new same none kept others good q =
     keep_at P place q old mid new same (keep_holds P place was mid new kept none good) others (same_or_apart place q)
-
--- whoever was taken out and put back has stood there
-back_in : (place : ℕ) (was : Open) (o n : Option Open) → o ≡ Some was → IfSome n (λ held. IsKept was held) → IfSome n (λ held. (one : Open) × (o ≡ Some one) × IsKept one held)
-back_in place was o None is kept = tt
-back_in place was o (Some held) is kept = (was, is, kept)
-
-pub stood_again : (place : ℕ) (was : Open) (old mid new : Connections) → held_at old place ≡ Some was → held_at mid place ≡ None → Keeps place was mid new → HasStood place old new
-stood_again place was old mid new is none (inl k) =
-    back_in place was (held_at old place) (held_at new place) is
-    (subst (λ (xs : List (Option Open)). IfSome (held_in (slice_get xs place)) (λ held. IsKept was held)) (sym k.places) (set_holds (λ held. IsKept was held) (places_of mid) place k.held k.kept))
-stood_again place was old mid new is none (inr k) =
-    nobody_holds (λ held. (one : Open) × (held_at old place ≡ Some one) × IsKept one held) (ap (λ (xs : List (Option Open)). held_in (slice_get xs place)) k.places ∙ none)
 
 -- ---- the text
 

@@ -1,9 +1,7 @@
 -- What changes at one place spares whoever stands at another.
-use Rattle.std.proofs.Common.{◌≡◌, ◌⊎◌, ℕ, zero, suc, List, [], ◌∷◌, Option, Some, None, slice_set, inl, inr, refl, ap, sym, ◌∙◌, subst, true, false, true≢false}
-use Rattle.std.specs.Prelude.{IfSome, slice_get}
-use Rattle.sv_net.specs.declared.connections.Connections.{Connections}
-use Rattle.sv_net.specs.declared.open.Open.{Open}
-use Rattle.sv_net.specs.Places.{places_of, elsewhere, with_at, held_in, held_at, waits, Spares, SparesClients}
+use Rattle.sv_net.proofs.Prelude.{◌≡◌, ◌⊎◌, ℕ, zero, suc, List, [], ◌∷◌, Option, Some, None, slice_set, inl, inr, refl, ap, sym, ◌∙◌, subst, true, false}
+use Rattle.sv_net.proofs.Prelude.{true≢false, IfSome, slice_get, Connections, Open, places_of, elsewhere, with_at, held_in, held_at, waits}
+use Rattle.sv_net.specs.Places.{Spares, SparesClients}
 use Rattle.sv_net.proofs.PlaceLemmas.{nobody_holds}
 
 -- ---- two places

@@ -193,7 +193,7 @@ impl Acceptor {
     {
         self.queue.forget(self.done);
         self.done = 0;
-        connections.hand_over(&mut self.queue);
+        connections.queue_due(&mut self.queue);
         self.waits = connections.is_empty() && is_long(most) && !self.is_full;
         if self.waits {
             self.door = true;

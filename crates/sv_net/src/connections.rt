@@ -333,8 +333,8 @@ impl Connections {
         }
     }
 
-    /// Hands over the places where something is to be done that the poll may not report.
-    pub(crate) fn hand_over(&mut self, queue: &mut Queue)
+    /// Queues the places where something is to be done that the poll may not report.
+    pub(crate) fn queue_due(&mut self, queue: &mut Queue)
         ensures { places_of self.new ≡ places_of self.old }
     {
         for place in &self.due {

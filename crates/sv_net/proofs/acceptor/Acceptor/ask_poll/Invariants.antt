@@ -1,4 +1,4 @@
-use Rattle.sv_net.specs.Exchange.{AllContinue}
+use Rattle.sv_net.proofs.Prelude.{AllContinue}
 use Rattle.sv_net.proofs.acceptor.Acceptor.ask_poll.Given as goal
 
 -- whoever isn't closed goes on

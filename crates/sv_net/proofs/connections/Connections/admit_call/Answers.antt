@@ -1,4 +1,4 @@
-use Rattle.std.proofs.Common.{sym, ◌∙◌}
+use Rattle.sv_net.proofs.Prelude.{sym, ◌∙◌}
 use Rattle.sv_net.proofs.SpareLemmas.{spares_but, spares_same}
 use Rattle.sv_net.proofs.connections.Connections.admit_call.Goals as goal
 

@@ -1,10 +1,6 @@
-use Rattle.std.proofs.Common.{ℕ, List, ap, sym, ◌∙◌, subst}
-use Rattle.sv_connection.specs.Connection.{held_by}
+use Rattle.sv_net.proofs.Prelude.{ℕ, List, ap, sym, ◌∙◌, subst, held_by, came_of, went_of, unread, unsent, HearsNext, Says, Tells}
 use Rattle.sv_net.proofs.PlaceLemmas.{holds_more, taken_held}
 use Rattle.sv_net.proofs.SayingLemmas.{answer_text, tells_at, tells_one}
-use Rattle.sv_net.specs.Bytes.{came_of, went_of}
-use Rattle.sv_net.specs.Exchange.{unread, unsent}
-use Rattle.sv_net.specs.Saying.{HearsNext, Says, Tells}
 use Rattle.sv_net.proofs.connections.Connections.answer.Goals as goal
 
 -- what is said is the text that was made

@@ -1,4 +1,4 @@
-use Rattle.std.proofs.Common.{ap, refl, sym, ◌∙◌}
+use Rattle.sv_net.proofs.Prelude.{ap, refl, sym, ◌∙◌}
 use Rattle.sv_net.proofs.SendingLemmas.{admits_keep, nobody_comes}
 use Rattle.sv_net.proofs.SpareLemmas.{spares_but, spares_same}
 use Rattle.sv_net.specs.Sending.{IsOwn}

@@ -1,7 +1,5 @@
-use Rattle.std.proofs.Common.{inl, inr, refl}
+use Rattle.sv_net.proofs.Prelude.{inl, inr, refl, went_of, IsOnItsWay}
 use Rattle.sv_net.proofs.SendingLemmas.{admits_more, on_its_way, same_among, went_whole}
-use Rattle.sv_net.specs.Bytes.{went_of}
-use Rattle.sv_net.specs.Sending.{IsOnItsWay}
 use Rattle.sv_net.proofs.connections.Connections.call.Goals as goal
 
 -- it is sent

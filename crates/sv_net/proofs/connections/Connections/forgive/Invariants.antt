@@ -1,4 +1,4 @@
-use Rattle.sv_net.specs.Exchange.{AllContinue}
+use Rattle.sv_net.proofs.Prelude.{AllContinue}
 use Rattle.sv_net.proofs.connections.Connections.forgive.Given as goal
 
 abbrev pub invariant-loop-place : goal.invariant-loop-place

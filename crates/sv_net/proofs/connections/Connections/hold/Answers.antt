@@ -1,6 +1,4 @@
-use Rattle.std.proofs.Common.{ap, sym, ◌∙◌}
-use Rattle.sv_net.specs.Exchange.{Continues}
-use Rattle.sv_net.specs.Places.{waits}
+use Rattle.sv_net.proofs.Prelude.{ap, sym, ◌∙◌, Continues, waits}
 use Rattle.sv_net.proofs.ContinueLemmas.{all_but, continues_same, taken_goes_on, with_put}
 use Rattle.sv_net.proofs.PlaceLemmas.{put_holds, taken_held}
 use Rattle.sv_net.proofs.SpareLemmas.{clients_back, clients_but}

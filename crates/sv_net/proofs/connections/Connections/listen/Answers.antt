@@ -1,8 +1,6 @@
-use Rattle.std.proofs.Common.{inl, inr, refl, ap}
+use Rattle.sv_net.proofs.Prelude.{inl, inr, refl, ap, FollowsOn, Listen}
 use Rattle.sv_net.proofs.PlaceLemmas.{keep_holds, put_holds, stood_holds}
 use Rattle.sv_net.proofs.SayingLemmas.{follows_at, follows_kept}
-use Rattle.sv_net.specs.Saying.{FollowsOn}
-use Rattle.sv_net.specs.declared.state.Next.TheVariants.{Listen}
 use Rattle.sv_net.proofs.connections.Connections.listen.Goals as goal
 
 -- it rests

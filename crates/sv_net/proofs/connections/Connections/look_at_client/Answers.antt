@@ -1,4 +1,4 @@
-use Rattle.std.proofs.Common.{refl}
+use Rattle.sv_net.proofs.Prelude.{refl}
 use Rattle.sv_net.proofs.ContinueLemmas.{all_places, continues_quiet, continues_then, with_all, with_kept}
 use Rattle.sv_net.proofs.connections.Connections.look_at_client.Goals as goal
 

@@ -1,4 +1,4 @@
-use Rattle.sv_net.specs.Exchange.{AllContinue}
+use Rattle.sv_net.proofs.Prelude.{AllContinue}
 use Rattle.sv_net.proofs.connections.Connections.look_round.Given as goal
 
 -- all go on who haven't taken too long

@@ -1,9 +1,8 @@
-use Rattle.std.proofs.Common.{ap, sym, ◌∙◌}
+use Rattle.sv_net.proofs.Prelude.{ap, sym, ◌∙◌, Continues, Obeys, held_at, waits}
 use Rattle.sv_net.proofs.ContinueLemmas.{all_but, but_all, but_more, continues_same, taken_but, taken_goes_on, with_put}
 use Rattle.sv_net.proofs.PlaceLemmas.{put_holds, taken_held}
 use Rattle.sv_net.proofs.SpareLemmas.{clients_after, clients_back}
-use Rattle.sv_net.specs.Exchange.{Continues, Obeys, ObeysThere}
-use Rattle.sv_net.specs.Places.{held_at, waits}
+use Rattle.sv_net.specs.Exchange.{ObeysThere}
 use Rattle.sv_net.proofs.connections.Connections.obeyed.Goals as goal
 
 -- nobody stands there

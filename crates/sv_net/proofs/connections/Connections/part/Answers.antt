@@ -1,4 +1,4 @@
-use Rattle.std.proofs.Common.{refl}
+use Rattle.sv_net.proofs.Prelude.{refl}
 use Rattle.sv_net.proofs.ContinueLemmas.{all_places, all_stood, continues_parting, with_all, with_kept, with_more, with_then}
 use Rattle.sv_net.specs.declared.state.State.TheVariants.{Parting}
 use Rattle.sv_net.proofs.connections.Connections.part.Goals as goal

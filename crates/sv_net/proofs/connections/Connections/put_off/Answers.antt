@@ -1,4 +1,4 @@
-use Rattle.sv_net.specs.Exchange.{Continues}
+use Rattle.sv_net.proofs.Prelude.{Continues}
 use Rattle.sv_net.proofs.ContinueLemmas.{all_stood, continues_same, with_put, with_then}
 use Rattle.sv_net.proofs.PlaceLemmas.{put_holds}
 use Rattle.sv_net.proofs.connections.Connections.put_off.Goals as goal

@@ -1,5 +1,4 @@
-use Rattle.std.proofs.Common.{◌≡◌}
-use Rattle.sv_net.specs.Bytes.{went_of}
+use Rattle.sv_net.proofs.Prelude.{◌≡◌, went_of}
 use Rattle.sv_net.proofs.connections.Connections.read_pieces.Given as goal
 
 -- nothing is said meanwhile

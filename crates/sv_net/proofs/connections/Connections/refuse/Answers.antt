@@ -1,4 +1,4 @@
-use Rattle.std.proofs.Common.{ap, sym, ◌∙◌}
+use Rattle.sv_net.proofs.Prelude.{ap, sym, ◌∙◌}
 use Rattle.sv_connection.specs.Reply.{refusal_by}
 use Rattle.sv_net.proofs.SayingLemmas.{refusal_holds, starved_holds}
 use Rattle.sv_net.proofs.connections.Connections.refuse.Goals as goal

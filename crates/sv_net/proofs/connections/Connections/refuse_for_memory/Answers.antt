@@ -1,9 +1,4 @@
-use Rattle.std.proofs.Common.{ℕ, List, ◌∙◌, subst}
-use Rattle.std.specs.Prelude.{IfSome}
-use Rattle.sv_net.specs.declared.state.Next.TheVariants.{Part}
-use Rattle.sv_net.specs.Bytes.{came_of, went_of}
-use Rattle.sv_net.specs.Places.{held_at}
-use Rattle.sv_net.specs.Saying.{Says}
+use Rattle.sv_net.proofs.Prelude.{ℕ, List, ◌∙◌, subst, IfSome, Part, came_of, went_of, held_at, Says}
 use Rattle.sv_net.proofs.connections.Connections.refuse_for_memory.Goals as goal
 
 pub returns-in-Ok-clause-said : goal.returns-in-Ok-clause-said

@@ -1,10 +1,6 @@
-use Rattle.std.proofs.Common.{[], ◌∷◌, sym, ◌∙◌}
+use Rattle.sv_net.proofs.Prelude.{[], ◌∷◌, sym, ◌∙◌, came_of, went_of, Continues, Says, Close}
 use Rattle.sv_net.proofs.ContinueLemmas.{all_but, continues_same, continues_telling, taken_goes_on, with_kept, with_put}
 use Rattle.sv_net.proofs.PlaceLemmas.{holds_more, taken_held}
-use Rattle.sv_net.specs.Bytes.{came_of, went_of}
-use Rattle.sv_net.specs.Exchange.{Continues}
-use Rattle.sv_net.specs.Saying.{Says}
-use Rattle.sv_net.specs.declared.state.Next.TheVariants.{Close}
 use Rattle.sv_net.proofs.connections.Connections.release.Goals as goal
 
 -- nobody stands there

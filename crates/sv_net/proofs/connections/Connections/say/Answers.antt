@@ -1,8 +1,6 @@
-use Rattle.std.proofs.Common.{ap, sym, subst}
+use Rattle.sv_net.proofs.Prelude.{ap, sym, subst, Leaves, came_of, went_of, FollowsOn, Says}
 use Rattle.sv_net.proofs.PlaceLemmas.{holds_more, keep_holds}
 use Rattle.sv_net.proofs.SayingLemmas.{follows_says, waits_says}
-use Rattle.sv_net.specs.Bytes.{Leaves, came_of, went_of}
-use Rattle.sv_net.specs.Saying.{FollowsOn, Says}
 use Rattle.sv_net.proofs.connections.Connections.say.Goals as goal
 
 -- all was taken

@@ -1,9 +1,6 @@
-use Rattle.std.proofs.Common.{ap, sym, ◌∙◌, subst}
+use Rattle.sv_net.proofs.Prelude.{ap, sym, ◌∙◌, subst, Leaves, Continues, parts, unread, unsent, FollowsOn}
 use Rattle.sv_net.proofs.ContinueLemmas.{all_places, continues_following, with_all, with_put}
 use Rattle.sv_net.proofs.PlaceLemmas.{holds_more}
-use Rattle.sv_net.specs.Bytes.{Leaves}
-use Rattle.sv_net.specs.Exchange.{Continues, parts, unread, unsent}
-use Rattle.sv_net.specs.Saying.{FollowsOn}
 use Rattle.sv_net.proofs.connections.Connections.say_on.Goals as goal
 
 pub returns-in_default : goal.returns-in_default

@@ -1,6 +1,6 @@
 use Rattle.std.specs.Prelude.{Some, None}
 use Rattle.sv_net.proofs.PlaceLemmas.{set_twice}
-use Rattle.sv_net.specs.Places.{places_of}
+use Rattle.sv_net.proofs.Prelude.{places_of}
 use Rattle.sv_net.proofs.connections.Connections.seat.Goals as goal
 
 pub returns-then-place-len-clause-others : goal.returns-then-place-len-clause-others

@@ -1,4 +1,4 @@
-use Rattle.std.proofs.Common.{[], inl, inr, refl}
+use Rattle.sv_net.proofs.Prelude.{[], inl, inr, refl}
 use Rattle.sv_net.proofs.SendingLemmas.{same_among}
 use Rattle.sv_net.proofs.connections.Connections.send.Goals as goal
 

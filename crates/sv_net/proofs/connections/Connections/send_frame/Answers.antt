@@ -1,7 +1,5 @@
-use Rattle.std.proofs.Common.{ℕ, refl, subst}
+use Rattle.sv_net.proofs.Prelude.{ℕ, refl, subst, went_of, SendsBehind}
 use Rattle.sv_net.proofs.SendingLemmas.{behind_then}
-use Rattle.sv_net.specs.Bytes.{went_of}
-use Rattle.sv_net.specs.Sending.{SendsBehind}
 use Rattle.sv_net.proofs.connections.Connections.send_frame.Goals as goal
 
 -- after what had left by the link

@@ -1,4 +1,4 @@
-use Rattle.std.proofs.Common.{sym, ◌∙◌}
+use Rattle.sv_net.proofs.Prelude.{sym, ◌∙◌}
 use Rattle.sv_net.proofs.PlaceLemmas.{taken_held}
 use Rattle.sv_net.proofs.SayingLemmas.{starves}
 use Rattle.sv_net.proofs.connections.Connections.starve.Goals as goal

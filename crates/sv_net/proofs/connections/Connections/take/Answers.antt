@@ -1,6 +1,6 @@
 use Rattle.std.specs.Prelude.{None}
 use Rattle.sv_net.proofs.PlaceLemmas.{set_twice}
-use Rattle.sv_net.specs.Places.{places_of}
+use Rattle.sv_net.proofs.Prelude.{places_of}
 use Rattle.sv_net.proofs.connections.Connections.take.Goals as goal
 
 pub returns-clause-others : goal.returns-clause-others

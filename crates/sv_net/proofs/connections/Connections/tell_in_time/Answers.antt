@@ -1,12 +1,7 @@
-use Rattle.std.proofs.Common.{[], ◌∷◌, refl}
+use Rattle.sv_net.proofs.Prelude.{[], ◌∷◌, refl, came_of, went_of, Obeys, held_at, Says, Close}
 use Rattle.sv_net.proofs.ContinueLemmas.{all_but_then, but_put, obeys_holding, obeys_saying, still_none}
 use Rattle.sv_net.proofs.PlaceLemmas.{holds_more, put_holds}
 use Rattle.sv_net.proofs.SpareLemmas.{clients_then}
-use Rattle.sv_net.specs.Bytes.{came_of, went_of}
-use Rattle.sv_net.specs.Exchange.{Obeys}
-use Rattle.sv_net.specs.Places.{held_at}
-use Rattle.sv_net.specs.Saying.{Says}
-use Rattle.sv_net.specs.declared.state.Next.TheVariants.{Close}
 use Rattle.sv_net.proofs.connections.Connections.tell_in_time.Goals as goal
 
 -- it is held until the packet has left

@@ -1,4 +1,4 @@
-use Rattle.std.proofs.Common.{refl}
+use Rattle.sv_net.proofs.Prelude.{refl}
 use Rattle.sv_net.specs.Sending.{links_in}
 use Rattle.sv_net.proofs.SendingLemmas.{same_among, taken_among, taken_link}
 use Rattle.sv_net.proofs.links.Links.take.Goals as goal

@@ -1,4 +1,4 @@
-use Rattle.std.proofs.Common.{refl}
+use Rattle.sv_net.proofs.Prelude.{refl}
 use Rattle.sv_net.proofs.ContinueLemmas.{continues_like}
 use Rattle.sv_net.proofs.open.Open.held_for.Goals as goal
 

@@ -1,4 +1,4 @@
-use Rattle.sv_net.specs.Bytes.{Leaves}
+use Rattle.sv_net.proofs.Prelude.{Leaves}
 use Rattle.sv_net.proofs.socket.Socket.write.Given as goal
 
 -- what was taken was the front

@@ -1,5 +1,4 @@
-use Rattle.std.proofs.Common.{ap, ◌++◌, take, ◌∙◌}
-use Rattle.sv_net.specs.Bytes.{went_of}
+use Rattle.sv_net.proofs.Prelude.{ap, ◌++◌, take, ◌∙◌, went_of}
 use Rattle.sv_net.proofs.WritingLemmas.{leaves_some}
 use Rattle.sv_net.proofs.socket.Socket.write_once.Goals as goal
 

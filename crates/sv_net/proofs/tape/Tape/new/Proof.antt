@@ -21,7 +21,7 @@ use denote.Triple.Entry.{on_entry}
 use denote.Triple.Spec.{Meets, triple_of}
 use denote.Triple.Table.{entered}
 use denote.Triple.Walked.{says, ends_at, walked, walk_Meets}
-use Rattle.sv_net.specs.declared.tape.Tape.{Tape}
+use Rattle.sv_net.proofs.Prelude.{Tape}
 use Rattle.sv_net.specs.contracts.tape.Tape as T
 use Rattle.sv_net.specs.contracts.tape.Tape.new.Key.{name as #it}
 use Rattle.sv_net.specs.contracts.tape.Tape.new as it

@@ -1,5 +1,6 @@
 -- An empty body. The borrow is opened and closed at another ghost value.
-use Rattle.std.proofs.Common.{ℕ, List, [], ◌∷◌, ◌++◌, refl, MutBor}
+use Rattle.sv_net.proofs.Prelude.{ℕ, List, [], ◌∷◌, ◌++◌, refl, ◌<◌, length, Tape}
+use Rattle.std.proofs.Common.{MutBor}
 use seplogic.Ra.Ura.{Ura}
 use mir.Syntax.{named}
 use mir.Val.{Val, vunit, vptr}
@@ -28,8 +29,7 @@ use denote.Triple.Entry.{on_entry}
 use denote.Triple.Spec.{Meets, triple_of}
 use denote.Triple.Table.{entered}
 use denote.Triple.Walked.{says, Stays, stay_ref, stay_none_slice, walk_of, AllGo, Goes-ref, Goes-none_slice, Walks, ends_at, walked, walk_Meets}
-use Rattle.std.proofs.Common.{◌<◌, ◌^◌, length}
-use Rattle.sv_net.specs.declared.tape.Tape.{Tape}
+use Rattle.std.proofs.Common.{◌^◌}
 use Rattle.sv_net.specs.contracts.tape.Tape as T
 use Rattle.sv_net.specs.contracts.tape.Tape.note.Key.{name as #it}
 use Rattle.sv_net.specs.contracts.tape.Tape.note as it
